@@ -1,0 +1,9 @@
+pub mod Places
+pub mod Joining
+pub mod Missing
+pub mod Sums
+pub mod Numbers
+pub mod Options
+pub mod RowLists
+pub mod Joins
+pub mod Lists

@@ -1,0 +1,19 @@
+-- The sum of an array's present rows, wrapped to 32 bits.
+use Rattle.std.specs.Prelude.{◌≡◌, ◌+ℤ◌, ◌*ℤ◌, ◌^◌, ℤ, pos, FitsSigned, List, [], ◌∷◌}
+use Rattle.std.specs.Int.{int_wrap, w32}
+use Rattle.polars_tables.specs.Row.{Row, Null, Int}
+
+-- the sum of the present rows, 0 without one
+abbrev pub total : List Row → ℤ
+total [] = pos 0
+total (Null ∷ more) = total more
+total (Int n ∷ more) = n +ℤ total more
+
+-- a whole number wrapped to 32 bits
+abbrev pub wrap : ℤ → ℤ
+wrap n = int_wrap w32 n
+
+-- to wrap n is to give the one number of 32 bits that differs from n by a multiple of 2^32
+pub record IsWrapped (n wrapped : ℤ) : Type 0 where
+  pub in_range : FitsSigned w32 wrapped
+  pub congruent : (k : ℤ) × (n ≡ wrapped +ℤ k *ℤ pos (2 ^ 32))
