@@ -7,3 +7,6 @@ pub mod Options
 pub mod RowLists
 pub mod Joins
 pub mod Lists
+pub mod Known
+pub mod Cuts
+pub mod Texts

@@ -7,6 +7,7 @@ mod equality;
 mod line;
 mod operation;
 mod primitive;
+mod running;
 mod sum;
 mod words;
 
