@@ -2,6 +2,7 @@ pub mod Places
 pub mod Joining
 pub mod Missing
 pub mod Sums
+pub mod Wraps
 pub mod Numbers
 pub mod Options
 pub mod RowLists

@@ -6,3 +6,4 @@ pub mod Line
 pub mod Output
 pub mod Reading
 pub mod Answers
+pub mod Command

@@ -1,5 +1,5 @@
 -- The sum of an array's present rows, wrapped to 32 bits.
-use Rattle.std.specs.Prelude.{◌≡◌, ◌+ℤ◌, ◌*ℤ◌, ◌^◌, ℤ, pos, FitsSigned, List, [], ◌∷◌}
+use Rattle.std.specs.Prelude.{◌≡◌, ◌+ℤ◌, ◌*◌, ◌^◌, ℕ, ℤ, pos, FitsSigned, List, [], ◌∷◌}
 use Rattle.std.specs.Int.{int_wrap, w32}
 use Rattle.polars_tables.specs.Row.{Row, Null, Int}
 
@@ -16,4 +16,4 @@ wrap n = int_wrap w32 n
 -- to wrap n is to give the one number of 32 bits that differs from n by a multiple of 2^32
 pub record IsWrapped (n wrapped : ℤ) : Type 0 where
   pub in_range : FitsSigned w32 wrapped
-  pub congruent : (k : ℤ) × (n ≡ wrapped +ℤ k *ℤ pos (2 ^ 32))
+  pub congruent : (j : ℕ) × (k : ℕ) × (wrapped +ℤ pos (j * 2 ^ 32) ≡ n +ℤ pos (k * 2 ^ 32))

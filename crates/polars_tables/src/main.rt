@@ -1,14 +1,54 @@
 //! Reads lines such as `eq_missing i32 1 null | 1 null`, and answers each with a line.
 #![tactic(auto)]
 
+use crate::arguments::command;
+use crate::program::{Command, exit_status, fault_text};
+use crate::running::{RunError, run};
+use std::env;
+use std::io;
+use std::process::ExitCode;
+use std::rt::Env;
+
 mod answers;
+pub mod arguments;
 mod bitmap;
 mod equality;
-mod line;
+pub mod line;
 mod operation;
 mod primitive;
-mod running;
+pub mod program;
+pub mod running;
 mod sum;
 mod words;
 
-fn main() {}
+/// The words after the program's name.
+fn read_arguments<R: Env + AllocGlobal>(rt: &R) -> io::Result<Vec<String>> {
+    let mut words = Vec::new(rt.alloc());
+    for word in env::args(rt)?.skip(1) {
+        words.push(word)?;
+    }
+    Ok(words)
+}
+
+/// Answers standard input on standard output. A fault goes to standard error.
+fn answer_input(rt: &(impl Input + Print + Eprint + AllocGlobal)) -> u8 {
+    let outcome = run(rt.alloc(), &mut rt.reader(), &mut io::writer(rt));
+    if let Err(fault) = &outcome {
+        let _ = eprintln!(rt; "{}", fault_text(fault));
+    }
+    exit_status(&outcome)
+}
+
+fn main(rt: HostRuntime) -> ExitCode {
+    let Ok(words) = read_arguments(&rt) else {
+        let _ = eprintln!(rt; "{}", fault_text(&RunError::Memory));
+        return ExitCode::from(1);
+    };
+    match command(&words) {
+        Command::Lines => ExitCode::from(answer_input(&rt)),
+        Command::Demo | Command::Usage => {
+            let _ = eprintln!(rt; "usage: polars_tables [demo]");
+            ExitCode::from(2)
+        }
+    }
+}

@@ -3,7 +3,7 @@
 ghost use Rattle.std.specs.Prelude.{◌≡◌, ◌+ℤ◌, pos, length, map};
 ghost use Rattle.std.specs.List.{zip};
 ghost use Rattle.polars_tables.specs.Row.{rows, row_under, rows_under, Int};
-ghost use Rattle.polars_tables.specs.Sum.{total, wrap};
+ghost use Rattle.polars_tables.specs.Sum.{total, wrap, IsWrapped};
 
 use crate::primitive::PrimitiveArray;
 
@@ -37,12 +37,19 @@ fn sum_where(present: &[bool], values: &[i32]) -> i32
     sum
 }
 
-/// The sum of the present rows wrapped to 32 bits, 0 without one.
-pub fn wrapping_sum_arr(array: &PrimitiveArray) -> i32
+fn present_sum(array: &PrimitiveArray) -> i32
     ensures { result ≡ wrap (total (rows array.now)) }
 {
     match array.validity() {
         Some(present) => sum_where(present.as_slice(), array.values()),
         None => sum_of(array.values()),
     }
+}
+
+/// The sum of the present rows wrapped to 32 bits, 0 without one.
+pub fn wrapping_sum_arr(array: &PrimitiveArray) -> i32
+    ensures sum { result ≡ wrap (total (rows array.now)) }
+    ensures wrapped { IsWrapped (total (rows array.now)) result }
+{
+    present_sum(array)
 }

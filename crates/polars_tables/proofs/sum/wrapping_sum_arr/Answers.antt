@@ -1,18 +1,13 @@
-use Rattle.std.proofs.Common.{◌≡◌, ◌∙◌, List, ap, sym, arith}
-use Rattle.std.specs.Prelude.{Bool, Option}
-use Rattle.polars_tables.specs.Row.{rows, rows_under}
-use Rattle.polars_tables.specs.Sum.{total, wrap}
+use Rattle.std.proofs.Common.{◌≡◌, sym, subst, arith, to_z, of_z, w32}
+use Rattle.std.specs.Prelude.{ℤ}
 use Rattle.std.proofs.lemmas.Int.{to_z-of_z}
+use Rattle.polars_tables.specs.Row.{rows}
+use Rattle.polars_tables.specs.Sum.{total, wrap, IsWrapped}
+use Rattle.polars_tables.proofs.Wraps.{wrap_is_wrapped}
 use Rattle.polars_tables.proofs.sum.wrapping_sum_arr.Goals as goal
 
-pub returns-in-Some : goal.returns-in-Some
-returns-in-Some c =
-    let e = rw (c.as_slice.ensures, c.values.ensures) at c.sum_where.ensures in
-    let v = ap (λ (v : Option (List Bool)). wrap (total (rows_under v c.args.array.now.values))) c.validity.ensures.mask in
-    grind (arith, to_z-of_z)
-
-pub returns-in-None : goal.returns-in-None
-returns-in-None c =
-    let e = rw c.values-in-None.ensures at c.sum_of.ensures in
-    let v = ap (λ (v : Option (List Bool)). wrap (total (rows_under v c.args.array.now.values))) c.validity.ensures.mask in
-    grind (arith, to_z-of_z)
+pub returns-clause-wrapped : goal.returns-clause-wrapped
+returns-clause-wrapped c =
+    let t : ℤ = total (rows c.args.array.now) in
+    let e : to_z w32 (of_z w32 c.present_sum.result) ≡ wrap t = grind (arith, to_z-of_z) in
+    subst (IsWrapped t) (sym e) (wrap_is_wrapped t)
