@@ -11,3 +11,4 @@ pub mod Lists
 pub mod Known
 pub mod Cuts
 pub mod Texts
+pub mod Examples

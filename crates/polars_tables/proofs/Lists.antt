@@ -33,10 +33,10 @@ missing_is left right bits e m =
     let long : length (missing_equality left right) ≡ length left = length-combine same_row left right (sym e) in
     ext_get_or false bits (missing_equality left right) (m.size ∙ sym long)
     (λ i h.
-      let below : i < length left = omega (arith, m.size) in
-      let test = combine-at same_row left right i Null Null false below (omega arith) in
-      same_truth (slice_index_or bits i false) (slice_index_or (missing_equality left right) i false) (row left i ≡ row right i) (m.at_each i below)
-      (rw test (same_row-decides (row left i) (row right i))))
+    let below : i < length left = omega (arith, m.size) in
+    let test = combine-at same_row left right i Null Null false below (omega arith) in
+    same_truth (slice_index_or bits i false) (slice_index_or (missing_equality left right) i false) (row left i ≡ row right i) (m.at_each i below)
+    (rw test (same_row-decides (row left i) (row right i))))
 
 -- a list of two elements
 pub two : {A : Type 0} (xs : List A) (a b : A) → 2 ≤ length xs → length xs < 3 → a ≡ get_or xs 0 a → b ≡ get_or xs 1 b → xs ≡ a ∷ b ∷ []

@@ -52,12 +52,7 @@ impl Bitmap {
 
     /// Place by place `(q & l & r) | !(l | r)`: the bit of `q` where both `l` and `r` are set, and a
     /// set bit where neither is.
-    pub fn merge_eq(
-        alloc: Global,
-        q: &Bitmap,
-        l: &Bitmap,
-        r: &Bitmap,
-    ) -> Result<Bitmap, AllocError>
+    pub fn merge_eq(alloc: Global, q: &Bitmap, l: &Bitmap, r: &Bitmap) -> Result<Bitmap, AllocError>
         requires left { length l.now ≡ length q.now }
         requires right { length r.now ≡ length q.now }
         ensures { IfOk result (λ b. b

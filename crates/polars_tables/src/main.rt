@@ -4,10 +4,9 @@
 use crate::arguments::command;
 use crate::program::{Command, exit_status, fault_text};
 use crate::running::{RunError, run};
-use std::env;
-use std::io;
 use std::process::ExitCode;
 use std::rt::Env;
+use std::{env, io};
 
 mod answers;
 pub mod arguments;
@@ -19,6 +18,8 @@ mod primitive;
 pub mod program;
 pub mod running;
 mod sum;
+#[cfg(test)]
+mod tests;
 mod words;
 
 /// The words after the program's name.

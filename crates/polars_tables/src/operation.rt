@@ -1,7 +1,6 @@
 //! The operations of the line language.
 
 ghost use Rattle.std.specs.Prelude.{◌≡◌, map, IfOk, IfErr, ◌⊎◌};
-
 ghost use Rattle.polars_tables.specs.Line.{operation_of};
 
 /// What a line asks for.

@@ -34,7 +34,10 @@ pub struct LengthError;
 
 impl PrimitiveArray {
     /// The array of these values, with a validity bit for each where a validity is given.
-    pub fn try_new(values: Vec<i32>, validity: Option<Bitmap>) -> Result<PrimitiveArray, LengthError>
+    pub fn try_new(
+        values: Vec<i32>,
+        validity: Option<Bitmap>,
+    ) -> Result<PrimitiveArray, LengthError>
         ensures { OkIff result (HasBits (length values.items) validity)
             (record { values = values.items; validity = validity }) }
     {

@@ -132,7 +132,12 @@ fn answer_bytes(alloc: Global, line: &[u8]) -> Result<String, LineError>
 }
 
 /// Adds the refusal of a line to the text.
-fn push_refusal(alloc: Global, text: &mut String, number: u64, fault: &LineError) -> Result<(), AllocError>
+fn push_refusal(
+    alloc: Global,
+    text: &mut String,
+    number: u64,
+    fault: &LineError,
+) -> Result<(), AllocError>
     ensures { OnOk result (string_bytes text.new ≡ string_bytes text.old ++ refusal number fault.now) }
 {
     let digits = number.to_string(alloc)?;

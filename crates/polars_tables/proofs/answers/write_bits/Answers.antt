@@ -8,7 +8,7 @@ pub loop-i-preserved : goal.loop-i-preserved
 loop-i-preserved c =
     elim c.if-i-gt0.branch [
       | then-i-gt0+in_ok-push_str w ↦
-        words_more _ _ c.loop-i.i _ _ _ _ c.as_slice-bit-items.ensures c.loop-i-test.true w.if-i-gt0.true c.loop-i.invariant (ap string_bytes w.text-is ∙ w.in_ok-push_str.ensures.bytes) c.truth_word.ensures c.in_ok-push_str-2.ensures.bytes
+          words_more _ _ c.loop-i.i _ _ _ _ c.as_slice-bit-items.ensures c.loop-i-test.true w.if-i-gt0.true c.loop-i.invariant (ap string_bytes w.text-is ∙ w.in_ok-push_str.ensures.bytes) c.truth_word.ensures c.in_ok-push_str-2.ensures.bytes
       | else-i-gt0 w ↦
-        words_first _ _ c.loop-i.i _ _ _ c.as_slice-bit-items.ensures c.loop-i-test.true (omega (arith, w.if-i-gt0.false)) (ap string_bytes w.text-is ∙ c.loop-i.invariant) c.truth_word.ensures c.in_ok-push_str-2.ensures.bytes
+          words_first _ _ c.loop-i.i _ _ _ c.as_slice-bit-items.ensures c.loop-i-test.true (omega (arith, w.if-i-gt0.false)) (ap string_bytes w.text-is ∙ c.loop-i.invariant) c.truth_word.ensures c.in_ok-push_str-2.ensures.bytes
     ]

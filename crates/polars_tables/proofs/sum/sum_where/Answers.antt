@@ -10,11 +10,11 @@ use Rattle.polars_tables.proofs.sum.sum_where.Goals.{then-present-i, else-presen
 pub loop-i-preserved : goal.loop-i-preserved
 loop-i-preserved c = elim c.if-present-i.branch [
   | then-present-i w ↦
-    let more = sum_present_more c.args.present.now c.args.values.now c.loop-i.i _ c.requires c.loop-i-test.true c.loop-i.invariant w.if-present-i.true in
-    grind (arith, to_z-of_z)
+      let more = sum_present_more c.args.present.now c.args.values.now c.loop-i.i _ c.requires c.loop-i-test.true c.loop-i.invariant w.if-present-i.true in
+      grind (arith, to_z-of_z)
   | else-present-i w ↦
-    let more = sum_null_more c.args.present.now c.args.values.now c.loop-i.i _ c.requires c.loop-i-test.true c.loop-i.invariant w.if-present-i.false in
-    grind (arith, to_z-of_z)
+      let more = sum_null_more c.args.present.now c.args.values.now c.loop-i.i _ c.requires c.loop-i-test.true c.loop-i.invariant w.if-present-i.false in
+      grind (arith, to_z-of_z)
 ]
 
 pub returns : goal.returns
