@@ -60,10 +60,15 @@ impl Write for SlowWriter {
     }
 }
 
+/// An empty writer with room for the output of a test, so that writing takes no memory.
+fn make_writer(rt: &impl Abort, alloc: Global) -> Vec<u8> {
+    Vec::with_capacity(alloc, 256).expect(rt, "room for a test's output")
+}
+
 /// The input is answered by this text, with this report.
 fn expect_output(rt: &impl Abort, alloc: Global, input: &[u8], text: &str, counts: (u64, u64)) {
     let mut reader = input;
-    let mut written = Vec::new(alloc);
+    let mut written = make_writer(rt, alloc);
     let outcome = run(alloc, &mut reader, &mut written);
     let (lines, refused) = counts;
     assert_eq!(rt; outcome, Ok(Report { lines, refused }));
@@ -164,7 +169,7 @@ fn runs_in_pieces(rt: HostRuntime) {
         reads: 100,
     };
     let mut writer = SlowWriter {
-        taken: Vec::new(rt.alloc()),
+        taken: make_writer(&rt, rt.alloc()),
         writes: 100,
     };
     let outcome = run(rt.alloc(), &mut reader, &mut writer);
@@ -185,7 +190,7 @@ fn tells_failed_reads(rt: HostRuntime) {
             bytes: b"sum i32 1\n",
             reads,
         };
-        let mut written = Vec::new(rt.alloc());
+        let mut written = make_writer(&rt, rt.alloc());
         let outcome = run(rt.alloc(), &mut reader, &mut written);
         assert_eq!(rt; outcome, Err(RunError::Read));
         assert!(rt; written.is_empty());
@@ -197,7 +202,7 @@ fn tells_failed_writes(rt: HostRuntime) {
     for writes in 0..2 {
         let mut reader: &[u8] = b"sum i32 1\n";
         let mut writer = SlowWriter {
-            taken: Vec::new(rt.alloc()),
+            taken: make_writer(&rt, rt.alloc()),
             writes,
         };
         let outcome = run(rt.alloc(), &mut reader, &mut writer);
