@@ -1,0 +1,24 @@
+-- Worked examples of the definitions: the check computes both sides of each.
+use Rattle.std.specs.Prelude.{◌≡◌, ℕ, Bool, true, false, List, [], ◌∷◌, ◌^◌, refl}
+use Rattle.polars_arrays_bits.specs.Bits.{bit_of, window, zip3}
+use Rattle.polars_arrays_bits.specs.Logic.{xor, merged_eq, merged_ne}
+
+-- 9 has the bits 0 and 3, and the lowest bit of the second word is bit 64
+bit-in_second : bit_of (9 ∷ 1 ∷ []) 64 ≡ true
+bit-in_second = refl
+
+window-inside : window (9 ∷ 1 ∷ []) 3 2 ≡ true ∷ false ∷ []
+window-inside = refl
+
+window-across : window (2 ^ 63 ∷ 1 ∷ []) 62 4 ≡ false ∷ true ∷ true ∷ false ∷ []
+window-across = refl
+
+-- equal and present, two nulls, a null against a value, unequal
+merged_eq-rows : zip3 merged_eq (true ∷ false ∷ true ∷ false ∷ []) (true ∷ false ∷ true ∷ true ∷ []) (true ∷ false ∷ false ∷ true ∷ []) ≡ true ∷ true ∷ false ∷ false ∷ []
+merged_eq-rows = refl
+
+merged_ne-rows : zip3 merged_ne (false ∷ true ∷ false ∷ true ∷ []) (true ∷ false ∷ true ∷ true ∷ []) (true ∷ false ∷ false ∷ true ∷ []) ≡ false ∷ false ∷ true ∷ true ∷ []
+merged_ne-rows = refl
+
+xor-of_same : xor true true ≡ false
+xor-of_same = refl

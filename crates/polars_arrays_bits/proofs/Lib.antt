@@ -1,0 +1,12 @@
+pub mod BufferWindows
+pub mod Counts
+pub mod Drafts
+pub mod Firsts
+pub mod Joins
+pub mod OperatorBits
+pub mod Packs
+pub mod SingleBits
+pub mod Windows
+pub mod WrittenBits
+pub mod Pairs
+pub mod Examples

@@ -1,0 +1,13 @@
+use Rattle.std.proofs.Common.{◌+◌, arith, length, ap, ◌∙◌}
+use Rattle.polars_arrays_bits.specs.Bits.{bit_of}
+use Rattle.polars_arrays_bits.proofs.Windows.{length_is, bit-read}
+use Rattle.polars_arrays_bits.proofs.mutable_bitmap.MutableBitmap.get.Goals as goal
+
+pub bit_from-requires-clause-within : goal.bit_from-requires-clause-within
+bit_from-requires-clause-within c =
+    omega (arith, length_is _ c.self.inside.len c.args.self.now c.self.view_is, ap length c.as_slice.ensures.value, c.self.invariant)
+
+pub returns : goal.returns
+returns c =
+    bit-read c.self.inside.words.items 0 c.self.inside.len c.args.i c.args.self.now c.bit_from.result c.self.view_is c.requires
+    (c.bit_from.ensures ∙ ap (λ ws. bit_of ws (0 + c.args.i)) c.as_slice.ensures.value)

@@ -1,0 +1,46 @@
+-- Truth values packed into words of 64 bits, as in the Arrow layout: the lowest bit of the first word first.
+use Rattle.std.specs.Prelude.{◌≡◌, ℕ, ◌+◌, ◌*◌, ◌/◌, ◌%◌, ◌^◌, ◌<◌, ◌≤◌, Bool, eqb, List, [], ◌∷◌, length, get_or, map, count_by}
+use Rattle.std.specs.List.{range_with_len}
+
+-- whether bit i of a word is 1, counted from the lowest
+abbrev pub is_bit : ℕ → ℕ → Bool
+is_bit word i = eqb (word / 2 ^ i % 2) 1
+
+-- bit p of words
+abbrev pub bit_of : List ℕ → ℕ → Bool
+bit_of words p = is_bit (get_or words (p / 64) 0) (p % 64)
+
+-- the first n truth values that f gives
+abbrev pub first_of : (ℕ → Bool) → ℕ → List Bool
+first_of f n = map f (range_with_len 0 n)
+
+-- n bits of words from bit `at` on
+abbrev pub window : List ℕ → ℕ → ℕ → List Bool
+window words at n = first_of (λ i. bit_of words (at + i)) n
+
+-- the bits of a word are 64 values of f, from the k-th 64 on
+pub record IsWord (f : ℕ → Bool) (k word : ℕ) : Type 0 where
+  pub bits : (i : ℕ) → i < 64 → is_bit word i ≡ f (64 * k + i)
+
+-- n words whose bits are the values of f
+pub record AreWords (f : ℕ → Bool) (n : ℕ) (words : List ℕ) : Type 0 where
+  pub count : length words ≡ n
+  pub each : (k : ℕ) → k < n → IsWord f k (get_or words k 0)
+
+-- f of the elements at each place of three lists, as far as all three go
+abbrev pub zip3 : (Bool → Bool → Bool → Bool) → List Bool → List Bool → List Bool → List Bool
+zip3 f [] ys zs = []
+zip3 f (x ∷ xs) [] zs = []
+zip3 f (x ∷ xs) (y ∷ ys) [] = []
+zip3 f (x ∷ xs) (y ∷ ys) (z ∷ zs) = f x y z ∷ zip3 f xs ys zs
+
+-- how many of the first n values that f gives are true
+abbrev pub true_count : (ℕ → Bool) → ℕ → ℕ
+true_count f n = count_by (λ b. b) (first_of f n)
+
+-- the new words have `value` from bit `from` up to `to`, and elsewhere the bits of the old ones
+pub record IsWritten (old new : List ℕ) (from to : ℕ) (value : Bool) : Type 0 where
+  pub count : length new ≡ length old
+  pub within : (p : ℕ) → from ≤ p → p < to → bit_of new p ≡ value
+  pub below : (p : ℕ) → p < from → bit_of new p ≡ bit_of old p
+  pub above : (p : ℕ) → to ≤ p → bit_of new p ≡ bit_of old p

@@ -1,0 +1,15 @@
+-- What a buffer ends as, once its elements were lent to be written.
+use Rattle.std.specs.Prelude.{List, length}
+use Rattle.std.specs.Borrow.{Fml, RattleType, MutBor, Array, Lends}
+use Rattle.std.specs.List.{refill}
+use Rattle.polars_arrays_bits.specs.Buffer.{Elements}
+use Rattle.polars_arrays_bits.specs.contracts.buffer.Buffer.{the_row}
+
+-- b with ws as its elements, as many as b has
+abbrev pub with_elements : {A : Type 0} → Elements A → List A → Elements A
+with_elements b ws = record { items = refill (length b.items) b.items ws; owned = b.owned }
+
+module _ (T : RattleType) (b : MutBor (Elements T.Denot)) where
+  -- the elements are the last ones written through r
+  abbrev pub lends_elements : MutBor (List T.Denot) → Fml
+  lends_elements r = Lends (the_row T) (Array T 0) b r (with_elements b.now)

@@ -1,0 +1,14 @@
+-- Operators on single truth values.
+use Rattle.std.specs.Prelude.{Bool, not, ◌&&◌, ◌||◌}
+
+-- exactly one of the two
+abbrev pub xor : Bool → Bool → Bool
+xor a b = (a && not b) || (not a && b)
+
+-- two rows are equal, null to null alone, where q says whether their values are equal and l and r whether they are present
+abbrev pub merged_eq : Bool → Bool → Bool → Bool
+merged_eq q l r = ((q && l) && r) || not (l || r)
+
+-- two rows are unequal, null to all but null, where q says whether their values are unequal and l and r whether they are present
+abbrev pub merged_ne : Bool → Bool → Bool → Bool
+merged_ne q l r = ((q && l) && r) || xor l r

@@ -1,0 +1,17 @@
+-- What a store ends as, once a window of it was lent to be written.
+use Rattle.std.specs.Prelude.{ℕ, List}
+use Rattle.std.specs.Borrow.{Fml, RattleType, MutBor, Array, Lends}
+use Rattle.std.specs.Vec.{with_items_from}
+use Rattle.polars_arrays_bits.specs.declared.buffer.Store.{Store}
+use Rattle.polars_arrays_bits.specs.declared.buffer.Store.TheVariants.{Owned, Shared}
+use Rattle.polars_arrays_bits.specs.contracts.buffer.Store.{the_row}
+
+-- a vector with ws written over its elements from `start` on
+abbrev pub written_from : {A : Type 0} → Store A → ℕ → List A → Store A
+written_from (Owned elements) start ws = Owned (with_items_from elements start ws)
+written_from (Shared elements) start ws = Shared elements
+
+module _ (T : RattleType) (s : MutBor (Store T.Denot)) where
+  -- the elements from `start` on are the last ones written through r
+  abbrev pub lends_window : ℕ → MutBor (List T.Denot) → Fml
+  lends_window start r = Lends (the_row T) (Array T 0) s r (written_from s.now start)

@@ -1,0 +1,74 @@
+//! Packed truth values that are borrowed.
+
+ghost use Rattle.std.specs.Prelude.{◌≡◌, ◌+◌, ◌<◌, ◌≤◌, not, length, take, drop, count_by, slice_get};
+
+use crate::bitmap::Bitmap;
+use crate::source::count_window;
+use crate::words::{bit_from, place_of};
+use std::marker::Model;
+
+/// A window of a bitmap that is borrowed.
+#[derive(Drop)]
+pub struct BitMask<'a> {
+    words: &'a [u64],
+    // where the window begins in the first word
+    at: usize,
+    len: usize,
+}
+
+impl<'a> Model for BitMask<'a> {
+    ghost use Rattle.std.specs.Prelude.{◌+◌, ◌*◌, ◌<◌, ◌≤◌, Bool, List, length};
+    ghost use Rattle.polars_arrays_bits.specs.Bits.{window};
+
+    ghost Value = { List Bool };
+
+    ghost view = { λ m. window m.words.now m.at m.len };
+
+    ghost invariant = { λ m. (m.at < 64) × (m.at + m.len ≤ 64 * length m.words.now) };
+}
+
+impl<'a> BitMask<'a> {
+    /// All bits of a bitmap.
+    pub fn from_bitmap(bitmap: &'a Bitmap) -> BitMask<'a>
+        ensures { result ≡ bitmap.now }
+    {
+        let (words, at) = bitmap.packed();
+        let len = bitmap.len();
+        BitMask { words, at, len }
+    }
+
+    /// The `n` bits from `at` on.
+    pub fn window(&self, at: usize, n: usize) -> BitMask<'a>
+        requires { at + n ≤ length self.now }
+        ensures { result ≡ take n (drop at self.now) }
+    {
+        let place = place_of(self.at, at, n);
+        BitMask {
+            words: place.words_of(self.words),
+            at: place.by,
+            len: n,
+        }
+    }
+
+    /// How many bits there are.
+    pub fn len(&self) -> usize
+        ensures { result ≡ length self.now }
+    {
+        self.len
+    }
+
+    /// Bit `i`.
+    pub fn get(&self, i: usize) -> bool
+        requires { i < length self.now }
+        ensures { slice_get self.now i ≡ Some result }
+    {
+        bit_from(self.words, self.at, i)
+    }
+
+    /// How many bits are false.
+    pub fn unset_bits(&self) -> usize
+        ensures { result ≡ count_by not self.now }
+    {
+        self.len - count_window(self.words, self.at, self.len)
+    }
+}

@@ -1,0 +1,175 @@
+//! Packed truth values that are read.
+
+ghost use Rattle.std.specs.Prelude.{◌≡◌, ℕ, ◌+◌, ◌*◌, ◌/◌, ◌%◌, ◌<◌, ◌≤◌, Bool, false, List, length, take, drop, get_or, slice_get, vec_len, replicate, MatchResult};
+ghost use Rattle.polars_arrays_bits.specs.Bits.{is_bit, first_of, window};
+ghost use Rattle.polars_arrays_bits.specs.Errors.{IsMemory};
+
+mod counts;
+mod logic;
+
+use crate::buffer::Buffer;
+use crate::error::ComputeError;
+use crate::packing::{Bools, Packed, TruthValues};
+use crate::source::{BitSource, collect_words};
+use crate::words::{WORD_BITS, bit_from, filled_word, place_of};
+use std::alloc::Global;
+use std::marker::Model;
+
+/// A list of truth values, packed into words of 64 bits as in the Arrow layout. Slices and clones of a
+/// shared bitmap have its words.
+#[derive(Drop)]
+pub struct Bitmap {
+    // bits outside the window mean nothing
+    words: Buffer<u64>,
+    // where the window begins in the first word
+    at: usize,
+    len: usize,
+}
+
+impl Model for Bitmap {
+    ghost use Rattle.std.specs.Prelude.{◌+◌, ◌*◌, ◌<◌, ◌≤◌, Bool, List, length};
+    ghost use Rattle.polars_arrays_bits.specs.Bits.{window};
+
+    ghost Value = { List Bool };
+
+    ghost view = { λ b. window b.words.items b.at b.len };
+
+    ghost invariant = { λ b. (b.at < 64) × (b.at + b.len ≤ 64 * length b.words.items) };
+}
+
+impl Bitmap {
+    /// `len` bits that are all false. The error is `Memory`.
+    pub fn new_zeroed(alloc: Global, len: usize) -> Result<Bitmap, ComputeError>
+        ensures { MatchResult result (λ bits. bits ≡ replicate len false) IsMemory }
+    {
+        Bitmap::new_with_value(alloc, false, len)
+    }
+
+    /// `len` bits that are all `value`. The error is `Memory`.
+    pub fn new_with_value(alloc: Global, value: bool, len: usize) -> Result<Bitmap, ComputeError>
+        ensures { MatchResult result (λ bits. bits ≡ replicate len value) IsMemory }
+    {
+        let words = vec![in alloc; filled_word(value); len.div_ceil(WORD_BITS)]?;
+        Ok(Bitmap::from_vec(words, len))
+    }
+
+    /// The truth values of a slice. The error is `Memory`.
+    pub fn from_bools(alloc: Global, values: &[bool]) -> Result<Bitmap, ComputeError>
+        ensures { MatchResult result (λ bits. bits ≡ values.now) IsMemory }
+    {
+        Bitmap::from_values(alloc, &Bools { values })
+    }
+
+    /// Truth values that are asked for one by one. The error is `Memory`.
+    pub fn from_values<V: TruthValues>(alloc: Global, values: &V) -> Result<Bitmap, ComputeError>
+        ensures { MatchResult result (λ bits. bits ≡ V.values values.now) IsMemory }
+    {
+        let source = Packed { values };
+        Bitmap::from_source(alloc, &source, values.len())
+    }
+
+    // The first `len` bits of a source.
+    fn from_source<S: BitSource>(
+        alloc: Global,
+        source: &S,
+        len: usize,
+    ) -> Result<Bitmap, ComputeError>
+        ensures { MatchResult result (λ bits. bits ≡ first_of (S.bit source.now) len) IsMemory }
+    {
+        let words = collect_words(alloc, source, len.div_ceil(WORD_BITS))?;
+        Ok(Bitmap::from_vec(words, len))
+    }
+
+    /// The `n` bits from bit `at` on of words of 64 bits: bit `i` is bit `(at + i) % 64`, from the lowest,
+    /// of word `(at + i) / 64` (the Arrow layout).
+    pub fn from_words(words: Buffer<u64>, at: usize, n: usize) -> Bitmap
+        requires { at + n ≤ 64 * length words.items }
+        ensures len { length result ≡ n }
+        ensures bits { (i : ℕ) → i < n → get_or result i false ≡ is_bit (get_or words.items ((at + i) / 64) 0) ((at + i) % 64) }
+    {
+        let place = place_of(0, at, n);
+        let mut words = words;
+        words.slice(place.first, place.count);
+        Bitmap {
+            words,
+            at: place.by,
+            len: n,
+        }
+    }
+
+    /// How many bits there are.
+    pub fn len(&self) -> usize
+        ensures { result ≡ length self.now }
+    {
+        self.len
+    }
+
+    /// Bit `i`.
+    pub fn get_bit(&self, i: usize) -> bool
+        requires { i < length self.now }
+        ensures { slice_get self.now i ≡ Some result }
+    {
+        bit_from(self.words.as_slice(), self.at, i)
+    }
+
+    /// Bit `i`, or None past the end.
+    pub fn get(&self, i: usize) -> Option<bool>
+        ensures { result ≡ slice_get self.now i }
+    {
+        if i < self.len() {
+            Some(self.get_bit(i))
+        } else {
+            None
+        }
+    }
+
+    /// Keeps `n` bits from `at` on. No bit moves.
+    pub fn slice(&mut self, at: usize, n: usize)
+        requires { at + n ≤ length self.old }
+        ensures { self.new ≡ take n (drop at self.old) }
+    {
+        let place = place_of(self.at, at, n);
+        self.words.slice(place.first, place.count);
+        self.at = place.by;
+        self.len = n;
+    }
+
+    /// The same bits, from now on in words that clones share. No word moves. The error is `Memory`.
+    pub fn share(self, alloc: Global) -> Result<Bitmap, ComputeError>
+        ensures { MatchResult result (λ shared. shared ≡ self) IsMemory }
+    {
+        let Bitmap { words, at, len } = self;
+        let words = words.share(alloc)?;
+        Ok(Bitmap { words, at, len })
+    }
+
+    /// A second bitmap of the same bits, in the very words where these are shared. The error is `Memory`.
+    pub fn clone_bitmap(&self, alloc: Global) -> Result<Bitmap, ComputeError>
+        ensures { MatchResult result (λ copy. copy ≡ self.now) IsMemory }
+    {
+        let words = self.words.clone_buffer(alloc)?;
+        Ok(Bitmap {
+            words,
+            at: self.at,
+            len: self.len,
+        })
+    }
+
+    // The first `len` bits of words.
+    pub(crate) fn from_vec(words: Vec<u64>, len: usize) -> Bitmap
+        requires { len ≤ 64 * vec_len words }
+        ensures { result ≡ window words.items 0 len }
+    {
+        let words = Buffer::from_vec(words);
+        Bitmap { words, at: 0, len }
+    }
+
+    // The words of the window, and where it begins in the first.
+    pub(crate) fn packed(&self) -> (&[u64], usize)
+        ensures begin { result.1 < 64 }
+        ensures within { result.1 + length self.now ≤ 64 * length result.0.now }
+        ensures bits { window result.0.now result.1 (length self.now) ≡ self.now }
+    {
+        (self.words.as_slice(), self.at)
+    }
+}

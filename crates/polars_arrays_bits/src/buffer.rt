@@ -1,0 +1,165 @@
+//! Elements that are kept in one piece of memory, owned or shared.
+
+ghost use Rattle.std.specs.Prelude.{◌≡◌, ◌+◌, ◌≤◌, ◌↔◌, List, Bool, true, false, IsTrue, IsSome, IfSome, MatchResult, take, drop, length};
+ghost use Rattle.std.specs.Borrow.{sem};
+ghost use Rattle.polars_arrays_bits.specs.Errors.{IsMemory};
+
+use crate::error::ComputeError;
+use std::alloc::Global;
+use std::marker::Model;
+use std::rc::RcSlice;
+
+/// Where the elements of a buffer lie.
+#[derive(Drop)]
+enum Store<T: Copy> {
+    Owned(Vec<T>),
+    Shared(RcSlice<T>),
+}
+
+impl<T: Copy> Store<T> {
+    ghost use Rattle.polars_arrays_bits.specs.Buffer.{stored, is_vector};
+    ghost use Rattle.polars_arrays_bits.specs.StoreLends.{lends_window};
+
+    // The elements of a window of a vector, to be written.
+    fn window_mut(&mut self, start: usize, len: usize) -> &mut [T]
+        requires vector { IsTrue (is_vector self.old) }
+        requires within { start + len ≤ length (stored self.old) }
+        ensures* written { sem 𝓛 (lends_window T.row self.entry start result) }
+        ensures items { result.now ≡ take len (drop start (stored self.old)) }
+    {
+        match self {
+            Store::Owned(elements) => elements.slice_mut(start..start + len),
+            Store::Shared(_) => unreachable!(),
+        }
+    }
+}
+
+/// A window of elements that one buffer owns, or that buffers of one thread share.
+#[derive(Drop)]
+pub struct Buffer<T: Copy> {
+    store: Store<T>,
+    start: usize,
+    len: usize,
+}
+
+impl<T: Copy> Model for Buffer<T> {
+    ghost use Rattle.std.specs.Prelude.{◌+◌, ◌≤◌, length, take, drop};
+    ghost use Rattle.polars_arrays_bits.specs.Buffer.{Elements, elements_code, stored, is_vector};
+
+    ghost Value = { Elements T };
+
+    ghost coded = { elements_code T.code };
+
+    ghost view = { λ b. record { items = take b.len (drop b.start (stored b.store)); owned = is_vector b.store } };
+
+    ghost invariant = { λ b. b.start + b.len ≤ length (stored b.store) };
+}
+
+impl<T: Copy> Buffer<T> {
+    ghost use Rattle.polars_arrays_bits.specs.BufferLends.{lends_elements};
+
+    /// The elements of a vector, owned.
+    pub fn from_vec(elements: Vec<T>) -> Buffer<T>
+        ensures { result ≡ record { items = elements.items; owned = true } }
+    {
+        let len = elements.len();
+        Buffer {
+            store: Store::Owned(elements),
+            start: 0,
+            len,
+        }
+    }
+
+    /// How many elements there are.
+    pub fn len(&self) -> usize
+        ensures { result ≡ length self.now.items }
+    {
+        self.len
+    }
+
+    /// The elements.
+    pub fn as_slice(&self) -> &[T]
+        ensures { result.now ≡ self.now.items }
+    {
+        let all = match &self.store {
+            Store::Owned(elements) => elements.as_slice(),
+            Store::Shared(elements) => elements.as_slice(),
+        };
+        &all[self.start..self.start + self.len]
+    }
+
+    /// Keeps `n` elements from `at` on. No element moves.
+    pub fn slice(&mut self, at: usize, n: usize)
+        requires { at + n ≤ length self.old.items }
+        ensures { self.new ≡ record { items = take n (drop at self.old.items); owned = self.old.owned } }
+    {
+        self.start += at;
+        self.len = n;
+    }
+
+    /// Whether the buffer owns its elements, and so may write them. A shared one never does again.
+    pub fn is_owned(&self) -> bool
+        ensures { result ≡ self.now.owned }
+    {
+        matches!(&self.store, Store::Owned(_))
+    }
+
+    /// The elements to be written, of a buffer that owns them.
+    pub fn as_mut_slice(&mut self) -> &mut [T]
+        requires { IsTrue self.old.owned }
+        ensures* written { sem 𝓛 (lends_elements T.row self.entry result) }
+        ensures items { result.now ≡ self.old.items }
+    {
+        self.store.window_mut(self.start, self.len)
+    }
+
+    /// The elements to be written, exactly where the buffer owns them. No clause says what the buffer holds
+    /// afterwards: where a proof needs this, ask `is_owned` and take `as_mut_slice`.
+    pub fn get_mut(&mut self) -> Option<&mut [T]>
+        ensures owned { IsSome result ↔ IsTrue self.old.owned }
+        ensures items { IfSome result (λ elements. elements.now ≡ self.old.items) }
+    {
+        if self.is_owned() {
+            Some(self.as_mut_slice())
+        } else {
+            None
+        }
+    }
+
+    /// The same elements, from now on in a slice that clones share. No element moves. The error is `Memory`.
+    pub fn share(self, _alloc: Global) -> Result<Buffer<T>, ComputeError>
+        ensures { MatchResult result (λ shared. shared ≡ record { items = self.items; owned = false }) IsMemory }
+    {
+        let Buffer { store, start, len } = self;
+        let elements = match store {
+            Store::Owned(elements) => RcSlice::from_vec(elements)?,
+            Store::Shared(elements) => elements,
+        };
+        Ok(Buffer {
+            store: Store::Shared(elements),
+            start,
+            len,
+        })
+    }
+
+    /// A second buffer of the same elements: a copy of owned ones, the very slice of shared ones. The error
+    /// is `Memory`.
+    pub fn clone_buffer(&self, alloc: Global) -> Result<Buffer<T>, ComputeError>
+        ensures { MatchResult result (λ copy. copy ≡ self.now) IsMemory }
+    {
+        match &self.store {
+            Store::Owned(_) => {
+                let elements = Vec::from_slice(alloc, self.as_slice())?;
+                Ok(Buffer::from_vec(elements))
+            }
+            Store::Shared(elements) => {
+                let elements = elements.clone()?;
+                Ok(Buffer {
+                    store: Store::Shared(elements),
+                    start: self.start,
+                    len: self.len,
+                })
+            }
+        }
+    }
+}

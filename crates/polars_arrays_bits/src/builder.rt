@@ -1,0 +1,95 @@
+//! Packed truth values that are pushed one after the other.
+
+ghost use Rattle.std.specs.Prelude.{◌≡◌, ◌+◌, ◌-◌, ◌<◌, ◌≤◌, [], ◌∷◌, ◌++◌, length, replicate, MatchResult};
+ghost use Rattle.polars_arrays_bits.specs.Errors.{IsMemory};
+
+use crate::bitmap::Bitmap;
+use crate::error::ComputeError;
+use crate::words::WORD_BITS;
+use crate::write::{fill_bits, write_bit};
+use std::alloc::Global;
+use std::marker::Model;
+
+/// A bitmap in the making, with room for so many bits more.
+#[derive(Drop)]
+pub struct BitmapBuilder {
+    // bits from `len` on mean nothing
+    words: Vec<u64>,
+    len: usize,
+    room: usize,
+}
+
+impl Model for BitmapBuilder {
+    ghost use Rattle.std.specs.Prelude.{◌+◌, ◌*◌, ◌^◌, ◌<◌, ◌≤◌, length};
+    ghost use Rattle.polars_arrays_bits.specs.Bits.{window};
+    ghost use Rattle.polars_arrays_bits.specs.Draft.{Draft};
+
+    ghost Value = { Draft };
+
+    ghost view = { λ b. record { bits = window b.words.items 0 b.len; room = b.room } };
+
+    ghost invariant = { λ b. (b.len + b.room ≤ 64 * length b.words.items) × (b.len + b.room < 2 ^ 64) };
+}
+
+impl BitmapBuilder {
+    /// No bits, with room for at least `n`. The error is `Memory`.
+    pub fn with_capacity(alloc: Global, n: usize) -> Result<BitmapBuilder, ComputeError>
+        ensures empty { MatchResult result (λ builder. builder.bits ≡ []) IsMemory }
+        ensures room { MatchResult result (λ builder. n ≤ builder.room) IsMemory }
+    {
+        let words = vec![in alloc; 0u64; n.div_ceil(WORD_BITS)]?;
+        Ok(BitmapBuilder {
+            words,
+            len: 0,
+            room: n,
+        })
+    }
+
+    /// How many bits were pushed.
+    pub fn len(&self) -> usize
+        ensures { result ≡ length self.now.bits }
+    {
+        self.len
+    }
+
+    /// How many bits more may be pushed.
+    pub fn room(&self) -> usize
+        ensures { result ≡ self.now.room }
+    {
+        self.room
+    }
+
+    /// Pushes one bit.
+    #[inline]
+    pub fn push_reserved(&mut self, value: bool)
+        requires { 0 < self.old.room }
+        ensures { self.new ≡ record { bits = self.old.bits ++ value ∷ []; room = self.old.room - 1 } }
+    {
+        write_bit(self.words.as_mut_slice(), self.len, value);
+        self.len += 1;
+        self.room -= 1;
+    }
+
+    /// Pushes `n` times the bit `value`, by whole words.
+    pub fn extend_constant(&mut self, n: usize, value: bool)
+        requires { n ≤ self.old.room }
+        ensures { self.new ≡ record { bits = self.old.bits ++ replicate n value; room = self.old.room - n } }
+    {
+        let end = self.len + n;
+        fill_bits(self.words.as_mut_slice(), self.len, end, value);
+        self.len = end;
+        self.room -= n;
+    }
+
+    /// The bits that were pushed.
+    pub fn freeze(self) -> Bitmap
+        ensures { result ≡ self.bits }
+    {
+        let BitmapBuilder {
+            words,
+            len,
+            room: _,
+        } = self;
+        Bitmap::from_vec(words, len)
+    }
+}

@@ -1,0 +1,8 @@
+-- How far a counter has counted.
+use Rattle.std.specs.Prelude.{ℕ, ◌+◌}
+use Rattle.polars_arrays_numbers.specs.declared.steps.Past.{Past, Start, After'}
+
+-- the sum of the numbers added
+abbrev pub count : Past → ℕ
+count Start = 0
+count (After' n _ before) = count before + n.value

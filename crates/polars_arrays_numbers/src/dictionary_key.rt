@@ -1,0 +1,60 @@
+//! The types of keys into a dictionary.
+ghost use Rattle.std.specs.Prelude.{◌≡◌};
+ghost use Rattle.polars_arrays_numbers.specs.Naturals.{natural_of};
+
+use crate::native_type::NativeType;
+
+/// A type of keys, of 8 to 64 bits, signed or not.
+pub trait DictionaryKey: NativeType {
+    /// The entry that the key names, or `None` where it is negative.
+    fn to_entry(self) -> Option<usize>
+        ensures { result ≡ natural_of (Self.value self) };
+}
+
+impl DictionaryKey for i8 {
+    fn to_entry(self) -> Option<usize> {
+        i64::from(self).to_entry()
+    }
+}
+
+impl DictionaryKey for i16 {
+    fn to_entry(self) -> Option<usize> {
+        i64::from(self).to_entry()
+    }
+}
+
+impl DictionaryKey for i32 {
+    fn to_entry(self) -> Option<usize> {
+        i64::from(self).to_entry()
+    }
+}
+
+impl DictionaryKey for i64 {
+    fn to_entry(self) -> Option<usize> {
+        usize::try_from(self).ok()
+    }
+}
+
+impl DictionaryKey for u8 {
+    fn to_entry(self) -> Option<usize> {
+        u64::from(self).to_entry()
+    }
+}
+
+impl DictionaryKey for u16 {
+    fn to_entry(self) -> Option<usize> {
+        u64::from(self).to_entry()
+    }
+}
+
+impl DictionaryKey for u32 {
+    fn to_entry(self) -> Option<usize> {
+        u64::from(self).to_entry()
+    }
+}
+
+impl DictionaryKey for u64 {
+    fn to_entry(self) -> Option<usize> {
+        Some(self as usize)
+    }
+}

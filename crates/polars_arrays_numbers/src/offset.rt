@@ -1,0 +1,24 @@
+//! The types of offsets into bytes or child rows.
+ghost use Rattle.std.specs.Prelude.{◌≡◌};
+ghost use Rattle.polars_arrays_numbers.specs.Naturals.{natural_of};
+
+use crate::native_type::NativeType;
+
+/// A type of offsets, as the Arrow layout has them: 32 or 64 bits, signed.
+pub trait Offset: NativeType {
+    /// The offset as a place, or `None` where it is negative.
+    fn to_place(self) -> Option<usize>
+        ensures { result ≡ natural_of (Self.value self) };
+}
+
+impl Offset for i32 {
+    fn to_place(self) -> Option<usize> {
+        i64::from(self).to_place()
+    }
+}
+
+impl Offset for i64 {
+    fn to_place(self) -> Option<usize> {
+        usize::try_from(self).ok()
+    }
+}

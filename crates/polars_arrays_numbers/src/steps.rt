@@ -1,0 +1,68 @@
+//! A counter of which contracts see the exact whole number, though it stops at `u64::MAX` when it
+//! runs.
+ghost use Rattle.std.specs.Prelude.{◌≡◌, ℕ, min, ◌+◌, ◌-◌, ◌^◌};
+
+use std::marker::Model;
+use std::snapshot::Snapshot;
+
+// The numbers added so far, the last one first. They exist only in proofs.
+#[derive(Drop)]
+enum Past {
+    Start,
+    After(Snapshot<usize>, Snapshot<Past>),
+}
+
+/// A counter, which a clause reads as the whole number that was counted.
+#[derive(Drop)]
+pub struct Steps {
+    seen: u64,
+    past: Past,
+}
+
+impl Model for Steps {
+    ghost use Rattle.std.specs.Prelude.{◌≡◌, ℕ, min, ◌-◌, ◌^◌};
+
+    ghost Value = { ℕ };
+
+    ghost use Rattle.polars_arrays_numbers.specs.Count.{count};
+
+    ghost view = { λ s. count s.past };
+
+    ghost invariant = { λ s. s.seen ≡ min (count s.past) (2 ^ 64 - 1) };
+}
+
+impl Steps {
+    /// A counter that has counted nothing.
+    pub fn new() -> Steps
+        ensures { result ≡ 0 }
+    {
+        Steps {
+            seen: 0,
+            past: Past::Start,
+        }
+    }
+
+    /// Counts `n` more, exactly, whatever `seen` can show of it.
+    pub fn add(&mut self, n: usize)
+        ensures { self.new ≡ self.old + n }
+    {
+        self.seen = self.seen.saturating_add(n as u64);
+        let before = Snapshot::of(&self.past);
+        self.past = Past::After(Snapshot::of(&n), before);
+    }
+
+    /// The count, and `u64::MAX` from there on.
+    pub fn seen(&self) -> u64
+        ensures { result ≡ min self.now (2 ^ 64 - 1) }
+    {
+        self.seen
+    }
+}
+
+impl Default for Steps {
+    ghost is_default = { λ s. s ≡ 0 };
+
+    fn default() -> Steps {
+        Steps::new()
+    }
+}
