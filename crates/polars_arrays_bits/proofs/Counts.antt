@@ -91,6 +91,26 @@ true_count-more f k word is fits =
     let next : 64 * (k + 1) ≡ 64 * k + 64 = omega arith in
     ap (true_count f) next ∙ true_count-rest f k 64 word is (omega arith) ∙ ap (λ x. true_count f (64 * k) + count_ones x) (mod_small word fits)
 
+-- four words more
+pub true_count-four :
+    (f : ℕ → Bool) (k a b c d : ℕ) → IsWord f k a → a < 2 ^ 64 → IsWord f (k + 1) b → b < 2 ^ 64 → IsWord f (k + 2) c → c < 2 ^ 64 → IsWord f (k + 3) d → d < 2 ^ 64 →
+    true_count f (64 * (k + 4)) ≡ true_count f (64 * k) + (count_ones a + count_ones b + count_ones c + count_ones d)
+true_count-four f k a b c d is_a fits_a is_b fits_b is_c fits_c is_d fits_d =
+    let two : k + 1 + 1 ≡ k + 2 = omega arith in
+    let three : k + 2 + 1 ≡ k + 3 = omega arith in
+    let four : k + 3 + 1 ≡ k + 4 = omega arith in
+    let upto : ℕ → ℕ = λ m. true_count f (64 * m) in
+    omega (
+      arith,
+      true_count-more f k a is_a fits_a,
+      true_count-more f (k + 1) b is_b fits_b,
+      true_count-more f (k + 2) c is_c fits_c,
+      true_count-more f (k + 3) d is_d fits_d,
+      ap upto two,
+      ap upto three,
+      ap upto four,
+    )
+
 -- the rest of a list, which is shorter than a word, by a mask
 pub true_count-end : (f : ℕ → Bool) (n word : ℕ) → IsWord f (n / 64) word → true_count f n ≡ true_count f (64 * (n / 64)) + count_ones (bit_and word (1 * 2 ^ (n % 64) % 2 ^ 64 - 1))
 true_count-end f n word is =

@@ -1,7 +1,7 @@
 -- Two words that lie one after the other, read from a bit of the first on.
-use Rattle.std.proofs.Common.{◌≡◌, ℕ, ◌+◌, ◌-◌, ◌*◌, ◌/◌, ◌%◌, ◌^◌, ◌<◌, eqb, [], ◌∷◌, sym, ap, ap₂, ◌∙◌, arith, bit_or, subst}
+use Rattle.std.proofs.Common.{◌≡◌, ℕ, ◌+◌, ◌*◌, ◌/◌, ◌%◌, ◌^◌, ◌<◌, eqb, [], ◌∷◌, sym, ap, ap₂, ◌∙◌, arith, bit_or, subst}
 use Rattle.std.proofs.Math.Nat.{add_comm, mul_assoc, mul-add-div_right, mul-mod_left, add-zero}
-use Rattle.std.proofs.lemmas.Nat.{pow-add, pow_pos, mod-pow-add, field_of, or_shifted, or_comm, shr_below, mul-mod_first, shr_high, mod_low, shl-shr}
+use Rattle.std.proofs.lemmas.Nat.{pow-add, pow_pos, mod-pow-add, field_of, or_shifted, or_comm, shr_below, shr_high, mod_low, shl-shr}
 use Rattle.polars_arrays_bits.specs.Bits.{is_bit, bit_of}
 use Rattle.polars_arrays_bits.proofs.SingleBits.{bit_at-mod, bit_at-shr, is_bit-joined}
 
@@ -33,25 +33,15 @@ or_is s r low high h =
     ∙ or_shifted (high % 2 ^ r) s (low / 2 ^ r) (shr_below low s r h)
     ∙ sym (read_joined s r low high h)
 
--- `(high << 1) << (s - 1)` is `high << s`
-twice_shifted : (w s high : ℕ) → 0 < s → ((high * 2 ^ 1 % 2 ^ w) * 2 ^ (s - 1)) % 2 ^ w ≡ (high * 2 ^ s) % 2 ^ w
-twice_shifted w s high pos =
-    let e : 1 + (s - 1) ≡ s = omega arith in
-    mul-mod_first (high * 2 ^ 1) (2 ^ (s - 1)) (2 ^ w)
-    ∙ ap (λ y. y % 2 ^ w) (mul_assoc high (2 ^ 1) (2 ^ (s - 1)) ∙ ap (λ y. high * y) (sym (pow-add 2 1 (s - 1))) ∙ ap (λ x. high * 2 ^ x) e)
-
--- the same as the code writes it: `(low >> r) | ((high << 1) << t)`
-pub join_is : (w t r low high : ℕ) → t + 1 + r ≡ w → low < 2 ^ w → bit_or (low / 2 ^ r) ((high * 2 % 2 ^ w) * 2 ^ t % 2 ^ w) ≡ (high * 2 ^ w + low) / 2 ^ r % 2 ^ w
-join_is w t r low high e h =
-    let less : t + 1 - 1 ≡ t = omega arith in
-    ap (λ x. bit_or (low / 2 ^ r) ((high * 2 % 2 ^ w) * 2 ^ x % 2 ^ w)) (sym less)
-    ∙ ap (bit_or (low / 2 ^ r)) (twice_shifted w (t + 1) high (omega arith))
-    ∙ subst (λ (x : ℕ). low < 2 ^ x → bit_or (low / 2 ^ r) ((high * 2 ^ (t + 1)) % 2 ^ x) ≡ (high * 2 ^ x + low) / 2 ^ r % 2 ^ x) e (or_is (t + 1) r low high) h
+-- the same at a width of its own
+join_is : (w s r low high : ℕ) → s + r ≡ w → low < 2 ^ w → bit_or (low / 2 ^ r) (high * 2 ^ s % 2 ^ w) ≡ (high * 2 ^ w + low) / 2 ^ r % 2 ^ w
+join_is w s r low high e h =
+    subst (λ (x : ℕ). low < 2 ^ x → bit_or (low / 2 ^ r) (high * 2 ^ s % 2 ^ x) ≡ (high * 2 ^ x + low) / 2 ^ r % 2 ^ x) e (or_is s r low high) h
 
 -- its bits are those of the two words from bit r on
-pub is_bit-join : (t r low high i : ℕ) → t + 1 + r ≡ 64 → low < 2 ^ 64 → i < 64 → is_bit (bit_or (low / 2 ^ r) ((high * 2 % 2 ^ 64) * 2 ^ t % 2 ^ 64)) i ≡ bit_of (low ∷ high ∷ []) (r + i)
-is_bit-join t r low high i e fits lt =
+pub is_bit-join : (s r low high i : ℕ) → s + r ≡ 64 → 0 < s → low < 2 ^ 64 → i < 64 → is_bit (bit_or (low / 2 ^ r) (high * 2 ^ s % 2 ^ 64)) i ≡ bit_of (low ∷ high ∷ []) (r + i)
+is_bit-join s r low high i e some fits lt =
     let within : r + i < 128 = omega arith in
-    ap (λ y. is_bit y i) (join_is 64 t r low high e fits)
+    ap (λ y. is_bit y i) (join_is 64 s r low high e fits)
     ∙ ap (λ b. eqb b 1) (bit_at-mod ((high * 2 ^ 64 + low) / 2 ^ r) 64 i lt ∙ bit_at-shr (high * 2 ^ 64 + low) r i)
     ∙ is_bit-joined low high (r + i) fits within

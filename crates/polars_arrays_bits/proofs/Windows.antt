@@ -116,6 +116,27 @@ first-zip3 g f h k n m l xs ys zs ex ey ez same_y same_z =
     ∙ ap₂ (g (get_or xs i d)) (sym (value_is h m i ys d ey (omega arith))) (sym (value_is k l i zs d ez (omega arith)))
     ∙ sym (get_or-zip3 g xs ys zs i d (omega arith) (omega arith) (omega arith)))
 
+-- as many values as a list has that is known to be these values
+pub first-as_long : (f : ℕ → Bool) (n m : ℕ) (xs : List Bool) → first_of f n ≡ xs → m ≡ length xs → first_of f m ≡ xs
+first-as_long f n m xs e same =
+    let long : length xs ≡ n = length_is f n xs e in
+    ap (first_of f) (same ∙ long) ∙ e
+
+-- the last operand is a list, the others are as many values
+pub zip2-last : (g : Bool → Bool → Bool) (f h : ℕ → Bool) (n : ℕ) (ys : List Bool) → first_of h n ≡ ys → first_of (λ i. g (f i) (h i)) n ≡ zip2 g (first_of f (length ys)) ys
+zip2-last g f h n ys e =
+    let long : length ys ≡ n = length_is h n ys e in
+    first-zip2 g f h n n (first_of f (length ys)) ys (ap (first_of f) (sym long)) e (sym (length-first f (length ys)))
+
+pub zip3-last :
+    (g : Bool → Bool → Bool → Bool) (f h k : ℕ → Bool) (n : ℕ) (zs : List Bool) → first_of k n ≡ zs →
+    first_of (λ i. g (f i) (h i) (k i)) n ≡ zip3 g (first_of f (length zs)) (first_of h (length zs)) zs
+zip3-last g f h k n zs e =
+    let long : length zs ≡ n = length_is k n zs e in
+    let first : length (first_of f (length zs)) ≡ length zs = length-first f (length zs) in
+    let second : length (first_of h (length zs)) ≡ length zs = length-first h (length zs) in
+    first-zip3 g f h k n n n (first_of f (length zs)) (first_of h (length zs)) zs (ap (first_of f) (sym long)) (ap (first_of h) (sym long)) e (second ∙ sym first) (sym first)
+
 -- ---- counts
 
 -- the true and the false ones are all

@@ -80,7 +80,8 @@ impl BinaryOperator for Xor {
 }
 
 /// Equality where null equals itself alone: the operands are the bits of plain equality and the two
-/// sides' validity.
+/// sides' validity. Rows are unequal where one side is present alone, and where both are and the
+/// values are unequal; this takes one step less than to say where they are equal.
 #[derive(Drop)]
 pub(crate) struct MergeEq;
 
@@ -91,12 +92,13 @@ impl TernaryOperator for MergeEq {
 
     #[inline]
     fn apply(&self, x: u64, y: u64, z: u64) -> u64 {
-        (x & y & z) | !(y | z)
+        !((y & !x) | (y ^ z))
     }
 }
 
 /// Inequality where null equals itself alone: the operands are the bits of plain inequality and the two
-/// sides' validity.
+/// sides' validity. Where one side is present alone the second part says so, and elsewhere one side's
+/// validity is that of both.
 #[derive(Drop)]
 pub(crate) struct MergeNe;
 
@@ -107,7 +109,7 @@ impl TernaryOperator for MergeNe {
 
     #[inline]
     fn apply(&self, x: u64, y: u64, z: u64) -> u64 {
-        (x & y & z) | (y ^ z)
+        (x & y) | (y ^ z)
     }
 }
 

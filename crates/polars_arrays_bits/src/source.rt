@@ -54,11 +54,12 @@ impl BitSource for Aligned<'_> {
     }
 }
 
-/// The bits of words, from bit `by` of the first one on, and zeros after them.
+/// The bits of words, from bit `by` of the first one on, which is not its lowest, and zeros after them.
 #[derive(Drop)]
 pub(crate) struct Shifted<'a> {
     pub(crate) words: &'a [u64],
     pub(crate) by: usize,
+    ghost some: { 0 < by },
     ghost within_word: { by < 64 },
 }
 
@@ -132,16 +133,31 @@ pub(crate) fn collect_words<S: BitSource>(
     Ok(words)
 }
 
-// How many bits of the first `to` words are set, read with no test for an end.
+// How many bits of the four words from word `k` on are set, read with no test for an end.
 #[inline(always)]
-fn count_inner_words<S: BitSource>(source: &S, to: usize) -> usize
-    requires inner { to ≤ S.inner source.now }
-    requires few { 64 * to < 2 ^ 64 }
-    ensures { result ≡ true_count (S.bit source.now) (64 * to) }
+fn count_four_words<S: BitSource>(source: &S, k: usize) -> usize
+    requires inner { k + 4 ≤ S.inner source.now }
+    requires fits { k + 4 < 2 ^ 64 }
+    ensures { true_count (S.bit source.now) (64 * (k + 4)) ≡ true_count (S.bit source.now) (64 * k) + result }
+{
+    let first = source.inner_word(k).count_ones();
+    let second = source.inner_word(k + 1).count_ones();
+    let third = source.inner_word(k + 2).count_ones();
+    let fourth = source.inner_word(k + 3).count_ones();
+    (first + second + third + fourth) as usize
+}
+
+// How many bits of the first `fours` times four words are set, read with no test for an end. By
+// fours a loop has few steps of its own.
+#[inline(always)]
+fn count_inner_words<S: BitSource>(source: &S, fours: usize) -> usize
+    requires inner { 4 * fours ≤ S.inner source.now }
+    requires few { 64 * (4 * fours) < 2 ^ 64 }
+    ensures { result ≡ true_count (S.bit source.now) (64 * (4 * fours)) }
 {
     let mut counted = 0;
-    for k in 0..to {
-        counted += source.inner_word(k).count_ones() as usize;
+    for four in 0..fours {
+        counted += count_four_words(source, 4 * four);
     }
     counted
 }
@@ -167,9 +183,9 @@ pub(crate) fn count_bits<S: BitSource>(source: &S, len: usize) -> usize
     ensures { result ≡ true_count (S.bit source.now) len }
 {
     let whole = len / WORD_BITS;
-    let inner = source.inner_words().min(whole);
-    let counted = count_inner_words(source, inner);
-    let counted = count_words(source, counted, inner, whole);
+    let fours = source.inner_words().min(whole) / 4;
+    let counted = count_inner_words(source, fours);
+    let counted = count_words(source, counted, 4 * fours, whole);
     let last = source.word(whole) & ((1 << (len % WORD_BITS)) - 1);
     counted + last.count_ones() as usize
 }

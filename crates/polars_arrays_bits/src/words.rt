@@ -14,13 +14,15 @@ pub(crate) fn word_or_zero(words: &[u64], k: usize) -> u64
     if k < words.len() { words[k] } else { 0 }
 }
 
-// The 64 bits from bit `by` of `low` on, where `high` is the next word.
+// The 64 bits from bit `by` of `low` on, where `high` is the next word. Bit 0 would be a word as it
+// is, and one shift more.
 #[inline]
 pub(crate) fn join(low: u64, high: u64, by: usize) -> u64
-    requires { by < 64 }
+    requires some { 0 < by }
+    requires within_word { by < 64 }
     ensures { (i : ℕ) → i < 64 → is_bit result i ≡ bit_of (low ∷ high ∷ []) (by + i) }
 {
-    (low >> by) | ((high << 1) << (63 - by))
+    (low >> by) | (high << (64 - by))
 }
 
 // Bit `i` of those that begin `by` bits into the first word.

@@ -2,10 +2,11 @@
 
 ghost use Rattle.std.specs.Prelude.{◌≡◌, Bool, not, ◌&&◌, length, count_by};
 ghost use Rattle.std.specs.Simd.Lanes.{zip2};
+ghost use Rattle.polars_arrays_bits.specs.Bits.{first_of};
 
 use super::Bitmap;
 use crate::operators::{And, Zipped};
-use crate::source::{Aligned, Shifted, count_bits, count_window};
+use crate::source::{Aligned, BitSource, Shifted, count_bits, count_window};
 
 impl Bitmap {
     /// How many bits are true.
@@ -27,28 +28,35 @@ impl Bitmap {
         requires { length other.now ≡ length self.now }
         ensures { result ≡ count_by (λ b. b) (zip2 ◌&&◌ self.now other.now) }
     {
-        if self.at == 0 && other.at == 0 {
+        let words = self.words.as_slice();
+        if self.at == 0 {
+            return other.count_both(Aligned { words });
+        }
+        let by = self.at;
+        other.count_both(Shifted { words, by })
+    }
+
+    // How many bits are true both in a source and in this bitmap.
+    fn count_both<A: BitSource + Drop>(&self, left: A) -> usize
+        ensures { result ≡ count_by (λ b. b) (zip2 ◌&&◌ (first_of (A.bit left) (length self.now)) self.now) }
+    {
+        let words = self.words.as_slice();
+        let operator = And;
+        if self.at == 0 {
+            let right = Aligned { words };
             let source = Zipped {
-                operator: And,
-                left: Aligned {
-                    words: self.words.as_slice(),
-                },
-                right: Aligned {
-                    words: other.words.as_slice(),
-                },
+                operator,
+                left,
+                right,
             };
             return count_bits(&source, self.len);
         }
+        let by = self.at;
+        let right = Shifted { words, by };
         let source = Zipped {
-            operator: And,
-            left: Shifted {
-                words: self.words.as_slice(),
-                by: self.at,
-            },
-            right: Shifted {
-                words: other.words.as_slice(),
-                by: other.at,
-            },
+            operator,
+            left,
+            right,
         };
         count_bits(&source, self.len)
     }

@@ -2,7 +2,7 @@
 
 ghost use Rattle.std.specs.Prelude.{◌≡◌, Bool, not, ◌&&◌, ◌||◌, length, map, MatchResult};
 ghost use Rattle.std.specs.Simd.Lanes.{zip2};
-ghost use Rattle.polars_arrays_bits.specs.Bits.{zip3};
+ghost use Rattle.polars_arrays_bits.specs.Bits.{first_of, zip3};
 ghost use Rattle.polars_arrays_bits.specs.Logic.{xor, merged_eq, merged_ne};
 ghost use Rattle.polars_arrays_bits.specs.Errors.{IsMemory};
 
@@ -11,7 +11,7 @@ use crate::error::ComputeError;
 use crate::operators::{
     And, BinaryOperator, Mapped, MergeEq, MergeNe, Merged, Not, Or, TernaryOperator, Xor, Zipped,
 };
-use crate::source::{Aligned, Shifted};
+use crate::source::{Aligned, BitSource, Shifted};
 use std::alloc::Global;
 
 impl Bitmap {
@@ -25,28 +25,39 @@ impl Bitmap {
         requires { length other.now ≡ length self.now }
         ensures { MatchResult result (λ bits. bits ≡ zip2 O.bit self.now other.now) IsMemory }
     {
-        if self.at == 0 && other.at == 0 {
+        let words = self.words.as_slice();
+        if self.at == 0 {
+            return other.zip_last(alloc, operator, Aligned { words });
+        }
+        let by = self.at;
+        other.zip_last(alloc, operator, Shifted { words, by })
+    }
+
+    // The operator at each bit of a source and of this bitmap.
+    fn zip_last<O: BinaryOperator, A: BitSource + Drop>(
+        &self,
+        alloc: Global,
+        operator: O,
+        left: A,
+    ) -> Result<Bitmap, ComputeError>
+        ensures { MatchResult result (λ bits. bits ≡ zip2 O.bit (first_of (A.bit left) (length self.now)) self.now) IsMemory }
+    {
+        let words = self.words.as_slice();
+        if self.at == 0 {
+            let right = Aligned { words };
             let source = Zipped {
                 operator,
-                left: Aligned {
-                    words: self.words.as_slice(),
-                },
-                right: Aligned {
-                    words: other.words.as_slice(),
-                },
+                left,
+                right,
             };
             return Bitmap::from_source(alloc, &source, self.len);
         }
+        let by = self.at;
+        let right = Shifted { words, by };
         let source = Zipped {
             operator,
-            left: Shifted {
-                words: self.words.as_slice(),
-                by: self.at,
-            },
-            right: Shifted {
-                words: other.words.as_slice(),
-                by: other.at,
-            },
+            left,
+            right,
         };
         Bitmap::from_source(alloc, &source, self.len)
     }
@@ -63,35 +74,62 @@ impl Bitmap {
         requires right { length right.now ≡ length self.now }
         ensures { MatchResult result (λ bits. bits ≡ zip3 O.bit self.now left.now right.now) IsMemory }
     {
-        if self.at == 0 && left.at == 0 && right.at == 0 {
+        let words = self.words.as_slice();
+        if self.at == 0 {
+            return left.merge_last_two(alloc, operator, Aligned { words }, right);
+        }
+        let by = self.at;
+        left.merge_last_two(alloc, operator, Shifted { words, by }, right)
+    }
+
+    // The operator at each bit of a source, of this bitmap and of another one.
+    fn merge_last_two<O: TernaryOperator, A: BitSource + Drop>(
+        &self,
+        alloc: Global,
+        operator: O,
+        first: A,
+        third: &Bitmap,
+    ) -> Result<Bitmap, ComputeError>
+        requires { length third.now ≡ length self.now }
+        ensures { MatchResult result (λ bits. bits ≡ zip3 O.bit (first_of (A.bit first) (length self.now)) self.now third.now) IsMemory }
+    {
+        let words = self.words.as_slice();
+        if self.at == 0 {
+            return third.merge_last(alloc, operator, first, Aligned { words });
+        }
+        let by = self.at;
+        third.merge_last(alloc, operator, first, Shifted { words, by })
+    }
+
+    // The operator at each bit of two sources and of this bitmap.
+    fn merge_last<O: TernaryOperator, A: BitSource + Drop, B: BitSource + Drop>(
+        &self,
+        alloc: Global,
+        operator: O,
+        first: A,
+        second: B,
+    ) -> Result<Bitmap, ComputeError>
+        ensures { MatchResult result (λ bits. bits ≡ zip3 O.bit (first_of (A.bit first) (length self.now))
+            (first_of (B.bit second) (length self.now)) self.now) IsMemory }
+    {
+        let words = self.words.as_slice();
+        if self.at == 0 {
+            let third = Aligned { words };
             let source = Merged {
                 operator,
-                first: Aligned {
-                    words: self.words.as_slice(),
-                },
-                second: Aligned {
-                    words: left.words.as_slice(),
-                },
-                third: Aligned {
-                    words: right.words.as_slice(),
-                },
+                first,
+                second,
+                third,
             };
             return Bitmap::from_source(alloc, &source, self.len);
         }
+        let by = self.at;
+        let third = Shifted { words, by };
         let source = Merged {
             operator,
-            first: Shifted {
-                words: self.words.as_slice(),
-                by: self.at,
-            },
-            second: Shifted {
-                words: left.words.as_slice(),
-                by: left.at,
-            },
-            third: Shifted {
-                words: right.words.as_slice(),
-                by: right.at,
-            },
+            first,
+            second,
+            third,
         };
         Bitmap::from_source(alloc, &source, self.len)
     }

@@ -1,16 +1,15 @@
-use Rattle.std.proofs.Common.{◌+◌, ◌*◌, ap, sym, ◌∙◌, arith}
-use Rattle.std.specs.Int.RustNames.{count_ones}
-use Rattle.polars_arrays_bits.proofs.Counts.{true_count-more, true_count-le}
+use Rattle.std.proofs.Common.{◌≡◌, ◌+◌, ◌*◌, ap, arith}
+use Rattle.polars_arrays_bits.specs.Bits.{true_count}
+use Rattle.polars_arrays_bits.proofs.Counts.{true_count-le}
 use Rattle.polars_arrays_bits.proofs.source.count_inner_words.Goals as goal
 
 pub overflow_add-counted : goal.overflow_add-counted
 overflow_add-counted g c =
-    let f = g.S.BitSource.bit c.args.source.now in
-    let more = true_count-more f c.loop-k.k c.inner_word.result c.inner_word.ensures c.inner_word.type_inv in
-    let le = true_count-le f (64 * (c.loop-k.k + 1)) in
-    record { fits = omega (arith, c.loop-k.invariant) }
+    let le = true_count-le (g.S.BitSource.bit c.args.source.now) (64 * (4 * c.loop-four.four + 4)) in
+    record { fits = omega (arith, c.loop-four.invariant, c.count_four_words-counted.ensures) }
 
-pub loop-k-preserved : goal.loop-k-preserved
-loop-k-preserved g c =
-    let f = g.S.BitSource.bit c.args.source.now in
-    ap (λ n. n + count_ones c.inner_word.result) c.loop-k.invariant ∙ sym (true_count-more f c.loop-k.k c.inner_word.result c.inner_word.ensures c.inner_word.type_inv)
+pub loop-four-preserved : goal.loop-four-preserved
+loop-four-preserved g c =
+    let next : 4 * (c.loop-four.four + 1) ≡ 4 * c.loop-four.four + 4 = omega arith in
+    let same = ap (λ m. true_count (g.S.BitSource.bit c.args.source.now) (64 * m)) next in
+    omega (arith, c.loop-four.invariant, c.count_four_words-counted.ensures, same)

@@ -1,0 +1,13 @@
+#!/bin/bash
+# Builds the kernels as a static library and a Rust program that times them beside plain Rust, both
+# for x86-64-v2, and runs it. Arguments: words of the names of the kernels to run.
+set -e
+here=$(cd "$(dirname "$0")" && pwd)
+kit=$(dirname "$(rt doc)")
+built="$here/out"
+mkdir -p "$built"
+(cd "$here/../crates/polars_bench" && rt lib | tail -1)
+cp "$here/../crates/polars_bench/out/libpolars_bench.a" "$built/"
+rustc --edition 2024 -O -C target-cpu=x86-64-v2 "$here/main.rs" -L "$built" \
+    -l static=polars_bench -C link-arg="$kit/c/liblibc_c.a" -o "$built/bench"
+"$built/bench" "$@"
