@@ -1,0 +1,9 @@
+pub mod DataType
+pub mod Flat
+pub mod Kind
+pub mod Numbers
+pub mod NumbersLends
+pub mod Row
+pub mod Slots
+pub mod StoredRows
+pub mod Validity

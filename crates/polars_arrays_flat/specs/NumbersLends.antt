@@ -1,0 +1,15 @@
+-- What an array of numbers ends as, once its stored values were lent to be written.
+use Rattle.std.specs.Prelude.{List, length}
+use Rattle.std.specs.Borrow.{Fml, RattleType, MutBor, Array, Lends}
+use Rattle.std.specs.List.{refill}
+use Rattle.polars_arrays_flat.specs.Numbers.{Numbers}
+use Rattle.polars_arrays_flat.specs.contracts.primitive.PrimitiveArray.{the_row}
+
+-- a with ws as its stored values, as many as a has
+abbrev pub with_values : {A : Type 0} → Numbers A → List A → Numbers A
+with_values a ws = record a { values = refill (length a.values) a.values ws }
+
+module _ (T : RattleType) (a : MutBor (Numbers T.Denot)) where
+  -- the stored values are the last ones written through r
+  abbrev pub lends_values : MutBor (List T.Denot) → Fml
+  lends_values r = Lends (the_row T) (Array T 0) a r (with_values a.now)

@@ -1,0 +1,24 @@
+-- Which rows are present: a bit for each row, 1 where it is (the Arrow layout), or no bits where all are.
+use Rattle.std.specs.Prelude.{◌≡◌, ℕ, Bool, true, false, not, List, Option, Some, None, IfSome, length, take, drop, count_by, slice_index_or, option_map}
+
+-- whether row i is present; where it is not, the row is masked
+abbrev pub is_present : Option (List Bool) → ℕ → Bool
+is_present None i = true
+is_present (Some bits) i = slice_index_or bits i false
+
+-- a validity that is there has a bit for each of n rows
+abbrev pub HasBits : ℕ → Option (List Bool) → Type 0
+HasBits n validity = IfSome validity (λ bits. length bits ≡ n)
+
+-- how many rows are masked
+abbrev pub masked_count : Option (List Bool) → ℕ
+masked_count None = 0
+masked_count (Some bits) = count_by not bits
+
+-- n elements from place `at` on
+abbrev pub window : {A : Type 0} → ℕ → ℕ → List A → List A
+window at n xs = take n (drop at xs)
+
+-- the validity of n rows from row `at` on
+abbrev pub validity_window : ℕ → ℕ → Option (List Bool) → Option (List Bool)
+validity_window at n validity = option_map (window at n) validity

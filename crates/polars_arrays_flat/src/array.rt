@@ -1,0 +1,41 @@
+//! What every array has.
+
+ghost use Rattle.std.specs.Prelude.{◌≡◌, ℕ, List, Bool, Option, length};
+ghost use Rattle.std.specs.Option.{option_copied};
+ghost use Rattle.polars_arrays_flat.specs.Row.{Row};
+ghost use Rattle.polars_arrays_flat.specs.StoredRows.{NullSlots};
+ghost use Rattle.polars_arrays_flat.specs.Validity.{HasBits};
+
+use polars_arrays_bits::bitmap::Bitmap;
+
+/// Rows that are stored, of which a validity masks some. The rows of an array are its stored ones, with
+/// Null in place of those that are masked.
+pub trait Array {
+    // The rows as they are stored, whatever the validity says.
+    ghost slots: { Self → List Row };
+
+    // The validity, where there is one. Which rows are masked is said here alone.
+    ghost mask: { Self → Option (List Bool) };
+
+    // How many rows are null.
+    ghost nulls: { Self → ℕ };
+
+    // Whether two arrays are of one type.
+    ghost same_type: { Self → Self → Type 0 };
+
+    /// How many rows there are.
+    fn len(&self) -> usize
+        ensures { result ≡ length (slots self.now) };
+
+    /// A bit for each row, set where the row is present (the Arrow layout), or None where no row is masked.
+    fn validity(&self) -> Option<&Bitmap>
+        ensures mask { option_copied result ≡ mask self.now }
+        ensures bits { HasBits (length (slots self.now)) (mask self.now) };
+
+    /// How many rows are null.
+    fn null_count(&self) -> usize
+        ensures { result ≡ nulls self.now };
+
+    // A row is stored as Null only where no array of the type has a validity.
+    ghost null_law: { (a b : Self) (i : ℕ) → NullSlots (slots a) (mask a) (mask b) (same_type a b × same_type b a) i };
+}

@@ -1,0 +1,110 @@
+//! Arrays of truth values.
+
+ghost use Rattle.std.specs.Prelude.{◌≡◌, ◌+◌, ◌≤◌, length, MatchResult, IfErr, ⊤};
+ghost use Rattle.std.specs.Result.{OkIff};
+ghost use Rattle.polars_arrays_bits.specs.Errors.{IsMemory};
+ghost use Rattle.polars_arrays_flat.specs.DataType.{kind_of};
+ghost use Rattle.polars_arrays_flat.specs.Kind.{BooleanKind};
+ghost use Rattle.polars_arrays_flat.specs.Slots.{truth_slots-present};
+ghost use Rattle.polars_arrays_flat.specs.StoredRows.{truth_slots};
+ghost use Rattle.polars_arrays_flat.specs.Validity.{HasBits, masked_count, validity_window, window};
+
+use crate::array::Array;
+use crate::data_type::ArrowDataType;
+use crate::validity::{clone_validity, has_bits, null_count, slice_validity};
+use polars_arrays_bits::bitmap::Bitmap;
+use polars_arrays_bits::error::{ArrayError, ComputeError};
+use std::alloc::Global;
+use std::marker::Model;
+
+/// Truth values, of which a validity masks some.
+#[derive(Drop)]
+pub struct BooleanArray {
+    values: Bitmap,
+    validity: Option<Bitmap>,
+}
+
+impl Model for BooleanArray {
+    ghost use Rattle.std.specs.Coded.{coded_bool};
+    ghost use Rattle.std.specs.Prelude.{Bool, length};
+    ghost use Rattle.polars_arrays_flat.specs.Flat.{Flat, flat_code};
+    ghost use Rattle.polars_arrays_flat.specs.Validity.{HasBits};
+
+    ghost Value = { Flat Bool };
+
+    ghost coded = { flat_code coded_bool };
+
+    ghost view = { λ a. record { values = a.values; validity = a.validity } };
+
+    ghost invariant = { λ a. HasBits (length a.values) a.validity };
+}
+
+impl BooleanArray {
+    /// An array of stored values and a validity. The error is `Length`, where the validity has not a bit for
+    /// each value.
+    pub fn try_new(values: Bitmap, validity: Option<Bitmap>) -> Result<BooleanArray, ArrayError>
+        ensures made { OkIff result (HasBits (length values) validity) (record { values = values; validity = validity }) }
+        ensures refused { IfErr result (λ e. e ≡ ArrayError.Length) }
+    {
+        if !has_bits(values.len(), &validity) {
+            return Err(ArrayError::Length);
+        }
+        Ok(BooleanArray { values, validity })
+    }
+
+    /// The stored values, also of masked rows.
+    pub fn values(&self) -> &Bitmap
+        ensures { result.now ≡ self.now.values }
+    {
+        &self.values
+    }
+
+    /// Keeps `n` rows from row `at` on. No value moves.
+    pub fn slice(&mut self, at: usize, n: usize)
+        requires { at + n ≤ length self.old.values }
+        ensures { self.new ≡ record { values = window at n self.old.values; validity = validity_window at n self.old.validity } }
+    {
+        self.values.slice(at, n);
+        slice_validity(&mut self.validity, at, n);
+    }
+
+    /// A second array of the same values and validity. The error is `Memory`.
+    pub fn clone_array(&self, alloc: Global) -> Result<BooleanArray, ComputeError>
+        ensures { MatchResult result (λ copy. copy ≡ self.now) IsMemory }
+    {
+        let values = self.values.clone_bitmap(alloc)?;
+        let validity = clone_validity(alloc, &self.validity)?;
+        Ok(BooleanArray { values, validity })
+    }
+
+    /// The array's type. The error is `Memory`.
+    pub fn dtype(&self, _alloc: Global) -> Result<ArrowDataType, ComputeError>
+        ensures { MatchResult result (λ dtype. kind_of dtype ≡ BooleanKind) IsMemory }
+    {
+        Ok(ArrowDataType::Boolean)
+    }
+}
+
+impl Array for BooleanArray {
+    ghost slots = { λ a. truth_slots a.values };
+
+    ghost mask = { λ a. a.validity };
+
+    ghost nulls = { λ a. masked_count a.validity };
+
+    ghost same_type = { λ a b. ⊤ };
+
+    fn len(&self) -> usize {
+        self.values.len()
+    }
+
+    fn validity(&self) -> Option<&Bitmap> {
+        self.validity.as_ref()
+    }
+
+    fn null_count(&self) -> usize {
+        null_count(&self.validity)
+    }
+
+    ghost null_law = { λ a b i within is_null. absurd (truth_slots-present a.values i within is_null) };
+}

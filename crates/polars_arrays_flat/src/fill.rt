@@ -1,0 +1,47 @@
+//! Buffers whose elements are all the same.
+
+ghost use Rattle.std.specs.Prelude.{◌≡◌, length, replicate, true, MatchResult};
+ghost use Rattle.polars_arrays_bits.specs.Errors.{IsMemory};
+
+use polars_arrays_bits::buffer::Buffer;
+use polars_arrays_bits::error::ComputeError;
+use std::alloc::Global;
+
+// A buffer of `len` elements that are all `value`.
+pub(crate) fn repeated<T: Copy>(
+    alloc: Global,
+    value: T,
+    len: usize,
+) -> Result<Buffer<T>, ComputeError>
+    ensures { MatchResult result (λ buffer. buffer ≡ record { items = replicate len value; owned = true }) IsMemory }
+{
+    let mut elements = Vec::with_capacity(alloc, len)?;
+    for _ in 0..len {
+        elements.push_reserved(value);
+    }
+    Ok(Buffer::from_vec(elements))
+}
+
+// A buffer of as many elements that are all `value`, in the memory there was where the buffer owns it.
+pub(crate) fn filled<T: Copy>(
+    alloc: Global,
+    mut buffer: Buffer<T>,
+    value: T,
+) -> Result<Buffer<T>, ComputeError>
+    ensures { MatchResult result (λ filled. filled ≡ record { items = replicate (length buffer.items) value; owned = true }) IsMemory }
+{
+    if !buffer.is_owned() {
+        return repeated(alloc, value, buffer.len());
+    }
+    overwrite(buffer.as_mut_slice(), value);
+    Ok(buffer)
+}
+
+// Writes `value` over each element.
+fn overwrite<T: Copy>(elements: &mut [T], value: T)
+    ensures { elements.new ≡ replicate (length elements.old) value }
+{
+    for element in elements.iter_mut() {
+        *element = value;
+    }
+}

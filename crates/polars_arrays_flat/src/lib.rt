@@ -1,0 +1,13 @@
+//! Arrays of one level: stored values, of which a validity masks some.
+#![tactic(auto)]
+
+pub mod array;
+pub mod arrow_type;
+pub mod boolean;
+pub mod data_type;
+mod fill;
+pub mod null;
+pub mod primitive;
+#[cfg(test)]
+mod tests;
+mod validity;

@@ -1,0 +1,83 @@
+//! Arrays of nulls.
+
+ghost use Rattle.std.specs.Prelude.{◌≡◌, ◌+◌, ◌≤◌, None, replicate, refl, MatchResult, ⊤};
+ghost use Rattle.polars_arrays_bits.specs.Errors.{IsMemory};
+ghost use Rattle.polars_arrays_flat.specs.DataType.{kind_of};
+ghost use Rattle.polars_arrays_flat.specs.Kind.{NullKind};
+ghost use Rattle.polars_arrays_flat.specs.Row.{Null};
+
+use crate::array::Array;
+use crate::data_type::ArrowDataType;
+use polars_arrays_bits::bitmap::Bitmap;
+use polars_arrays_bits::error::ComputeError;
+use std::alloc::Global;
+use std::marker::Model;
+
+/// Rows that are all null. Contracts see how many there are.
+#[derive(Drop)]
+pub struct NullArray {
+    len: usize,
+}
+
+impl Model for NullArray {
+    ghost use Rattle.std.specs.Prelude.{ℕ};
+
+    ghost Value = { ℕ };
+
+    ghost view = { λ a. a.len };
+}
+
+impl NullArray {
+    /// An array of `len` nulls.
+    pub fn new(len: usize) -> NullArray
+        ensures { result ≡ len }
+    {
+        NullArray { len }
+    }
+
+    /// Keeps `n` rows from row `at` on.
+    pub fn slice(&mut self, at: usize, n: usize)
+        requires { at + n ≤ self.old }
+        ensures { self.new ≡ n }
+    {
+        self.len = n;
+    }
+
+    /// A second array of as many rows. The error is `Memory`.
+    pub fn clone_array(&self, _alloc: Global) -> Result<NullArray, ComputeError>
+        ensures { MatchResult result (λ copy. copy ≡ self.now) IsMemory }
+    {
+        Ok(NullArray { len: self.len })
+    }
+
+    /// The array's type. The error is `Memory`.
+    pub fn dtype(&self, _alloc: Global) -> Result<ArrowDataType, ComputeError>
+        ensures { MatchResult result (λ dtype. kind_of dtype ≡ NullKind) IsMemory }
+    {
+        Ok(ArrowDataType::Null)
+    }
+}
+
+impl Array for NullArray {
+    ghost slots = { λ a. replicate a Null };
+
+    ghost mask = { λ a. None };
+
+    ghost nulls = { λ a. a };
+
+    ghost same_type = { λ a b. ⊤ };
+
+    fn len(&self) -> usize {
+        self.len
+    }
+
+    fn validity(&self) -> Option<&Bitmap> {
+        None
+    }
+
+    fn null_count(&self) -> usize {
+        self.len
+    }
+
+    ghost null_law = { λ a b i within is_null. (refl, refl, (tt, tt)) };
+}

@@ -1,0 +1,214 @@
+//! Arrays of numbers.
+
+ghost use Rattle.std.specs.Prelude.{◌≡◌, ◌↔◌, ◌+◌, ◌≤◌, length, replicate, false, true, None, Some, IsTrue, IsSome, IfSome, IfErr, MatchResult, ⊤};
+ghost use Rattle.std.specs.Borrow.{sem};
+ghost use Rattle.std.specs.Result.{OkIff};
+ghost use Rattle.polars_arrays_bits.specs.Errors.{IsMemory};
+ghost use Rattle.polars_arrays_flat.specs.DataType.{kind_of};
+ghost use Rattle.polars_arrays_flat.specs.Slots.{number_slots-present};
+ghost use Rattle.polars_arrays_flat.specs.StoredRows.{number_slots};
+ghost use Rattle.polars_arrays_flat.specs.Validity.{HasBits, masked_count, validity_window, window};
+
+use crate::array::Array;
+use crate::arrow_type::ArrowType;
+use crate::data_type::ArrowDataType;
+use crate::fill::{filled, repeated};
+use crate::validity::{clone_validity, has_bits, null_count, slice_validity};
+use num_traits::Zero;
+use polars_arrays_bits::bitmap::Bitmap;
+use polars_arrays_bits::buffer::Buffer;
+use polars_arrays_bits::error::{ArrayError, ComputeError};
+use polars_arrays_numbers::native_type::NativeType;
+use std::alloc::Global;
+use std::marker::Model;
+
+/// Numbers, of which a validity masks some.
+#[derive(Drop)]
+pub struct PrimitiveArray<T: Copy> {
+    values: Buffer<T>,
+    validity: Option<Bitmap>,
+}
+
+impl<T: Copy> Model for PrimitiveArray<T> {
+    ghost use Rattle.std.specs.Prelude.{length};
+    ghost use Rattle.polars_arrays_flat.specs.Numbers.{Numbers, numbers_code};
+    ghost use Rattle.polars_arrays_flat.specs.Validity.{HasBits};
+
+    ghost Value = { Numbers T };
+
+    ghost coded = { numbers_code T.code };
+
+    ghost view = { λ a. record { values = a.values.items; validity = a.validity; owned = a.values.owned } };
+
+    ghost invariant = { λ a. HasBits (length a.values.items) a.validity };
+}
+
+impl<T: NativeType> PrimitiveArray<T> {
+    ghost use Rattle.polars_arrays_flat.specs.NumbersLends.{lends_values};
+
+    /// An array of stored values and a validity. The error is `Length`, where the validity has not a bit for
+    /// each value.
+    pub fn try_new(
+        values: Buffer<T>,
+        validity: Option<Bitmap>,
+    ) -> Result<PrimitiveArray<T>, ArrayError>
+        ensures made { OkIff result (HasBits (length values.items) validity) (record { values = values.items; validity = validity; owned = values.owned }) }
+        ensures refused { IfErr result (λ e. e ≡ ArrayError.Length) }
+    {
+        if !has_bits(values.len(), &validity) {
+            return Err(ArrayError::Length);
+        }
+        Ok(PrimitiveArray { values, validity })
+    }
+
+    /// An array of a vector's numbers, none of them masked.
+    pub fn from_vec(values: Vec<T>) -> PrimitiveArray<T>
+        ensures { result ≡ record { values = values.items; validity = None; owned = true } }
+    {
+        PrimitiveArray {
+            values: Buffer::from_vec(values),
+            validity: None,
+        }
+    }
+
+    /// The stored values, also of masked rows.
+    pub fn values(&self) -> &[T]
+        ensures { result.now ≡ self.now.values }
+    {
+        self.values.as_slice()
+    }
+
+    /// Keeps `n` rows from row `at` on. No value moves.
+    pub fn slice(&mut self, at: usize, n: usize)
+        requires { at + n ≤ length self.old.values }
+        ensures { self.new ≡ record { values = window at n self.old.values; validity = validity_window at n self.old.validity; owned = self.old.owned } }
+    {
+        self.values.slice(at, n);
+        slice_validity(&mut self.validity, at, n);
+    }
+
+    /// Takes the validity out. No row is masked from then on.
+    pub fn take_validity(&mut self) -> Option<Bitmap>
+        ensures taken { result ≡ self.old.validity }
+        ensures left { self.new ≡ record self.old { validity = None } }
+        ensures bits { HasBits (length self.old.values) result }
+    {
+        self.validity.take()
+    }
+
+    /// The same stored values under another validity.
+    pub fn with_validity(self, validity: Option<Bitmap>) -> PrimitiveArray<T>
+        requires { HasBits (length self.values) validity }
+        ensures { result ≡ record self { validity = validity } }
+    {
+        let PrimitiveArray { values, .. } = self;
+        PrimitiveArray { values, validity }
+    }
+
+    /// Whether no other array holds the stored values.
+    pub fn is_owned(&self) -> bool
+        ensures { result ≡ self.now.owned }
+    {
+        self.values.is_owned()
+    }
+
+    /// The stored values to be written, also of masked rows, of an array that owns them.
+    pub fn as_mut_values(&mut self) -> &mut [T]
+        requires { IsTrue self.old.owned }
+        ensures* written { sem 𝓛 (lends_values T.row self.entry result) }
+        ensures values { result.now ≡ self.old.values }
+    {
+        self.values.as_mut_slice()
+    }
+
+    /// The stored values to be written, exactly where the array owns them. What is written is seen in the
+    /// array; a caller whose proof needs this asks `is_owned` and takes `as_mut_values`.
+    pub fn get_mut_values(&mut self) -> Option<&mut [T]>
+        ensures owned { IsSome result ↔ IsTrue self.old.owned }
+        ensures values { IfSome result (λ values. values.now ≡ self.old.values) }
+    {
+        if self.is_owned() {
+            Some(self.as_mut_values())
+        } else {
+            None
+        }
+    }
+
+    /// The same rows, from now on in stored values that clones share. No value moves. The error is `Memory`.
+    pub fn share(self, alloc: Global) -> Result<PrimitiveArray<T>, ComputeError>
+        ensures { MatchResult result (λ shared. shared ≡ record self { owned = false }) IsMemory }
+    {
+        let PrimitiveArray { values, validity } = self;
+        let values = values.share(alloc)?;
+        Ok(PrimitiveArray { values, validity })
+    }
+
+    /// A second array of the same values and validity, in the very values where these are shared. The error
+    /// is `Memory`.
+    pub fn clone_array(&self, alloc: Global) -> Result<PrimitiveArray<T>, ComputeError>
+        ensures { MatchResult result (λ copy. copy ≡ self.now) IsMemory }
+    {
+        let values = self.values.clone_buffer(alloc)?;
+        let validity = clone_validity(alloc, &self.validity)?;
+        Ok(PrimitiveArray { values, validity })
+    }
+}
+
+impl<T: ArrowType> PrimitiveArray<T> {
+    /// The array's type. The error is `Memory`.
+    pub fn dtype(&self, _alloc: Global) -> Result<ArrowDataType, ComputeError>
+        ensures { MatchResult result (λ dtype. kind_of dtype ≡ T.kind) IsMemory }
+    {
+        Ok(T::arrow_data_type())
+    }
+}
+
+impl<T: NativeType> PrimitiveArray<T> {
+    /// The same validity over stored values that are all `value`, in the values there were where the array
+    /// owns them. The error is `Memory`.
+    pub fn fill_with(self, alloc: Global, value: T) -> Result<PrimitiveArray<T>, ComputeError>
+        ensures { MatchResult result (λ filled. filled ≡ record { values = replicate (length self.values) value; validity = self.validity; owned = true }) IsMemory }
+    {
+        let PrimitiveArray { values, validity } = self;
+        let values = filled(alloc, values, value)?;
+        Ok(PrimitiveArray { values, validity })
+    }
+}
+
+impl<T: NativeType + Zero> PrimitiveArray<T> {
+    /// An array of `len` masked rows, over stored values that are all 0. The error is `Memory`.
+    pub fn full_null(alloc: Global, len: usize) -> Result<PrimitiveArray<T>, ComputeError>
+        ensures { MatchResult result (λ nulls. nulls ≡ record { values = replicate len T.zero; validity = Some (replicate len false); owned = true }) IsMemory }
+    {
+        let values = repeated(alloc, T::zero(), len)?;
+        let validity = Bitmap::new_zeroed(alloc, len)?;
+        Ok(PrimitiveArray {
+            values,
+            validity: Some(validity),
+        })
+    }
+}
+
+impl<T: NativeType> Array for PrimitiveArray<T> {
+    ghost slots = { λ a. number_slots T.value a.values };
+
+    ghost mask = { λ a. a.validity };
+
+    ghost nulls = { λ a. masked_count a.validity };
+
+    ghost same_type = { λ a b. ⊤ };
+
+    fn len(&self) -> usize {
+        self.values.len()
+    }
+
+    fn validity(&self) -> Option<&Bitmap> {
+        self.validity.as_ref()
+    }
+
+    fn null_count(&self) -> usize {
+        null_count(&self.validity)
+    }
+
+    ghost null_law = { λ a b i within is_null. absurd (number_slots-present T.value a.values i within is_null) };
+}
