@@ -5,11 +5,13 @@ use Rattle.std.specs.Int.{int_wrap}
 use Rattle.std.specs.Fmt.{digits}
 use Rattle.polars_tables.specs.declared.line.LineError.TheVariants.{Op, TypeName, Row as RowError, Length}
 use Rattle.polars_tables.specs.Row.{Row, Null, Int, rows_under}
-use Rattle.polars_tables.specs.Equality.{missing_equality}
+use Rattle.polars_tables.specs.Equality.{missing_equality, joined_bit}
 use Rattle.polars_tables.specs.Sum.{total, wrap}
 use Rattle.polars_tables.specs.Word.{words_of, number_of, row_of, lists_of}
 use Rattle.polars_tables.specs.Line.{line_meaning}
-use Rattle.polars_tables.specs.Output.{lines_of, printed}
+use Rattle.polars_tables.specs.Output.{lines_of, printed, fault_word}
+use Rattle.polars_tables.specs.Command.{command_of}
+use Rattle.polars_tables.specs.declared.program.Command.TheVariants.{Lines, Usage}
 
 -- a number under an unset bit is a null row
 rows-masked : rows_under (Some (true ∷ false ∷ [])) (pos 1 ∷ pos 9 ∷ []) ≡ Int (pos 1) ∷ Null ∷ []
@@ -71,3 +73,19 @@ lines-ended = refl
 printed-refused : printed 2 (line_meaning []) ≡ codes "line 2: refused: op"
 unfolding digits
 printed-refused = refl
+
+-- null is equal to null, and to nothing else, whatever the raw bit is
+joined-nulls : joined_bit false false false ≡ true
+joined-nulls = refl
+
+joined-one_null : joined_bit true true false ≡ false
+joined-one_null = refl
+
+command-none : command_of {A = ℕ} [] ≡ Lines
+command-none = refl
+
+command-word : command_of (codes "demo" ∷ []) ≡ Usage
+command-word = refl
+
+fault-type : fault_word TypeName ≡ codes "type"
+fault-type = refl

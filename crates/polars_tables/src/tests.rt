@@ -116,7 +116,7 @@ fn refuses_lines(rt: HostRuntime) {
         ("sum i32 1 | 2", LineError::Length),
     ] {
         let outcome = answer_line(rt.alloc(), line);
-        assert!(rt; outcome == Err(fault), "at {line:?}");
+        assert_eq!(rt; outcome, Err(fault), "at {line:?}");
     }
 }
 
