@@ -1,9 +1,9 @@
 -- Worked examples of the definitions: the check computes both sides of each.
 use Rattle.std.specs.Prelude.{◌≡◌, ℕ, pos, true, false, [], ◌∷◌, Some, None, refl}
-use Rattle.polars_arrays_flat.specs.DataType.{key_kind, kind_of}
-use Rattle.polars_arrays_flat.specs.Kind.{UInt64Kind, FixedSizeBinaryKind, Utf8ViewKind}
+use Rattle.polars_arrays_flat.specs.DataType.{key_kind, kind_of, kinds_of}
+use Rattle.polars_arrays_flat.specs.Kind.{UInt64Kind, FixedSizeBinaryKind, Utf8ViewKind, no_kinds}
 use Rattle.polars_arrays_flat.specs.Row.{Null, Int, Truth, Rows, no_rows, more_rows, row_list}
-use Rattle.polars_arrays_flat.specs.StoredRows.{row, rows_under, number_slots, truth_slots}
+use Rattle.polars_arrays_flat.specs.StoredRows.{row, kept, rows_under, number_slots, truth_slots}
 use Rattle.polars_arrays_flat.specs.Validity.{is_present, masked_count, window, validity_window}
 use Rattle.polars_arrays_flat.specs.declared.data_type.IntegerType.TheVariants as key
 use Rattle.polars_arrays_flat.specs.declared.data_type.ArrowDataType.{Utf8View, FixedSizeBinary}
@@ -52,3 +52,12 @@ kind_of-sized = refl
 
 key_kind-unsigned : key_kind key.UInt64 ≡ UInt64Kind
 key_kind-unsigned = refl
+
+kept-masked : kept false (Truth true) ≡ Null
+kept-masked = refl
+
+kept-present : kept true (Truth true) ≡ Truth true
+kept-present = refl
+
+kinds_of-none : kinds_of [] ≡ no_kinds
+kinds_of-none = refl
