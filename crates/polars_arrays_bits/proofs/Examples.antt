@@ -1,6 +1,6 @@
 -- Worked examples of the definitions: the check computes both sides of each.
 use Rattle.std.specs.Prelude.{◌≡◌, ℕ, Bool, true, false, List, [], ◌∷◌, ◌^◌, refl}
-use Rattle.polars_arrays_bits.specs.Bits.{bit_of, window, zip3}
+use Rattle.polars_arrays_bits.specs.Bits.{is_bit, bit_of, first_of, true_count, window, zip3}
 use Rattle.polars_arrays_bits.specs.Logic.{xor, merged_eq, merged_ne}
 
 -- 9 has the bits 0 and 3, and the lowest bit of the second word is bit 64
@@ -22,3 +22,16 @@ merged_ne-rows = refl
 
 xor-of_same : xor true true ≡ false
 xor-of_same = refl
+
+-- 5 has the bits 0 and 2
+bit-lowest : is_bit 5 0 ≡ true
+bit-lowest = refl
+
+bit-unset : is_bit 5 1 ≡ false
+bit-unset = refl
+
+first_of-three : first_of (is_bit 5) 3 ≡ true ∷ false ∷ true ∷ []
+first_of-three = refl
+
+true_count-three : true_count (is_bit 5) 3 ≡ 2
+true_count-three = refl
