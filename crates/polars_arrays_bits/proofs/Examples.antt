@@ -1,7 +1,8 @@
 -- Worked examples of the definitions: the check computes both sides of each.
-use Rattle.std.specs.Prelude.{◌≡◌, ℕ, Bool, true, false, List, [], ◌∷◌, ◌^◌, refl}
+use Rattle.std.specs.Prelude.{◌≡◌, true, false, [], ◌∷◌, ◌^◌, refl}
+use Rattle.std.specs.Simd.Lanes.{zip2}
 use Rattle.polars_arrays_bits.specs.Bits.{is_bit, bit_of, first_of, true_count, window, zip3}
-use Rattle.polars_arrays_bits.specs.Logic.{xor, merged_eq, merged_ne}
+use Rattle.polars_arrays_bits.specs.Logic.{xor, xnor, and_not, or_not, merged_eq, merged_ne}
 
 -- 9 has the bits 0 and 3, and the lowest bit of the second word is bit 64
 bit-in_second : bit_of (9 ∷ 1 ∷ []) 64 ≡ true
@@ -22,6 +23,16 @@ merged_ne-rows = refl
 
 xor-of_same : xor true true ≡ false
 xor-of_same = refl
+
+-- the pairs of two truth values, from both true to both false
+xnor-rows : zip2 xnor (true ∷ true ∷ false ∷ false ∷ []) (true ∷ false ∷ true ∷ false ∷ []) ≡ true ∷ false ∷ false ∷ true ∷ []
+xnor-rows = refl
+
+and_not-rows : zip2 and_not (true ∷ true ∷ false ∷ false ∷ []) (true ∷ false ∷ true ∷ false ∷ []) ≡ false ∷ true ∷ false ∷ false ∷ []
+and_not-rows = refl
+
+or_not-rows : zip2 or_not (true ∷ true ∷ false ∷ false ∷ []) (true ∷ false ∷ true ∷ false ∷ []) ≡ true ∷ true ∷ false ∷ true ∷ []
+or_not-rows = refl
 
 -- 5 has the bits 0 and 2
 bit-lowest : is_bit 5 0 ≡ true

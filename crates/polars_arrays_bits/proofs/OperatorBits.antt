@@ -7,7 +7,7 @@ use Rattle.std.specs.Int.Bits.{and_lt}
 use Rattle.std.proofs.lemmas.Nat.Bits.{bit_at_and, bit_at_or, bit_at_xor, bit_at_not, bit_at-lt}
 use Rattle.std.specs.Int.{bit_at, w64}
 use Rattle.polars_arrays_bits.specs.Bits.{is_bit}
-use Rattle.polars_arrays_bits.specs.Logic.{xor, merged_eq, merged_ne}
+use Rattle.polars_arrays_bits.specs.Logic.{xor, xnor, and_not, or_not, merged_eq, merged_ne}
 
 test_and : (x y : ℕ) → x < 2 → y < 2 → eqb (min x y) 1 ≡ (eqb x 1 && eqb y 1)
 test_and x y p q = grind (arith, nat_tests)
@@ -32,6 +32,24 @@ test_not x p = grind (arith, nat_tests)
 
 pub is_bit_not : (x i : ℕ) → x < 2 ^ 64 → i < 64 → is_bit (2 ^ 64 - 1 - x) i ≡ not (is_bit x i)
 is_bit_not x i fits lt = ap (λ b. eqb b 1) (bit_at_not w64 x i fits lt) ∙ test_not (bit_at x i) (bit_at-lt x i)
+
+-- operators on a word and the opposite of another one
+
+xnor_formula : (a b : Bool) → xor a (not b) ≡ xnor a b
+xnor_formula true true = refl
+xnor_formula true false = refl
+xnor_formula false true = refl
+xnor_formula false false = refl
+
+pub is_bit_xnor : (x y i : ℕ) → y < 2 ^ 64 → i < 64 → is_bit (bit_xor x (2 ^ 64 - 1 - y)) i ≡ xnor (is_bit x i) (is_bit y i)
+is_bit_xnor x y i fits lt =
+    is_bit_xor x (2 ^ 64 - 1 - y) i ∙ ap (xor (is_bit x i)) (is_bit_not y i fits lt) ∙ xnor_formula (is_bit x i) (is_bit y i)
+
+pub is_bit-and_not : (x y i : ℕ) → y < 2 ^ 64 → i < 64 → is_bit (bit_and x (2 ^ 64 - 1 - y)) i ≡ and_not (is_bit x i) (is_bit y i)
+is_bit-and_not x y i fits lt = is_bit_and x (2 ^ 64 - 1 - y) i ∙ ap (λ b. is_bit x i && b) (is_bit_not y i fits lt)
+
+pub is_bit-or_not : (x y i : ℕ) → y < 2 ^ 64 → i < 64 → is_bit (bit_or x (2 ^ 64 - 1 - y)) i ≡ or_not (is_bit x i) (is_bit y i)
+is_bit-or_not x y i fits lt = is_bit_or x (2 ^ 64 - 1 - y) i ∙ ap (λ b. is_bit x i || b) (is_bit_not y i fits lt)
 
 -- the code's formulas for the merges, at one bit
 eq_formula : (q l r : Bool) → not ((l && not q) || xor l r) ≡ merged_eq q l r

@@ -5,6 +5,18 @@ use Rattle.std.specs.Prelude.{Bool, not, ◌&&◌, ◌||◌}
 abbrev pub xor : Bool → Bool → Bool
 xor a b = (a && not b) || (not a && b)
 
+-- both or neither of the two
+abbrev pub xnor : Bool → Bool → Bool
+xnor a b = not (xor a b)
+
+-- the first without the second
+abbrev pub and_not : Bool → Bool → Bool
+and_not a b = a && not b
+
+-- the first, or not the second
+abbrev pub or_not : Bool → Bool → Bool
+or_not a b = a || not b
+
 -- two rows are equal, null to null alone, where q says whether their values are equal and l and r whether they are present
 abbrev pub merged_eq : Bool → Bool → Bool → Bool
 merged_eq q l r = ((q && l) && r) || not (l || r)

@@ -2,6 +2,8 @@
 
 ghost use Rattle.std.specs.Prelude.{◌≡◌, ◌+◌, ◌<◌, ◌≤◌, not, length, take, drop, count_by, slice_get};
 
+mod logic;
+
 use crate::bitmap::Bitmap;
 use crate::source::count_window;
 use crate::words::{bit_from, place_of};

@@ -69,7 +69,7 @@ impl Bitmap {
     }
 
     // The first `len` bits of a source.
-    fn from_source<S: BitSource>(
+    pub(crate) fn from_source<S: BitSource>(
         alloc: Global,
         source: &S,
         len: usize,

@@ -79,6 +79,48 @@ impl BinaryOperator for Xor {
     }
 }
 
+#[derive(Drop)]
+pub(crate) struct Xnor;
+
+impl BinaryOperator for Xnor {
+    ghost use Rattle.polars_arrays_bits.specs.Logic.{xnor};
+
+    ghost bit = { xnor };
+
+    #[inline]
+    fn apply(&self, x: u64, y: u64) -> u64 {
+        x ^ !y
+    }
+}
+
+#[derive(Drop)]
+pub(crate) struct AndNot;
+
+impl BinaryOperator for AndNot {
+    ghost use Rattle.polars_arrays_bits.specs.Logic.{and_not};
+
+    ghost bit = { and_not };
+
+    #[inline]
+    fn apply(&self, x: u64, y: u64) -> u64 {
+        x & !y
+    }
+}
+
+#[derive(Drop)]
+pub(crate) struct OrNot;
+
+impl BinaryOperator for OrNot {
+    ghost use Rattle.polars_arrays_bits.specs.Logic.{or_not};
+
+    ghost bit = { or_not };
+
+    #[inline]
+    fn apply(&self, x: u64, y: u64) -> u64 {
+        x | !y
+    }
+}
+
 /// Equality where null equals itself alone: the operands are the bits of plain equality and the two
 /// sides' validity. Rows are unequal where one side is present alone, and where both are and the
 /// values are unequal; this takes one step less than to say where they are equal.

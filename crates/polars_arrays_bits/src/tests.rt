@@ -1,6 +1,6 @@
 //! Worked rows, and agreement with lists of truth values.
 
-ghost use Rattle.std.specs.Prelude.{◌≡◌, ◌^◌, ◌<◌, length, IfOk};
+ghost use Rattle.std.specs.Prelude.{◌≡◌, ◌+◌, ◌^◌, ◌<◌, ◌≤◌, length, IfOk};
 
 use crate::bit_mask::BitMask;
 use crate::bitmap::Bitmap;
@@ -9,7 +9,9 @@ use crate::builder::BitmapBuilder;
 use crate::comparison::{test_constant, test_pairs, test_windows};
 use crate::error::ComputeError;
 use crate::mutable_bitmap::MutableBitmap;
-use polars_arrays_numbers::element_test::{Equal, Less, LessOrEqual, Unequal};
+use polars_arrays_numbers::element_test::{
+    Equal, Greater, GreaterOrEqual, Less, LessOrEqual, Unequal,
+};
 use std::alloc::Global;
 use std::process::Abort;
 use std::test::Fail;
@@ -22,15 +24,15 @@ fn bit_at(i: usize, list: usize) -> bool {
     (mixed ^ (mixed >> 7)) % 3 == 0
 }
 
-// The first `n` bits of a list, `at` bits into a bitmap whose other bits are all set.
-fn placed(
+// A bitmap that has the first `n` bits of a list from bit `at` on, and whose other bits are all set.
+fn surrounded(
     rt: &impl Abort,
     alloc: Global,
     list: usize,
     at: usize,
     n: usize,
 ) -> Result<Bitmap, ComputeError>
-    ensures { IfOk result (λ bits. length bits ≡ n) }
+    ensures { IfOk result (λ bits. at + n ≤ length bits) }
 {
     let mut builder = BitmapBuilder::with_capacity(alloc, at.saturating_add(n).saturating_add(70))?;
     if at <= builder.room() {
@@ -44,9 +46,23 @@ fn placed(
     if 70 <= builder.room() {
         builder.extend_constant(70, true);
     }
-    let mut bits = builder.freeze();
+    let bits = builder.freeze();
     assert!(rt; at <= bits.len());
     assert!(rt; n <= bits.len() - at);
+    Ok(bits)
+}
+
+// The first `n` bits of a list, `at` bits into a bitmap whose other bits are all set.
+fn placed(
+    rt: &impl Abort,
+    alloc: Global,
+    list: usize,
+    at: usize,
+    n: usize,
+) -> Result<Bitmap, ComputeError>
+    ensures { IfOk result (λ bits. length bits ≡ n) }
+{
+    let mut bits = surrounded(rt, alloc, list, at, n)?;
     bits.slice(at, n);
     Ok(bits)
 }
@@ -72,6 +88,70 @@ fn counts(n: usize) -> (usize, usize) {
     (set, both)
 }
 
+// The operators on two truth values.
+#[derive(Clone, Copy)]
+enum Operator {
+    And,
+    Or,
+    Xor,
+    Xnor,
+    AndNot,
+    OrNot,
+}
+
+const OPERATORS: [Operator; 6] = [
+    Operator::And,
+    Operator::Or,
+    Operator::Xor,
+    Operator::Xnor,
+    Operator::AndNot,
+    Operator::OrNot,
+];
+
+impl Operator {
+    fn of_bits(self, a: bool, b: bool) -> bool {
+        match self {
+            Operator::And => a && b,
+            Operator::Or => a || b,
+            Operator::Xor => a != b,
+            Operator::Xnor => a == b,
+            Operator::AndNot => a && !b,
+            Operator::OrNot => a || !b,
+        }
+    }
+
+    fn of_bitmaps(self, alloc: Global, x: &Bitmap, y: &Bitmap) -> Result<Bitmap, ComputeError>
+        requires { length y.now ≡ length x.now }
+    {
+        match self {
+            Operator::And => x.and(alloc, y),
+            Operator::Or => x.or(alloc, y),
+            Operator::Xor => x.xor(alloc, y),
+            Operator::Xnor => x.xnor(alloc, y),
+            Operator::AndNot => x.and_not(alloc, y),
+            Operator::OrNot => x.or_not(alloc, y),
+        }
+    }
+
+    fn of_masks(
+        self,
+        alloc: Global,
+        x: &BitMask<'_>,
+        y: &BitMask<'_>,
+    ) -> Result<Bitmap, ComputeError>
+        requires { length y.now ≡ length x.now }
+    {
+        match self {
+            Operator::And => x.and(alloc, y),
+            Operator::Or => x.or(alloc, y),
+            Operator::Xor => x.xor(alloc, y),
+            Operator::Xnor => x.xnor(alloc, y),
+            Operator::AndNot => x.and_not(alloc, y),
+            Operator::OrNot => x.or_not(alloc, y),
+        }
+    }
+}
+
 // Logic and counts of two lists at two places of words.
 fn logic_agrees(
     rt: &impl Abort,
@@ -82,11 +162,33 @@ fn logic_agrees(
 ) -> Result<(), ComputeError> {
     let x = placed(rt, alloc, 1, p, n)?;
     let y = placed(rt, alloc, 2, q, n)?;
-    expect(rt, &x.and(alloc, &y)?, n, |a, b, _| a && b);
-    expect(rt, &x.or(alloc, &y)?, n, |a, b, _| a || b);
-    expect(rt, &x.xor(alloc, &y)?, n, |a, b, _| a != b);
+    for operator in OPERATORS {
+        let bits = operator.of_bitmaps(alloc, &x, &y)?;
+        expect(rt, &bits, n, |a, b, _| operator.of_bits(a, b));
+    }
     expect(rt, &x.not(alloc)?, n, |a, _, _| !a);
     assert!(rt; (x.set_bits(), x.num_intersections_with(&y)) == counts(n));
+    Ok(())
+}
+
+// Logic of windows of two bitmaps that hold two lists at two places of words.
+fn masks_agree(
+    rt: &impl Abort,
+    alloc: Global,
+    p: usize,
+    q: usize,
+    n: usize,
+) -> Result<(), ComputeError> {
+    let left = surrounded(rt, alloc, 1, p, n)?;
+    let right = surrounded(rt, alloc, 2, q, n)?;
+    let x = BitMask::from_bitmap(&left).window(p, n);
+    let y = BitMask::from_bitmap(&right).window(q, n);
+    for operator in OPERATORS {
+        let bits = operator.of_masks(alloc, &x, &y)?;
+        expect(rt, &bits, n, |a, b, _| operator.of_bits(a, b));
+    }
+    expect(rt, &x.not(alloc)?, n, |a, _, _| !a);
+    expect(rt, &x.to_bitmap(alloc)?, n, |a, _, _| a);
     Ok(())
 }
 
@@ -117,6 +219,18 @@ fn words_agree_with_lists(rt: HostRuntime) -> Result<(), ComputeError> {
             for q in 0..66 {
                 logic_agrees(&rt, rt.alloc(), p, q, n)?;
                 merges_agree(&rt, rt.alloc(), p, q, n)?;
+            }
+        }
+    }
+    Ok(())
+}
+
+#[test]
+fn windows_agree_with_lists(rt: HostRuntime) -> Result<(), ComputeError> {
+    for n in LENGTHS {
+        for p in 0..66 {
+            for q in 0..66 {
+                masks_agree(&rt, rt.alloc(), p, q, n)?;
             }
         }
     }
@@ -266,6 +380,19 @@ fn tests_a_constant(rt: HostRuntime) -> Result<(), Fail> {
     assert_eq!(rt; (less.get(1), less.set_bits()), (Some(true), 1));
     assert_eq!(rt;
         (at_most.get(1), at_most.get(3), at_most.set_bits()),
+        (Some(true), Some(true), 2)
+    );
+    Ok(())
+}
+
+#[test]
+fn tests_the_greater_ones(rt: HostRuntime) -> Result<(), Fail> {
+    let left = [i8::MIN, 4, 5];
+    let greater = test_constant(rt.alloc(), &Greater, &left, 4)?;
+    let at_least = test_constant(rt.alloc(), &GreaterOrEqual, &left, 4)?;
+    assert_eq!(rt; (greater.get(2), greater.set_bits()), (Some(true), 1));
+    assert_eq!(rt;
+        (at_least.get(1), at_least.get(2), at_least.set_bits()),
         (Some(true), Some(true), 2)
     );
     Ok(())

@@ -65,3 +65,29 @@ impl<T: NativeType> ElementTest<T, T> for LessOrEqual {
         left <= right
     }
 }
+
+/// Whether the left number is greater than the right one.
+#[derive(Clone, Copy, Debug)]
+pub struct Greater;
+
+impl<T: NativeType> ElementTest<T, T> for Greater {
+    ghost passes = { λ _ l r. int_lt (T.value r) (T.value l) };
+
+    #[inline(always)]
+    fn test(&self, left: T, right: T) -> bool {
+        left > right
+    }
+}
+
+/// Whether the left number is greater than the right one or equal to it.
+#[derive(Clone, Copy, Debug)]
+pub struct GreaterOrEqual;
+
+impl<T: NativeType> ElementTest<T, T> for GreaterOrEqual {
+    ghost passes = { λ _ l r. int_le (T.value r) (T.value l) };
+
+    #[inline(always)]
+    fn test(&self, left: T, right: T) -> bool {
+        left >= right
+    }
+}

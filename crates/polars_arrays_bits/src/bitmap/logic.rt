@@ -3,65 +3,17 @@
 ghost use Rattle.std.specs.Prelude.{◌≡◌, Bool, not, ◌&&◌, ◌||◌, length, map, MatchResult};
 ghost use Rattle.std.specs.Simd.Lanes.{zip2};
 ghost use Rattle.polars_arrays_bits.specs.Bits.{first_of, zip3};
-ghost use Rattle.polars_arrays_bits.specs.Logic.{xor, merged_eq, merged_ne};
+ghost use Rattle.polars_arrays_bits.specs.Logic.{xor, xnor, and_not, or_not, merged_eq, merged_ne};
 ghost use Rattle.polars_arrays_bits.specs.Errors.{IsMemory};
 
 use super::Bitmap;
+use crate::bit_mask::BitMask;
 use crate::error::ComputeError;
-use crate::operators::{
-    And, BinaryOperator, Mapped, MergeEq, MergeNe, Merged, Not, Or, TernaryOperator, Xor, Zipped,
-};
+use crate::operators::{MergeEq, MergeNe, Merged, TernaryOperator};
 use crate::source::{Aligned, BitSource, Shifted};
 use std::alloc::Global;
 
 impl Bitmap {
-    // The operator at each bit of two bitmaps.
-    fn zip<O: BinaryOperator>(
-        &self,
-        alloc: Global,
-        other: &Bitmap,
-        operator: O,
-    ) -> Result<Bitmap, ComputeError>
-        requires { length other.now ≡ length self.now }
-        ensures { MatchResult result (λ bits. bits ≡ zip2 O.bit self.now other.now) IsMemory }
-    {
-        let words = self.words.as_slice();
-        if self.at == 0 {
-            return other.zip_last(alloc, operator, Aligned { words });
-        }
-        let by = self.at;
-        other.zip_last(alloc, operator, Shifted { words, by })
-    }
-
-    // The operator at each bit of a source and of this bitmap.
-    fn zip_last<O: BinaryOperator, A: BitSource + Drop>(
-        &self,
-        alloc: Global,
-        operator: O,
-        left: A,
-    ) -> Result<Bitmap, ComputeError>
-        ensures { MatchResult result (λ bits. bits ≡ zip2 O.bit (first_of (A.bit left) (length self.now)) self.now) IsMemory }
-    {
-        let words = self.words.as_slice();
-        if self.at == 0 {
-            let right = Aligned { words };
-            let source = Zipped {
-                operator,
-                left,
-                right,
-            };
-            return Bitmap::from_source(alloc, &source, self.len);
-        }
-        let by = self.at;
-        let right = Shifted { words, by };
-        let source = Zipped {
-            operator,
-            left,
-            right,
-        };
-        Bitmap::from_source(alloc, &source, self.len)
-    }
-
     // The operator at each bit of three bitmaps.
     fn merge<O: TernaryOperator>(
         &self,
@@ -139,7 +91,7 @@ impl Bitmap {
         requires { length other.now ≡ length self.now }
         ensures { MatchResult result (λ bits. bits ≡ zip2 ◌&&◌ self.now other.now) IsMemory }
     {
-        self.zip(alloc, other, And)
+        BitMask::from_bitmap(self).and(alloc, &BitMask::from_bitmap(other))
     }
 
     /// Where one of the two bits is true, or both are. The error is `Memory`.
@@ -147,7 +99,7 @@ impl Bitmap {
         requires { length other.now ≡ length self.now }
         ensures { MatchResult result (λ bits. bits ≡ zip2 ◌||◌ self.now other.now) IsMemory }
     {
-        self.zip(alloc, other, Or)
+        BitMask::from_bitmap(self).or(alloc, &BitMask::from_bitmap(other))
     }
 
     /// Where exactly one of the two bits is true. The error is `Memory`.
@@ -155,30 +107,38 @@ impl Bitmap {
         requires { length other.now ≡ length self.now }
         ensures { MatchResult result (λ bits. bits ≡ zip2 xor self.now other.now) IsMemory }
     {
-        self.zip(alloc, other, Xor)
+        BitMask::from_bitmap(self).xor(alloc, &BitMask::from_bitmap(other))
+    }
+
+    /// Where the two bits are the same. The error is `Memory`.
+    pub fn xnor(&self, alloc: Global, other: &Bitmap) -> Result<Bitmap, ComputeError>
+        requires { length other.now ≡ length self.now }
+        ensures { MatchResult result (λ bits. bits ≡ zip2 xnor self.now other.now) IsMemory }
+    {
+        BitMask::from_bitmap(self).xnor(alloc, &BitMask::from_bitmap(other))
+    }
+
+    /// Where the bit is true and the other one is false. The error is `Memory`.
+    pub fn and_not(&self, alloc: Global, other: &Bitmap) -> Result<Bitmap, ComputeError>
+        requires { length other.now ≡ length self.now }
+        ensures { MatchResult result (λ bits. bits ≡ zip2 and_not self.now other.now) IsMemory }
+    {
+        BitMask::from_bitmap(self).and_not(alloc, &BitMask::from_bitmap(other))
+    }
+
+    /// Where the bit is true, or the other one is false. The error is `Memory`.
+    pub fn or_not(&self, alloc: Global, other: &Bitmap) -> Result<Bitmap, ComputeError>
+        requires { length other.now ≡ length self.now }
+        ensures { MatchResult result (λ bits. bits ≡ zip2 or_not self.now other.now) IsMemory }
+    {
+        BitMask::from_bitmap(self).or_not(alloc, &BitMask::from_bitmap(other))
     }
 
     /// Where the bit is false. The error is `Memory`.
     pub fn not(&self, alloc: Global) -> Result<Bitmap, ComputeError>
         ensures { MatchResult result (λ bits. bits ≡ map not self.now) IsMemory }
     {
-        if self.at == 0 {
-            let source = Mapped {
-                operator: Not,
-                source: Aligned {
-                    words: self.words.as_slice(),
-                },
-            };
-            return Bitmap::from_source(alloc, &source, self.len);
-        }
-        let source = Mapped {
-            operator: Not,
-            source: Shifted {
-                words: self.words.as_slice(),
-                by: self.at,
-            },
-        };
-        Bitmap::from_source(alloc, &source, self.len)
+        BitMask::from_bitmap(self).not(alloc)
     }
 
     /// Where two rows are equal, null being equal to null alone: `(q & l & r) | !(l | r)`, where `q` says
