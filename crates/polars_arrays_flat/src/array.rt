@@ -23,12 +23,17 @@ pub trait Array {
     // Whether two arrays are of one type.
     ghost same_type: { Self → Self → Type 0 };
 
+    // What is asked of an array that holds arrays, since its type alone does not keep it: that it is good
+    // all the way down. An array of one level is always good.
+    ghost good: { Self → Type 0 };
+
     /// How many rows there are.
     fn len(&self) -> usize
         ensures { result ≡ length (slots self.now) };
 
     /// A bit for each row, set where the row is present (the Arrow layout), or None where no row is masked.
     fn validity(&self) -> Option<&Bitmap>
+        requires good { good self.now }
         ensures mask { option_copied result ≡ mask self.now }
         ensures bits { HasBits (length (slots self.now)) (mask self.now) };
 

@@ -94,6 +94,8 @@ impl Array for BooleanArray {
 
     ghost same_type = { λ a b. ⊤ };
 
+    ghost good = { λ a. ⊤ };
+
     fn len(&self) -> usize {
         self.values.len()
     }

@@ -67,6 +67,8 @@ impl Array for NullArray {
 
     ghost same_type = { λ a b. ⊤ };
 
+    ghost good = { λ a. ⊤ };
+
     fn len(&self) -> usize {
         self.len
     }

@@ -198,6 +198,8 @@ impl<T: NativeType> Array for PrimitiveArray<T> {
 
     ghost same_type = { λ a b. ⊤ };
 
+    ghost good = { λ a. ⊤ };
+
     fn len(&self) -> usize {
         self.values.len()
     }
