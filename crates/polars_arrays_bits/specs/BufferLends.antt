@@ -1,6 +1,6 @@
 -- What a buffer ends as, once its elements were lent to be written.
-use Rattle.std.specs.Prelude.{List, length}
-use Rattle.std.specs.Borrow.{Fml, RattleType, MutBor, Array, Lends}
+use Rattle.std.specs.Prelude.{List, length, Option}
+use Rattle.std.specs.Borrow.{Fml, RattleType, MutBor, Array, Lends, LendsIf}
 use Rattle.std.specs.List.{refill}
 use Rattle.polars_arrays_bits.specs.Buffer.{Elements}
 use Rattle.polars_arrays_bits.specs.contracts.buffer.Buffer.{the_row}
@@ -13,3 +13,7 @@ module _ (T : RattleType) (b : MutBor (Elements T.Denot)) where
   -- the elements are the last ones written through r
   abbrev pub lends_elements : MutBor (List T.Denot) → Fml
   lends_elements r = Lends (the_row T) (Array T 0) b r (with_elements b.now)
+
+  -- the same where r is a reference, and at `None` the buffer stays as it is
+  abbrev pub lends_elements_if : Option (MutBor (List T.Denot)) → Fml
+  lends_elements_if r = LendsIf (the_row T) (Array T 0) b r (with_elements b.now) b.now

@@ -56,7 +56,7 @@ impl<T: Copy> Model for Buffer<T> {
 }
 
 impl<T: Copy> Buffer<T> {
-    ghost use Rattle.polars_arrays_bits.specs.BufferLends.{lends_elements};
+    ghost use Rattle.polars_arrays_bits.specs.BufferLends.{lends_elements, lends_elements_if};
 
     /// The elements of a vector, owned.
     pub fn from_vec(elements: Vec<T>) -> Buffer<T>
@@ -113,13 +113,21 @@ impl<T: Copy> Buffer<T> {
         self.store.window_mut(self.start, self.len)
     }
 
-    /// The elements to be written, exactly where the buffer owns them. No clause says what the buffer holds
-    /// afterwards: where a proof needs this, ask `is_owned` and take `as_mut_slice`.
+    // `is_owned`, asked through a `&mut`.
+    fn owns(&mut self) -> bool
+        ensures unchanged { self.new ≡ self.old }
+        ensures owned { result ≡ self.old.owned }
+    {
+        self.is_owned()
+    }
+
+    /// The elements to be written, exactly where the buffer owns them.
     pub fn get_mut(&mut self) -> Option<&mut [T]>
+        ensures* written { sem 𝓛 (lends_elements_if T.row self.entry result) }
         ensures owned { IsSome result ↔ IsTrue self.old.owned }
         ensures items { IfSome result (λ elements. elements.now ≡ self.old.items) }
     {
-        if self.is_owned() {
+        if self.owns() {
             Some(self.as_mut_slice())
         } else {
             None
