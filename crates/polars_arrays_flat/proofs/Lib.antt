@@ -1,1 +1,4 @@
 pub mod Examples
+pub mod NullCounts
+pub mod RowWindows
+pub mod SameKinds

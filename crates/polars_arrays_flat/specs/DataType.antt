@@ -68,3 +68,8 @@ kinds_in-is m (more_of-Field name dtype rest) =
 pub kind_of-struct : (fields : Vec Field Global) → kind_of (Struct fields) ≡ StructKind (kinds_of fields.items)
 kind_of-struct fields =
     ap StructKind (kinds_in-is _ (hidden-the_row-Field-0 fields) ∙ ap kinds_of (items_hidden-the_row-Field-0 fields))
+
+-- one name, byte for byte, and one kind
+pub record IsSameField (f g : Field) : Type 0 where
+  pub name : string_bytes f.name ≡ string_bytes g.name
+  pub kind : kind_of f.dtype ≡ kind_of g.dtype

@@ -1,6 +1,9 @@
+pub mod ArrayRows
 pub mod DataType
 pub mod Flat
 pub mod Kind
+pub mod KindTest
+pub mod KindTestLaws
 pub mod Numbers
 pub mod NumbersLends
 pub mod Row

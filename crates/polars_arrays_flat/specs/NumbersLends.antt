@@ -1,6 +1,6 @@
 -- What an array of numbers ends as, once its stored values were lent to be written.
-use Rattle.std.specs.Prelude.{List, length}
-use Rattle.std.specs.Borrow.{Fml, RattleType, MutBor, Array, Lends}
+use Rattle.std.specs.Prelude.{List, length, Option}
+use Rattle.std.specs.Borrow.{Fml, RattleType, MutBor, Array, Lends, LendsIf}
 use Rattle.std.specs.List.{refill}
 use Rattle.polars_arrays_flat.specs.Numbers.{Numbers}
 use Rattle.polars_arrays_flat.specs.contracts.primitive.PrimitiveArray.{the_row}
@@ -13,3 +13,7 @@ module _ (T : RattleType) (a : MutBor (Numbers T.Denot)) where
   -- the stored values are the last ones written through r
   abbrev pub lends_values : MutBor (List T.Denot) → Fml
   lends_values r = Lends (the_row T) (Array T 0) a r (with_values a.now)
+
+  -- the same where r is a reference, and at `None` the array stays as it is
+  abbrev pub lends_values_if : Option (MutBor (List T.Denot)) → Fml
+  lends_values_if r = LendsIf (the_row T) (Array T 0) a r (with_values a.now) a.now

@@ -2,8 +2,9 @@
 
 ghost use Rattle.std.specs.Prelude.{◌≡◌, ℕ, List, Bool, Option, length};
 ghost use Rattle.std.specs.Option.{option_copied};
+ghost use Rattle.polars_arrays_flat.specs.ArrayRows.{null_total, MasksByPlace};
 ghost use Rattle.polars_arrays_flat.specs.Row.{Row};
-ghost use Rattle.polars_arrays_flat.specs.StoredRows.{NullSlots};
+ghost use Rattle.polars_arrays_flat.specs.StoredRows.{rows_under, NullSlots};
 ghost use Rattle.polars_arrays_flat.specs.Validity.{HasBits};
 
 use polars_arrays_bits::bitmap::Bitmap;
@@ -39,8 +40,16 @@ pub trait Array {
 
     /// How many rows are null.
     fn null_count(&self) -> usize
-        ensures { result ≡ nulls self.now };
+        ensures nulls { result ≡ nulls self.now }
+        ensures rows { good self.now → result ≡ null_total (rows_under (mask self.now) (slots self.now)) };
 
     // A row is stored as Null only where no array of the type has a validity.
     ghost null_law: { (a b : Self) (i : ℕ) → NullSlots (slots a) (mask a) (mask b) (same_type a b × same_type b a) i };
 }
+
+/// A law of every array: a row is the stored one where it is present, and null where it is masked, whatever
+/// is stored there.
+#[tactic(auto, using(crate::proofs::RowWindows::places))]
+pub fn law_rows()
+    ensures { MasksByPlace }
+{}

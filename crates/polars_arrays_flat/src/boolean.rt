@@ -1,12 +1,13 @@
 //! Arrays of truth values.
 
-ghost use Rattle.std.specs.Prelude.{◌≡◌, ◌+◌, ◌≤◌, length, MatchResult, IfErr, ⊤};
+ghost use Rattle.std.specs.Prelude.{◌≡◌, ◌+◌, ◌≤◌, length, MatchResult, IfOk, IfErr, ⊤};
 ghost use Rattle.std.specs.Result.{OkIff};
 ghost use Rattle.polars_arrays_bits.specs.Errors.{IsMemory};
+ghost use Rattle.polars_arrays_flat.specs.ArrayRows.{truth_rows};
 ghost use Rattle.polars_arrays_flat.specs.DataType.{kind_of};
 ghost use Rattle.polars_arrays_flat.specs.Kind.{BooleanKind};
 ghost use Rattle.polars_arrays_flat.specs.Slots.{truth_slots-present};
-ghost use Rattle.polars_arrays_flat.specs.StoredRows.{truth_slots};
+ghost use Rattle.polars_arrays_flat.specs.StoredRows.{rows_under, truth_slots};
 ghost use Rattle.polars_arrays_flat.specs.Validity.{HasBits, masked_count, validity_window, window};
 
 use crate::array::Array;
@@ -45,6 +46,7 @@ impl BooleanArray {
     pub fn try_new(values: Bitmap, validity: Option<Bitmap>) -> Result<BooleanArray, ArrayError>
         ensures made { OkIff result (HasBits (length values) validity) (record { values = values; validity = validity }) }
         ensures refused { IfErr result (λ e. e ≡ ArrayError.Length) }
+        ensures rows { IfOk result (λ a. truth_rows a ≡ rows_under validity (truth_slots values)) }
     {
         if !has_bits(values.len(), &validity) {
             return Err(ArrayError::Length);
@@ -60,9 +62,11 @@ impl BooleanArray {
     }
 
     /// Keeps `n` rows from row `at` on. No value moves.
+    #[tactic(auto, using(crate::proofs::RowWindows::windows))]
     pub fn slice(&mut self, at: usize, n: usize)
         requires { at + n ≤ length self.old.values }
-        ensures { self.new ≡ record { values = window at n self.old.values; validity = validity_window at n self.old.validity } }
+        ensures stored { self.new ≡ record { values = window at n self.old.values; validity = validity_window at n self.old.validity } }
+        ensures rows { truth_rows self.new ≡ window at n (truth_rows self.old) }
     {
         self.values.slice(at, n);
         slice_validity(&mut self.validity, at, n);
@@ -104,6 +108,7 @@ impl Array for BooleanArray {
         self.validity.as_ref()
     }
 
+    #[tactic(auto, using(crate::proofs::NullCounts::nulls_counted))]
     fn null_count(&self) -> usize {
         null_count(&self.validity)
     }

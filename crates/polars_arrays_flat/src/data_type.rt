@@ -1,5 +1,9 @@
 //! The types of arrays.
 
+ghost use Rattle.std.specs.Prelude.{◌≡◌, ◌↔◌, IsTrue};
+ghost use Rattle.polars_arrays_flat.specs.DataType.{key_kind, kind_of, kinds_of, IsSameField};
+ghost use Rattle.polars_arrays_flat.specs.Kind.{StructKind};
+
 /// A type of whole numbers that numbers the entries of a dictionary.
 #[derive(Clone, Copy, PartialEq, Eq, Debug)]
 pub enum IntegerType {
@@ -17,7 +21,7 @@ pub enum IntegerType {
 /// `FixedSizeBinary` bytes a row, `FixedSizeList` items a row, and `Dictionary` the type of its keys and
 /// that of its entries.
 #[cycle(data_type)]
-#[derive(PartialEq, Drop)]
+#[derive(Drop)]
 pub enum ArrowDataType {
     Null,
     Boolean,
@@ -47,8 +51,132 @@ pub enum ArrowDataType {
 
 /// The name and the type of one part of a struct.
 #[cycle(data_type)]
-#[derive(PartialEq, Drop)]
+#[derive(Drop)]
 pub struct Field {
     pub name: String,
     pub dtype: ArrowDataType,
+}
+
+impl ArrowDataType {
+    /// Whether two types are the same: of one name and size, with the same items, the same keys and entries,
+    /// and fields of the same names and types in the same order. It takes no memory.
+    #[cycle(same_kind)]
+    pub fn same_kind(&self, other: &ArrowDataType) -> bool
+        ensures { IsTrue result ↔ (kind_of self.now ≡ kind_of other.now) }
+    {
+        match (self, other) {
+            (Self::Null, Self::Null) => true,
+            (Self::Boolean, Self::Boolean) => true,
+            (Self::Int8, Self::Int8) => true,
+            (Self::Int16, Self::Int16) => true,
+            (Self::Int32, Self::Int32) => true,
+            (Self::Int64, Self::Int64) => true,
+            (Self::Int128, Self::Int128) => true,
+            (Self::UInt8, Self::UInt8) => true,
+            (Self::UInt16, Self::UInt16) => true,
+            (Self::UInt32, Self::UInt32) => true,
+            (Self::UInt64, Self::UInt64) => true,
+            (Self::UInt128, Self::UInt128) => true,
+            (Self::Binary, Self::Binary) => true,
+            (Self::LargeBinary, Self::LargeBinary) => true,
+            (Self::Utf8, Self::Utf8) => true,
+            (Self::LargeUtf8, Self::LargeUtf8) => true,
+            (Self::BinaryView, Self::BinaryView) => true,
+            (Self::Utf8View, Self::Utf8View) => true,
+            (Self::FixedSizeBinary(size), Self::FixedSizeBinary(other)) => *size == *other,
+            (Self::List(item), Self::List(other)) => item.same_kind(other),
+            (Self::LargeList(item), Self::LargeList(other)) => item.same_kind(other),
+            (Self::FixedSizeList(item, size), Self::FixedSizeList(other, other_size)) => {
+                *size == *other_size && item.same_kind(other)
+            }
+            (Self::Struct(fields), _) => is_struct_of(fields, other),
+            (Self::Dictionary(keys, entry), Self::Dictionary(other_keys, other)) => {
+                same_keys(*keys, *other_keys) && entry.same_kind(other)
+            }
+            _ => false,
+        }
+    }
+}
+
+impl PartialEq for ArrowDataType {
+    ghost use Rattle.polars_arrays_flat.specs.KindTest.{dtype_eq};
+    ghost use Rattle.polars_arrays_flat.specs.KindTestLaws.{dtype_eq-laws};
+
+    ghost eq = { dtype_eq };
+
+    ghost laws = { dtype_eq-laws };
+
+    fn eq(&self, other: &ArrowDataType) -> bool
+        ensures answer { result ≡ dtype_eq self.now other.now }
+        ensures same { IsTrue result ↔ (kind_of self.now ≡ kind_of other.now) }
+    {
+        self.same_kind(other)
+    }
+}
+
+impl Field {
+    /// Whether two fields have the same name, byte for byte, and the same type.
+    #[cycle(same_kind)]
+    pub fn same_field(&self, other: &Field) -> bool
+        ensures { IsTrue result ↔ IsSameField self.now other.now }
+    {
+        same_text(self.name.as_str(), other.name.as_str()) && self.dtype.same_kind(&other.dtype)
+    }
+}
+
+impl PartialEq for Field {
+    ghost use Rattle.polars_arrays_flat.specs.KindTest.{field_eq};
+    ghost use Rattle.polars_arrays_flat.specs.KindTestLaws.{field_eq-laws};
+
+    ghost eq = { field_eq };
+
+    ghost laws = { field_eq-laws };
+
+    fn eq(&self, other: &Field) -> bool
+        ensures answer { result ≡ field_eq self.now other.now }
+        ensures same { IsTrue result ↔ IsSameField self.now other.now }
+    {
+        self.same_field(other)
+    }
+}
+
+// Whether a type is a struct of those fields.
+#[cycle(same_kind)]
+fn is_struct_of(fields: &[Field], dtype: &ArrowDataType) -> bool
+    ensures { IsTrue result ↔ (StructKind (kinds_of fields.now) ≡ kind_of dtype.now) }
+{
+    match dtype {
+        ArrowDataType::Struct(others) => same_fields(fields, others),
+        _ => false,
+    }
+}
+
+// Whether two lists of fields have the same names and types in the same order.
+#[cycle(same_kind)]
+fn same_fields(left: &[Field], right: &[Field]) -> bool
+    ensures { IsTrue result ↔ (kinds_of left.now ≡ kinds_of right.now) }
+{
+    if left.len() != right.len() {
+        return false;
+    }
+    for i in 0..left.len() {
+        if !left[i].same_field(&right[i]) {
+            return false;
+        }
+    }
+    true
+}
+
+// Whether two texts are the same.
+fn same_text(left: &str, right: &str) -> bool
+    ensures { IsTrue result ↔ (left.now ≡ right.now) }
+{
+    left == right
+}
+
+// Whether two types of keys are the same.
+fn same_keys(left: IntegerType, right: IntegerType) -> bool
+    ensures { IsTrue result ↔ (key_kind left ≡ key_kind right) }
+{
+    left == right
 }

@@ -5,6 +5,7 @@ ghost use Rattle.polars_arrays_bits.specs.Errors.{IsMemory};
 ghost use Rattle.polars_arrays_flat.specs.DataType.{kind_of};
 ghost use Rattle.polars_arrays_flat.specs.Kind.{NullKind};
 ghost use Rattle.polars_arrays_flat.specs.Row.{Null};
+ghost use Rattle.polars_arrays_flat.specs.Validity.{window};
 
 use crate::array::Array;
 use crate::data_type::ArrowDataType;
@@ -36,9 +37,11 @@ impl NullArray {
     }
 
     /// Keeps `n` rows from row `at` on.
+    #[tactic(auto, using(crate::proofs::RowWindows::windows))]
     pub fn slice(&mut self, at: usize, n: usize)
         requires { at + n ≤ self.old }
-        ensures { self.new ≡ n }
+        ensures stored { self.new ≡ n }
+        ensures rows { replicate self.new Null ≡ window at n (replicate self.old Null) }
     {
         self.len = n;
     }
@@ -77,6 +80,7 @@ impl Array for NullArray {
         None
     }
 
+    #[tactic(auto, using(crate::proofs::NullCounts::nulls_counted))]
     fn null_count(&self) -> usize {
         self.len
     }

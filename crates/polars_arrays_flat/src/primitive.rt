@@ -1,12 +1,14 @@
 //! Arrays of numbers.
 
-ghost use Rattle.std.specs.Prelude.{◌≡◌, ◌↔◌, ◌+◌, ◌≤◌, length, replicate, false, true, None, Some, IsTrue, IsSome, IfSome, IfErr, MatchResult, ⊤};
+ghost use Rattle.std.specs.Prelude.{◌≡◌, ◌↔◌, ◌+◌, ◌≤◌, length, map, replicate, false, true, None, Some, IsTrue, IsSome, IfSome, IfOk, IfErr, MatchResult, ⊤};
 ghost use Rattle.std.specs.Borrow.{sem};
 ghost use Rattle.std.specs.Result.{OkIff};
 ghost use Rattle.polars_arrays_bits.specs.Errors.{IsMemory};
+ghost use Rattle.polars_arrays_flat.specs.ArrayRows.{number_rows, filled_row};
 ghost use Rattle.polars_arrays_flat.specs.DataType.{kind_of};
+ghost use Rattle.polars_arrays_flat.specs.Row.{Null};
 ghost use Rattle.polars_arrays_flat.specs.Slots.{number_slots-present};
-ghost use Rattle.polars_arrays_flat.specs.StoredRows.{number_slots};
+ghost use Rattle.polars_arrays_flat.specs.StoredRows.{rows_under, number_slots};
 ghost use Rattle.polars_arrays_flat.specs.Validity.{HasBits, masked_count, validity_window, window};
 
 use crate::array::Array;
@@ -43,67 +45,8 @@ impl<T: Copy> Model for PrimitiveArray<T> {
     ghost invariant = { λ a. HasBits (length a.values.items) a.validity };
 }
 
-impl<T: NativeType> PrimitiveArray<T> {
-    ghost use Rattle.polars_arrays_flat.specs.NumbersLends.{lends_values};
-
-    /// An array of stored values and a validity. The error is `Length`, where the validity has not a bit for
-    /// each value.
-    pub fn try_new(
-        values: Buffer<T>,
-        validity: Option<Bitmap>,
-    ) -> Result<PrimitiveArray<T>, ArrayError>
-        ensures made { OkIff result (HasBits (length values.items) validity) (record { values = values.items; validity = validity; owned = values.owned }) }
-        ensures refused { IfErr result (λ e. e ≡ ArrayError.Length) }
-    {
-        if !has_bits(values.len(), &validity) {
-            return Err(ArrayError::Length);
-        }
-        Ok(PrimitiveArray { values, validity })
-    }
-
-    /// An array of a vector's numbers, none of them masked.
-    pub fn from_vec(values: Vec<T>) -> PrimitiveArray<T>
-        ensures { result ≡ record { values = values.items; validity = None; owned = true } }
-    {
-        PrimitiveArray {
-            values: Buffer::from_vec(values),
-            validity: None,
-        }
-    }
-
-    /// The stored values, also of masked rows.
-    pub fn values(&self) -> &[T]
-        ensures { result.now ≡ self.now.values }
-    {
-        self.values.as_slice()
-    }
-
-    /// Keeps `n` rows from row `at` on. No value moves.
-    pub fn slice(&mut self, at: usize, n: usize)
-        requires { at + n ≤ length self.old.values }
-        ensures { self.new ≡ record { values = window at n self.old.values; validity = validity_window at n self.old.validity; owned = self.old.owned } }
-    {
-        self.values.slice(at, n);
-        slice_validity(&mut self.validity, at, n);
-    }
-
-    /// Takes the validity out. No row is masked from then on.
-    pub fn take_validity(&mut self) -> Option<Bitmap>
-        ensures taken { result ≡ self.old.validity }
-        ensures left { self.new ≡ record self.old { validity = None } }
-        ensures bits { HasBits (length self.old.values) result }
-    {
-        self.validity.take()
-    }
-
-    /// The same stored values under another validity.
-    pub fn with_validity(self, validity: Option<Bitmap>) -> PrimitiveArray<T>
-        requires { HasBits (length self.values) validity }
-        ensures { result ≡ record self { validity = validity } }
-    {
-        let PrimitiveArray { values, .. } = self;
-        PrimitiveArray { values, validity }
-    }
+impl<T: Copy> PrimitiveArray<T> {
+    ghost use Rattle.polars_arrays_flat.specs.NumbersLends.{lends_values, lends_values_if};
 
     /// Whether no other array holds the stored values.
     pub fn is_owned(&self) -> bool
@@ -121,22 +64,98 @@ impl<T: NativeType> PrimitiveArray<T> {
         self.values.as_mut_slice()
     }
 
-    /// The stored values to be written, exactly where the array owns them. What is written is seen in the
-    /// array; a caller whose proof needs this asks `is_owned` and takes `as_mut_values`.
+    // `is_owned`, asked through a `&mut`.
+    fn owns(&mut self) -> bool
+        ensures unchanged { self.new ≡ self.old }
+        ensures owned { result ≡ self.old.owned }
+    {
+        self.is_owned()
+    }
+
+    /// The stored values to be written, exactly where the array owns them.
     pub fn get_mut_values(&mut self) -> Option<&mut [T]>
+        ensures* written { sem 𝓛 (lends_values_if T.row self.entry result) }
         ensures owned { IsSome result ↔ IsTrue self.old.owned }
         ensures values { IfSome result (λ values. values.now ≡ self.old.values) }
     {
-        if self.is_owned() {
+        if self.owns() {
             Some(self.as_mut_values())
         } else {
             None
         }
     }
+}
+
+impl<T: NativeType> PrimitiveArray<T> {
+    /// An array of stored values and a validity. The error is `Length`, where the validity has not a bit for
+    /// each value.
+    pub fn try_new(
+        values: Buffer<T>,
+        validity: Option<Bitmap>,
+    ) -> Result<PrimitiveArray<T>, ArrayError>
+        ensures made { OkIff result (HasBits (length values.items) validity) (record { values = values.items; validity = validity; owned = values.owned }) }
+        ensures refused { IfErr result (λ e. e ≡ ArrayError.Length) }
+        ensures rows { IfOk result (λ a. number_rows T.value a ≡ rows_under validity (number_slots T.value values.items)) }
+    {
+        if !has_bits(values.len(), &validity) {
+            return Err(ArrayError::Length);
+        }
+        Ok(PrimitiveArray { values, validity })
+    }
+
+    /// An array of a vector's numbers, none of them masked.
+    pub fn from_vec(values: Vec<T>) -> PrimitiveArray<T>
+        ensures stored { result ≡ record { values = values.items; validity = None; owned = true } }
+        ensures rows { number_rows T.value result ≡ number_slots T.value values.items }
+    {
+        PrimitiveArray {
+            values: Buffer::from_vec(values),
+            validity: None,
+        }
+    }
+
+    /// The stored values, also of masked rows.
+    pub fn values(&self) -> &[T]
+        ensures { result.now ≡ self.now.values }
+    {
+        self.values.as_slice()
+    }
+
+    /// Keeps `n` rows from row `at` on. No value moves.
+    #[tactic(auto, using(crate::proofs::RowWindows::windows))]
+    pub fn slice(&mut self, at: usize, n: usize)
+        requires { at + n ≤ length self.old.values }
+        ensures stored { self.new ≡ record { values = window at n self.old.values; validity = validity_window at n self.old.validity; owned = self.old.owned } }
+        ensures rows { number_rows T.value self.new ≡ window at n (number_rows T.value self.old) }
+    {
+        self.values.slice(at, n);
+        slice_validity(&mut self.validity, at, n);
+    }
+
+    /// Takes the validity out. No row is masked from then on.
+    pub fn take_validity(&mut self) -> Option<Bitmap>
+        ensures taken { result ≡ self.old.validity }
+        ensures left { self.new ≡ record self.old { validity = None } }
+        ensures bits { HasBits (length self.old.values) result }
+        ensures rows { number_rows T.value self.new ≡ number_slots T.value self.old.values }
+    {
+        self.validity.take()
+    }
+
+    /// The same stored values under another validity.
+    pub fn with_validity(self, validity: Option<Bitmap>) -> PrimitiveArray<T>
+        requires { HasBits (length self.values) validity }
+        ensures stored { result ≡ record self { validity = validity } }
+        ensures rows { number_rows T.value result ≡ rows_under validity (number_slots T.value self.values) }
+    {
+        let PrimitiveArray { values, .. } = self;
+        PrimitiveArray { values, validity }
+    }
 
     /// The same rows, from now on in stored values that clones share. No value moves. The error is `Memory`.
     pub fn share(self, alloc: Global) -> Result<PrimitiveArray<T>, ComputeError>
-        ensures { MatchResult result (λ shared. shared ≡ record self { owned = false }) IsMemory }
+        ensures stored { MatchResult result (λ shared. shared ≡ record self { owned = false }) IsMemory }
+        ensures rows { IfOk result (λ shared. number_rows T.value shared ≡ number_rows T.value self) }
     {
         let PrimitiveArray { values, validity } = self;
         let values = values.share(alloc)?;
@@ -166,8 +185,10 @@ impl<T: ArrowType> PrimitiveArray<T> {
 impl<T: NativeType> PrimitiveArray<T> {
     /// The same validity over stored values that are all `value`, in the values there were where the array
     /// owns them. The error is `Memory`.
+    #[tactic(auto, using(crate::proofs::RowWindows::fills))]
     pub fn fill_with(self, alloc: Global, value: T) -> Result<PrimitiveArray<T>, ComputeError>
-        ensures { MatchResult result (λ filled. filled ≡ record { values = replicate (length self.values) value; validity = self.validity; owned = true }) IsMemory }
+        ensures stored { MatchResult result (λ filled. filled ≡ record { values = replicate (length self.values) value; validity = self.validity; owned = true }) IsMemory }
+        ensures rows { IfOk result (λ filled. number_rows T.value filled ≡ map (filled_row (T.value value)) (number_rows T.value self)) }
     {
         let PrimitiveArray { values, validity } = self;
         let values = filled(alloc, values, value)?;
@@ -177,8 +198,10 @@ impl<T: NativeType> PrimitiveArray<T> {
 
 impl<T: NativeType + Zero> PrimitiveArray<T> {
     /// An array of `len` masked rows, over stored values that are all 0. The error is `Memory`.
+    #[tactic(auto, using(crate::proofs::RowWindows::fills))]
     pub fn full_null(alloc: Global, len: usize) -> Result<PrimitiveArray<T>, ComputeError>
-        ensures { MatchResult result (λ nulls. nulls ≡ record { values = replicate len T.zero; validity = Some (replicate len false); owned = true }) IsMemory }
+        ensures stored { MatchResult result (λ nulls. nulls ≡ record { values = replicate len T.zero; validity = Some (replicate len false); owned = true }) IsMemory }
+        ensures rows { IfOk result (λ nulls. number_rows T.value nulls ≡ replicate len Null) }
     {
         let values = repeated(alloc, T::zero(), len)?;
         let validity = Bitmap::new_zeroed(alloc, len)?;
@@ -208,6 +231,7 @@ impl<T: NativeType> Array for PrimitiveArray<T> {
         self.validity.as_ref()
     }
 
+    #[tactic(auto, using(crate::proofs::NullCounts::nulls_counted))]
     fn null_count(&self) -> usize {
         null_count(&self.validity)
     }
