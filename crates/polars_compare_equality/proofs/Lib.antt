@@ -1,0 +1,3 @@
+mod Missing
+mod Raw
+mod Trees

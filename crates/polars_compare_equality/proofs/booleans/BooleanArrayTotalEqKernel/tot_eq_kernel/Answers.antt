@@ -1,0 +1,10 @@
+use Rattle.std.proofs.lemmas.Result.{MatchResult-weaker}
+use Rattle.polars_compare_equality.specs.Slots.{truth_slots-as_long}
+use Rattle.polars_compare_equality.proofs.Raw.{equal-windows}
+use Rattle.polars_compare_equality.proofs.booleans.BooleanArrayTotalEqKernel.tot_eq_kernel.Goals as goal
+
+pub returns : goal.returns
+returns c =
+    MatchResult-weaker c.test_truth_windows.result c.test_truth_windows.ensures
+    (λ bits e. equal-windows _ _ _ _ _ bits c.len.ensures (truth_slots-as_long _ _ c.requires.comparable) e)
+    (λ error m. m)

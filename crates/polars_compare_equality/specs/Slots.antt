@@ -1,0 +1,13 @@
+-- Stored rows are as many as stored values.
+use Rattle.std.specs.Prelude.{◌≡◌, ℤ, Bool, List, length}
+use Rattle.std.proofs.Common.{sym, ◌∙◌}
+use Rattle.std.proofs.lemmas.List.{length-map}
+use Rattle.polars_arrays_flat.specs.Row.{Int, Truth}
+use Rattle.polars_arrays_flat.specs.StoredRows.{number_slots, truth_slots}
+
+pub number_slots-as_long : {A : Type 0} (value : A → ℤ) (xs ys : List A) → length xs ≡ length ys → length (number_slots value xs) ≡ length (number_slots value ys)
+number_slots-as_long value xs ys e =
+    length-map xs (λ x. Int (value x)) ∙ e ∙ sym (length-map ys (λ x. Int (value x)))
+
+pub truth_slots-as_long : (xs ys : List Bool) → length xs ≡ length ys → length (truth_slots xs) ≡ length (truth_slots ys)
+truth_slots-as_long xs ys e = length-map xs Truth ∙ e ∙ sym (length-map ys Truth)

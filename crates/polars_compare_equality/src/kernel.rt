@@ -1,0 +1,181 @@
+//! Equality of the rows of two arrays, with and without regard to null.
+
+ghost use Rattle.std.specs.Prelude.{◌≡◌, ◌≢◌, ◌↔◌, List, Bool, Option, None, true, false, length, replicate, MatchResult, IsTrue, ⊤};
+ghost use Rattle.std.specs.Option.{option_copied};
+ghost use Rattle.polars_arrays_bits.specs.Errors.{IsMemory};
+ghost use Rattle.polars_arrays_flat.specs.Row.{Row, Null};
+ghost use Rattle.polars_arrays_flat.specs.StoredRows.{rows_under};
+ghost use Rattle.polars_arrays_flat.specs.Validity.{HasBits};
+ghost use Rattle.polars_compare_leaves.specs.Equality.{RawEquality, MissingEquality};
+ghost use Rattle.polars_compare_equality.specs.Answers.{Answers};
+
+use polars_arrays_bits::bitmap::Bitmap;
+use polars_arrays_bits::error::ComputeError;
+use polars_arrays_flat::array::Array;
+use polars_compare_leaves::joining::{Relation, join_nulls};
+use std::alloc::Global;
+
+// The mask of an array, for the null combination. No other place says which rows are masked.
+fn missing_mask<A: Array>(array: &A) -> Option<&Bitmap>
+    requires { A.good array.now }
+    ensures mask { option_copied result ≡ A.mask array.now }
+    ensures bits { HasBits (length (A.slots array.now)) (A.mask array.now) }
+{
+    array.validity()
+}
+
+/// Equality of the rows of two arrays of one kind.
+///
+/// The raw kernels ask no validity, and their bits are right where both rows are present. The missing
+/// kernels take null as equal to itself alone, and their bits are right everywhere. A broadcast sets each
+/// row against one scalar, which is never null. All but the tests take memory: the error is `Memory`, and
+/// `Unsupported` for the broadcasts of a kind that has none.
+pub trait TotalEqKernel: Sized + Array {
+    /// What the rows are set against in a broadcast.
+    type Scalar;
+
+    // Whether two arrays can be compared.
+    ghost comparable: { Self → Self → Type 0 };
+
+    // Whether the kind has broadcasts.
+    ghost broadcasts: { Bool };
+
+    // Whether a scalar is of the type that the array is set against.
+    ghost fits: { Self → Self.Scalar → Type 0 };
+
+    // What is asked of a scalar that holds an array: that it is good all the way down.
+    ghost good_scalar: { Self.Scalar → Type 0 };
+
+    // The row that a scalar stands for.
+    ghost scalar_row: { Self.Scalar → Row };
+
+    /// Whether the two arrays can be compared: their lengths are equal, and what else the kind asks.
+    fn can_compare(&self, other: &Self) -> bool
+        requires good { Self.good self.now }
+        requires good_other { Self.good other.now }
+        ensures { IsTrue result ↔ comparable self.now other.now };
+
+    /// Whether the array can be set against the scalar.
+    fn can_broadcast(&self, other: &Self::Scalar) -> bool
+        requires good { Self.good self.now }
+        requires good_other { good_scalar other.now }
+        ensures { IsTrue result ↔ fits self.now other.now };
+
+    /// Where the stored rows are equal.
+    fn tot_eq_kernel(&self, alloc: Global, other: &Self) -> Result<Bitmap, ComputeError>
+        requires good { Self.good self.now }
+        requires good_other { Self.good other.now }
+        requires comparable { comparable self.now other.now }
+        ensures { MatchResult result
+            (RawEquality true (Self.same_type self.now other.now) (Self.mask self.now) (Self.mask other.now) (Self.slots self.now) (Self.slots other.now))
+            IsMemory };
+
+    /// Where the stored rows are unequal.
+    fn tot_ne_kernel(&self, alloc: Global, other: &Self) -> Result<Bitmap, ComputeError>
+        requires good { Self.good self.now }
+        requires good_other { Self.good other.now }
+        requires comparable { comparable self.now other.now }
+        ensures { MatchResult result
+            (RawEquality false (Self.same_type self.now other.now) (Self.mask self.now) (Self.mask other.now) (Self.slots self.now) (Self.slots other.now))
+            IsMemory };
+
+    /// Where the stored rows are equal to the scalar.
+    fn tot_eq_kernel_broadcast(
+        &self,
+        alloc: Global,
+        other: &Self::Scalar,
+    ) -> Result<Bitmap, ComputeError>
+        requires good { Self.good self.now }
+        requires good_other { good_scalar other.now }
+        requires fits { fits self.now other.now }
+        ensures { Answers broadcasts result
+            (RawEquality true ⊤ (Self.mask self.now) None (Self.slots self.now) (replicate (length (Self.slots self.now)) (scalar_row other.now))) };
+
+    /// Where the stored rows are unequal to the scalar.
+    fn tot_ne_kernel_broadcast(
+        &self,
+        alloc: Global,
+        other: &Self::Scalar,
+    ) -> Result<Bitmap, ComputeError>
+        requires good { Self.good self.now }
+        requires good_other { good_scalar other.now }
+        requires fits { fits self.now other.now }
+        ensures { Answers broadcasts result
+            (RawEquality false ⊤ (Self.mask self.now) None (Self.slots self.now) (replicate (length (Self.slots self.now)) (scalar_row other.now))) };
+
+    /// Where the rows are equal, null to null alone.
+    fn tot_eq_missing_kernel(&self, alloc: Global, other: &Self) -> Result<Bitmap, ComputeError>
+        requires good { Self.good self.now }
+        requires good_other { Self.good other.now }
+        requires comparable { comparable self.now other.now }
+        ensures { MatchResult result
+            (MissingEquality true (Self.same_type self.now other.now) (rows_under (Self.mask self.now) (Self.slots self.now)) (rows_under (Self.mask other.now) (Self.slots other.now)))
+            IsMemory }
+    {
+        let raw = self.tot_eq_kernel(alloc, other)?;
+        join_nulls(
+            alloc,
+            Relation::Equal,
+            raw,
+            missing_mask(self),
+            missing_mask(other),
+        )
+    }
+
+    /// Where the rows are unequal, null to all but null.
+    fn tot_ne_missing_kernel(&self, alloc: Global, other: &Self) -> Result<Bitmap, ComputeError>
+        requires good { Self.good self.now }
+        requires good_other { Self.good other.now }
+        requires comparable { comparable self.now other.now }
+        ensures { MatchResult result
+            (MissingEquality false (Self.same_type self.now other.now) (rows_under (Self.mask self.now) (Self.slots self.now)) (rows_under (Self.mask other.now) (Self.slots other.now)))
+            IsMemory }
+    {
+        let raw = self.tot_ne_kernel(alloc, other)?;
+        join_nulls(
+            alloc,
+            Relation::Unequal,
+            raw,
+            missing_mask(self),
+            missing_mask(other),
+        )
+    }
+
+    /// Where the rows are equal to the scalar; no null is.
+    fn tot_eq_missing_kernel_broadcast(
+        &self,
+        alloc: Global,
+        other: &Self::Scalar,
+    ) -> Result<Bitmap, ComputeError>
+        requires good { Self.good self.now }
+        requires good_other { good_scalar other.now }
+        requires fits { fits self.now other.now }
+        ensures { Answers broadcasts result
+            (MissingEquality true ⊤ (rows_under (Self.mask self.now) (Self.slots self.now)) (replicate (length (Self.slots self.now)) (scalar_row other.now))) }
+    {
+        let raw = self.tot_eq_kernel_broadcast(alloc, other)?;
+        join_nulls(alloc, Relation::Equal, raw, missing_mask(self), None)
+    }
+
+    /// Where the rows are unequal to the scalar; each null is.
+    fn tot_ne_missing_kernel_broadcast(
+        &self,
+        alloc: Global,
+        other: &Self::Scalar,
+    ) -> Result<Bitmap, ComputeError>
+        requires good { Self.good self.now }
+        requires good_other { good_scalar other.now }
+        requires fits { fits self.now other.now }
+        ensures { Answers broadcasts result
+            (MissingEquality false ⊤ (rows_under (Self.mask self.now) (Self.slots self.now)) (replicate (length (Self.slots self.now)) (scalar_row other.now))) }
+    {
+        let raw = self.tot_ne_kernel_broadcast(alloc, other)?;
+        join_nulls(alloc, Relation::Unequal, raw, missing_mask(self), None)
+    }
+
+    // Arrays that can be compared are equally long.
+    ghost comparable_law: { (a b : Self) → comparable a b → length (Self.slots a) ≡ length (Self.slots b) };
+
+    // No scalar stands for Null, where the kind has broadcasts.
+    ghost scalar_law: { (s : Self.Scalar) → IsTrue broadcasts → scalar_row s ≢ Null };
+}

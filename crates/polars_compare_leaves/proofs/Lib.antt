@@ -1,0 +1,4 @@
+mod Examples
+mod JoinedBits
+mod Slots
+mod Truths

@@ -1,0 +1,23 @@
+-- Raw bits, joined with two validities.
+use Rattle.std.specs.Prelude.{◌≡◌, ◌<◌, ℕ, Bool, true, false, not, List, Option, length, slice_index_or}
+use Rattle.polars_arrays_flat.specs.Validity.{is_present}
+use Rattle.polars_compare_leaves.specs.declared.joining.Relation.{Relation}
+use Rattle.polars_compare_leaves.specs.declared.joining.Relation.TheVariants.{Equal, Unequal}
+
+-- the bit that stands for "equal"
+abbrev pub told : Relation → Bool
+told Equal = true
+told Unequal = false
+
+-- a raw bit where both rows are present; where one is, they are unequal, and where neither is, equal
+abbrev pub joined_bit : Bool → Bool → Bool → Bool → Bool
+joined_bit equal raw true true = raw
+joined_bit equal raw true false = not equal
+joined_bit equal raw false true = not equal
+joined_bit equal raw false false = equal
+
+-- bits in which each raw bit is joined with the presence of both rows, where `equal` stands for "equal"
+pub record Joined (equal : Bool) (left right : Option (List Bool)) (raw bits : List Bool) : Type 0 where
+  pub size : length bits ≡ length raw
+  pub at_each : (i : ℕ) → i < length raw
+      → slice_index_or bits i false ≡ joined_bit equal (slice_index_or raw i false) (is_present left i) (is_present right i)

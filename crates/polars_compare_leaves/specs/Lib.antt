@@ -1,0 +1,4 @@
+pub mod Equality
+pub mod Joining
+pub mod Order
+pub mod Sameness

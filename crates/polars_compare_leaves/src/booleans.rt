@@ -1,0 +1,182 @@
+//! Tests of stored truth values, 64 at a time, whatever the validity says.
+
+ghost use Rattle.std.specs.Prelude.{◌≡◌, ◌+◌, ◌≤◌, Bool, length, map, MatchResult};
+ghost use Rattle.std.specs.Simd.Lanes.{zip2};
+ghost use Rattle.polars_arrays_bits.specs.Errors.{IsMemory};
+ghost use Rattle.polars_arrays_flat.specs.Row.{Row, Truth};
+ghost use Rattle.polars_arrays_flat.specs.StoredRows.{truth_slots};
+ghost use Rattle.polars_arrays_flat.specs.Validity.{window};
+ghost use Rattle.polars_compare_leaves.specs.Order.{row_at_least, row_at_most, row_greater, row_less};
+ghost use Rattle.polars_compare_leaves.specs.Sameness.{other_row, same_row};
+
+use polars_arrays_bits::bit_mask::BitMask;
+use polars_arrays_bits::bitmap::Bitmap;
+use polars_arrays_bits::error::ComputeError;
+use polars_arrays_flat::array::Array;
+use polars_arrays_flat::boolean::BooleanArray;
+use polars_arrays_numbers::element_test::{
+    Equal, Greater, GreaterOrEqual, Less, LessOrEqual, Unequal,
+};
+use std::alloc::Global;
+
+/// A test of two truth values that is a test of their rows.
+pub trait TruthTest {
+    // Which rows pass.
+    ghost rows: { Row → Row → Bool };
+
+    /// Whether two truth values pass.
+    fn test(&self, left: bool, right: bool) -> bool
+        ensures { result ≡ rows (Truth left) (Truth right) };
+
+    /// Whether the bits of two windows of one length pass, place by place. The error is `Memory`.
+    fn test_masks(
+        &self,
+        alloc: Global,
+        left: &BitMask<'_>,
+        right: &BitMask<'_>,
+    ) -> Result<Bitmap, ComputeError>
+        requires { length right.now ≡ length left.now }
+        ensures { MatchResult result (λ bits. bits ≡ zip2 (λ l r. rows (Truth l) (Truth r)) left.now right.now) IsMemory };
+}
+
+impl TruthTest for Equal {
+    ghost rows = { same_row };
+
+    fn test(&self, left: bool, right: bool) -> bool {
+        left == right
+    }
+
+    fn test_masks(
+        &self,
+        alloc: Global,
+        left: &BitMask<'_>,
+        right: &BitMask<'_>,
+    ) -> Result<Bitmap, ComputeError> {
+        left.xnor(alloc, right)
+    }
+}
+
+impl TruthTest for Unequal {
+    ghost rows = { other_row };
+
+    fn test(&self, left: bool, right: bool) -> bool {
+        left != right
+    }
+
+    fn test_masks(
+        &self,
+        alloc: Global,
+        left: &BitMask<'_>,
+        right: &BitMask<'_>,
+    ) -> Result<Bitmap, ComputeError> {
+        left.xor(alloc, right)
+    }
+}
+
+impl TruthTest for Less {
+    ghost rows = { row_less };
+
+    fn test(&self, left: bool, right: bool) -> bool {
+        !left && right
+    }
+
+    fn test_masks(
+        &self,
+        alloc: Global,
+        left: &BitMask<'_>,
+        right: &BitMask<'_>,
+    ) -> Result<Bitmap, ComputeError> {
+        right.and_not(alloc, left)
+    }
+}
+
+impl TruthTest for LessOrEqual {
+    ghost rows = { row_at_most };
+
+    fn test(&self, left: bool, right: bool) -> bool {
+        !left || right
+    }
+
+    fn test_masks(
+        &self,
+        alloc: Global,
+        left: &BitMask<'_>,
+        right: &BitMask<'_>,
+    ) -> Result<Bitmap, ComputeError> {
+        right.or_not(alloc, left)
+    }
+}
+
+impl TruthTest for Greater {
+    ghost rows = { row_greater };
+
+    fn test(&self, left: bool, right: bool) -> bool {
+        left && !right
+    }
+
+    fn test_masks(
+        &self,
+        alloc: Global,
+        left: &BitMask<'_>,
+        right: &BitMask<'_>,
+    ) -> Result<Bitmap, ComputeError> {
+        left.and_not(alloc, right)
+    }
+}
+
+impl TruthTest for GreaterOrEqual {
+    ghost rows = { row_at_least };
+
+    fn test(&self, left: bool, right: bool) -> bool {
+        left || !right
+    }
+
+    fn test_masks(
+        &self,
+        alloc: Global,
+        left: &BitMask<'_>,
+        right: &BitMask<'_>,
+    ) -> Result<Bitmap, ComputeError> {
+        left.or_not(alloc, right)
+    }
+}
+
+/// Whether the stored rows of two windows pass a test, place by place: `n` rows from row `a` on of the
+/// left array, and as many from row `b` on of the right one. The error is `Memory`.
+pub fn test_truth_windows<E: TruthTest>(
+    alloc: Global,
+    test: &E,
+    left: &BooleanArray,
+    a: usize,
+    right: &BooleanArray,
+    b: usize,
+    n: usize,
+) -> Result<Bitmap, ComputeError>
+    requires left_in { a + n ≤ length left.now.values }
+    requires right_in { b + n ≤ length right.now.values }
+    ensures { MatchResult result (λ bits. bits ≡ zip2 E.rows
+        (window a n (truth_slots left.now.values))
+        (window b n (truth_slots right.now.values))) IsMemory }
+{
+    let left = BitMask::from_bitmap(left.values()).window(a, n);
+    let right = BitMask::from_bitmap(right.values()).window(b, n);
+    test.test_masks(alloc, &left, &right)
+}
+
+/// Whether the stored rows of an array pass a test with a truth value. The error is `Memory`.
+pub fn test_truth<E: TruthTest>(
+    alloc: Global,
+    test: &E,
+    left: &BooleanArray,
+    right: bool,
+) -> Result<Bitmap, ComputeError>
+    ensures { MatchResult result (λ bits. bits ≡ map (λ row. E.rows row (Truth right))
+        (truth_slots left.now.values)) IsMemory }
+{
+    match (test.test(true, right), test.test(false, right)) {
+        (true, true) => Bitmap::new_with_value(alloc, true, left.len()),
+        (true, false) => left.values().clone_bitmap(alloc),
+        (false, true) => left.values().not(alloc),
+        (false, false) => Bitmap::new_zeroed(alloc, left.len()),
+    }
+}

@@ -1,0 +1,75 @@
+//! The null combination: raw bits, joined with two validities.
+
+ghost use Rattle.std.specs.Prelude.{◌≡◌, length, MatchResult};
+ghost use Rattle.std.specs.Option.{option_copied};
+ghost use Rattle.polars_arrays_bits.specs.Errors.{IsMemory};
+ghost use Rattle.polars_arrays_flat.specs.Validity.{HasBits};
+ghost use Rattle.polars_compare_leaves.specs.Joining.{Joined, told};
+
+use polars_arrays_bits::bitmap::Bitmap;
+use polars_arrays_bits::error::ComputeError;
+use std::alloc::Global;
+
+/// What the bits of a comparison tell: where rows are equal, or where they are unequal.
+#[derive(Clone, Copy, Debug, PartialEq, Eq)]
+pub enum Relation {
+    Equal,
+    Unequal,
+}
+
+// Raw bits joined with the validity of one side, where the other side has none.
+fn join_one(
+    alloc: Global,
+    relation: Relation,
+    raw: &Bitmap,
+    mask: &Bitmap,
+) -> Result<Bitmap, ComputeError>
+    requires { length mask.now ≡ length raw.now }
+    ensures left { MatchResult result (Joined (told relation) (Some mask.now) None raw.now) IsMemory }
+    ensures right { MatchResult result (Joined (told relation) None (Some mask.now) raw.now) IsMemory }
+{
+    match relation {
+        Relation::Equal => raw.and(alloc, mask),
+        Relation::Unequal => raw.or_not(alloc, mask),
+    }
+}
+
+// Raw bits joined with the validities of both sides.
+fn join_both(
+    alloc: Global,
+    relation: Relation,
+    raw: &Bitmap,
+    left: &Bitmap,
+    right: &Bitmap,
+) -> Result<Bitmap, ComputeError>
+    requires left { length left.now ≡ length raw.now }
+    requires right { length right.now ≡ length raw.now }
+    ensures { MatchResult result (Joined (told relation) (Some left.now) (Some right.now) raw.now) IsMemory }
+{
+    match relation {
+        Relation::Equal => Bitmap::merge_eq(alloc, raw, left, right),
+        Relation::Unequal => Bitmap::merge_ne(alloc, raw, left, right),
+    }
+}
+
+/// Raw bits of a comparison joined with the validities of both sides, where there are any: a row that is
+/// present on both keeps its bit, of the others those are equal that are null on both. The error is
+/// `Memory`.
+pub fn join_nulls(
+    alloc: Global,
+    relation: Relation,
+    raw: Bitmap,
+    left: Option<&Bitmap>,
+    right: Option<&Bitmap>,
+) -> Result<Bitmap, ComputeError>
+    requires left { HasBits (length raw) (option_copied left) }
+    requires right { HasBits (length raw) (option_copied right) }
+    ensures { MatchResult result (Joined (told relation) (option_copied left.entry) (option_copied right.entry) raw) IsMemory }
+{
+    match (left, right) {
+        (None, None) => Ok(raw),
+        (Some(mask), None) => join_one(alloc, relation, &raw, mask),
+        (None, Some(mask)) => join_one(alloc, relation, &raw, mask),
+        (Some(left), Some(right)) => join_both(alloc, relation, &raw, left, right),
+    }
+}

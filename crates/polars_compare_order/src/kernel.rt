@@ -1,0 +1,97 @@
+//! Order of the rows of two arrays.
+
+ghost use Rattle.std.specs.Prelude.{◌≡◌, None, length, replicate, MatchResult};
+ghost use Rattle.polars_arrays_bits.specs.Errors.{IsMemory};
+ghost use Rattle.polars_arrays_flat.specs.Row.{Row};
+ghost use Rattle.polars_compare_leaves.specs.Order.{RawOrder, row_at_least, row_at_most, row_greater, row_less};
+
+use polars_arrays_bits::bitmap::Bitmap;
+use polars_arrays_bits::error::ComputeError;
+use polars_arrays_flat::array::Array;
+use std::alloc::Global;
+
+/// Order of the rows of two arrays of one kind: numbers as whole numbers, false before true.
+///
+/// No validity is asked, and the bits are right where both rows are present. A broadcast sets each row
+/// against one scalar. The error is `Memory`.
+pub trait TotalOrdKernel: Sized + Array {
+    /// What the rows are set against in a broadcast.
+    type Scalar;
+
+    // The row that a scalar stands for.
+    ghost scalar_row: { Self.Scalar → Row };
+
+    /// Where a row is less than the other one.
+    fn tot_lt_kernel(&self, alloc: Global, other: &Self) -> Result<Bitmap, ComputeError>
+        requires { length (Self.slots other.now) ≡ length (Self.slots self.now) }
+        ensures { MatchResult result
+            (RawOrder row_less (Self.mask self.now) (Self.mask other.now) (Self.slots self.now) (Self.slots other.now))
+            IsMemory };
+
+    /// Where a row is less than the other one or equal to it.
+    fn tot_le_kernel(&self, alloc: Global, other: &Self) -> Result<Bitmap, ComputeError>
+        requires { length (Self.slots other.now) ≡ length (Self.slots self.now) }
+        ensures { MatchResult result
+            (RawOrder row_at_most (Self.mask self.now) (Self.mask other.now) (Self.slots self.now) (Self.slots other.now))
+            IsMemory };
+
+    /// Where a row is greater than the other one.
+    fn tot_gt_kernel(&self, alloc: Global, other: &Self) -> Result<Bitmap, ComputeError>
+        requires { length (Self.slots other.now) ≡ length (Self.slots self.now) }
+        ensures { MatchResult result
+            (RawOrder row_greater (Self.mask self.now) (Self.mask other.now) (Self.slots self.now) (Self.slots other.now))
+            IsMemory }
+    {
+        other.tot_lt_kernel(alloc, self)
+    }
+
+    /// Where a row is greater than the other one or equal to it.
+    fn tot_ge_kernel(&self, alloc: Global, other: &Self) -> Result<Bitmap, ComputeError>
+        requires { length (Self.slots other.now) ≡ length (Self.slots self.now) }
+        ensures { MatchResult result
+            (RawOrder row_at_least (Self.mask self.now) (Self.mask other.now) (Self.slots self.now) (Self.slots other.now))
+            IsMemory }
+    {
+        other.tot_le_kernel(alloc, self)
+    }
+
+    /// Where a row is less than the scalar.
+    fn tot_lt_kernel_broadcast(
+        &self,
+        alloc: Global,
+        other: &Self::Scalar,
+    ) -> Result<Bitmap, ComputeError>
+        ensures { MatchResult result
+            (RawOrder row_less (Self.mask self.now) None (Self.slots self.now) (replicate (length (Self.slots self.now)) (scalar_row other.now)))
+            IsMemory };
+
+    /// Where a row is less than the scalar or equal to it.
+    fn tot_le_kernel_broadcast(
+        &self,
+        alloc: Global,
+        other: &Self::Scalar,
+    ) -> Result<Bitmap, ComputeError>
+        ensures { MatchResult result
+            (RawOrder row_at_most (Self.mask self.now) None (Self.slots self.now) (replicate (length (Self.slots self.now)) (scalar_row other.now)))
+            IsMemory };
+
+    /// Where a row is greater than the scalar.
+    fn tot_gt_kernel_broadcast(
+        &self,
+        alloc: Global,
+        other: &Self::Scalar,
+    ) -> Result<Bitmap, ComputeError>
+        ensures { MatchResult result
+            (RawOrder row_greater (Self.mask self.now) None (Self.slots self.now) (replicate (length (Self.slots self.now)) (scalar_row other.now)))
+            IsMemory };
+
+    /// Where a row is greater than the scalar or equal to it.
+    fn tot_ge_kernel_broadcast(
+        &self,
+        alloc: Global,
+        other: &Self::Scalar,
+    ) -> Result<Bitmap, ComputeError>
+        ensures { MatchResult result
+            (RawOrder row_at_least (Self.mask self.now) None (Self.slots self.now) (replicate (length (Self.slots self.now)) (scalar_row other.now)))
+            IsMemory };
+}

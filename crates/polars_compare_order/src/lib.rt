@@ -1,0 +1,8 @@
+//! Order of the rows of two arrays of one kind.
+#![tactic(auto)]
+
+mod booleans;
+pub mod kernel;
+mod numbers;
+#[cfg(test)]
+mod tests;
