@@ -47,23 +47,36 @@ fn test_each<T: Copy>(values: &[T], test: impl Fn(T) -> bool) -> Vec<u64> {
 }
 
 #[inline(never)]
-pub fn equal_i32(left: &[i32], right: &[i32]) -> Vec<u64> {
+pub fn equal<T: Copy + PartialEq>(left: &[T], right: &[T]) -> Vec<u64> {
     test_pairs(left, right, |l, r| l == r)
 }
 
 #[inline(never)]
-pub fn equal_i64(left: &[i64], right: &[i64]) -> Vec<u64> {
-    test_pairs(left, right, |l, r| l == r)
-}
-
-#[inline(never)]
-pub fn less_i64(left: &[i64], right: &[i64]) -> Vec<u64> {
+pub fn less<T: Copy + PartialOrd>(left: &[T], right: &[T]) -> Vec<u64> {
     test_pairs(left, right, |l, r| l < r)
 }
 
 #[inline(never)]
-pub fn equal_constant_i32(left: &[i32], right: i32) -> Vec<u64> {
+pub fn equal_constant<T: Copy + PartialEq>(left: &[T], right: T) -> Vec<u64> {
     test_each(left, |l| l == right)
+}
+
+#[inline(never)]
+pub fn less_constant<T: Copy + PartialOrd>(left: &[T], right: T) -> Vec<u64> {
+    test_each(left, |l| l < right)
+}
+
+/// Where rows of two arrays are equal, null to null alone, by the windows of their validities.
+pub fn equal_missing<T: Copy + PartialEq>(
+    left: &[T],
+    right: &[T],
+    left_validity: Window,
+    right_validity: Window,
+) -> Vec<u64> {
+    let words = &equal(left, right);
+    let len = left.len();
+    let raw = Window { words, at: 0, len };
+    merge_eq(raw, left_validity, right_validity)
 }
 
 /// The byte whose bits are eight truth values: the product has each of them once in its highest byte.
@@ -233,6 +246,17 @@ pub fn xor(left: Window, right: Window) -> Vec<u64> {
 }
 
 #[inline(never)]
+pub fn xnor(left: Window, right: Window) -> Vec<u64> {
+    shifted2(left, right, |l, r| !(l ^ r))
+}
+
+/// Where the left bit is 0 and the right one is 1.
+#[inline(never)]
+pub fn not_and(left: Window, right: Window) -> Vec<u64> {
+    shifted2(left, right, |l, r| !l & r)
+}
+
+#[inline(never)]
 pub fn not(bits: Window) -> Vec<u64> {
     let (words, by) = bits.parts();
     let count = bits.len.div_ceil(64);
@@ -267,6 +291,16 @@ pub fn or_aligned(left: Window, right: Window) -> Vec<u64> {
 #[inline(never)]
 pub fn xor_aligned(left: Window, right: Window) -> Vec<u64> {
     aligned2(left, right, |l, r| l ^ r)
+}
+
+#[inline(never)]
+pub fn xnor_aligned(left: Window, right: Window) -> Vec<u64> {
+    aligned2(left, right, |l, r| !(l ^ r))
+}
+
+#[inline(never)]
+pub fn not_and_aligned(left: Window, right: Window) -> Vec<u64> {
+    aligned2(left, right, |l, r| !l & r)
 }
 
 #[inline(never)]

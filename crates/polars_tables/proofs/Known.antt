@@ -1,5 +1,5 @@
 -- Known bytes that a reader loses, in several reads.
-use Rattle.std.proofs.Common.{◌≡◌, ◌++◌, ◌∙◌, ℕ, true, IsTrue, Bool, List, [], Option, Some, None, IfSome, sym, ap, append_assoc, append-nil}
+use Rattle.std.proofs.Common.{◌≡◌, ◌++◌, ◌∙◌, ℕ, IsTrue, Bool, List, Option, Some, None, IfSome, sym, ap, append_assoc, append-nil}
 use Rattle.std.specs.Io.KnownBytes.{Consumes, IsAtEnd}
 use Rattle.polars_tables.specs.Reading.{ReadsOn}
 

@@ -1,28 +1,39 @@
 -- The rows that words stand for, a word at a time, and their lists.
-use Rattle.std.proofs.Common.{◌≡◌, ◌<◌, ◌≤◌, ◌+◌, ◌++◌, ◌∙◌, ℕ, Bool, true, false, cond, List, [], ◌∷◌, Option, Some, None, Bor, length, map, drop, get_or, refl, sym, ap, arith}
-use Rattle.std.specs.Prelude.{option_map}
+use Rattle.std.proofs.Common.{◌≡◌, ◌<◌, ◌≤◌, ◌+◌, ◌++◌, ◌∙◌, ℕ, suc, Bool, true, false, cond, List, [], ◌∷◌, Option, Some, None, Bor, length, map, drop, get_or, refl, sym, ap, arith}
+use Rattle.std.specs.Prelude.{option_map, is_some, IfSome}
 use Rattle.std.proofs.lemmas.List.{at_drop_more, drop_all}
 use Rattle.std.specs.List.{slice_split, onto_first}
-use Rattle.polars_tables.specs.Row.{Row}
-use Rattle.polars_tables.specs.Word.{all_some, row_of, rows_of, is_bar, lists_of}
+use Rattle.polars_arrays_flat.specs.Row.{Row}
+use Rattle.polars_arrays_flat.specs.StoredRows.{kept, masked}
+use Rattle.polars_tables.specs.declared.row_type.RowType.{RowType}
+use Rattle.polars_tables.specs.Word.{all_some, row_from, row_of, rows_of, is_bar, lists_of}
 use Rattle.polars_tables.proofs.Options.{all_some-more, all_some-none, all_some-end}
 
-module _ (words : List (Bor (List ℕ))) (i : ℕ) (d : Bor (List ℕ)) (before : List Row) (h : i < length words) where
-  -- a word that is a row
-  pub rows_of-more : (r : Row) → row_of (get_or words i d).now ≡ Some r → option_map (λ more. before ++ more) (rows_of (map (λ w. w.now) (drop i words))) ≡ option_map (λ more. (before ++ r ∷ []) ++ more) (rows_of (map (λ w. w.now) (drop (i + 1) words)))
-  rows_of-more r e =
-      at_drop_more (λ (ws : List (Bor (List ℕ))). option_map (λ more. before ++ more) (rows_of (map (λ w. w.now) ws))) words i d h
-      ∙ all_some-more before _ r (map row_of (map (λ w. w.now) (drop (i + 1) words))) e
+module _ {X Y : Type 0} (f : X → Option Y) (items : List X) (i : ℕ) (d : X) (before : List Y) (h : i < length items) where
+  -- an item that has a value
+  pub values-more : (y : Y) → f (get_or items i d) ≡ Some y → option_map (λ more. before ++ more) (all_some (map f (drop i items))) ≡ option_map (λ more. (before ++ y ∷ []) ++ more) (all_some (map f (drop (i + 1) items)))
+  values-more y e =
+      at_drop_more (λ (xs : List X). option_map (λ more. before ++ more) (all_some (map f xs))) items i d h
+      ∙ all_some-more before _ y (map f (drop (i + 1) items)) e
 
-  -- a word that is none
-  pub rows_of-none : row_of (get_or words i d).now ≡ None → option_map (λ more. before ++ more) (rows_of (map (λ w. w.now) (drop i words))) ≡ None
-  rows_of-none e =
-      at_drop_more (λ (ws : List (Bor (List ℕ))). option_map (λ more. before ++ more) (rows_of (map (λ w. w.now) ws))) words i d h
-      ∙ all_some-none before _ (map row_of (map (λ w. w.now) (drop (i + 1) words))) e
+  -- an item that has none
+  pub values-none : f (get_or items i d) ≡ None → option_map (λ more. before ++ more) (all_some (map f (drop i items))) ≡ None
+  values-none e =
+      at_drop_more (λ (xs : List X). option_map (λ more. before ++ more) (all_some (map f xs))) items i d h
+      ∙ all_some-none before _ (map f (drop (i + 1) items)) e
+
+-- past the last item
+pub values-end : {X Y : Type 0} (f : X → Option Y) (items : List X) (i : ℕ) (before : List Y) → length items ≤ i → option_map (λ more. before ++ more) (all_some (map f (drop i items))) ≡ Some before
+values-end f items i before h =
+    ap (λ xs. option_map (λ more. before ++ more) (all_some (map f xs))) (drop_all i items h) ∙ all_some-end before
+
+map-map : {X Y Z : Type 0} (f : Y → Z) (g : X → Y) (xs : List X) → map f (map g xs) ≡ map (λ x. f (g x)) xs
+map-map f g [] = refl
+map-map f g (x ∷ xs) = ap (λ ys. f (g x) ∷ ys) (map-map f g xs)
 
 -- the rows of words that are lent
-abbrev pub rows_at : List (Bor (List ℕ)) → Option (List Row)
-rows_at words = rows_of (map (λ w. w.now) words)
+pub rows_of-lent : (type : RowType) (words : List (Bor (List ℕ))) → rows_of type (map (λ w. w.now) words) ≡ all_some (map (λ w. row_of type w.now) words)
+rows_of-lent type words = ap all_some (map-map (row_of type) (λ w. w.now) words)
 
 -- the parts between the bars, of words that are lent
 abbrev pub parts_of : List (Bor (List ℕ)) → List (List (Bor (List ℕ)))
@@ -40,29 +51,36 @@ split-map : (words : List (Bor (List ℕ))) → slice_split is_bar (map (λ (v :
 split-map [] = refl
 split-map (w ∷ words) = split_step (is_bar w.now) w _ (parts_of words) (split-map words)
 
-rows-map : (parts : List (List (Bor (List ℕ)))) → map rows_of (map (λ (ws : List (Bor (List ℕ))). map (λ (v : Bor (List ℕ)). v.now) ws) parts) ≡ map rows_at parts
-rows-map [] = refl
-rows-map (part ∷ parts) = ap (λ (rs : List (Option (List Row))). rows_at part ∷ rs) (rows-map parts)
-
 -- the lists of words that are lent
-pub lists_of-parts : (words : List (Bor (List ℕ))) → lists_of (map (λ w. w.now) words) ≡ all_some (map rows_at (parts_of words))
-lists_of-parts words = ap (λ (ps : List (List (List ℕ))). all_some (map rows_of ps)) (split-map words) ∙ ap all_some (rows-map (parts_of words))
+pub lists_of-lent : (type : RowType) (words : List (Bor (List ℕ))) (parts : List (Bor (List (Bor (List ℕ))))) → map (λ p. p.now) parts ≡ parts_of words
+    → lists_of type (map (λ w. w.now) words) ≡ all_some (map (λ p. rows_of type (map (λ w. w.now) p.now)) parts)
+lists_of-lent type words parts e =
+    ap (λ (ps : List (List (List ℕ))). all_some (map (rows_of type) ps)) (split-map words)
+    ∙ ap all_some (map-map (rows_of type) (λ (ws : List (Bor (List ℕ))). map (λ (v : Bor (List ℕ)). v.now) ws) (parts_of words))
+    ∙ ap (λ (ps : List (List (Bor (List ℕ)))). all_some (map (λ (ws : List (Bor (List ℕ))). rows_of type (map (λ w. w.now) ws)) ps)) (sym e)
+    ∙ ap all_some (map-map (λ (ws : List (Bor (List ℕ))). rows_of type (map (λ w. w.now) ws)) (λ (p : Bor (List (Bor (List ℕ)))). p.now) parts)
 
-module _ (words : List (Bor (List ℕ))) (i : ℕ) (part : List (Bor (List ℕ))) (before : List (List Row)) (h : i < length (parts_of words)) (here : part ≡ get_or (parts_of words) i part) where
-  -- a part whose words are rows
-  pub lists-more : (list : List Row) → rows_at part ≡ Some list → option_map (λ more. before ++ more) (all_some (map rows_at (drop i (parts_of words)))) ≡ option_map (λ more. (before ++ list ∷ []) ++ more) (all_some (map rows_at (drop (i + 1) (parts_of words))))
-  lists-more list e =
-      at_drop_more (λ (ps : List (List (Bor (List ℕ)))). option_map (λ more. before ++ more) (all_some (map rows_at ps))) (parts_of words) i part h
-      ∙ all_some-more before _ list (map rows_at (drop (i + 1) (parts_of words))) (ap rows_at (sym here) ∙ e)
+-- a row more at the end of stored values and their bits
+masked-push : (bits : List Bool) (rows : List Row) (b : Bool) (x : Row) → length bits ≡ length rows → masked (bits ++ b ∷ []) (rows ++ x ∷ []) ≡ masked bits rows ++ kept b x ∷ []
+masked-push [] [] b x e = refl
+masked-push [] (y ∷ rows) b x e = absurd (omega arith)
+masked-push (c ∷ bits) [] b x e = absurd (omega arith)
+masked-push (c ∷ bits) (y ∷ rows) b x e = ap (λ rs. kept c y ∷ rs) (masked-push bits rows b x (omega arith))
 
-  -- a part with a word that is no row
-  pub lists-none : rows_at part ≡ None → option_map (λ more. before ++ more) (all_some (map rows_at (drop i (parts_of words)))) ≡ None
-  lists-none e =
-      at_drop_more (λ (ps : List (List (Bor (List ℕ)))). option_map (λ more. before ++ more) (all_some (map rows_at ps))) (parts_of words) i part h
-      ∙ all_some-none before _ (map rows_at (drop (i + 1) (parts_of words))) (ap rows_at (sym here) ∙ e)
+map-push : {A B : Type 0} (f : A → B) (xs : List A) (x : A) → map f (xs ++ x ∷ []) ≡ map f xs ++ f x ∷ []
+map-push f [] x = refl
+map-push f (y ∷ xs) x = ap (λ ys. f y ∷ ys) (map-push f xs x)
 
--- past the last part
-pub lists-end : (words : List (Bor (List ℕ))) (i : ℕ) (before : List (List Row)) → i ≡ length (parts_of words) → option_map (λ more. before ++ more) (all_some (map rows_at (drop i (parts_of words)))) ≡ Some before
-lists-end words i before e =
-    ap (λ (ps : List (List (Bor (List ℕ)))). option_map (λ more. before ++ more) (all_some (map rows_at ps))) (drop_all i (parts_of words) (omega arith))
-    ∙ all_some-end before
+length-mapped : {A B : Type 0} (f : A → B) (xs : List A) → length (map f xs) ≡ length xs
+length-mapped f [] = refl
+length-mapped f (x ∷ xs) = ap suc (length-mapped f xs)
+
+kept-from : {A : Type 0} (f : A → Row) (row : Option A) (v : A) → IfSome row (λ x. v ≡ x) → kept (is_some row) (f v) ≡ row_from f row
+kept-from f None v h = refl
+kept-from f (Some x) v h = ap f h
+
+pub rows-pushed : {A : Type 0} (f : A → Row) (bits bits' : List Bool) (values values' : List A) (row : Option A) (b : Bool) (v : A) → length bits ≡ length values → bits' ≡ bits ++ b ∷ [] → b ≡ is_some row → values' ≡ values ++ v ∷ [] → IfSome row (λ x. v ≡ x)
+    → masked bits' (map f values') ≡ masked bits (map f values) ++ row_from f row ∷ []
+rows-pushed f bits bits' values values' row b v e be bs ve h =
+    rw (be, ve, bs, map-push f values v) (masked-push bits (map f values) (is_some row) (f v) (e ∙ sym (length-mapped f values))
+    ∙ ap (λ (r : Row). masked bits (map f values) ++ r ∷ []) (kept-from f row v h))

@@ -1,9 +1,8 @@
 -- What bytes mean, by whether they are a text.
-use Rattle.std.proofs.Common.{◌≡◌, ◌∙◌, ℕ, Bool, true, false, List, Result, Ok, Err, refl, sym, ap}
+use Rattle.std.proofs.Common.{◌≡◌, ◌∙◌, ℕ, Bool, true, false, List, Err, refl, sym, ap}
 use Rattle.std.specs.Prelude.{if◌then◌else◌}
 use Rattle.std.specs.Str.{IsUtf8, is_utf8}
 use Rattle.std.proofs.lemmas.Str.{IsUtf8-from_is_utf8, is_utf8-from_IsUtf8}
-use Rattle.polars_tables.specs.declared.line.LineError.{LineError}
 use Rattle.polars_tables.specs.declared.line.LineError.TheVariants.{Op}
 use Rattle.polars_tables.specs.Line.{line_meaning}
 use Rattle.polars_tables.specs.Output.{meaning_of}

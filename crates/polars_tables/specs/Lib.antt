@@ -1,7 +1,11 @@
-pub mod Row
-pub mod Equality
-pub mod Sum
+pub mod Types
 pub mod Word
+pub mod Parsing
+pub mod Stored
+pub mod Operations
+pub mod Comparing
+pub mod Faults
+pub mod Sum
 pub mod Line
 pub mod Output
 pub mod Reading

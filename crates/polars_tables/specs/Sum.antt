@@ -1,13 +1,17 @@
 -- The sum of an array's present rows, wrapped to 32 bits.
 use Rattle.std.specs.Prelude.{◌≡◌, ◌+ℤ◌, ◌*◌, ◌^◌, ℕ, ℤ, pos, FitsSigned, List, [], ◌∷◌}
 use Rattle.std.specs.Int.{int_wrap, w32}
-use Rattle.polars_tables.specs.Row.{Row, Null, Int}
+use Rattle.polars_arrays_flat.specs.Row.{Row, Int}
+
+-- what a row adds to a sum: a number itself, and any other row nothing
+abbrev pub addend : Row → ℤ
+addend (Int n) = n
+addend row = pos 0
 
 -- the sum of the present rows, 0 without one
 abbrev pub total : List Row → ℤ
 total [] = pos 0
-total (Null ∷ more) = total more
-total (Int n ∷ more) = n +ℤ total more
+total (row ∷ more) = addend row +ℤ total more
 
 -- a whole number wrapped to 32 bits
 abbrev pub wrap : ℤ → ℤ

@@ -10,12 +10,13 @@ use std::{env, io};
 
 mod answers;
 pub mod arguments;
-mod bitmap;
-mod equality;
+mod comparing;
 pub mod line;
 mod operation;
-mod primitive;
 pub mod program;
+mod row_array;
+mod row_number;
+mod row_type;
 pub mod running;
 mod sum;
 #[cfg(test)]

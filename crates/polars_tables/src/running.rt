@@ -4,7 +4,7 @@ ghost use Rattle.std.specs.Prelude.{◌≡◌, ◌⊎◌, ◌++◌, ◌∷◌, [
 ghost use Rattle.std.specs.List.{position};
 ghost use Rattle.std.specs.String.{string_bytes};
 ghost use Rattle.std.specs.Io.KnownBytes.{Appends, Keeps};
-ghost use Rattle.polars_tables.specs.Line.{UnlessMemory};
+ghost use Rattle.polars_tables.specs.Faults.{UnlessMemory};
 ghost use Rattle.polars_tables.specs.Output.{fault_word, meaning_of, refusal, lines_of, output_of, Reports};
 ghost use Rattle.polars_tables.specs.Answers.{AddsLine};
 ghost use Rattle.polars_tables.specs.Reading.{ReadsOn};

@@ -1,11 +1,16 @@
 //! The sum of an array.
 
-ghost use Rattle.std.specs.Prelude.{◌≡◌, ◌+ℤ◌, pos, length, map};
-ghost use Rattle.std.specs.List.{zip};
-ghost use Rattle.polars_tables.specs.Row.{rows, row_under, rows_under, Int};
-ghost use Rattle.polars_tables.specs.Sum.{total, wrap, IsWrapped};
+ghost use Rattle.std.specs.Prelude.{◌≡◌, ◌+ℤ◌, length};
+ghost use Rattle.std.specs.Option.{option_copied};
+ghost use Rattle.polars_arrays_flat.specs.Row.{Int};
+ghost use Rattle.polars_arrays_flat.specs.StoredRows.{kept, number_slots, rows_under};
+ghost use Rattle.polars_arrays_flat.specs.Validity.{HasBits, is_present};
+ghost use Rattle.polars_tables.specs.Sum.{IsWrapped, addend, total, wrap};
 
-use crate::primitive::PrimitiveArray;
+use crate::row_array::is_present;
+use polars_arrays_bits::bitmap::Bitmap;
+use polars_arrays_flat::array::Array;
+use polars_arrays_flat::primitive::PrimitiveArray;
 
 /// The sum of two numbers, wrapped.
 fn add_wrapped(sum: i32, value: i32) -> i32
@@ -14,42 +19,29 @@ fn add_wrapped(sum: i32, value: i32) -> i32
     sum.wrapping_add(value)
 }
 
-fn sum_of(values: &[i32]) -> i32
-    ensures { result ≡ wrap (total (map Int values.now)) }
+/// What a row adds to a sum: its value where it is present, and nothing where it is masked.
+fn addend(validity: Option<&Bitmap>, i: usize, value: i32) -> i32
+    ensures { result ≡ addend (kept (is_present (option_copied validity.entry) i) (Int value)) }
 {
-    let mut sum = 0;
-    for value in values {
-        sum = add_wrapped(sum, *value);
-    }
-    sum
+    if is_present(validity, i) { value } else { 0 }
 }
 
-fn sum_where(present: &[bool], values: &[i32]) -> i32
-    requires { length present.now ≡ length values.now }
-    ensures { result ≡ wrap (total (map (λ p. row_under p.0 p.1) (zip present.now values.now))) }
+/// The sum of the values that a validity does not mask, wrapped.
+fn masked_sum(validity: Option<&Bitmap>, values: &[i32]) -> i32
+    requires { HasBits (length values.now) (option_copied validity) }
+    ensures { result ≡ wrap (total (rows_under (option_copied validity.entry) (number_slots (λ n. n) values.now))) }
 {
     let mut sum = 0;
     for (i, value) in values.iter().enumerate() {
-        if present[i] {
-            sum = add_wrapped(sum, *value);
-        }
+        sum = add_wrapped(sum, addend(validity, i, *value));
     }
     sum
 }
 
-fn present_sum(array: &PrimitiveArray) -> i32
-    ensures { result ≡ wrap (total (rows array.now)) }
-{
-    match array.validity() {
-        Some(present) => sum_where(present.as_slice(), array.values()),
-        None => sum_of(array.values()),
-    }
-}
-
 /// The sum of the present rows wrapped to 32 bits, 0 without one.
-pub fn wrapping_sum_arr(array: &PrimitiveArray) -> i32
-    ensures sum { result ≡ wrap (total (rows array.now)) }
-    ensures wrapped { IsWrapped (total (rows array.now)) result }
+pub fn wrapping_sum_arr(array: &PrimitiveArray<i32>) -> i32
+    ensures sum { result ≡ wrap (total (rows_under array.now.validity (number_slots (λ n. n) array.now.values))) }
+    ensures wrapped { IsWrapped (total (rows_under array.now.validity (number_slots (λ n. n) array.now.values))) result }
 {
-    present_sum(array)
+    masked_sum(array.validity(), array.values())
 }

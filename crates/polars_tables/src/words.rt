@@ -1,12 +1,14 @@
-//! The words of a line, and the rows that they stand for.
+//! The words of a line, and the arrays of the rows that they stand for.
 
-ghost use Rattle.std.specs.Prelude.{◌≡◌, ◌⊎◌, ◌↔◌, IsTrue, map, length, Some, None, Option, option_map, IfOk, IfErr, MatchResult};
-ghost use Rattle.polars_tables.specs.Row.{row_from, rows};
-ghost use Rattle.polars_tables.specs.Line.{UnlessMemory};
-ghost use Rattle.polars_tables.specs.Word.{words_of, is_bar, number_of, row_of, rows_of, lists_of};
+ghost use Rattle.std.specs.Prelude.{◌≡◌, map, Some, None, option_map, IfOk, IfErr, IfSome};
+ghost use Rattle.std.specs.List.{slice_split};
+ghost use Rattle.polars_arrays_flat.specs.StoredRows.{rows_under};
+ghost use Rattle.polars_tables.specs.Faults.{UnlessMemory};
+ghost use Rattle.polars_tables.specs.Word.{words_of, is_bar, value_of, row_from, row_of, rows_of, lists_of};
 
 use crate::line::LineError;
-use crate::primitive::{PrimitiveArray, PrimitiveBuilder};
+use crate::row_array::RowArray;
+use polars_arrays_bits::builder::BitmapBuilder;
 use std::alloc::{AllocError, Global};
 
 /// The words of a line: its parts between spaces, less the empty ones.
@@ -25,48 +27,71 @@ fn is_bar(word: &str) -> bool
     word == "|"
 }
 
-/// The number that a word writes: an optional sign and decimal digits, in the range of 32 bits.
-fn parse_number(word: &str) -> Option<i32>
-    ensures { result ≡ number_of word.now }
+/// The value that a word writes.
+fn parse_value<A: RowArray>(word: &str) -> Option<A::Value>
+    ensures { option_map A.value_row result ≡ value_of A.kind word.now }
 {
     word.parse().ok()
 }
 
 /// The row that a word stands for, where `Some(None)` is null; `None` for a word that is no row.
-fn parse_row(word: &str) -> Option<Option<i32>>
-    ensures { option_map row_from result ≡ row_of word.now }
+fn parse_row<A: RowArray>(word: &str) -> Option<Option<A::Value>>
+    ensures { option_map (row_from A.value_row) result ≡ row_of A.kind word.now }
 {
     if word == "null" {
         return Some(None);
     }
-    parse_number(word).map(Some)
+    parse_value::<A>(word).map(Some)
+}
+
+/// The value that is stored for a row; under a null it means nothing.
+fn stored_value<V: Copy + Default>(row: Option<V>) -> V
+    ensures { IfSome row (λ value. result ≡ value) }
+{
+    match row {
+        Some(value) => value,
+        None => V::default(),
+    }
 }
 
 /// The array of the rows that words stand for.
-fn parse_rows(alloc: Global, words: &[&str]) -> Result<PrimitiveArray, LineError>
-    ensures rows { IfOk result (λ array. rows_of (map (λ w. w.now) words.now) ≡ Some (rows array)) }
+fn parse_rows<A: RowArray>(alloc: Global, words: &[&str]) -> Result<A, LineError>
+    ensures rows { IfOk result (λ array. rows_of A.kind (map (λ w. w.now) words.now)
+        ≡ Some (rows_under (A.mask array) (A.slots array))) }
     ensures fault { IfErr result (λ e. UnlessMemory e
-        ((e ≡ LineError.Row) × (rows_of (map (λ w. w.now) words.now) ≡ None))) }
+        ((e ≡ LineError.Row) × (rows_of A.kind (map (λ w. w.now) words.now) ≡ None))) }
 {
-    let mut rows = PrimitiveBuilder::with_capacity(alloc, words.len())?;
+    let mut values = Vec::with_capacity(alloc, words.len())?;
+    let mut present = BitmapBuilder::with_capacity(alloc, words.len())?;
     for word in words {
-        let Some(row) = parse_row(word) else {
+        let Some(row) = parse_row::<A>(word) else {
             return Err(LineError::Row);
         };
-        rows.push(row)?;
+        present.push_reserved(row.is_some());
+        values.push_reserved(stored_value(row));
     }
-    Ok(rows.finish())
+    let array = A::from_values(alloc, values, present.freeze())?;
+    Ok(array)
+}
+
+/// The parts of words between the bars.
+fn split_lists<'a>(alloc: Global, words: &'a [&'a str]) -> Result<Vec<&'a [&'a str]>, AllocError>
+    ensures { IfOk result (λ parts. map (λ p. p.now) parts.items ≡ slice_split (λ w. is_bar w.now) words.now) }
+{
+    words.split(|word| is_bar(word)).collect(alloc)
 }
 
 /// The arrays of the lists of rows that words stand for, parted at the bars.
-pub fn parse_lists(alloc: Global, words: &[&str]) -> Result<Vec<PrimitiveArray>, LineError>
-    ensures lists { IfOk result (λ lists. lists_of (map (λ w. w.now) words.now) ≡ Some (map rows lists.items)) }
+pub fn parse_lists<A: RowArray>(alloc: Global, words: &[&str]) -> Result<Vec<A>, LineError>
+    ensures lists { IfOk result (λ lists. lists_of A.kind (map (λ w. w.now) words.now)
+        ≡ Some (map (λ a. rows_under (A.mask a) (A.slots a)) lists.items)) }
     ensures fault { IfErr result (λ e. UnlessMemory e
-        ((e ≡ LineError.Row) × (lists_of (map (λ w. w.now) words.now) ≡ None))) }
+        ((e ≡ LineError.Row) × (lists_of A.kind (map (λ w. w.now) words.now) ≡ None))) }
 {
-    let mut lists = Vec::new(alloc);
-    for list in words.split(|word| is_bar(word)) {
-        let array = parse_rows(alloc, list)?;
+    let parts = split_lists(alloc, words)?;
+    let mut lists = Vec::with_capacity(alloc, parts.len())?;
+    for part in &parts {
+        let array = parse_rows::<A>(alloc, part)?;
         lists.push(array)?;
     }
     Ok(lists)

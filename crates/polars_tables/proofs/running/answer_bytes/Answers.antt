@@ -1,7 +1,7 @@
 use Rattle.std.proofs.Common.{◌≡◌, List, ℕ, Result, Ok, Err, IfOk, IfErr, sym, subst, inr}
 use Rattle.std.specs.String.{string_bytes}
 use Rattle.polars_tables.specs.declared.line.LineError.{LineError}
-use Rattle.polars_tables.specs.Line.{UnlessMemory}
+use Rattle.polars_tables.specs.Faults.{UnlessMemory}
 use Rattle.polars_tables.proofs.Texts.{meaning-text, meaning-no_text}
 use Rattle.polars_tables.proofs.running.answer_bytes.Goals as goal
 

@@ -1,5 +1,5 @@
-use Rattle.std.proofs.Common.{◌≡◌, ◌∙◌, sym, arith}
-use Rattle.polars_tables.proofs.Cuts.{lines_of-cut, lines_of-rest, position_within}
+use Rattle.std.proofs.Common.{◌∙◌, sym}
+use Rattle.polars_tables.proofs.Cuts.{lines_of-cut, lines_of-rest}
 use Rattle.polars_tables.proofs.running.split_line.Goals as goal
 
 pub returns-in-Some-clause-lines : goal.returns-in-Some-clause-lines

@@ -1,35 +1,26 @@
-use Rattle.std.proofs.Common.{◌≡◌, ◌+◌, ◌++◌, ◌∷◌, [], ◌∙◌, ℕ, List, Bor, length, drop, map, sym, ap, inl, inr, rules, tests}
-use Rattle.std.specs.Prelude.{option_map}
-use Rattle.std.proofs.lemmas.Iterator.Splits.{YieldsList-from_slice_split}
-use Rattle.std.proofs.lemmas.Iterator.Consumers.{YieldsList-turn, YieldsList-end}
-use Rattle.std.proofs.lemmas.List.{length_push, map-append}
+use Rattle.std.proofs.Common.{◌∙◌, Bor, List, ℕ, map, ap, inl, inr, arith}
 use Rattle.std.proofs.lemmas.Result.{err_from_is_err_and}
-use Rattle.polars_tables.specs.Row.{Row, rows}
-use Rattle.polars_tables.specs.Word.{is_bar, all_some}
-use Rattle.polars_tables.proofs.RowLists.{rows_at, parts_of, lists_of-parts, lists-more, lists-none, lists-end}
+use Rattle.polars_arrays_flat.specs.StoredRows.{rows_under}
+use Rattle.polars_tables.specs.Word.{rows_of}
+use Rattle.polars_tables.proofs.RowLists.{values-none, values-end, lists_of-lent}
 use Rattle.polars_tables.proofs.words.parse_lists.Goals as goal
 
-pub loop-list-preserved : goal.loop-list-preserved
-loop-list-preserved c =
-    let all = YieldsList-from_slice_split _ (λ (w : Bor (List ℕ)). is_bar w.now) c.args.words.now (cc) (cc) (cc) (λ x b q k. search (rules, tests)) in
-    let turn = YieldsList-turn all c.loop-list.yielded _ c.loop-list.yielded_by _ _ c.in-Some.list c.in-Some.is c.next.ensures.steps in
-    let more = lists-more c.args.words.now (length c.loop-list.yielded) c.in-Some.list.now (map rows c.loop-list.lists.items) turn.0 turn.1 (rows c.in_ok-array.array) c.in_ok-array.ensures.rows in
-    rw (c.in_ok-push.ensures.items, map-append rows c.loop-list.lists.items (c.in_ok-array.array ∷ []), length_push c.loop-list.yielded c.in-Some.list)
-    (c.loop-list.invariant ∙ more)
-
 pub returns-in_err-array-clause-fault : goal.returns-in_err-array-clause-fault
-returns-in_err-array-clause-fault c =
-    let all = YieldsList-from_slice_split _ (λ (w : Bor (List ℕ)). is_bar w.now) c.args.words.now (cc) (cc) (cc) (λ x b q k. search (rules, tests)) in
-    let turn = YieldsList-turn all c.loop-list.yielded _ c.loop-list.yielded_by _ _ c.in-Some.list c.in-Some.is c.next.ensures.steps in
-    let none = lists-none c.args.words.now (length c.loop-list.yielded) c.in-Some.list.now (map rows c.loop-list.lists.items) turn.0 turn.1 in
-    let p = err_from_is_err_and c.from_residual.result c.from_residual.ensures.1 in
+returns-in_err-array-clause-fault g c =
+    let kind = g.A.RowArray.kind in
+    let of = λ (p : Bor (List (Bor (List ℕ)))). rows_of kind (map (λ w. w.now) p.now) in
+    let before = map (λ a. rows_under (g.A.Array.mask a) (g.A.Array.slots a)) c.loop-part.lists.items in
+    let parts = ap (λ (ps : List (Bor (List (Bor (List ℕ))))). map (λ p. p.now) ps) c.deref-part-items.ensures.value ∙ c.in_ok-parts.ensures in
+    let p = err_from_is_err_and c.from_residual-in_err-array.result c.from_residual-in_err-array.ensures.1 in
     rw (p.1, p.2) (elim c.in_err-array.ensures.fault [
       | inl memory ↦ inl memory
-      | inr row ↦ inr (row.0, lists_of-parts c.args.words.now ∙ c.loop-list.invariant ∙ none row.1)
+      | inr row ↦ inr (row.0, lists_of-lent kind c.args.words.now c.deref-part-items.result.now parts ∙ c.loop-part.invariant ∙ values-none of c.deref-part-items.result.now c.loop-part.part-index _ before c.loop-part-test.true row.1)
     ])
 
 pub returns-clause-lists : goal.returns-clause-lists
-returns-clause-lists c =
-    let all = YieldsList-from_slice_split _ (λ (w : Bor (List ℕ)). is_bar w.now) c.args.words.now (cc) (cc) (cc) (λ x b q k. search (rules, tests)) in
-    let ended = YieldsList-end all c.loop-list.yielded _ c.loop-list.yielded_by _ _ c.in-None.is c.next.ensures.steps in
-    lists_of-parts c.args.words.now ∙ c.loop-list.invariant ∙ lists-end c.args.words.now (length c.loop-list.yielded) (map rows c.loop-list.lists.items) ended.1
+returns-clause-lists g c =
+    let kind = g.A.RowArray.kind in
+    let of = λ (p : Bor (List (Bor (List ℕ)))). rows_of kind (map (λ w. w.now) p.now) in
+    let before = map (λ a. rows_under (g.A.Array.mask a) (g.A.Array.slots a)) c.loop-part.lists.items in
+    let parts = ap (λ (ps : List (Bor (List (Bor (List ℕ))))). map (λ p. p.now) ps) c.deref-part-items.ensures.value ∙ c.in_ok-parts.ensures in
+    lists_of-lent kind c.args.words.now c.deref-part-items.result.now parts ∙ c.loop-part.invariant ∙ values-end of c.deref-part-items.result.now c.loop-part.part-index before (omega (arith, c.loop-part-test.false))

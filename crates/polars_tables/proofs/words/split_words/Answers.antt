@@ -1,4 +1,4 @@
-use Rattle.std.proofs.Common.{not, ◌==◌, List, ℕ, length, lit<, rules, tests}
+use Rattle.std.proofs.Common.{lit<, rules, tests}
 use Rattle.std.proofs.lemmas.Iterator.Splits.{YieldsList-from_str_split}
 use Rattle.std.proofs.lemmas.Iterator.Consumers.{map_from_collect, YieldsList-from_filter, YieldsList-at}
 use Rattle.polars_tables.proofs.words.split_words.Goals as goal

@@ -1,0 +1,164 @@
+//! Times the two sides of a kernel, and prints the line.
+
+use std::hint::black_box;
+use std::time::{Duration, Instant};
+
+/// What a side answers for a bit past the end.
+const NO_BIT: u64 = 2;
+
+/// Bit `i` of the `len` bits that were made.
+pub fn bit_of(made: Vec<u64>, len: usize, i: usize) -> u64 {
+    let words = black_box(made);
+    if i < len {
+        (words[i / 64] >> (i % 64)) & 1
+    } else {
+        NO_BIT
+    }
+}
+
+/// Runs a kernel so many times, and answers the checksum that the library's entry points answer.
+pub fn repeat<X>(operands: &[X; 2], repeats: usize, run: impl Fn(&X, usize) -> u64) -> u64 {
+    (0..repeats).fold(0, |checksum: u64, round| {
+        let number = run(black_box(&operands[round % 2]), round / 2);
+        checksum.wrapping_mul(31).wrapping_add(number)
+    })
+}
+
+/// Bit by bit what a peer makes of its rows, as often as it is told.
+pub fn plain_rows(count: usize, repeats: usize, make: impl Fn() -> Vec<u64>) -> u64 {
+    repeat(&[(); 2], repeats, |(), i| bit_of(make(), count, i))
+}
+
+/// A number of rows, how many times each side is measured there, and how long one measurement lasts
+/// at least beside the making of the operands, so that the clock's own time is small in it.
+pub struct Run {
+    pub count: usize,
+    times: usize,
+    least: Duration,
+}
+
+pub const RUNS: [Run; 2] = [
+    Run {
+        count: 16_384,
+        times: 150,
+        least: Duration::from_millis(1),
+    },
+    Run {
+        count: 1_048_576,
+        times: 30,
+        least: Duration::from_millis(20),
+    },
+];
+
+/// The most that is accepted in each run, as the numbers of rows stand in `RUNS`.
+#[derive(Clone, Copy)]
+pub enum Asked {
+    Nothing,
+    /// So many times what the other side takes.
+    Ratio([f64; 2]),
+    /// So many nanoseconds a row.
+    Nanoseconds([f64; 2]),
+}
+
+/// A side of a kernel: runs it as often as it is told, and answers the checksum.
+pub type Side<'a> = &'a dyn Fn(usize) -> u64;
+
+/// A kernel and what it is set beside.
+pub struct Kernel<'a> {
+    pub name: &'a str,
+    pub asked: Asked,
+    pub ours: Side<'a>,
+    /// Plain Rust that answers the same.
+    pub plain: Side<'a>,
+    /// What is timed in place of the plain Rust.
+    pub beside: Option<Side<'a>>,
+}
+
+/// How many runs of a kernel a measurement takes to last long enough.
+fn repeats_for(least: Duration, work: Side) -> usize {
+    let least = least + measured(0, work);
+    let mut repeats = 1;
+    while measured(repeats, work) < least && repeats < 1 << 24 {
+        repeats *= 2;
+    }
+    repeats
+}
+
+fn measured(repeats: usize, work: Side) -> Duration {
+    let start = Instant::now();
+    black_box(work(repeats));
+    start.elapsed()
+}
+
+/// The least times in which a side makes its operands, and makes them and runs the kernel.
+struct Best {
+    made: Duration,
+    all: Duration,
+}
+
+impl Best {
+    fn new() -> Best {
+        Best {
+            made: Duration::MAX,
+            all: Duration::MAX,
+        }
+    }
+
+    fn measure(&mut self, repeats: usize, work: Side) {
+        self.made = self.made.min(measured(0, work));
+        self.all = self.all.min(measured(repeats, work));
+    }
+
+    /// Nanoseconds a row of the kernel alone.
+    fn each(&self, rows: usize) -> f64 {
+        self.all.saturating_sub(self.made).as_secs_f64() * 1e9 / rows as f64
+    }
+}
+
+pub struct Bench {
+    pub words: Vec<String>,
+    pub over: usize,
+}
+
+impl Bench {
+    /// Times both sides in turn, and prints the line. `run` says which of `RUNS` it is.
+    pub fn compare(&mut self, run: usize, kernel: &Kernel) {
+        let name = kernel.name;
+        if !self.words.is_empty() && !self.words.iter().any(|word| name.contains(word.as_str())) {
+            return;
+        }
+        let Run {
+            count,
+            times,
+            least,
+        } = RUNS[run];
+        let ours = kernel.ours;
+        assert_eq!(
+            ours(9),
+            (kernel.plain)(9),
+            "{name}: the two sides answer differently"
+        );
+        let other = kernel.beside.unwrap_or(kernel.plain);
+        let repeats = repeats_for(least, ours).max(repeats_for(least, other));
+        let (mut our_best, mut other_best) = (Best::new(), Best::new());
+        for _ in 0..times {
+            our_best.measure(repeats, ours);
+            other_best.measure(repeats, other);
+        }
+        let our_time = our_best.each(repeats * count);
+        let other_time = other_best.each(repeats * count);
+        let ratio = our_time / other_time;
+        let (over, limit) = match kernel.asked {
+            Asked::Nothing => (false, "-".to_string()),
+            Asked::Ratio(limits) => (ratio > limits[run], format!("{:.2}", limits[run])),
+            Asked::Nanoseconds(limits) => {
+                (our_time > limits[run], format!("{:.2} ns", limits[run]))
+            }
+        };
+        self.over += usize::from(over);
+        println!(
+            "{name:34} {count:9} {our_time:9.4} {other_time:9.4} {ratio:7.2} {limit:>8}  {}",
+            if over { "OVER" } else { "ok" },
+        );
+    }
+}

@@ -1,0 +1,6 @@
+mod Bits
+mod Examples
+mod Missing
+mod Orders
+mod Stores
+mod Trees

@@ -1,0 +1,9 @@
+pub use Rattle.polars_compare_equality.specs.Answers
+pub use Rattle.polars_compare_leaves.specs.Equality
+pub use Rattle.polars_compare_leaves.specs.Joining
+pub use Rattle.polars_compare_leaves.specs.Order
+pub use Rattle.polars_compare_leaves.specs.Sameness
+pub mod MissingLaws
+pub mod OrderLaws
+pub mod RowsLaws
+pub mod Types

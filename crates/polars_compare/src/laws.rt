@@ -1,0 +1,32 @@
+//! What holds of the answers of the comparisons, over the definitions of their contracts alone. A law is a
+//! function that does nothing, and its clauses are what is proved.
+
+ghost use Rattle.polars_compare.specs.MissingLaws.{MissingIsReflexive, MissingIsSymmetric, MissingIsTransitive, UnequalIsNotEqual};
+ghost use Rattle.polars_compare.specs.OrderLaws.{AtMostIsLessOrSame, LessIsTransitive, OneOfThree, SameIsEqual};
+ghost use Rattle.polars_compare.specs.RowsLaws.{MissingByRows, RawEqualityByRows, RawOrderByRows};
+
+/// Of two rows with an order exactly one holds: the first is less, they are equal, or it is greater. It is
+/// at most the other where it is less or equal.
+pub fn law_1()
+    ensures same { SameIsEqual }
+    ensures one_of_three { OneOfThree }
+    ensures at_most { AtMostIsLessOrSame }
+    ensures transitive { LessIsTransitive }
+{}
+
+/// For arrays of one type and length missing equality is reflexive, symmetric and transitive, and missing
+/// inequality is its complement.
+pub fn law_2()
+    ensures reflexive { MissingIsReflexive }
+    ensures symmetric { MissingIsSymmetric }
+    ensures transitive { MissingIsTransitive }
+    ensures complement { UnequalIsNotEqual }
+{}
+
+/// Arrays with the same rows get the same bits, however they are stored and masked; the raw comparisons
+/// get them at each row that is null on neither side.
+pub fn law_3()
+    ensures missing { MissingByRows }
+    ensures raw_equality { RawEqualityByRows }
+    ensures raw_order { RawOrderByRows }
+{}
