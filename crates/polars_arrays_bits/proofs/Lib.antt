@@ -5,6 +5,7 @@ pub mod Firsts
 pub mod Joins
 pub mod OperatorBits
 pub mod Packs
+pub mod Puts
 pub mod SingleBits
 pub mod Windows
 pub mod WrittenBits

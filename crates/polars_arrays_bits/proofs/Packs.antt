@@ -6,6 +6,7 @@ use Rattle.std.proofs.lemmas.Simd.{bit_mask_l}
 use Rattle.std.specs.Simd.Lanes.{mask_l}
 use mathlib.Core.Logic.{⊎_elim}
 use Rattle.polars_arrays_bits.specs.Bits.{is_bit, first_of, IsWord}
+use Rattle.polars_arrays_bits.specs.Packing.{IsPacked}
 use Rattle.polars_arrays_bits.proofs.Firsts.{first_is}
 
 test_cond : (b : Bool) → eqb (cond b 1 0) 1 ≡ b
@@ -39,12 +40,12 @@ pub flag-other : (flag : ℕ) → flag ≡ 0 → not (eqb flag 0) ≡ false
 flag-other flag e = ap (λ x. not (eqb x 0)) e
 
 -- the word of at most 64 values from the k-th 64 on, of which there are no more behind it
-pub word-values : (values : List Bool) (k at count word : ℕ) → at ≡ min (64 * k) (length values) → count ≡ min (length values - at) 64 → ((i : ℕ) → i < count → is_bit word i ≡ get_or values (at + i) false) → ((i : ℕ) → count ≤ i → i < 64 → is_bit word i ≡ false) → IsWord (λ i. get_or values i false) k word
-word-values values k at count word a n bits rest = record {
+pub word-values : (values : List Bool) (k at count word : ℕ) → at ≡ min (64 * k) (length values) → count ≡ min (length values - at) 64 → IsPacked word values at count → IsWord (λ i. get_or values i false) k word
+word-values values k at count word a n packed = record {
   bits = λ i below.
       ⊎_elim
-      (λ lt. let place : at + i ≡ 64 * k + i = omega arith in bits i lt ∙ ap (λ p. get_or values p false) place)
-      (λ past. rest i past below ∙ sym (get_or_past values (64 * k + i) false (omega arith)))
+      (λ lt. let place : at + i ≡ 64 * k + i = omega arith in packed.bits i lt ∙ ap (λ p. get_or values p false) place)
+      (λ past. packed.rest i past below ∙ sym (get_or_past values (64 * k + i) false (omega arith)))
       (cases_lt i count);
 }
 

@@ -33,6 +33,11 @@ impl<'a, L: Copy, R: Copy, E: ElementTest<L, R>> TruthValues for Pairs<'a, L, R,
         let right = self.right;
         self.test.test(left[i], right[i])
     }
+
+    #[inline(always)]
+    fn is_wide(&self) -> bool {
+        self.test.is_wide()
+    }
 }
 
 /// Whether the elements of two slices of one length pass the test, place by place. The error is
@@ -92,6 +97,11 @@ impl<'a, L: Copy, R: Copy, E: ElementTest<L, R>> TruthValues for Against<'a, L, 
     #[inline(always)]
     fn value(&self, i: usize) -> bool {
         self.test.test(self.left[i], self.right)
+    }
+
+    #[inline(always)]
+    fn is_wide(&self) -> bool {
+        self.test.is_wide()
     }
 }
 

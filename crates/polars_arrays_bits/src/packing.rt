@@ -1,8 +1,8 @@
 //! Truth values that are asked for one by one, packed into words.
 
-ghost use Rattle.std.specs.Prelude.{◌≡◌, ℕ, ◌+◌, ◌^◌, ◌<◌, ◌≤◌, Bool, List, false, not, eqb, length, get_or, slice_index_or};
+ghost use Rattle.std.specs.Prelude.{◌≡◌, ℕ, ◌+◌, ◌-◌, ◌^◌, ◌<◌, ◌≤◌, Bool, List, false, not, ◌||◌, eqb, length, get_or, slice_index_or};
 ghost use Rattle.polars_arrays_bits.specs.Bits.{is_bit};
-ghost use Rattle.polars_arrays_bits.specs.Packing.{IsMarked};
+ghost use Rattle.polars_arrays_bits.specs.Packing.{IsMarked, IsPacked};
 
 use crate::source::BitSource;
 use crate::words::WORD_BITS;
@@ -21,6 +21,13 @@ pub trait TruthValues {
     fn value(&self, i: usize) -> bool
         requires { i < length (values self.now) }
         ensures { result ≡ slice_index_or (values self.now) i false };
+
+    /// Whether a truth value is found from more than 64 bits. The way of packing is chosen by it, and
+    /// no answer depends on it.
+    #[inline(always)]
+    fn is_wide(&self) -> bool {
+        false
+    }
 }
 
 // The word whose bits say which flags are not 0.
@@ -47,15 +54,14 @@ fn mark_next<V: TruthValues>(flags: &mut [u8; 64], values: &V, at: usize, done: 
     }
 }
 
-// The word of the `count` truth values from place `at` on, with zeros behind them. They go by
-// sixteens: a loop of that known length becomes code without branches.
+// The word of the `count` truth values from place `at` on, with zeros behind them, by flags of a
+// byte each. They go by sixteens: a loop of that known length becomes code without branches.
 #[inline(always)]
-fn pack_word<V: TruthValues>(values: &V, at: usize, count: usize) -> u64
+fn pack_by_flags<V: TruthValues>(values: &V, at: usize, count: usize) -> u64
     requires few { count ≤ 64 }
     requires within { at + count ≤ length (V.values values.now) }
     requires fits { at + count < 2 ^ 64 }
-    ensures bits { (i : ℕ) → i < count → is_bit result i ≡ get_or (V.values values.now) (at + i) false }
-    ensures rest { (i : ℕ) → count ≤ i → i < 64 → is_bit result i ≡ false }
+    ensures { IsPacked result (V.values values.now) at count }
 {
     let mut flags = [0u8; 64];
     for sixteen in 0..count / 16 {
@@ -64,6 +70,69 @@ fn pack_word<V: TruthValues>(values: &V, at: usize, count: usize) -> u64
     let rest = count % 16;
     mark_next(&mut flags, values, at, count - rest, rest);
     pack_flags(&flags)
+}
+
+// The word with the bits of `more` put in from bit `by` on.
+#[inline(always)]
+fn put(word: u64, more: u64, by: usize) -> u64
+    requires { by < 64 }
+    ensures below { (i : ℕ) → i < by → is_bit result i ≡ is_bit word i }
+    ensures above { (i : ℕ) → i < 64 - by → is_bit result (by + i) ≡ (is_bit word (by + i) || is_bit more i) }
+{
+    word | (more << by)
+}
+
+// The word of the `count` truth values from place `at` on, with zeros behind them, bit by bit.
+#[inline(always)]
+fn pack_bits<V: TruthValues>(values: &V, at: usize, count: usize) -> u64
+    requires few { count ≤ 64 }
+    requires within { at + count ≤ length (V.values values.now) }
+    requires fits { at + count < 2 ^ 64 }
+    ensures { IsPacked result (V.values values.now) at count }
+{
+    let mut word = 0;
+    for i in 0..count {
+        word = put(word, u64::from(values.value(at + i)), i);
+    }
+    word
+}
+
+// The same by eights: what is known of eight wide elements stays in registers until it is a byte.
+#[inline(always)]
+fn pack_by_bytes<V: TruthValues>(values: &V, at: usize, count: usize) -> u64
+    requires few { count ≤ 64 }
+    requires within { at + count ≤ length (V.values values.now) }
+    requires fits { at + count < 2 ^ 64 }
+    ensures { IsPacked result (V.values values.now) at count }
+{
+    let mut word = 0;
+    for eight in 0..count / 8 {
+        word = put(word, pack_bits(values, at + 8 * eight, 8), 8 * eight);
+    }
+    let rest = count % 8;
+    if rest > 0 {
+        word = put(
+            word,
+            pack_bits(values, at + (count - rest), rest),
+            count - rest,
+        );
+    }
+    word
+}
+
+// The word of the `count` truth values from place `at` on, with zeros behind them.
+#[inline(always)]
+fn pack_word<V: TruthValues>(values: &V, at: usize, count: usize) -> u64
+    requires few { count ≤ 64 }
+    requires within { at + count ≤ length (V.values values.now) }
+    requires fits { at + count < 2 ^ 64 }
+    ensures { IsPacked result (V.values values.now) at count }
+{
+    if values.is_wide() {
+        pack_by_bytes(values, at, count)
+    } else {
+        pack_by_flags(values, at, count)
+    }
 }
 
 /// Truth values as the bits of words, and false after them.

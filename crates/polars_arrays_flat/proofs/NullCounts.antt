@@ -3,8 +3,8 @@ use Rattle.std.proofs.Common.{◌≡◌, ℕ, ℤ, zero, suc, ◌+◌, Bool, tru
 use Rattle.std.specs.Prelude.{Option, Some, None}
 use Rattle.std.proofs.lemmas.List.Recursion.{is_count_by}
 use Rattle.polars_arrays_flat.specs.ArrayRows.{is_null, null_total}
-use Rattle.polars_arrays_flat.specs.Row.{Row, Null, Int, Truth}
-use Rattle.polars_arrays_flat.specs.StoredRows.{masked, rows_under, number_slots, truth_slots}
+use Rattle.polars_arrays_flat.specs.Row.{Row, Null, Int, Truth, Bytes}
+use Rattle.polars_arrays_flat.specs.StoredRows.{masked, rows_under, number_slots, truth_slots, byte_slots}
 use Rattle.polars_arrays_flat.specs.Validity.{HasBits, masked_count}
 
 -- how many elements pass a test, by recursion
@@ -44,6 +44,9 @@ number_rows-nulls value validity xs has_bits =
 pub truth_rows-nulls : (validity : Option (List Bool)) (xs : List Bool) → HasBits (length xs) validity → masked_count validity ≡ null_total (rows_under validity (truth_slots xs))
 truth_rows-nulls validity xs has_bits = nulls-masked Truth (λ x. refl) validity xs has_bits
 
+pub byte_rows-nulls : (validity : Option (List Bool)) (xs : List (List ℕ)) → HasBits (length xs) validity → masked_count validity ≡ null_total (rows_under validity (byte_slots xs))
+byte_rows-nulls validity xs has_bits = nulls-masked Bytes (λ x. refl) validity xs has_bits
+
 all-nulls : (n : ℕ) → tally is_null (replicate n Null) ≡ n
 unfolding tally
 all-nulls zero = refl
@@ -52,4 +55,4 @@ all-nulls (suc n) = omega (arith, all-nulls n)
 pub null_rows-nulls : (n : ℕ) → n ≡ null_total (replicate n Null)
 null_rows-nulls n = sym (all-nulls n) ∙ tally-is is_null (replicate n Null)
 
-pub ruleset nulls_counted = (number_rows-nulls, truth_rows-nulls, null_rows-nulls)
+pub ruleset nulls_counted = (number_rows-nulls, truth_rows-nulls, byte_rows-nulls, null_rows-nulls)

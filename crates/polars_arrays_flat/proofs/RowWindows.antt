@@ -24,7 +24,7 @@ take-masked (suc k) (bit ∷ bits) [] = refl
 take-masked (suc k) (bit ∷ bits) (row ∷ rows) = ap (λ rest. kept bit row ∷ rest) (take-masked k bits rows)
 
 -- a window of the rows is what the windows of stored rows and validity are
-rows-window : (at n : ℕ) (validity : Option (List Bool)) (rows : List Row) → rows_under (validity_window at n validity) (window at n rows) ≡ window at n (rows_under validity rows)
+pub rows-window : (at n : ℕ) (validity : Option (List Bool)) (rows : List Row) → rows_under (validity_window at n validity) (window at n rows) ≡ window at n (rows_under validity rows)
 rows-window at n None rows = refl
 rows-window at n (Some bits) rows =
     sym (ap (take n) (drop-masked at bits rows) ∙ take-masked n (drop at bits) (drop at rows))
@@ -85,7 +85,7 @@ pub row-under : MasksByPlace
 row-under None rows i = refl
 row-under (Some bits) rows i = row-masked bits rows i
 
-pub ruleset windows = (number_rows-window, truth_rows-window, null_rows-window)
+pub ruleset windows = (rows-window, number_rows-window, truth_rows-window, null_rows-window)
 
 pub ruleset fills = (number_rows-unset, number_rows-filled)
 

@@ -1,6 +1,6 @@
 -- The rows of an array, from what is stored and what is masked.
 use Rattle.std.specs.Prelude.{◌≡◌, ◌<◌, ℕ, ℤ, Bool, true, false, List, [], ◌∷◌, Option, Some, None, length, map, slice_index_or}
-use Rattle.polars_arrays_flat.specs.Row.{Row, Null, Int, Truth}
+use Rattle.polars_arrays_flat.specs.Row.{Row, Null, Int, Truth, Bytes}
 
 -- row i, or Null past the end
 abbrev pub row : List Row → ℕ → Row
@@ -29,6 +29,10 @@ number_slots value xs = map (λ x. Int (value x)) xs
 -- the rows that stored truth values are
 abbrev pub truth_slots : List Bool → List Row
 truth_slots bits = map Truth bits
+
+-- the rows that stored byte strings are; a text is its UTF-8
+abbrev pub byte_slots : List (List ℕ) → List Row
+byte_slots strings = map Bytes strings
 
 -- where a row is stored as Null neither of two arrays has a validity, and they are of one type
 abbrev pub NullSlots : List Row → Option (List Bool) → Option (List Bool) → Type 0 → ℕ → Type 0

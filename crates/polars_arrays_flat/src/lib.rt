@@ -4,10 +4,11 @@
 pub mod array;
 pub mod arrow_type;
 pub mod boolean;
+pub mod byte_rows;
 pub mod data_type;
 mod fill;
 pub mod null;
 pub mod primitive;
 #[cfg(test)]
 mod tests;
-mod validity;
+pub mod validity;

@@ -1,15 +1,18 @@
 //! What arrays do with an optional validity.
 
-ghost use Rattle.std.specs.Prelude.{◌≡◌, ◌↔◌, ◌+◌, ◌≤◌, IsTrue, IfSome, MatchResult, length};
+ghost use Rattle.std.specs.Prelude.{◌≡◌, ◌↔◌, ◌+◌, ◌≤◌, ℕ, List, IsTrue, IfSome, MatchResult, length};
 ghost use Rattle.polars_arrays_bits.specs.Errors.{IsMemory};
-ghost use Rattle.polars_arrays_flat.specs.Validity.{HasBits, masked_count, validity_window};
+ghost use Rattle.polars_arrays_flat.specs.ArrayRows.{null_total};
+ghost use Rattle.polars_arrays_flat.specs.Row.{Row};
+ghost use Rattle.polars_arrays_flat.specs.StoredRows.{byte_slots, rows_under};
+ghost use Rattle.polars_arrays_flat.specs.Validity.{HasBits, masked_count, validity_window, window};
 
 use polars_arrays_bits::bitmap::Bitmap;
 use polars_arrays_bits::error::ComputeError;
 use std::alloc::Global;
 
-// Whether a validity that is there has `len` bits.
-pub(crate) fn has_bits(len: usize, validity: &Option<Bitmap>) -> bool
+/// Whether a validity that is there has `len` bits.
+pub fn has_bits(len: usize, validity: &Option<Bitmap>) -> bool
     ensures { IsTrue result ↔ HasBits len validity.now }
 {
     match validity {
@@ -18,9 +21,11 @@ pub(crate) fn has_bits(len: usize, validity: &Option<Bitmap>) -> bool
     }
 }
 
-// How many rows are masked.
-pub(crate) fn null_count(validity: &Option<Bitmap>) -> usize
-    ensures { result ≡ masked_count validity.now }
+/// How many rows are masked. Over byte strings these are the rows that are null.
+#[tactic(auto, using(crate::proofs::NullCounts::nulls_counted))]
+pub fn null_count(validity: &Option<Bitmap>) -> usize
+    ensures masked { result ≡ masked_count validity.now }
+    ensures bytes { (strings : List (List ℕ)) → HasBits (length strings) validity.now → result ≡ null_total (rows_under validity.now (byte_slots strings)) }
 {
     match validity {
         Some(bits) => bits.unset_bits(),
@@ -28,18 +33,20 @@ pub(crate) fn null_count(validity: &Option<Bitmap>) -> usize
     }
 }
 
-// Keeps the bits of `n` rows from row `at` on.
-pub(crate) fn slice_validity(validity: &mut Option<Bitmap>, at: usize, n: usize)
+/// Keeps the bits of `n` rows from row `at` on.
+#[tactic(auto, using(crate::proofs::RowWindows::windows))]
+pub fn slice_validity(validity: &mut Option<Bitmap>, at: usize, n: usize)
     requires { IfSome validity.old (λ bits. at + n ≤ length bits) }
-    ensures { validity.new ≡ validity_window at n validity.old }
+    ensures bits { validity.new ≡ validity_window at n validity.old }
+    ensures rows { (slots : List Row) → rows_under validity.new (window at n slots) ≡ window at n (rows_under validity.old slots) }
 {
     if let Some(bits) = validity {
         bits.slice(at, n);
     }
 }
 
-// A second validity of the same bits.
-pub(crate) fn clone_validity(
+/// A second validity of the same bits. The error is `Memory`.
+pub fn clone_validity(
     alloc: Global,
     validity: &Option<Bitmap>,
 ) -> Result<Option<Bitmap>, ComputeError>

@@ -2,7 +2,7 @@
 ghost use Rattle.std.specs.Prelude.{◌≡◌, Bool, not, int_lt, int_le};
 ghost use Rattle.std.specs.Ordering.{int_eq};
 
-use crate::native_type::NativeType;
+use crate::native_type::{NativeType, has_wide_values};
 
 /// A test of a left and a right element.
 pub trait ElementTest<L, R> {
@@ -12,6 +12,13 @@ pub trait ElementTest<L, R> {
     /// Whether the two elements pass.
     fn test(&self, left: L, right: R) -> bool
         ensures { result ≡ passes self.now left right };
+
+    /// Whether the elements have more than 64 bits. No answer depends on it: who tests many elements
+    /// chooses the faster loop by it.
+    #[inline(always)]
+    fn is_wide(&self) -> bool {
+        false
+    }
 }
 
 /// Whether two numbers are one.
@@ -24,6 +31,11 @@ impl<T: NativeType> ElementTest<T, T> for Equal {
     #[inline(always)]
     fn test(&self, left: T, right: T) -> bool {
         left == right
+    }
+
+    #[inline(always)]
+    fn is_wide(&self) -> bool {
+        has_wide_values::<T>()
     }
 }
 
@@ -38,6 +50,11 @@ impl<T: NativeType> ElementTest<T, T> for Unequal {
     fn test(&self, left: T, right: T) -> bool {
         left != right
     }
+
+    #[inline(always)]
+    fn is_wide(&self) -> bool {
+        has_wide_values::<T>()
+    }
 }
 
 /// Whether the left number is less than the right one.
@@ -50,6 +67,11 @@ impl<T: NativeType> ElementTest<T, T> for Less {
     #[inline(always)]
     fn test(&self, left: T, right: T) -> bool {
         left < right
+    }
+
+    #[inline(always)]
+    fn is_wide(&self) -> bool {
+        has_wide_values::<T>()
     }
 }
 
@@ -64,6 +86,11 @@ impl<T: NativeType> ElementTest<T, T> for LessOrEqual {
     fn test(&self, left: T, right: T) -> bool {
         left <= right
     }
+
+    #[inline(always)]
+    fn is_wide(&self) -> bool {
+        has_wide_values::<T>()
+    }
 }
 
 /// Whether the left number is greater than the right one.
@@ -77,6 +104,11 @@ impl<T: NativeType> ElementTest<T, T> for Greater {
     fn test(&self, left: T, right: T) -> bool {
         left > right
     }
+
+    #[inline(always)]
+    fn is_wide(&self) -> bool {
+        has_wide_values::<T>()
+    }
 }
 
 /// Whether the left number is greater than the right one or equal to it.
@@ -89,5 +121,10 @@ impl<T: NativeType> ElementTest<T, T> for GreaterOrEqual {
     #[inline(always)]
     fn test(&self, left: T, right: T) -> bool {
         left >= right
+    }
+
+    #[inline(always)]
+    fn is_wide(&self) -> bool {
+        has_wide_values::<T>()
     }
 }

@@ -1,5 +1,5 @@
 //! The types of numbers that arrays hold.
-ghost use Rattle.std.specs.Prelude.{◌≡◌, ◌↔◌, ◌<ℤ◌, ℤ, pos, IsTrue};
+ghost use Rattle.std.specs.Prelude.{◌≡◌, ◌↔◌, ◌<ℤ◌, ◌<◌, ℤ, pos, IsTrue};
 ghost use Rattle.num_traits.specs.Laws.{bit_len};
 ghost use Rattle.polars_arrays_numbers.specs.Ranges.{greatest_of, least_of};
 
@@ -32,6 +32,14 @@ pub fn greatest_value<T: NativeType>() -> T
     ensures { T.value result ≡ T.high }
 {
     T::max_value()
+}
+
+/// Whether the values have more than 64 bits.
+#[inline(always)]
+pub fn has_wide_values<T: NativeType>() -> bool
+    ensures { IsTrue result ↔ (64 < bit_len T.width) }
+{
+    T::width() > u64::BITS
 }
 
 impl NativeType for i8 {
