@@ -1,9 +1,13 @@
-//! Byte strings by place.
+//! Arrays whose stored rows are byte strings.
 
 ghost use Rattle.std.specs.Prelude.{◌≡◌, ◌<◌, ℕ, List, [], length, slice_index_or};
+ghost use Rattle.polars_arrays_flat.specs.StoredRows.{byte_slots};
 
-/// Byte strings that are asked for by their places, whatever a validity says of them.
-pub trait ByteRows {
+use crate::array::Array;
+
+/// An array whose stored rows are byte strings, or texts by their UTF-8. They are asked for by their
+/// places, whatever the validity says.
+pub trait ByteRows: Array {
     // The byte strings, the first one first.
     ghost strings: { Self → List (List ℕ) };
 
@@ -15,4 +19,7 @@ pub trait ByteRows {
     fn bytes(&self, i: usize) -> &[u8]
         requires { i < length (strings self.now) }
         ensures { result.now ≡ slice_index_or (strings self.now) i [] };
+
+    // The stored rows are these byte strings.
+    ghost slots_law: { (a : Self) → Self.slots a ≡ byte_slots (strings a) };
 }

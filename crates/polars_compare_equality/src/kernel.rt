@@ -16,7 +16,7 @@ use polars_compare_leaves::joining::{Relation, join_nulls};
 use std::alloc::Global;
 
 // The mask of an array, for the null combination. No other place says which rows are masked.
-fn missing_mask<A: Array>(array: &A) -> Option<&Bitmap>
+pub(crate) fn missing_mask<A: Array>(array: &A) -> Option<&Bitmap>
     requires { A.good array.now }
     ensures mask { option_copied result ≡ A.mask array.now }
     ensures bits { HasBits (length (A.slots array.now)) (A.mask array.now) }

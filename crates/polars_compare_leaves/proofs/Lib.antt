@@ -1,4 +1,5 @@
 mod Examples
 mod JoinedBits
 mod Slots
+mod Strings
 mod Truths

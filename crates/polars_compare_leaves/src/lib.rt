@@ -2,6 +2,7 @@
 #![tactic(auto)]
 
 pub mod booleans;
+pub mod bytes;
 pub mod joining;
 pub mod numbers;
 pub mod row_test;

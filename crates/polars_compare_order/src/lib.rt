@@ -2,6 +2,7 @@
 #![tactic(auto)]
 
 mod booleans;
+pub mod borrowed;
 pub mod kernel;
 mod numbers;
 #[cfg(test)]

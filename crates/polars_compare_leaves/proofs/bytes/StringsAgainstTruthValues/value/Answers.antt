@@ -1,0 +1,14 @@
+use Rattle.std.proofs.Common.{◌≡◌, ◌<◌, ◌∙◌, length, map, sym, ap, arith}
+use Rattle.std.proofs.lemmas.List.{length-map}
+use Rattle.polars_arrays_flat.specs.Row.{Row, Bytes}
+use Rattle.polars_arrays_flat.specs.StoredRows.{byte_slots}
+use Rattle.polars_compare_leaves.proofs.Strings.{against-at, against-within}
+use Rattle.polars_compare_leaves.proofs.bytes.StringsAgainstTruthValues.value.Goals as goal
+
+pub returns : goal.returns
+returns g c =
+    c.test.ensures
+    ∙ ap (λ xs. g.E.ByteTest.rows (Bytes xs) (Bytes c.args.self.now.right.now)) c.bytes.ensures
+    ∙ sym
+        (against-at (λ row. g.E.ByteTest.rows row (Bytes c.args.self.now.right.now)) (g.L.ByteRows.strings c.args.self.now.left.now) c.args.i
+        (against-within (λ row. g.E.ByteTest.rows row (Bytes c.args.self.now.right.now)) (g.L.ByteRows.strings c.args.self.now.left.now) c.args.i c.requires))

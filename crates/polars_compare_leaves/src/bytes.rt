@@ -1,0 +1,189 @@
+//! Tests of stored byte strings, place by place, whatever the validity says.
+
+ghost use Rattle.std.specs.Prelude.{◌≡◌, ◌+◌, ◌^◌, ◌<◌, ◌≤◌, Bool, length, map, MatchResult};
+ghost use Rattle.std.specs.Simd.Lanes.{zip2};
+ghost use Rattle.polars_arrays_bits.specs.Errors.{IsMemory};
+ghost use Rattle.polars_arrays_flat.specs.Row.{Row, Bytes};
+ghost use Rattle.polars_arrays_flat.specs.StoredRows.{byte_slots};
+ghost use Rattle.polars_arrays_flat.specs.Validity.{window};
+ghost use Rattle.polars_compare_leaves.specs.Order.{row_at_least, row_at_most, row_greater, row_less};
+ghost use Rattle.polars_compare_leaves.specs.Sameness.{other_row, same_row};
+
+use polars_arrays_bits::bitmap::Bitmap;
+use polars_arrays_bits::error::ComputeError;
+use polars_arrays_bits::packing::TruthValues;
+use polars_arrays_flat::byte_rows::ByteRows;
+use polars_arrays_numbers::element_test::{
+    Equal, Greater, GreaterOrEqual, Less, LessOrEqual, Unequal,
+};
+use std::alloc::Global;
+
+/// A test of two byte strings that is a test of their rows.
+pub trait ByteTest {
+    // Which rows pass.
+    ghost rows: { Row → Row → Bool };
+
+    /// Whether two byte strings pass.
+    fn test(&self, left: &[u8], right: &[u8]) -> bool
+        ensures { result ≡ rows (Bytes left.now) (Bytes right.now) };
+}
+
+impl ByteTest for Equal {
+    ghost rows = { same_row };
+
+    #[inline(always)]
+    fn test(&self, left: &[u8], right: &[u8]) -> bool {
+        left == right
+    }
+}
+
+impl ByteTest for Unequal {
+    ghost rows = { other_row };
+
+    #[inline(always)]
+    fn test(&self, left: &[u8], right: &[u8]) -> bool {
+        left != right
+    }
+}
+
+impl ByteTest for Less {
+    ghost rows = { row_less };
+
+    #[inline(always)]
+    fn test(&self, left: &[u8], right: &[u8]) -> bool {
+        left < right
+    }
+}
+
+impl ByteTest for LessOrEqual {
+    ghost rows = { row_at_most };
+
+    #[inline(always)]
+    fn test(&self, left: &[u8], right: &[u8]) -> bool {
+        !(right < left)
+    }
+}
+
+impl ByteTest for Greater {
+    ghost rows = { row_greater };
+
+    #[inline(always)]
+    fn test(&self, left: &[u8], right: &[u8]) -> bool {
+        right < left
+    }
+}
+
+impl ByteTest for GreaterOrEqual {
+    ghost rows = { row_at_least };
+
+    #[inline(always)]
+    fn test(&self, left: &[u8], right: &[u8]) -> bool {
+        !(left < right)
+    }
+}
+
+// A test of `n` byte strings from place `a` on and of as many from place `b` on, place by place.
+#[derive(Drop)]
+struct StringPairs<'a, L: ByteRows, R: ByteRows, E> {
+    test: &'a E,
+    left: &'a L,
+    a: usize,
+    right: &'a R,
+    b: usize,
+    n: usize,
+    ghost left_in: { a + n ≤ length (L.strings left.now) },
+    ghost right_in: { b + n ≤ length (R.strings right.now) },
+    ghost left_fits: { a + n < 2 ^ 64 },
+    ghost right_fits: { b + n < 2 ^ 64 },
+}
+
+impl<'a, L: ByteRows, R: ByteRows, E: ByteTest> TruthValues for StringPairs<'a, L, R, E> {
+    ghost values = { λ p. zip2 E.rows (window p.a p.n (byte_slots (L.strings p.left.now))) (window p.b p.n (byte_slots (R.strings p.right.now))) };
+
+    #[inline(always)]
+    fn len(&self) -> usize {
+        self.n
+    }
+
+    #[inline(always)]
+    fn value(&self, i: usize) -> bool {
+        let left = self.left.bytes(self.a + i);
+        self.test.test(left, self.right.bytes(self.b + i))
+    }
+
+    #[inline(always)]
+    fn is_wide(&self) -> bool {
+        true
+    }
+}
+
+/// Whether the stored rows of two windows pass a test, place by place: `n` byte strings from place `a` on
+/// of the left ones, and as many from place `b` on of the right ones. The error is `Memory`.
+pub fn test_byte_windows<L: ByteRows, R: ByteRows, E: ByteTest>(
+    alloc: Global,
+    test: &E,
+    left: &L,
+    a: usize,
+    right: &R,
+    b: usize,
+    n: usize,
+) -> Result<Bitmap, ComputeError>
+    requires left_in { a + n ≤ length (L.strings left.now) }
+    requires right_in { b + n ≤ length (R.strings right.now) }
+    ensures { MatchResult result (λ bits. bits ≡ zip2 E.rows
+        (window a n (byte_slots (L.strings left.now)))
+        (window b n (byte_slots (R.strings right.now)))) IsMemory }
+{
+    // No effect at run time. The proof reads from them that places are numbers of 64 bits.
+    let _left_count = left.count();
+    let _right_count = right.count();
+    let pairs = StringPairs {
+        test,
+        left,
+        a,
+        right,
+        b,
+        n,
+    };
+    Bitmap::from_values(alloc, &pairs)
+}
+
+// A test of byte strings against one.
+#[derive(Drop)]
+struct StringsAgainst<'a, L, E> {
+    test: &'a E,
+    left: &'a L,
+    right: &'a [u8],
+}
+
+impl<'a, L: ByteRows, E: ByteTest> TruthValues for StringsAgainst<'a, L, E> {
+    ghost values = { λ a. map (λ row. E.rows row (Bytes a.right.now)) (byte_slots (L.strings a.left.now)) };
+
+    #[inline(always)]
+    fn len(&self) -> usize {
+        self.left.count()
+    }
+
+    #[inline(always)]
+    fn value(&self, i: usize) -> bool {
+        self.test.test(self.left.bytes(i), self.right)
+    }
+
+    #[inline(always)]
+    fn is_wide(&self) -> bool {
+        true
+    }
+}
+
+/// Whether the stored rows pass a test with a byte string. The error is `Memory`.
+pub fn test_bytes<L: ByteRows, E: ByteTest>(
+    alloc: Global,
+    test: &E,
+    left: &L,
+    right: &[u8],
+) -> Result<Bitmap, ComputeError>
+    ensures { MatchResult result (λ bits. bits ≡ map (λ row. E.rows row (Bytes right.now))
+        (byte_slots (L.strings left.now))) IsMemory }
+{
+    Bitmap::from_values(alloc, &StringsAgainst { test, left, right })
+}
