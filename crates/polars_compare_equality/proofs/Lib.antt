@@ -1,3 +1,5 @@
 mod Missing
 mod Raw
 mod Trees
+mod Pairs
+mod Sized

@@ -20,10 +20,10 @@ not-false : (b : Bool) → not b ≡ false → b ≡ true
 not-false true e = refl
 not-false false e = cc
 
-same-told : (x y : Row) → (same_row x y ≡ true) ↔ (x ≡ y)
+pub same-told : (x y : Row) → (same_row x y ≡ true) ↔ (x ≡ y)
 same-told x y = (same-equal x y, (λ e. subst (λ (z : Row). same_row x z ≡ true) e (same-self x)))
 
-other-told : (x y : Row) → (other_row x y ≡ false) ↔ (x ≡ y)
+pub other-told : (x y : Row) → (other_row x y ≡ false) ↔ (x ≡ y)
 other-told x y = let told = same-told x y in ((λ h. told.0 (not-false (same_row x y) h)), (λ e. ap not (told.1 e)))
 
 -- all of a list, as a window of it

@@ -1,9 +1,9 @@
 -- Stored rows are as many as stored values.
-use Rattle.std.specs.Prelude.{◌≡◌, ℤ, Bool, List, length}
+use Rattle.std.specs.Prelude.{◌≡◌, ℕ, ℤ, Bool, List, length}
 use Rattle.std.proofs.Common.{sym, ◌∙◌}
 use Rattle.std.proofs.lemmas.List.{length-map}
-use Rattle.polars_arrays_flat.specs.Row.{Int, Truth}
-use Rattle.polars_arrays_flat.specs.StoredRows.{number_slots, truth_slots}
+use Rattle.polars_arrays_flat.specs.Row.{Int, Truth, Bytes}
+use Rattle.polars_arrays_flat.specs.StoredRows.{number_slots, truth_slots, byte_slots}
 
 pub number_slots-as_long : {A : Type 0} (value : A → ℤ) (xs ys : List A) → length xs ≡ length ys → length (number_slots value xs) ≡ length (number_slots value ys)
 number_slots-as_long value xs ys e =
@@ -11,3 +11,6 @@ number_slots-as_long value xs ys e =
 
 pub truth_slots-as_long : (xs ys : List Bool) → length xs ≡ length ys → length (truth_slots xs) ≡ length (truth_slots ys)
 truth_slots-as_long xs ys e = length-map xs Truth ∙ e ∙ sym (length-map ys Truth)
+
+pub byte_slots-as_long : (xs ys : List (List ℕ)) → length xs ≡ length ys → length (byte_slots xs) ≡ length (byte_slots ys)
+byte_slots-as_long xs ys e = length-map xs Bytes ∙ e ∙ sym (length-map ys Bytes)

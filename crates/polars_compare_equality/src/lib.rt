@@ -3,7 +3,12 @@
 
 mod booleans;
 pub mod borrowed;
+mod bytes;
 pub mod kernel;
 mod numbers;
 #[cfg(test)]
+mod string_tests;
+#[cfg(test)]
 mod tests;
+mod texts;
+mod views;

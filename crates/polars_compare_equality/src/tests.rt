@@ -31,7 +31,7 @@ fn truths(alloc: Global, values: &[bool], present: &[bool]) -> Result<BooleanArr
 }
 
 // The bits are these.
-fn expect(rt: &impl Abort, bits: &Bitmap, want: &[bool]) {
+pub(crate) fn expect(rt: &impl Abort, bits: &Bitmap, want: &[bool]) {
     assert!(rt; bits.len() == want.len());
     for (i, bit) in want.iter().enumerate() {
         assert!(rt; bits.get(i) == Some(*bit), "at {i}");
@@ -39,7 +39,7 @@ fn expect(rt: &impl Abort, bits: &Bitmap, want: &[bool]) {
 }
 
 // Both missing kernels tell of these rows that they are equal, and of the others that they are not.
-fn expect_missing<A: TotalEqKernel>(
+pub(crate) fn expect_missing<A: TotalEqKernel>(
     rt: &impl Abort,
     alloc: Global,
     left: &A,
@@ -58,7 +58,7 @@ fn expect_missing<A: TotalEqKernel>(
 }
 
 // The same of the rows and a scalar.
-fn expect_missing_broadcast<A: TotalEqKernel>(
+pub(crate) fn expect_missing_broadcast<A: TotalEqKernel>(
     rt: &impl Abort,
     alloc: Global,
     left: &A,
@@ -77,7 +77,7 @@ fn expect_missing_broadcast<A: TotalEqKernel>(
 }
 
 // The same of the raw kernels, where no row is masked.
-fn expect_raw<A: TotalEqKernel>(
+pub(crate) fn expect_raw<A: TotalEqKernel>(
     rt: &impl Abort,
     alloc: Global,
     left: &A,
@@ -96,7 +96,7 @@ fn expect_raw<A: TotalEqKernel>(
 }
 
 // The same of the raw broadcasts.
-fn expect_raw_broadcast<A: TotalEqKernel>(
+pub(crate) fn expect_raw_broadcast<A: TotalEqKernel>(
     rt: &impl Abort,
     alloc: Global,
     left: &A,

@@ -25,7 +25,7 @@ fn expect(rt: &impl Abort, bits: &Bitmap, want: &[bool]) {
 }
 
 // What the four kernels tell: less, at most, greater, at least.
-fn expect_order<A: TotalOrdKernel>(
+pub(crate) fn expect_order<A: TotalOrdKernel>(
     rt: &impl Abort,
     alloc: Global,
     left: &A,
@@ -42,7 +42,7 @@ fn expect_order<A: TotalOrdKernel>(
 }
 
 // The same of the four broadcasts.
-fn expect_broadcast<A: TotalOrdKernel>(
+pub(crate) fn expect_broadcast<A: TotalOrdKernel>(
     rt: &impl Abort,
     alloc: Global,
     left: &A,
@@ -58,7 +58,7 @@ fn expect_broadcast<A: TotalOrdKernel>(
 }
 
 // The bits of four answers, row by row.
-fn expect_all(rt: &impl Abort, bits: [&Bitmap; 4], want: &[[bool; 4]]) {
+pub(crate) fn expect_all(rt: &impl Abort, bits: [&Bitmap; 4], want: &[[bool; 4]]) {
     let [less, at_most, greater, at_least] = bits;
     for (i, row) in want.iter().enumerate() {
         let [lt, le, gt, ge] = *row;
@@ -75,11 +75,11 @@ fn expect_all(rt: &impl Abort, bits: [&Bitmap; 4], want: &[[bool; 4]]) {
     assert!(rt; greater.len() == want.len() && at_least.len() == want.len());
 }
 
-const LESS: [bool; 4] = [true, true, false, false];
+pub(crate) const LESS: [bool; 4] = [true, true, false, false];
 
-const EQUAL: [bool; 4] = [false, true, false, true];
+pub(crate) const EQUAL: [bool; 4] = [false, true, false, true];
 
-const GREATER: [bool; 4] = [false, false, true, true];
+pub(crate) const GREATER: [bool; 4] = [false, false, true, true];
 
 // The four kernels, of two arrays of numbers.
 fn expect_numbers<T: NativeType + 'static>(

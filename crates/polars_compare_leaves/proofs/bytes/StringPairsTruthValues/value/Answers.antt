@@ -20,5 +20,5 @@ returns g c =
     c.test.ensures
     ∙ ap₂ (λ xs ys. g.E.ByteTest.rows (Bytes xs) (Bytes ys)) c.bytes-left.ensures c.bytes.ensures
     ∙ sym
-        (pairs-at g.E.ByteTest.rows c.args.self.now.a c.args.self.now.b c.args.self.now.n c.args.i (g.L.ByteRows.strings c.args.self.now.left.now)
-        (g.R.ByteRows.strings c.args.self.now.right.now) (pair-within g.E.ByteTest.rows c.args.self.now.a c.args.self.now.b c.args.self.now.n c.args.i (g.L.ByteRows.strings c.args.self.now.left.now) (g.R.ByteRows.strings c.args.self.now.right.now) c.args.self.now.left_in c.args.self.now.right_in c.requires) c.args.self.now.left_in c.args.self.now.right_in)
+    (pairs-at g.E.ByteTest.rows c.args.self.now.a c.args.self.now.b c.args.self.now.n c.args.i (g.L.ByteRows.strings c.args.self.now.left.now)
+    (g.R.ByteRows.strings c.args.self.now.right.now) (pair-within g.E.ByteTest.rows c.args.self.now.a c.args.self.now.b c.args.self.now.n c.args.i (g.L.ByteRows.strings c.args.self.now.left.now) (g.R.ByteRows.strings c.args.self.now.right.now) c.args.self.now.left_in c.args.self.now.right_in c.requires) c.args.self.now.left_in c.args.self.now.right_in)

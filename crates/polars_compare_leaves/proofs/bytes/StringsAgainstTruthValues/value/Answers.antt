@@ -10,5 +10,5 @@ returns g c =
     c.test.ensures
     ∙ ap (λ xs. g.E.ByteTest.rows (Bytes xs) (Bytes c.args.self.now.right.now)) c.bytes.ensures
     ∙ sym
-        (against-at (λ row. g.E.ByteTest.rows row (Bytes c.args.self.now.right.now)) (g.L.ByteRows.strings c.args.self.now.left.now) c.args.i
-        (against-within (λ row. g.E.ByteTest.rows row (Bytes c.args.self.now.right.now)) (g.L.ByteRows.strings c.args.self.now.left.now) c.args.i c.requires))
+    (against-at (λ row. g.E.ByteTest.rows row (Bytes c.args.self.now.right.now)) (g.L.ByteRows.strings c.args.self.now.left.now) c.args.i
+    (against-within (λ row. g.E.ByteTest.rows row (Bytes c.args.self.now.right.now)) (g.L.ByteRows.strings c.args.self.now.left.now) c.args.i c.requires))

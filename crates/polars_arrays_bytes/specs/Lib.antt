@@ -1,0 +1,4 @@
+pub mod Faults
+pub mod OffsetStrings
+pub mod SizedStrings
+pub mod Texts

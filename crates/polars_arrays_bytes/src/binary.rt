@@ -1,0 +1,181 @@
+//! Arrays of byte strings between offsets.
+
+ghost use Rattle.std.specs.Prelude.{◌≡◌, ◌+◌, ◌<◌, ◌≤◌, [], length, slice_index_or, MatchResult, IfOk, IfErr, ⊤, refl};
+ghost use Rattle.std.specs.Result.{OkIff};
+ghost use Rattle.polars_arrays_bits.specs.Errors.{IsMemory};
+ghost use Rattle.polars_arrays_bytes.specs.Faults.{IsFirstFault};
+ghost use Rattle.polars_arrays_bytes.specs.OffsetStrings.{AreBounded, AreGood, offset_rows, offset_strings, places, row_count, strings_between};
+ghost use Rattle.polars_arrays_flat.specs.DataType.{kind_of};
+ghost use Rattle.polars_arrays_flat.specs.Slots.{byte_slots-present};
+ghost use Rattle.polars_arrays_flat.specs.StoredRows.{rows_under, byte_slots};
+ghost use Rattle.polars_arrays_flat.specs.Validity.{masked_count, validity_window, window};
+
+use crate::offset_type::OffsetType;
+use crate::offsets::{first_bad_row, keep_rows, row_count, string_at};
+use polars_arrays_bits::bitmap::Bitmap;
+use polars_arrays_bits::buffer::Buffer;
+use polars_arrays_bits::error::{ArrayError, ComputeError};
+use polars_arrays_flat::array::Array;
+use polars_arrays_flat::byte_rows::ByteRows;
+use polars_arrays_flat::data_type::ArrowDataType;
+use polars_arrays_flat::validity::{clone_validity, has_bits, null_count, slice_validity};
+use polars_arrays_numbers::offset::Offset;
+use std::alloc::Global;
+use std::marker::Model;
+
+/// Byte strings that lie between offsets, of which a validity masks some.
+#[derive(Drop)]
+pub struct BinaryArray<O: Offset> {
+    offsets: Buffer<O>,
+    values: Buffer<u8>,
+    validity: Option<Bitmap>,
+}
+
+impl<O: Offset> Model for BinaryArray<O> {
+    ghost use Rattle.polars_arrays_bytes.specs.OffsetStrings.{AreBounded, OffsetStrings, offset_code};
+
+    ghost Value = { OffsetStrings O };
+
+    ghost coded = { offset_code O.code };
+
+    ghost view = { λ a. record { offsets = a.offsets.items; values = a.values.items; validity = a.validity } };
+
+    ghost invariant = { λ a. AreBounded O.value (record { offsets = a.offsets.items; values = a.values.items; validity = a.validity }) };
+}
+
+impl<O: Offset> BinaryArray<O> {
+    /// An array of the strings between neighbouring offsets: row `i` is the bytes from offset `i` up to
+    /// offset `i + 1`, and the first offset need not be 0. The error is
+    /// - `Length`, where the validity has not a bit for each row (rows are one fewer than offsets, or none),
+    /// - then `Offsets` with the first row whose offsets are not `0 <= offsets[i] <= offsets[i + 1] <=
+    ///   values.len()`, with row 0 where there is no offset, or where the only one is not 0 to
+    ///   `values.len()`.
+    ///
+    /// Offsets have to be good at null rows too.
+    #[tactic(auto, using(crate::proofs::OffsetWindows::faults))]
+    pub fn try_new(
+        offsets: Buffer<O>,
+        values: Buffer<u8>,
+        validity: Option<Bitmap>,
+    ) -> Result<BinaryArray<O>, ArrayError>
+        ensures made { OkIff result (AreBounded O.value (record { offsets = offsets.items; values = values.items; validity = validity })) (record { offsets = offsets.items; values = values.items; validity = validity }) }
+        ensures refused { IfErr result (IsFirstFault O.value (record { offsets = offsets.items; values = values.items; validity = validity })) }
+        ensures rows { IfOk result (λ a. offset_rows O.value a ≡ rows_under validity (byte_slots (strings_between (places O.value offsets.items) values.items))) }
+    {
+        if !has_bits(row_count(offsets.as_slice()), &validity) {
+            return Err(ArrayError::Length);
+        }
+        match first_bad_row(offsets.as_slice(), values.len()) {
+            Some(row) => Err(ArrayError::Offsets { row }),
+            None => Ok(BinaryArray {
+                offsets,
+                values,
+                validity,
+            }),
+        }
+    }
+
+    /// The offsets, one more than there are rows.
+    pub fn offsets(&self) -> &[O]
+        ensures offsets { result.now ≡ self.now.offsets }
+        ensures good { AreGood (length self.now.values) (places O.value result.now) }
+    {
+        self.offsets.as_slice()
+    }
+
+    /// The bytes that the offsets lie in, also those of masked rows and of no row.
+    pub fn values(&self) -> &[u8]
+        ensures { result.now ≡ self.now.values }
+    {
+        self.values.as_slice()
+    }
+
+    /// String `i`, also where its row is null.
+    #[tactic(auto, using(crate::proofs::OffsetWindows::offset_rows))]
+    pub fn value(&self, i: usize) -> &[u8]
+        requires { i < row_count self.now.offsets }
+        ensures { result.now ≡ slice_index_or (offset_strings O.value self.now) i [] }
+    {
+        string_at(self.offsets(), self.values(), i)
+    }
+
+    /// Keeps `n` rows from row `at` on. No byte moves, and all bytes stay.
+    #[tactic(auto, using(crate::proofs::OffsetWindows::slices))]
+    pub fn slice(&mut self, at: usize, n: usize)
+        requires { at + n ≤ row_count self.old.offsets }
+        ensures stored { self.new ≡ record { offsets = window at (n + 1) self.old.offsets; values = self.old.values; validity = validity_window at n self.old.validity } }
+        ensures strings { offset_strings O.value self.new ≡ window at n (offset_strings O.value self.old) }
+        ensures rows { offset_rows O.value self.new ≡ window at n (offset_rows O.value self.old) }
+    {
+        keep_rows(&mut self.offsets, at, n);
+        slice_validity(&mut self.validity, at, n);
+    }
+
+    /// A second array of the same strings and validity. The error is `Memory`.
+    pub fn clone_array(&self, alloc: Global) -> Result<BinaryArray<O>, ComputeError>
+        ensures { MatchResult result (λ copy. copy ≡ self.now) IsMemory }
+    {
+        let offsets = self.offsets.clone_buffer(alloc)?;
+        let values = self.values.clone_buffer(alloc)?;
+        let validity = clone_validity(alloc, &self.validity)?;
+        Ok(BinaryArray {
+            offsets,
+            values,
+            validity,
+        })
+    }
+}
+
+impl<O: OffsetType> BinaryArray<O> {
+    /// The array's type. The error is `Memory`.
+    pub fn dtype(&self, _alloc: Global) -> Result<ArrowDataType, ComputeError>
+        ensures { MatchResult result (λ dtype. kind_of dtype ≡ O.binary_kind) IsMemory }
+    {
+        Ok(O::binary_data_type())
+    }
+}
+
+impl<O: Offset> Array for BinaryArray<O> {
+    ghost slots = { λ a. byte_slots (offset_strings O.value a) };
+
+    ghost mask = { λ a. a.validity };
+
+    ghost nulls = { λ a. masked_count a.validity };
+
+    ghost same_type = { λ a b. ⊤ };
+
+    ghost good = { λ a. ⊤ };
+
+    #[tactic(auto, using(crate::proofs::OffsetWindows::offset_rows))]
+    fn len(&self) -> usize {
+        row_count(self.offsets())
+    }
+
+    #[tactic(auto, using(crate::proofs::OffsetWindows::offset_rows))]
+    fn validity(&self) -> Option<&Bitmap> {
+        self.validity.as_ref()
+    }
+
+    #[tactic(auto, using(crate::proofs::OffsetWindows::offset_rows))]
+    fn null_count(&self) -> usize {
+        null_count(&self.validity)
+    }
+
+    ghost null_law = { λ a b i within is_null. absurd (byte_slots-present (offset_strings O.value a) i within is_null) };
+}
+
+impl<O: Offset> ByteRows for BinaryArray<O> {
+    ghost strings = { offset_strings O.value };
+
+    #[tactic(auto, using(crate::proofs::OffsetWindows::offset_rows))]
+    fn count(&self) -> usize {
+        row_count(self.offsets())
+    }
+
+    #[tactic(auto, using(crate::proofs::OffsetWindows::offset_rows))]
+    fn bytes(&self, i: usize) -> &[u8] {
+        self.value(i)
+    }
+
+    ghost slots_law = { λ a. refl };
+}

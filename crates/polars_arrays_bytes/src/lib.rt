@@ -1,0 +1,10 @@
+//! Arrays of byte strings: strings between offsets, texts among them, and strings of one size.
+#![tactic(auto)]
+
+pub mod binary;
+pub mod fixed_size;
+pub mod offset_type;
+mod offsets;
+#[cfg(test)]
+mod tests;
+pub mod text;

@@ -1,0 +1,53 @@
+//! The types of offsets that the types of arrays name.
+
+ghost use Rattle.std.specs.Prelude.{◌≡◌};
+ghost use Rattle.polars_arrays_flat.specs.DataType.{kind_of};
+ghost use Rattle.polars_arrays_flat.specs.Kind.{Kind, BinaryKind, LargeBinaryKind, Utf8Kind, LargeUtf8Kind};
+
+use polars_arrays_flat::data_type::ArrowDataType;
+use polars_arrays_numbers::offset::Offset;
+
+/// A type of offsets that a type of byte strings and a type of texts are named after.
+pub trait OffsetType: Offset {
+    // The kind of an array of byte strings between these offsets.
+    ghost binary_kind: { Kind };
+
+    // The kind of an array of texts between these offsets.
+    ghost text_kind: { Kind };
+
+    /// The type of an array of byte strings between these offsets.
+    fn binary_data_type() -> ArrowDataType
+        ensures { kind_of result ≡ Self.binary_kind };
+
+    /// The type of an array of texts between these offsets.
+    fn text_data_type() -> ArrowDataType
+        ensures { kind_of result ≡ Self.text_kind };
+}
+
+impl OffsetType for i32 {
+    ghost binary_kind = { BinaryKind };
+
+    ghost text_kind = { Utf8Kind };
+
+    fn binary_data_type() -> ArrowDataType {
+        ArrowDataType::Binary
+    }
+
+    fn text_data_type() -> ArrowDataType {
+        ArrowDataType::Utf8
+    }
+}
+
+impl OffsetType for i64 {
+    ghost binary_kind = { LargeBinaryKind };
+
+    ghost text_kind = { LargeUtf8Kind };
+
+    fn binary_data_type() -> ArrowDataType {
+        ArrowDataType::LargeBinary
+    }
+
+    fn text_data_type() -> ArrowDataType {
+        ArrowDataType::LargeUtf8
+    }
+}

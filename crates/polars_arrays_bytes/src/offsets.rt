@@ -1,0 +1,102 @@
+//! What offsets say: where each row lies, and which row is bad.
+
+ghost use Rattle.std.specs.Prelude.{◌≡◌, ◌+◌, ◌<◌, ◌↔◌, IsTrue, length};
+ghost use Rattle.std.specs.Option.{MatchOption};
+ghost use Rattle.polars_arrays_bytes.specs.Faults.{IsFirstBad};
+ghost use Rattle.polars_arrays_bytes.specs.OffsetStrings.{AreGood, between, Bounds, IsGoodRow, IsWithin, place_at, places, row_count, string_between};
+ghost use Rattle.polars_arrays_flat.specs.Validity.{window};
+ghost use Rattle.polars_arrays_numbers.specs.Naturals.{natural_of};
+
+use polars_arrays_bits::buffer::Buffer;
+use polars_arrays_numbers::offset::Offset;
+
+// How many rows lie between offsets.
+pub(crate) fn row_count<O: Offset>(offsets: &[O]) -> usize
+    ensures { result ≡ row_count offsets.now }
+{
+    offsets.len().saturating_sub(1)
+}
+
+// The first row that is not good over `n` bytes, or row 0 where no offset tells where the rows begin.
+#[tactic(auto, using(crate::proofs::OffsetWindows::faults))]
+pub(crate) fn first_bad_row<O: Offset>(offsets: &[O], n: usize) -> Option<usize>
+    ensures { MatchOption result (AreGood n (places O.value offsets.now)) (IsFirstBad n (places O.value offsets.now)) }
+{
+    if !starts_within(offsets, n) {
+        return Some(0);
+    }
+    for row in 0..row_count(offsets) {
+        if !is_good_row(offsets, n, row) {
+            return Some(row);
+        }
+    }
+    None
+}
+
+// Whether there is a first offset, and it is a place within `n` bytes.
+fn starts_within<O: Offset>(offsets: &[O], n: usize) -> bool
+    ensures { IsTrue result ↔ IsWithin n (place_at (places O.value offsets.now) 0) }
+{
+    match offsets.first() {
+        Some(first) => is_within(*first, n),
+        None => false,
+    }
+}
+
+// Whether an offset is a place within `n` bytes.
+fn is_within<O: Offset>(offset: O, n: usize) -> bool
+    ensures { IsTrue result ↔ IsWithin n (natural_of (O.value offset)) }
+{
+    match offset.to_place() {
+        Some(at) => at <= n,
+        None => false,
+    }
+}
+
+// Whether a row is good over `n` bytes.
+fn is_good_row<O: Offset>(offsets: &[O], n: usize, row: usize) -> bool
+    requires { row + 1 < length offsets.now }
+    ensures { IsTrue result ↔ IsGoodRow n (places O.value offsets.now) row }
+{
+    bounds(offsets[row], offsets[row + 1], n)
+}
+
+// Whether two offsets bound a row of `n` bytes.
+fn bounds<O: Offset>(from: O, to: O, n: usize) -> bool
+    ensures { IsTrue result ↔ Bounds n (natural_of (O.value from)) (natural_of (O.value to)) }
+{
+    match (from.to_place(), to.to_place()) {
+        (Some(from), Some(to)) => from <= to && to <= n,
+        _ => false,
+    }
+}
+
+// The bytes of row `i`.
+pub(crate) fn string_at<'a, O: Offset>(offsets: &[O], values: &'a [u8], i: usize) -> &'a [u8]
+    requires row { i < row_count offsets.now }
+    requires good { IsGoodRow (length values.now) (places O.value offsets.now) i }
+    ensures { result.now ≡ string_between (places O.value offsets.now) values.now i }
+{
+    bytes_between(values, offsets[i].to_place(), offsets[i + 1].to_place())
+}
+
+// The bytes from one place up to another.
+fn bytes_between(values: &[u8], from: Option<usize>, to: Option<usize>) -> &[u8]
+    requires { Bounds (length values.now) from to }
+    ensures { result.now ≡ between values.now from to }
+{
+    match (from, to) {
+        (Some(from), Some(to)) => &values[from..to],
+        _ => &[],
+    }
+}
+
+// Keeps the offsets of `n` rows from row `at` on.
+pub(crate) fn keep_rows<O: Offset>(offsets: &mut Buffer<O>, at: usize, n: usize)
+    requires { at + n < length offsets.old.items }
+    ensures { offsets.new ≡ record { items = window at (n + 1) offsets.old.items; owned = offsets.old.owned } }
+{
+    // a `usize`, so that the sum is one too
+    let _len = offsets.len();
+    offsets.slice(at, n + 1);
+}

@@ -1,0 +1,177 @@
+//! Arrays of texts between offsets.
+
+ghost use Rattle.std.specs.Prelude.{◌≡◌, ◌+◌, ◌<◌, ◌≤◌, ◌↔◌, [], length, slice_index_or, IsTrue, MatchResult, IfOk, IfErr, ⊤, refl};
+ghost use Rattle.std.specs.Option.{MatchOption};
+ghost use Rattle.std.specs.Result.{OkIff};
+ghost use Rattle.std.specs.Str.{IsUtf8};
+ghost use Rattle.polars_arrays_bits.specs.Errors.{IsMemory};
+ghost use Rattle.polars_arrays_bytes.specs.OffsetStrings.{AreGood, offset_rows, offset_strings, places, row_count, strings_between};
+ghost use Rattle.polars_arrays_bytes.specs.Texts.{AreTextParts, AreTexts, IsFirstOther, IsFirstTextFault};
+ghost use Rattle.polars_arrays_flat.specs.DataType.{kind_of};
+ghost use Rattle.polars_arrays_flat.specs.Slots.{byte_slots-present};
+ghost use Rattle.polars_arrays_flat.specs.StoredRows.{rows_under, byte_slots};
+ghost use Rattle.polars_arrays_flat.specs.Validity.{masked_count, validity_window, window};
+
+use crate::binary::BinaryArray;
+use crate::offset_type::OffsetType;
+use polars_arrays_bits::bitmap::Bitmap;
+use polars_arrays_bits::buffer::Buffer;
+use polars_arrays_bits::error::{ArrayError, ComputeError};
+use polars_arrays_flat::array::Array;
+use polars_arrays_flat::byte_rows::ByteRows;
+use polars_arrays_flat::data_type::ArrowDataType;
+use polars_arrays_numbers::offset::Offset;
+use std::alloc::Global;
+use std::marker::Model;
+use std::str::{from_utf8, from_utf8_unchecked};
+
+/// Texts that lie between offsets, of which a validity masks some.
+#[derive(Drop)]
+pub struct Utf8Array<O: Offset> {
+    binary: BinaryArray<O>,
+}
+
+impl<O: Offset> Model for Utf8Array<O> {
+    ghost use Rattle.polars_arrays_bytes.specs.OffsetStrings.{OffsetStrings, offset_code, offset_strings};
+    ghost use Rattle.polars_arrays_bytes.specs.Texts.{AreTexts};
+
+    ghost Value = { OffsetStrings O };
+
+    ghost coded = { offset_code O.code };
+
+    ghost view = { λ a. a.binary };
+
+    ghost invariant = { λ a. AreTexts (offset_strings O.value a.binary) };
+}
+
+impl<O: Offset> Utf8Array<O> {
+    /// An array of the texts between neighbouring offsets, whose UTF-8 is in `values`. The errors are those
+    /// of `BinaryArray::try_new`, and after them `NotUtf8` with the first row whose bytes alone are not
+    /// UTF-8, null or not.
+    pub fn try_new(
+        offsets: Buffer<O>,
+        values: Buffer<u8>,
+        validity: Option<Bitmap>,
+    ) -> Result<Utf8Array<O>, ArrayError>
+        ensures made { OkIff result (AreTextParts O.value (record { offsets = offsets.items; values = values.items; validity = validity })) (record { offsets = offsets.items; values = values.items; validity = validity }) }
+        ensures refused { IfErr result (IsFirstTextFault O.value (record { offsets = offsets.items; values = values.items; validity = validity })) }
+        ensures rows { IfOk result (λ a. offset_rows O.value a ≡ rows_under validity (byte_slots (strings_between (places O.value offsets.items) values.items))) }
+    {
+        let binary = BinaryArray::try_new(offsets, values, validity)?;
+        match first_other(&binary) {
+            Some(row) => Err(ArrayError::NotUtf8 { row }),
+            None => Ok(Utf8Array { binary }),
+        }
+    }
+
+    /// The same bytes and nulls as an array of byte strings.
+    pub fn as_binary(&self) -> &BinaryArray<O>
+        ensures binary { result.now ≡ self.now }
+        ensures texts { AreTexts (offset_strings O.value result.now) }
+    {
+        &self.binary
+    }
+
+    /// The offsets, one more than there are rows.
+    pub fn offsets(&self) -> &[O]
+        ensures offsets { result.now ≡ self.now.offsets }
+        ensures good { AreGood (length self.now.values) (places O.value result.now) }
+    {
+        self.binary.offsets()
+    }
+
+    /// Text `i`, also where its row is null.
+    pub fn value(&self, i: usize) -> &str
+        requires { i < row_count self.now.offsets }
+        ensures { result.now ≡ slice_index_or (offset_strings O.value self.now) i [] }
+    {
+        let bytes = self.binary.value(i);
+        unsafe { from_utf8_unchecked(bytes) }
+    }
+
+    /// Keeps `n` rows from row `at` on. No byte moves, and all bytes stay.
+    pub fn slice(&mut self, at: usize, n: usize)
+        requires { at + n ≤ row_count self.old.offsets }
+        ensures stored { self.new ≡ record { offsets = window at (n + 1) self.old.offsets; values = self.old.values; validity = validity_window at n self.old.validity } }
+        ensures strings { offset_strings O.value self.new ≡ window at n (offset_strings O.value self.old) }
+        ensures rows { offset_rows O.value self.new ≡ window at n (offset_rows O.value self.old) }
+    {
+        self.binary.slice(at, n);
+    }
+
+    /// A second array of the same texts and validity. The error is `Memory`.
+    pub fn clone_array(&self, alloc: Global) -> Result<Utf8Array<O>, ComputeError>
+        ensures { MatchResult result (λ copy. copy ≡ self.now) IsMemory }
+    {
+        let binary = self.binary.clone_array(alloc)?;
+        Ok(Utf8Array { binary })
+    }
+}
+
+impl<O: OffsetType> Utf8Array<O> {
+    /// The array's type. The error is `Memory`.
+    pub fn dtype(&self, _alloc: Global) -> Result<ArrowDataType, ComputeError>
+        ensures { MatchResult result (λ dtype. kind_of dtype ≡ O.text_kind) IsMemory }
+    {
+        Ok(O::text_data_type())
+    }
+}
+
+impl<O: Offset> Array for Utf8Array<O> {
+    ghost slots = { λ a. byte_slots (offset_strings O.value a) };
+
+    ghost mask = { λ a. a.validity };
+
+    ghost nulls = { λ a. masked_count a.validity };
+
+    ghost same_type = { λ a b. ⊤ };
+
+    ghost good = { λ a. ⊤ };
+
+    fn len(&self) -> usize {
+        self.binary.len()
+    }
+
+    fn validity(&self) -> Option<&Bitmap> {
+        self.binary.validity()
+    }
+
+    fn null_count(&self) -> usize {
+        self.binary.null_count()
+    }
+
+    ghost null_law = { λ a b i within is_null. absurd (byte_slots-present (offset_strings O.value a) i within is_null) };
+}
+
+impl<O: Offset> ByteRows for Utf8Array<O> {
+    ghost strings = { offset_strings O.value };
+
+    fn count(&self) -> usize {
+        self.binary.count()
+    }
+
+    fn bytes(&self, i: usize) -> &[u8] {
+        self.binary.bytes(i)
+    }
+
+    ghost slots_law = { λ a. refl };
+}
+
+// The first byte string that is not UTF-8.
+fn first_other<R: ByteRows>(rows: &R) -> Option<usize>
+    ensures { MatchOption result (AreTexts (R.strings rows.now)) (IsFirstOther (R.strings rows.now)) }
+{
+    for row in 0..rows.count() {
+        if !is_text(rows.bytes(row)) {
+            return Some(row);
+        }
+    }
+    None
+}
+
+// Whether bytes are UTF-8.
+fn is_text(bytes: &[u8]) -> bool
+    ensures { IsTrue result ↔ IsUtf8 bytes.now }
+{
+    from_utf8(bytes).is_ok()
+}

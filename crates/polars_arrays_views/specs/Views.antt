@@ -1,0 +1,80 @@
+-- What the sixteen bytes of a view say, and the row that they stand for (the Arrow layout). All numbers in a view are little endian.
+use Rattle.std.specs.Prelude.{◌≡◌, ◌≤◌, ◌<◌, ◌+◌, ◌*◌, ◌&&◌, ◌||◌, ℕ, zero, suc, Bool, List, [], ◌∷◌, if◌then◌else◌, nat_le, nat_lt, nat_eq, length, take, drop, slice_index, slice_index_or, EachIndex}
+use Rattle.std.specs.Str.{bytes_eq}
+use Rattle.std.specs.Cmp.Lexicographic.{slice_cmp}
+use Rattle.std.specs.Ordering.{nat_cmp, is_lt}
+
+-- sixteen bytes
+pub record IsView (v : List ℕ) : Type 0 where
+  pub size : length v ≡ 16
+  pub bytes : (k : ℕ) → slice_index v k < 256
+
+-- the number that the four bytes from i on spell, the least first
+abbrev pub u32_at : ℕ → List ℕ → ℕ
+u32_at i v =
+    slice_index v i + slice_index v (i + 1) * 256 + slice_index v (i + 2) * 65536 + slice_index v (i + 3) * 16777216
+
+-- how long the row is
+unfoldable pub view_len : List ℕ → ℕ
+view_len v = u32_at 0 v
+
+-- the number of the buffer that a row of more than 12 bytes lies in
+unfoldable pub view_buffer : List ℕ → ℕ
+view_buffer v = u32_at 8 v
+
+-- where such a row begins in its buffer
+unfoldable pub view_offset : List ℕ → ℕ
+view_offset v = u32_at 12 v
+
+-- the row's first four bytes, zeros standing where it has fewer
+abbrev pub view_prefix : List ℕ → List ℕ
+view_prefix v = take 4 (drop 4 v)
+
+-- the bytes of buffer i
+abbrev pub buffer_at : List (List ℕ) → ℕ → List ℕ
+buffer_at buffers i = slice_index_or buffers i []
+
+-- the row of a view: up to 12 bytes it lies in the view itself, above that in a buffer
+unfoldable pub row_bytes : List (List ℕ) → List ℕ → List ℕ
+row_bytes buffers v =
+    if nat_le (view_len v) 12 then take (view_len v) (drop 4 v) else take (view_len v) (drop (view_offset v) (buffer_at buffers (view_buffer v)))
+
+-- each byte is zero
+abbrev pub AllZero : List ℕ → Type 0
+AllZero xs = EachIndex xs (λ k. slice_index xs k ≡ 0)
+
+-- the row lies in a buffer that exists, and the prefix is its first four bytes
+pub record InBuffer (buffers : List (List ℕ)) (v : List ℕ) : Type 0 where
+  pub buffer : view_buffer v < length buffers
+  pub fits : view_offset v + view_len v ≤ length (buffer_at buffers (view_buffer v))
+  pub prefix : view_prefix v ≡ take 4 (drop (view_offset v) (buffer_at buffers (view_buffer v)))
+
+-- sixteen bytes that stand for a row: a short row has zeros behind it, and a long one lies in a buffer
+pub record GoodView (buffers : List (List ℕ)) (v : List ℕ) : Type 0 where
+  pub view : IsView v
+  pub short : view_len v ≤ 12 → AllZero (drop (4 + view_len v) v)
+  pub long : 12 < view_len v → InBuffer buffers v
+
+-- the first n bytes, zeros standing where there are fewer
+abbrev pub padded : ℕ → List ℕ → List ℕ
+padded zero xs = []
+padded (suc n) [] = 0 ∷ padded n []
+padded (suc n) (x ∷ xs) = x ∷ padded n xs
+
+-- the view that holds a row of at most 12 bytes
+abbrev pub short_view : List ℕ → List ℕ
+short_view xs = length xs ∷ 0 ∷ 0 ∷ 0 ∷ padded 12 xs
+
+-- the first byte string is less: at the first place where the two differ, or as a proper beginning
+abbrev pub bytes_lt : List ℕ → List ℕ → Bool
+bytes_lt xs ys = is_lt (slice_cmp nat_cmp xs ys)
+
+-- whether equality of two rows is looked up in buffers (our own choice): the lengths are equal and above 12, and the first four bytes agree
+abbrev pub followed_eq : List ℕ → List ℕ → Bool
+followed_eq xs ys =
+    nat_eq (length xs) (length ys) && nat_lt 12 (length xs) && bytes_eq (take 4 xs) (take 4 ys)
+
+-- whether order of two rows is looked up in buffers (our own choice): the first four bytes agree, zeros standing where there are fewer, and one row is longer than 12
+abbrev pub followed_lt : List ℕ → List ℕ → Bool
+followed_lt xs ys =
+    bytes_eq (padded 4 xs) (padded 4 ys) && (nat_lt 12 (length xs) || nat_lt 12 (length ys))

@@ -1,0 +1,206 @@
+//! Arrays of byte strings, each said by a view.
+
+ghost use Rattle.std.specs.Prelude.{◌≡◌, ◌<◌, ◌≤◌, ◌+◌, [], length, slice_index_or, IfOk, IfErr, MatchOption, MatchResult, ⊤, refl};
+ghost use Rattle.std.specs.List.{All};
+ghost use Rattle.std.specs.Result.{OkIff};
+ghost use Rattle.polars_arrays_bits.specs.Errors.{IsMemory};
+ghost use Rattle.polars_arrays_flat.specs.DataType.{kind_of};
+ghost use Rattle.polars_arrays_flat.specs.Kind.{BinaryViewKind};
+ghost use Rattle.polars_arrays_flat.specs.Slots.{byte_slots-present};
+ghost use Rattle.polars_arrays_flat.specs.StoredRows.{rows_under, byte_slots};
+ghost use Rattle.polars_arrays_flat.specs.Validity.{masked_count, validity_window, window};
+ghost use Rattle.polars_arrays_views.specs.Faults.{IsFirstBadView, IsFirstFault};
+ghost use Rattle.polars_arrays_views.specs.Parts.{contents, strings_of, view_rows, view_strings, GoodParts};
+ghost use Rattle.polars_arrays_views.specs.Views.{row_bytes, GoodView};
+
+use crate::view::View;
+use polars_arrays_bits::bitmap::Bitmap;
+use polars_arrays_bits::buffer::Buffer;
+use polars_arrays_bits::error::{ArrayError, ComputeError};
+use polars_arrays_flat::array::Array;
+use polars_arrays_flat::byte_rows::ByteRows;
+use polars_arrays_flat::data_type::ArrowDataType;
+use polars_arrays_flat::validity::{clone_validity, has_bits, null_count, slice_validity};
+use std::alloc::Global;
+use std::marker::Model;
+
+/// Byte strings, of which a validity masks some. Those of at most 12 bytes lie in their views, longer ones
+/// in buffers.
+#[derive(Drop)]
+pub struct BinaryViewArray {
+    views: Buffer<View>,
+    buffers: Vec<Buffer<u8>>,
+    validity: Option<Bitmap>,
+}
+
+impl Model for BinaryViewArray {
+    ghost use Rattle.polars_arrays_views.specs.Parts.{contents, GoodParts, ViewParts};
+
+    ghost Value = { ViewParts };
+
+    ghost view = { λ a. record { views = a.views.items; buffers = contents a.buffers.items; validity = a.validity } };
+
+    ghost invariant = { λ a. GoodParts (record { views = a.views.items; buffers = contents a.buffers.items; validity = a.validity }) };
+}
+
+impl BinaryViewArray {
+    /// An array of a view for each row, the buffers that long rows lie in, and a validity. The error is
+    /// `Length`, where the validity has not a bit for each view, or else `View`, which names the first row
+    /// whose view stands for no row over the buffers, masked rows among them.
+    pub fn try_new(
+        views: Buffer<View>,
+        buffers: Vec<Buffer<u8>>,
+        validity: Option<Bitmap>,
+    ) -> Result<BinaryViewArray, ArrayError>
+        ensures made { OkIff result (GoodParts (record { views = views.items; buffers = contents buffers.items; validity = validity })) (record { views = views.items; buffers = contents buffers.items; validity = validity }) }
+        ensures refused { IfErr result (IsFirstFault (record { views = views.items; buffers = contents buffers.items; validity = validity })) }
+        ensures rows { IfOk result (λ a. view_rows a ≡ rows_under validity (byte_slots (strings_of (contents buffers.items) views.items))) }
+    {
+        if !has_bits(views.len(), &validity) {
+            return Err(ArrayError::Length);
+        }
+        match first_bad_view(views.as_slice(), &buffers) {
+            Some(row) => Err(ArrayError::View { row }),
+            None => Ok(BinaryViewArray {
+                views,
+                buffers,
+                validity,
+            }),
+        }
+    }
+
+    /// The views, also of masked rows.
+    pub fn views(&self) -> &[View]
+        ensures value { result.now ≡ self.now.views }
+        ensures good { All (GoodView self.now.buffers) self.now.views }
+    {
+        self.views.as_slice()
+    }
+
+    /// The buffers that the rows of more than 12 bytes lie in.
+    pub fn buffers(&self) -> &[Buffer<u8>]
+        ensures { contents result.now ≡ self.now.buffers }
+    {
+        &self.buffers
+    }
+
+    /// The view of row `i`, masked or not.
+    #[inline]
+    pub fn view(&self, i: usize) -> &View
+        requires { i < length self.now.views }
+        ensures value { result.now ≡ slice_index_or self.now.views i [] }
+        ensures good { GoodView self.now.buffers result.now }
+        ensures row { row_bytes self.now.buffers result.now ≡ slice_index_or (view_strings self.now) i [] }
+    {
+        &self.views()[i]
+    }
+
+    /// The bytes of row `i`, masked or not.
+    #[inline]
+    pub fn value(&self, i: usize) -> &[u8]
+        requires { i < length self.now.views }
+        ensures { result.now ≡ slice_index_or (view_strings self.now) i [] }
+    {
+        let view = self.view(i);
+        if view.len() <= 12 {
+            view.inlined()
+        } else {
+            view.in_buffer(self.buffers())
+        }
+    }
+
+    /// Keeps `n` rows from row `at` on. No byte moves.
+    pub fn slice(&mut self, at: usize, n: usize)
+        requires { at + n ≤ length self.old.views }
+        ensures stored { self.new ≡ record { views = window at n self.old.views; buffers = self.old.buffers; validity = validity_window at n self.old.validity } }
+        ensures strings { view_strings self.new ≡ window at n (view_strings self.old) }
+        ensures rows { view_rows self.new ≡ window at n (view_rows self.old) }
+    {
+        self.views.slice(at, n);
+        slice_validity(&mut self.validity, at, n);
+    }
+
+    /// A second array of the same views, buffers and validity. The error is `Memory`.
+    pub fn clone_array(&self, alloc: Global) -> Result<BinaryViewArray, ComputeError>
+        ensures { MatchResult result (λ copy. copy ≡ self.now) IsMemory }
+    {
+        let views = self.views.clone_buffer(alloc)?;
+        let buffers = clone_buffers(alloc, &self.buffers)?;
+        let validity = clone_validity(alloc, &self.validity)?;
+        Ok(BinaryViewArray {
+            views,
+            buffers,
+            validity,
+        })
+    }
+
+    /// The array's type. The error is `Memory`.
+    pub fn dtype(&self, _alloc: Global) -> Result<ArrowDataType, ComputeError>
+        ensures { MatchResult result (λ dtype. kind_of dtype ≡ BinaryViewKind) IsMemory }
+    {
+        Ok(ArrowDataType::BinaryView)
+    }
+}
+
+impl Array for BinaryViewArray {
+    ghost slots = { λ a. byte_slots (view_strings a) };
+
+    ghost mask = { λ a. a.validity };
+
+    ghost nulls = { λ a. masked_count a.validity };
+
+    ghost same_type = { λ a b. ⊤ };
+
+    ghost good = { λ a. ⊤ };
+
+    fn len(&self) -> usize {
+        self.views.len()
+    }
+
+    fn validity(&self) -> Option<&Bitmap> {
+        self.validity.as_ref()
+    }
+
+    fn null_count(&self) -> usize {
+        null_count(&self.validity)
+    }
+
+    ghost null_law = { λ a b i within is_null. absurd (byte_slots-present (view_strings a) i within is_null) };
+}
+
+impl ByteRows for BinaryViewArray {
+    ghost strings = { λ a. view_strings a };
+
+    fn count(&self) -> usize {
+        self.views.len()
+    }
+
+    fn bytes(&self, i: usize) -> &[u8] {
+        self.value(i)
+    }
+
+    ghost slots_law = { λ a. refl };
+}
+
+// The first row whose view stands for no row over these buffers.
+fn first_bad_view(views: &[View], buffers: &[Buffer<u8>]) -> Option<usize>
+    ensures { MatchOption result (All (GoodView (contents buffers.now)) views.now) (IsFirstBadView (contents buffers.now) views.now) }
+{
+    for (row, view) in views.iter().enumerate() {
+        if !view.is_good(buffers) {
+            return Some(row);
+        }
+    }
+    None
+}
+
+// Second buffers of the same bytes, one for each. The error is `Memory`.
+fn clone_buffers(alloc: Global, buffers: &[Buffer<u8>]) -> Result<Vec<Buffer<u8>>, ComputeError>
+    ensures { MatchResult result (λ copies. copies.items ≡ buffers.now) IsMemory }
+{
+    let mut copies = Vec::with_capacity(alloc, buffers.len())?;
+    for buffer in buffers {
+        copies.push(buffer.clone_buffer(alloc)?)?;
+    }
+    Ok(copies)
+}

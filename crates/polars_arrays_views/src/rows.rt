@@ -1,0 +1,108 @@
+//! Equality and order of single rows, also of rows that are masked.
+
+ghost use Rattle.std.specs.Prelude.{◌≡◌, ◌<◌, ◌+◌, [], if◌then◌else◌, length, slice_index_or};
+ghost use Rattle.std.specs.Str.{bytes_eq};
+ghost use Rattle.polars_arrays_views.specs.Parts.{view_strings};
+ghost use Rattle.polars_arrays_views.specs.Views.{bytes_lt, followed_eq, followed_lt};
+
+use crate::binary_view::BinaryViewArray;
+use crate::view::load_prefix;
+use polars_arrays_numbers::steps::Steps;
+
+/// Whether row `i` of one array and row `j` of another have the same bytes. A pair that is looked up in
+/// buffers is counted.
+#[inline]
+pub fn rows_equal(
+    left: &BinaryViewArray,
+    i: usize,
+    right: &BinaryViewArray,
+    j: usize,
+    steps: &mut Steps,
+) -> bool
+    requires left { i < length left.now.views }
+    requires right { j < length right.now.views }
+    ensures same { result ≡ bytes_eq (slice_index_or (view_strings left.now) i []) (slice_index_or (view_strings right.now) j []) }
+    ensures counted { steps.new ≡ steps.old + (if followed_eq (slice_index_or (view_strings left.now) i []) (slice_index_or (view_strings right.now) j []) then 1 else 0) }
+{
+    let v = left.view(i);
+    let w = right.view(j);
+    if !v.same_head(w) {
+        return false;
+    }
+    if v.len() <= 12 {
+        return v.same_tail(w);
+    }
+    steps.add(1);
+    left.value(i) == right.value(j)
+}
+
+/// Whether row `i` of one array is less than row `j` of another, byte by byte. A pair that is looked up in
+/// buffers is counted.
+#[inline]
+pub fn row_less(
+    left: &BinaryViewArray,
+    i: usize,
+    right: &BinaryViewArray,
+    j: usize,
+    steps: &mut Steps,
+) -> bool
+    requires left { i < length left.now.views }
+    requires right { j < length right.now.views }
+    ensures less { result ≡ bytes_lt (slice_index_or (view_strings left.now) i []) (slice_index_or (view_strings right.now) j []) }
+    ensures counted { steps.new ≡ steps.old + (if followed_lt (slice_index_or (view_strings left.now) i []) (slice_index_or (view_strings right.now) j []) then 1 else 0) }
+{
+    let v = left.view(i);
+    let w = right.view(j);
+    let (p, q) = (v.prefix(), w.prefix());
+    if p != q {
+        return p < q;
+    }
+    if v.len().max(w.len()) > 12 {
+        steps.add(1);
+    }
+    left.value(i) < right.value(j)
+}
+
+/// Whether row `i` has the bytes of `scalar`.
+#[inline]
+pub fn row_equals_bytes(left: &BinaryViewArray, i: usize, scalar: &[u8]) -> bool
+    requires { i < length left.now.views }
+    ensures { result ≡ bytes_eq (slice_index_or (view_strings left.now) i []) scalar.now }
+{
+    let v = left.view(i);
+    if v.len() != scalar.len() {
+        return false;
+    }
+    if v.prefix() != load_prefix(scalar) {
+        return false;
+    }
+    left.value(i) == scalar
+}
+
+/// Whether row `i` is less than `scalar`, byte by byte.
+#[inline]
+pub fn row_less_bytes(left: &BinaryViewArray, i: usize, scalar: &[u8]) -> bool
+    requires { i < length left.now.views }
+    ensures { result ≡ bytes_lt (slice_index_or (view_strings left.now) i []) scalar.now }
+{
+    let p = left.view(i).prefix();
+    let q = load_prefix(scalar);
+    if p != q {
+        return p < q;
+    }
+    left.value(i) < scalar
+}
+
+/// Whether `scalar` is less than row `j`, byte by byte.
+#[inline]
+pub fn bytes_less_row(scalar: &[u8], right: &BinaryViewArray, j: usize) -> bool
+    requires { j < length right.now.views }
+    ensures { result ≡ bytes_lt scalar.now (slice_index_or (view_strings right.now) j []) }
+{
+    let p = load_prefix(scalar);
+    let q = right.view(j).prefix();
+    if p != q {
+        return p < q;
+    }
+    scalar < right.value(j)
+}

@@ -1,0 +1,166 @@
+//! Arrays of texts, each said by a view.
+
+ghost use Rattle.std.specs.Prelude.{◌≡◌, ◌↔◌, ◌<◌, ◌≤◌, ◌+◌, [], length, slice_index_or, IfOk, IfErr, IsTrue, MatchOption, MatchResult, ⊤, refl};
+ghost use Rattle.std.specs.Result.{OkIff};
+ghost use Rattle.std.specs.Str.{IsUtf8};
+ghost use Rattle.polars_arrays_bits.specs.Errors.{IsMemory};
+ghost use Rattle.polars_arrays_flat.specs.DataType.{kind_of};
+ghost use Rattle.polars_arrays_flat.specs.Kind.{Utf8ViewKind};
+ghost use Rattle.polars_arrays_flat.specs.Slots.{byte_slots-present};
+ghost use Rattle.polars_arrays_flat.specs.StoredRows.{rows_under, byte_slots};
+ghost use Rattle.polars_arrays_flat.specs.Validity.{masked_count, validity_window, window};
+ghost use Rattle.polars_arrays_views.specs.Parts.{contents, strings_of, view_rows, view_strings, GoodParts};
+ghost use Rattle.polars_arrays_views.specs.Texts.{AllText, IsFirstNotText, IsFirstTextFault};
+
+use crate::binary_view::BinaryViewArray;
+use crate::view::View;
+use polars_arrays_bits::bitmap::Bitmap;
+use polars_arrays_bits::buffer::Buffer;
+use polars_arrays_bits::error::{ArrayError, ComputeError};
+use polars_arrays_flat::array::Array;
+use polars_arrays_flat::byte_rows::ByteRows;
+use polars_arrays_flat::data_type::ArrowDataType;
+use std::alloc::Global;
+use std::marker::Model;
+use std::str::{from_utf8, from_utf8_unchecked};
+
+/// Texts in UTF-8, of which a validity masks some, kept as an array of their bytes.
+#[derive(Drop)]
+pub struct Utf8ViewArray {
+    binary: BinaryViewArray,
+}
+
+impl Model for Utf8ViewArray {
+    ghost use Rattle.polars_arrays_views.specs.Parts.{ViewParts};
+    ghost use Rattle.polars_arrays_views.specs.Texts.{AllText};
+
+    ghost Value = { ViewParts };
+
+    ghost view = { λ a. a.binary };
+
+    ghost invariant = { λ a. AllText a.binary };
+}
+
+impl Utf8ViewArray {
+    /// An array of a view for each row, the buffers that long rows lie in, and a validity. The error is
+    /// `Length`, where the validity has not a bit for each view, or else `View`, which names the first row
+    /// whose view stands for no row over the buffers, or else `NotUtf8`, which names the first row whose
+    /// bytes alone are not UTF-8, masked rows among them.
+    pub fn try_new(
+        views: Buffer<View>,
+        buffers: Vec<Buffer<u8>>,
+        validity: Option<Bitmap>,
+    ) -> Result<Utf8ViewArray, ArrayError>
+        ensures made { OkIff result (GoodParts (record { views = views.items; buffers = contents buffers.items; validity = validity }) × AllText (record { views = views.items; buffers = contents buffers.items; validity = validity })) (record { views = views.items; buffers = contents buffers.items; validity = validity }) }
+        ensures refused { IfErr result (IsFirstTextFault (record { views = views.items; buffers = contents buffers.items; validity = validity })) }
+        ensures rows { IfOk result (λ a. view_rows a ≡ rows_under validity (byte_slots (strings_of (contents buffers.items) views.items))) }
+    {
+        let binary = BinaryViewArray::try_new(views, buffers, validity)?;
+        match first_not_text(&binary) {
+            Some(row) => Err(ArrayError::NotUtf8 { row }),
+            None => Ok(Utf8ViewArray { binary }),
+        }
+    }
+
+    /// The array of the texts' bytes.
+    pub fn as_binview(&self) -> &BinaryViewArray
+        ensures bytes { result.now ≡ self.now }
+        ensures text { AllText self.now }
+    {
+        &self.binary
+    }
+
+    /// The text of row `i`, masked or not.
+    #[inline]
+    pub fn value(&self, i: usize) -> &str
+        requires { i < length self.now.views }
+        ensures { result.now ≡ slice_index_or (view_strings self.now) i [] }
+    {
+        let bytes = self.as_binview().value(i);
+        unsafe { from_utf8_unchecked(bytes) }
+    }
+
+    /// Keeps `n` rows from row `at` on. No byte moves.
+    pub fn slice(&mut self, at: usize, n: usize)
+        requires { at + n ≤ length self.old.views }
+        ensures stored { self.new ≡ record { views = window at n self.old.views; buffers = self.old.buffers; validity = validity_window at n self.old.validity } }
+        ensures strings { view_strings self.new ≡ window at n (view_strings self.old) }
+        ensures rows { view_rows self.new ≡ window at n (view_rows self.old) }
+    {
+        self.binary.slice(at, n);
+    }
+
+    /// A second array of the same views, buffers and validity. The error is `Memory`.
+    pub fn clone_array(&self, alloc: Global) -> Result<Utf8ViewArray, ComputeError>
+        ensures { MatchResult result (λ copy. copy ≡ self.now) IsMemory }
+    {
+        let binary = self.binary.clone_array(alloc)?;
+        Ok(Utf8ViewArray { binary })
+    }
+
+    /// The array's type. The error is `Memory`.
+    pub fn dtype(&self, _alloc: Global) -> Result<ArrowDataType, ComputeError>
+        ensures { MatchResult result (λ dtype. kind_of dtype ≡ Utf8ViewKind) IsMemory }
+    {
+        Ok(ArrowDataType::Utf8View)
+    }
+}
+
+impl Array for Utf8ViewArray {
+    ghost slots = { λ a. byte_slots (view_strings a) };
+
+    ghost mask = { λ a. a.validity };
+
+    ghost nulls = { λ a. masked_count a.validity };
+
+    ghost same_type = { λ a b. ⊤ };
+
+    ghost good = { λ a. ⊤ };
+
+    fn len(&self) -> usize {
+        self.binary.len()
+    }
+
+    fn validity(&self) -> Option<&Bitmap> {
+        self.binary.validity()
+    }
+
+    fn null_count(&self) -> usize {
+        self.binary.null_count()
+    }
+
+    ghost null_law = { λ a b i within is_null. absurd (byte_slots-present (view_strings a) i within is_null) };
+}
+
+impl ByteRows for Utf8ViewArray {
+    ghost strings = { λ a. view_strings a };
+
+    fn count(&self) -> usize {
+        self.binary.count()
+    }
+
+    fn bytes(&self, i: usize) -> &[u8] {
+        self.binary.bytes(i)
+    }
+
+    ghost slots_law = { λ a. refl };
+}
+
+// The first row whose bytes alone are not UTF-8.
+fn first_not_text(array: &BinaryViewArray) -> Option<usize>
+    ensures { MatchOption result (AllText array.now) (IsFirstNotText (view_strings array.now)) }
+{
+    for row in 0..array.len() {
+        if !is_text(array.value(row)) {
+            return Some(row);
+        }
+    }
+    None
+}
+
+// Whether bytes are UTF-8.
+fn is_text(bytes: &[u8]) -> bool
+    ensures { IsTrue result ↔ IsUtf8 bytes.now }
+{
+    from_utf8(bytes).is_ok()
+}

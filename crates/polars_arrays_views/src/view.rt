@@ -1,0 +1,210 @@
+//! Views: sixteen bytes that are a row's length and bytes, or say where its bytes lie.
+
+ghost use Rattle.std.specs.Prelude.{◌≡◌, ◌≤◌, ◌<◌, ◌+◌, ◌↔◌, ℕ, List, IsTrue, length, take, drop, slice_index};
+ghost use Rattle.std.specs.Int.{w32, w64, w128, from_le_bytes, from_be_bytes};
+ghost use Rattle.polars_arrays_views.specs.Parts.{contents};
+ghost use Rattle.polars_arrays_views.specs.Views.{padded, short_view, IsView, GoodView, InBuffer, AllZero, buffer_at, row_bytes, view_len, view_buffer, view_offset, view_prefix};
+
+use polars_arrays_bits::buffer::Buffer;
+use std::marker::Model;
+
+/// Any sixteen bytes. As a view of a row they are its length in four bytes, then up to 12 bytes of the row
+/// and zeros behind them, or, of a longer row, its first four bytes, the number of its buffer and where it
+/// begins there. Numbers are little endian and unsigned, four bytes each.
+#[derive(Clone, Copy, PartialEq, Eq, Debug)]
+pub struct View {
+    bytes: [u8; 16],
+}
+
+impl Model for View {
+    ghost use Rattle.std.specs.Prelude.{List, ℕ};
+
+    ghost Value = { List ℕ };
+
+    ghost view = { λ v. v.bytes };
+
+    ghost inverse = { λ bytes. record { bytes = bytes } };
+}
+
+impl View {
+    /// The view that is these bytes.
+    pub fn new(bytes: [u8; 16]) -> View
+        ensures { result ≡ bytes }
+    {
+        View { bytes }
+    }
+
+    /// The view that holds a row of at most 12 bytes.
+    pub fn of_short(bytes: &[u8]) -> View
+        requires { length bytes.now ≤ 12 }
+        ensures stored { result ≡ short_view bytes.now }
+        ensures good { (buffers : List (List ℕ)) → GoodView buffers result }
+        ensures row { (buffers : List (List ℕ)) → row_bytes buffers result ≡ bytes.now }
+    {
+        let mut all = [0u8; 16];
+        all[0] = bytes.len() as u8;
+        all[4..4 + bytes.len()].copy_from_slice(bytes);
+        View { bytes: all }
+    }
+
+    /// The sixteen bytes as one number, the first byte being the least.
+    pub fn as_u128(&self) -> u128
+        ensures { result ≡ from_le_bytes w128 self.now }
+    {
+        u128::from_le_bytes(self.bytes)
+    }
+
+    /// How many bytes the row has.
+    #[inline]
+    #[tactic(auto, unfolding(crate::specs::Views::view_len))]
+    pub fn len(&self) -> usize
+        ensures length { result ≡ view_len self.now }
+        ensures small { result < 4294967296 }
+        ensures view { IsView self.now }
+    {
+        let b = &self.bytes;
+        u32::from_le_bytes([b[0], b[1], b[2], b[3]]) as usize
+    }
+
+    /// The number of the buffer that a row of more than 12 bytes lies in.
+    #[inline]
+    #[tactic(auto, unfolding(crate::specs::Views::view_buffer))]
+    pub fn buffer(&self) -> usize
+        ensures { result ≡ view_buffer self.now }
+    {
+        let b = &self.bytes;
+        u32::from_le_bytes([b[8], b[9], b[10], b[11]]) as usize
+    }
+
+    /// At which byte of its buffer a row of more than 12 bytes begins.
+    #[inline]
+    #[tactic(auto, unfolding(crate::specs::Views::view_offset))]
+    pub fn offset(&self) -> usize
+        ensures value { result ≡ view_offset self.now }
+        ensures small { result < 4294967296 }
+    {
+        let b = &self.bytes;
+        u32::from_le_bytes([b[12], b[13], b[14], b[15]]) as usize
+    }
+
+    /// The bytes of a row of at most 12 bytes.
+    #[inline]
+    pub fn inlined(&self) -> &[u8]
+        requires { view_len self.now ≤ 12 }
+        ensures { result.now ≡ take (view_len self.now) (drop 4 self.now) }
+    {
+        let len = self.len();
+        &self.bytes[4..4 + len]
+    }
+
+    /// The bytes of a longer row, which lies in one of these buffers.
+    #[inline]
+    pub fn in_buffer<'a>(&self, buffers: &'a [Buffer<u8>]) -> &'a [u8]
+        requires { InBuffer (contents buffers.now) self.now }
+        ensures { result.now ≡ take (view_len self.now) (drop (view_offset self.now) (buffer_at (contents buffers.now) (view_buffer self.now))) }
+    {
+        let at = self.offset();
+        let buffer = &buffers[self.buffer()];
+        &buffer.as_slice()[at..at + self.len()]
+    }
+
+    /// Whether the view stands for a row over these buffers.
+    pub fn is_good(&self, buffers: &[Buffer<u8>]) -> bool
+        ensures { IsTrue result ↔ GoodView (contents buffers.now) self.now }
+    {
+        let len = self.len();
+        if len <= 12 {
+            is_zero(&self.bytes[4 + len..])
+        } else {
+            self.is_in_buffer(buffers)
+        }
+    }
+
+    // Whether a row of more than 12 bytes lies in one of these buffers, and the prefix is its own.
+    fn is_in_buffer(&self, buffers: &[Buffer<u8>]) -> bool
+        requires { 12 < view_len self.now }
+        ensures { IsTrue result ↔ InBuffer (contents buffers.now) self.now }
+    {
+        match buffers.get(self.buffer()) {
+            Some(buffer) => {
+                let bytes = buffer.as_slice();
+                let at = self.offset();
+                at + self.len() <= bytes.len() && bytes[at..at + 4] == self.bytes[4..8]
+            }
+            None => false,
+        }
+    }
+
+    /// Whether the lengths and the prefixes agree.
+    #[inline]
+    pub fn same_head(&self, other: &View) -> bool
+        ensures { IsTrue result ↔ (take 8 self.now ≡ take 8 other.now) }
+    {
+        self.head() == other.head()
+    }
+
+    /// Whether the last eight bytes agree.
+    #[inline]
+    pub fn same_tail(&self, other: &View) -> bool
+        ensures { IsTrue result ↔ (drop 8 self.now ≡ drop 8 other.now) }
+    {
+        self.tail() == other.tail()
+    }
+
+    /// The prefix as a number, the first byte being the greatest.
+    #[inline]
+    pub fn prefix(&self) -> u32
+        ensures { result ≡ from_be_bytes w32 (view_prefix self.now) }
+    {
+        let b = &self.bytes;
+        u32::from_be_bytes([b[4], b[5], b[6], b[7]])
+    }
+
+    // The first eight bytes as a number.
+    #[inline]
+    fn head(&self) -> u64
+        ensures value { result ≡ from_le_bytes w64 (take 8 self.now) }
+        ensures view { IsView self.now }
+    {
+        let b = &self.bytes;
+        u64::from_le_bytes([b[0], b[1], b[2], b[3], b[4], b[5], b[6], b[7]])
+    }
+
+    // The last eight bytes as a number.
+    #[inline]
+    fn tail(&self) -> u64
+        ensures value { result ≡ from_le_bytes w64 (drop 8 self.now) }
+        ensures view { IsView self.now }
+    {
+        let b = &self.bytes;
+        u64::from_le_bytes([b[8], b[9], b[10], b[11], b[12], b[13], b[14], b[15]])
+    }
+}
+
+// Whether each byte is zero.
+fn is_zero(bytes: &[u8]) -> bool
+    ensures { IsTrue result ↔ AllZero bytes.now }
+{
+    bytes.iter().all(|b| *b == 0)
+}
+
+/// The first four bytes as a number, the first being the greatest, and zeros standing where there are fewer.
+#[inline]
+pub fn load_prefix(bytes: &[u8]) -> u32
+    ensures { result ≡ from_be_bytes w32 (padded 4 bytes.now) }
+{
+    u32::from_be_bytes([
+        byte_or_zero(bytes, 0),
+        byte_or_zero(bytes, 1),
+        byte_or_zero(bytes, 2),
+        byte_or_zero(bytes, 3),
+    ])
+}
+
+// The byte at place i, or 0 past the end.
+#[inline]
+fn byte_or_zero(bytes: &[u8], i: usize) -> u8
+    ensures { result ≡ slice_index bytes.now i }
+{
+    if i < bytes.len() { bytes[i] } else { 0 }
+}

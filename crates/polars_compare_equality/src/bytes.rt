@@ -1,0 +1,133 @@
+//! Equality of arrays of byte strings between offsets and of byte strings of one size.
+
+ghost use Rattle.std.specs.Prelude.{◌≡◌, ◌*◌, true, length, ⊤};
+ghost use Rattle.polars_arrays_bytes.specs.OffsetStrings.{offset_strings};
+ghost use Rattle.polars_arrays_bytes.specs.SizedStrings.{sized_strings};
+ghost use Rattle.polars_arrays_flat.specs.Row.{Bytes};
+ghost use Rattle.polars_compare_equality.specs.Slots.{byte_slots-as_long};
+
+use crate::borrowed::BytesEqKernel;
+use crate::kernel::TotalEqKernel;
+use polars_arrays_bits::bitmap::Bitmap;
+use polars_arrays_bits::error::ComputeError;
+use polars_arrays_bytes::binary::BinaryArray;
+use polars_arrays_bytes::fixed_size::FixedSizeBinaryArray;
+use polars_arrays_flat::byte_rows::ByteRows;
+use polars_arrays_numbers::element_test::{Equal, Unequal};
+use polars_arrays_numbers::offset::Offset;
+use polars_compare_leaves::bytes::test_byte_windows;
+use std::alloc::Global;
+
+impl<O: Offset + 'static> TotalEqKernel for BinaryArray<O> {
+    type Scalar = Vec<u8>;
+
+    ghost comparable = { λ a b. length (offset_strings O.value a) ≡ length (offset_strings O.value b) };
+
+    ghost broadcasts = { true };
+
+    ghost fits = { λ a s. ⊤ };
+
+    ghost good_scalar = { λ s. ⊤ };
+
+    ghost scalar_row = { λ s. Bytes s.items };
+
+    fn can_compare(&self, other: &Self) -> bool {
+        self.count() == other.count()
+    }
+
+    fn can_broadcast(&self, _other: &Vec<u8>) -> bool {
+        true
+    }
+
+    fn tot_eq_kernel(&self, alloc: Global, other: &Self) -> Result<Bitmap, ComputeError> {
+        test_byte_windows(alloc, &Equal, self, 0, other, 0, self.count())
+    }
+
+    fn tot_ne_kernel(&self, alloc: Global, other: &Self) -> Result<Bitmap, ComputeError> {
+        test_byte_windows(alloc, &Unequal, self, 0, other, 0, self.count())
+    }
+
+    fn tot_eq_kernel_broadcast(
+        &self,
+        alloc: Global,
+        other: &Vec<u8>,
+    ) -> Result<Bitmap, ComputeError> {
+        BytesEqKernel::tot_eq_kernel_broadcast(self, alloc, other.as_slice())
+    }
+
+    fn tot_ne_kernel_broadcast(
+        &self,
+        alloc: Global,
+        other: &Vec<u8>,
+    ) -> Result<Bitmap, ComputeError> {
+        BytesEqKernel::tot_ne_kernel_broadcast(self, alloc, other.as_slice())
+    }
+
+    ghost comparable_law = { λ a b e. byte_slots-as_long (offset_strings O.value a) (offset_strings O.value b) e };
+
+    ghost scalar_law = { λ s has e. cc };
+}
+
+impl<O: Offset + 'static> BytesEqKernel for BinaryArray<O> {}
+
+impl TotalEqKernel for FixedSizeBinaryArray {
+    type Scalar = Vec<u8>;
+
+    ghost comparable = { λ a b. length (sized_strings a.size a.count a.values) ≡ length (sized_strings b.size b.count b.values) };
+
+    ghost broadcasts = { true };
+
+    ghost fits = { λ a s. ⊤ };
+
+    ghost good_scalar = { λ s. ⊤ };
+
+    ghost scalar_row = { λ s. Bytes s.items };
+
+    fn can_compare(&self, other: &Self) -> bool {
+        self.count() == other.count()
+    }
+
+    fn can_broadcast(&self, _other: &Vec<u8>) -> bool {
+        true
+    }
+
+    fn tot_eq_kernel(&self, alloc: Global, other: &Self) -> Result<Bitmap, ComputeError> {
+        read_sizes(self, other);
+        test_byte_windows(alloc, &Equal, self, 0, other, 0, self.count())
+    }
+
+    fn tot_ne_kernel(&self, alloc: Global, other: &Self) -> Result<Bitmap, ComputeError> {
+        read_sizes(self, other);
+        test_byte_windows(alloc, &Unequal, self, 0, other, 0, self.count())
+    }
+
+    fn tot_eq_kernel_broadcast(
+        &self,
+        alloc: Global,
+        other: &Vec<u8>,
+    ) -> Result<Bitmap, ComputeError> {
+        BytesEqKernel::tot_eq_kernel_broadcast(self, alloc, other.as_slice())
+    }
+
+    fn tot_ne_kernel_broadcast(
+        &self,
+        alloc: Global,
+        other: &Vec<u8>,
+    ) -> Result<Bitmap, ComputeError> {
+        BytesEqKernel::tot_ne_kernel_broadcast(self, alloc, other.as_slice())
+    }
+
+    ghost comparable_law = { λ a b e. byte_slots-as_long (sized_strings a.size a.count a.values) (sized_strings b.size b.count b.values) e };
+
+    ghost scalar_law = { λ s has e. cc };
+}
+
+impl BytesEqKernel for FixedSizeBinaryArray {}
+
+// No effect at run time. The proof reads from it that strings of different sizes are unequal.
+fn read_sizes(left: &FixedSizeBinaryArray, right: &FixedSizeBinaryArray)
+    ensures left { length left.now.values ≡ left.now.size * left.now.count }
+    ensures right { length right.now.values ≡ right.now.size * right.now.count }
+{
+    let (_left, _right) = (left.values(), right.values());
+}

@@ -1,0 +1,91 @@
+//! Kernels over views that say how many rows were looked up in buffers.
+
+ghost use Rattle.std.specs.Prelude.{◌≡◌, ◌≤◌, ◌+◌, length, IfOk, MatchResult};
+ghost use Rattle.polars_arrays_bits.specs.Errors.{IsMemory};
+ghost use Rattle.polars_arrays_views.specs.Views.{followed_eq, followed_lt};
+ghost use Rattle.polars_compare_leaves.specs.Order.{row_less};
+ghost use Rattle.polars_compare_leaves.specs.Sameness.{same_row};
+ghost use Rattle.polars_compare_views.specs.Followed.{followed};
+ghost use Rattle.polars_compare_views.specs.Pairs.{TestsPairs};
+
+use crate::windows::test_view_windows;
+use polars_arrays_bits::bitmap::Bitmap;
+use polars_arrays_bits::error::ComputeError;
+use polars_arrays_flat::byte_rows::ByteRows;
+use polars_arrays_numbers::element_test::{Equal, Less};
+use polars_arrays_numbers::steps::Steps;
+use polars_arrays_views::binary_view::BinaryViewArray;
+use polars_arrays_views::text_view::Utf8ViewArray;
+use std::alloc::Global;
+
+/// Comparisons of arrays kept by views. The counter rises by one for each row, null or not, whose pair of
+/// views is followed into a buffer: in equality where the lengths are equal and above 12 and the first four
+/// bytes agree, in order where these agree, zeros standing where there are fewer, and one row is longer
+/// than 12. No validity is asked. The error is `Memory`, after which the counter has not fallen.
+pub trait FollowedKernel: ByteRows + Sized {
+    /// Where the stored rows are equal.
+    fn tot_eq_kernel_followed(
+        &self,
+        alloc: Global,
+        other: &Self,
+        steps: &mut Steps,
+    ) -> Result<Bitmap, ComputeError>
+        requires { length (Self.strings other.now) ≡ length (Self.strings self.now) }
+        ensures told { MatchResult result (TestsPairs same_row (Self.strings self.now) (Self.strings other.now) 0 0 (length (Self.strings self.now))) IsMemory }
+        ensures counted { IfOk result (λ _. steps.new ≡ steps.old + followed followed_eq (Self.strings self.now) (Self.strings other.now) 0 0 (length (Self.strings self.now))) }
+        ensures kept { steps.old ≤ steps.new };
+
+    /// Where a stored row is less than the other one.
+    fn tot_lt_kernel_followed(
+        &self,
+        alloc: Global,
+        other: &Self,
+        steps: &mut Steps,
+    ) -> Result<Bitmap, ComputeError>
+        requires { length (Self.strings other.now) ≡ length (Self.strings self.now) }
+        ensures told { MatchResult result (TestsPairs row_less (Self.strings self.now) (Self.strings other.now) 0 0 (length (Self.strings self.now))) IsMemory }
+        ensures counted { IfOk result (λ _. steps.new ≡ steps.old + followed followed_lt (Self.strings self.now) (Self.strings other.now) 0 0 (length (Self.strings self.now))) }
+        ensures kept { steps.old ≤ steps.new };
+}
+
+impl FollowedKernel for BinaryViewArray {
+    fn tot_eq_kernel_followed(
+        &self,
+        alloc: Global,
+        other: &Self,
+        steps: &mut Steps,
+    ) -> Result<Bitmap, ComputeError> {
+        test_view_windows(alloc, &Equal, self, 0, other, 0, self.count(), steps)
+    }
+
+    fn tot_lt_kernel_followed(
+        &self,
+        alloc: Global,
+        other: &Self,
+        steps: &mut Steps,
+    ) -> Result<Bitmap, ComputeError> {
+        test_view_windows(alloc, &Less, self, 0, other, 0, self.count(), steps)
+    }
+}
+
+impl FollowedKernel for Utf8ViewArray {
+    fn tot_eq_kernel_followed(
+        &self,
+        alloc: Global,
+        other: &Self,
+        steps: &mut Steps,
+    ) -> Result<Bitmap, ComputeError> {
+        let (left, right) = (self.as_binview(), other.as_binview());
+        left.tot_eq_kernel_followed(alloc, right, steps)
+    }
+
+    fn tot_lt_kernel_followed(
+        &self,
+        alloc: Global,
+        other: &Self,
+        steps: &mut Steps,
+    ) -> Result<Bitmap, ComputeError> {
+        let (left, right) = (self.as_binview(), other.as_binview());
+        left.tot_lt_kernel_followed(alloc, right, steps)
+    }
+}

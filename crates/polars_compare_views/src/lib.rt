@@ -1,0 +1,9 @@
+//! Tests of the stored rows of arrays of views, by which rows are looked up in buffers only where length
+//! and prefix leave it open, and each such pair is counted.
+#![tactic(auto)]
+
+pub mod followed;
+#[cfg(test)]
+mod tests;
+pub mod view_test;
+pub mod windows;

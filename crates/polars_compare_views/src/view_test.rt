@@ -1,0 +1,184 @@
+//! Tests of two rows of arrays of views.
+
+ghost use Rattle.std.specs.Prelude.{◌≡◌, ◌<◌, ◌+◌, ℕ, Bool, List, [], if◌then◌else◌, length, slice_index_or};
+ghost use Rattle.polars_arrays_flat.specs.Row.{Row, Bytes};
+ghost use Rattle.polars_arrays_views.specs.Parts.{view_strings};
+ghost use Rattle.polars_arrays_views.specs.Views.{followed_eq, followed_lt};
+ghost use Rattle.polars_compare_leaves.specs.Order.{row_at_least, row_at_most, row_greater, row_less};
+ghost use Rattle.polars_compare_leaves.specs.Sameness.{other_row, same_row};
+
+use polars_arrays_numbers::element_test::{
+    Equal, Greater, GreaterOrEqual, Less, LessOrEqual, Unequal,
+};
+use polars_arrays_numbers::steps::Steps;
+use polars_arrays_views::binary_view::BinaryViewArray;
+use polars_arrays_views::rows::{
+    bytes_less_row, row_equals_bytes, row_less, row_less_bytes, rows_equal,
+};
+
+/// A test of two byte strings that are kept by views, which is a test of their rows.
+pub trait ViewTest {
+    // Which rows pass.
+    ghost rows: { Row → Row → Bool };
+
+    // Which pairs are looked up in buffers.
+    ghost follows: { List ℕ → List ℕ → Bool };
+
+    /// Whether row `i` of one array and row `j` of another pass, masked or not. The counter rises by one
+    /// where the pair is looked up in buffers.
+    fn test(
+        &self,
+        left: &BinaryViewArray,
+        i: usize,
+        right: &BinaryViewArray,
+        j: usize,
+        steps: &mut Steps,
+    ) -> bool
+        requires left { i < length left.now.views }
+        requires right { j < length right.now.views }
+        ensures told { result ≡ rows (Bytes (slice_index_or (view_strings left.now) i [])) (Bytes (slice_index_or (view_strings right.now) j [])) }
+        ensures counted { steps.new ≡ steps.old + (if follows (slice_index_or (view_strings left.now) i []) (slice_index_or (view_strings right.now) j []) then 1 else 0) };
+
+    /// Whether row `i` passes with a byte string, masked or not.
+    fn test_bytes(&self, left: &BinaryViewArray, i: usize, right: &[u8]) -> bool
+        requires { i < length left.now.views }
+        ensures { result ≡ rows (Bytes (slice_index_or (view_strings left.now) i [])) (Bytes right.now) };
+}
+
+impl ViewTest for Equal {
+    ghost rows = { same_row };
+
+    ghost follows = { followed_eq };
+
+    #[inline(always)]
+    fn test(
+        &self,
+        left: &BinaryViewArray,
+        i: usize,
+        right: &BinaryViewArray,
+        j: usize,
+        steps: &mut Steps,
+    ) -> bool {
+        rows_equal(left, i, right, j, steps)
+    }
+
+    #[inline(always)]
+    fn test_bytes(&self, left: &BinaryViewArray, i: usize, right: &[u8]) -> bool {
+        row_equals_bytes(left, i, right)
+    }
+}
+
+impl ViewTest for Unequal {
+    ghost rows = { other_row };
+
+    ghost follows = { followed_eq };
+
+    #[inline(always)]
+    fn test(
+        &self,
+        left: &BinaryViewArray,
+        i: usize,
+        right: &BinaryViewArray,
+        j: usize,
+        steps: &mut Steps,
+    ) -> bool {
+        !rows_equal(left, i, right, j, steps)
+    }
+
+    #[inline(always)]
+    fn test_bytes(&self, left: &BinaryViewArray, i: usize, right: &[u8]) -> bool {
+        !row_equals_bytes(left, i, right)
+    }
+}
+
+impl ViewTest for Less {
+    ghost rows = { row_less };
+
+    ghost follows = { followed_lt };
+
+    #[inline(always)]
+    fn test(
+        &self,
+        left: &BinaryViewArray,
+        i: usize,
+        right: &BinaryViewArray,
+        j: usize,
+        steps: &mut Steps,
+    ) -> bool {
+        row_less(left, i, right, j, steps)
+    }
+
+    #[inline(always)]
+    fn test_bytes(&self, left: &BinaryViewArray, i: usize, right: &[u8]) -> bool {
+        row_less_bytes(left, i, right)
+    }
+}
+
+impl ViewTest for LessOrEqual {
+    ghost rows = { row_at_most };
+
+    ghost follows = { λ xs ys. followed_lt ys xs };
+
+    #[inline(always)]
+    fn test(
+        &self,
+        left: &BinaryViewArray,
+        i: usize,
+        right: &BinaryViewArray,
+        j: usize,
+        steps: &mut Steps,
+    ) -> bool {
+        !row_less(right, j, left, i, steps)
+    }
+
+    #[inline(always)]
+    fn test_bytes(&self, left: &BinaryViewArray, i: usize, right: &[u8]) -> bool {
+        !bytes_less_row(right, left, i)
+    }
+}
+
+impl ViewTest for Greater {
+    ghost rows = { row_greater };
+
+    ghost follows = { λ xs ys. followed_lt ys xs };
+
+    #[inline(always)]
+    fn test(
+        &self,
+        left: &BinaryViewArray,
+        i: usize,
+        right: &BinaryViewArray,
+        j: usize,
+        steps: &mut Steps,
+    ) -> bool {
+        row_less(right, j, left, i, steps)
+    }
+
+    #[inline(always)]
+    fn test_bytes(&self, left: &BinaryViewArray, i: usize, right: &[u8]) -> bool {
+        bytes_less_row(right, left, i)
+    }
+}
+
+impl ViewTest for GreaterOrEqual {
+    ghost rows = { row_at_least };
+
+    ghost follows = { followed_lt };
+
+    #[inline(always)]
+    fn test(
+        &self,
+        left: &BinaryViewArray,
+        i: usize,
+        right: &BinaryViewArray,
+        j: usize,
+        steps: &mut Steps,
+    ) -> bool {
+        !row_less(left, i, right, j, steps)
+    }
+
+    #[inline(always)]
+    fn test_bytes(&self, left: &BinaryViewArray, i: usize, right: &[u8]) -> bool {
+        !row_less_bytes(left, i, right)
+    }
+}

@@ -1,0 +1,113 @@
+//! Tests of stored rows of arrays of views, place by place, whatever the validity says.
+
+ghost use Rattle.std.specs.Prelude.{◌≡◌, ◌+◌, ◌^◌, ◌<◌, ◌≤◌, [], length, map, IfOk, MatchResult};
+ghost use Rattle.polars_arrays_bits.specs.Errors.{IsMemory};
+ghost use Rattle.polars_arrays_flat.specs.Row.{Bytes};
+ghost use Rattle.polars_arrays_flat.specs.StoredRows.{byte_slots};
+ghost use Rattle.polars_arrays_views.specs.Parts.{view_strings};
+ghost use Rattle.polars_compare_views.specs.Followed.{followed};
+ghost use Rattle.polars_compare_views.specs.Pairs.{TestsPairs};
+
+use crate::view_test::ViewTest;
+use polars_arrays_bits::bitmap::Bitmap;
+use polars_arrays_bits::builder::BitmapBuilder;
+use polars_arrays_bits::error::ComputeError;
+use polars_arrays_bits::packing::TruthValues;
+use polars_arrays_flat::array::Array;
+use polars_arrays_numbers::steps::Steps;
+use polars_arrays_views::binary_view::BinaryViewArray;
+use std::alloc::Global;
+
+// Pushes what a test tells of `n` pairs, from row `a` on of the left array and from row `b` on of the right
+// one.
+fn push_pairs<E: ViewTest>(
+    bits: &mut BitmapBuilder,
+    test: &E,
+    left: &BinaryViewArray,
+    a: usize,
+    right: &BinaryViewArray,
+    b: usize,
+    n: usize,
+    steps: &mut Steps,
+)
+    requires empty { bits.old.bits ≡ [] }
+    requires room { n ≤ bits.old.room }
+    requires left_in { a + n ≤ length left.now.views }
+    requires right_in { b + n ≤ length right.now.views }
+    requires left_fits { a + n < 2 ^ 64 }
+    requires right_fits { b + n < 2 ^ 64 }
+    ensures told { TestsPairs E.rows (view_strings left.now) (view_strings right.now) a b n bits.new.bits }
+    ensures counted { steps.new ≡ steps.old + followed E.follows (view_strings left.now) (view_strings right.now) a b n }
+{
+    for i in 0..n {
+        let bit = test.test(left, a + i, right, b + i, steps);
+        bits.push_reserved(bit);
+    }
+}
+
+/// What a test tells of the stored rows of two windows, place by place: `n` rows from row `a` on of the left
+/// array, and as many from row `b` on of the right one. The counter rises by one for each pair that is
+/// looked up in buffers. The error is `Memory`.
+pub fn test_view_windows<E: ViewTest>(
+    alloc: Global,
+    test: &E,
+    left: &BinaryViewArray,
+    a: usize,
+    right: &BinaryViewArray,
+    b: usize,
+    n: usize,
+    steps: &mut Steps,
+) -> Result<Bitmap, ComputeError>
+    requires left_in { a + n ≤ length left.now.views }
+    requires right_in { b + n ≤ length right.now.views }
+    ensures told { MatchResult result (TestsPairs E.rows (view_strings left.now) (view_strings right.now) a b n) IsMemory }
+    ensures counted { IfOk result (λ _. steps.new ≡ steps.old + followed E.follows (view_strings left.now) (view_strings right.now) a b n) }
+    ensures kept { steps.old ≤ steps.new }
+{
+    let mut bits = BitmapBuilder::with_capacity(alloc, n)?;
+    // No effect at run time. The proof reads from them that places are numbers of 64 bits.
+    let _left_len = left.len();
+    let _right_len = right.len();
+    push_pairs(&mut bits, test, left, a, right, b, n, steps);
+    Ok(bits.freeze())
+}
+
+// A test of the rows of an array against one byte string.
+#[derive(Drop)]
+struct ViewsAgainst<'a, E> {
+    test: &'a E,
+    left: &'a BinaryViewArray,
+    right: &'a [u8],
+}
+
+impl<'a, E: ViewTest> TruthValues for ViewsAgainst<'a, E> {
+    ghost values = { λ a. map (λ row. E.rows row (Bytes a.right.now)) (byte_slots (view_strings a.left.now)) };
+
+    #[inline(always)]
+    fn len(&self) -> usize {
+        self.left.len()
+    }
+
+    #[inline(always)]
+    fn value(&self, i: usize) -> bool {
+        self.test.test_bytes(self.left, i, self.right)
+    }
+
+    #[inline(always)]
+    fn is_wide(&self) -> bool {
+        true
+    }
+}
+
+/// Whether the stored rows pass a test with a byte string. The error is `Memory`.
+pub fn test_view_bytes<E: ViewTest>(
+    alloc: Global,
+    test: &E,
+    left: &BinaryViewArray,
+    right: &[u8],
+) -> Result<Bitmap, ComputeError>
+    ensures { MatchResult result (λ bits. bits ≡ map (λ row. E.rows row (Bytes right.now))
+        (byte_slots (view_strings left.now))) IsMemory }
+{
+    Bitmap::from_values(alloc, &ViewsAgainst { test, left, right })
+}
