@@ -3,28 +3,34 @@
 //! ratio, and what is asked for. Arguments: words of the names of the kernels to run.
 //!
 //! To add a kernel: an entry point in `crates/polars_bench`, its line in an `extern` block, its peer
-//! in `plain.rs`, and a line where its group hands out its kernels.
+//! in `plain.rs` or `plain_strings.rs`, and a line where its group hands out its kernels.
 
 mod arrays;
 mod bitmaps;
 mod operands;
 mod plain;
+mod plain_strings;
 mod slices;
+mod string_rows;
+mod strings;
 mod timing;
 
 use operands::Data;
+use string_rows::Strings;
 use timing::{Bench, Kernel, RUNS};
 
-/// Hands each kernel on rows to `each`.
-fn for_each_on_rows(data: &Data, each: &mut dyn FnMut(&Kernel)) {
+/// Hands each kernel on rows to `each`, on so many of them.
+fn for_each_on_rows(count: usize, each: &mut dyn FnMut(&Kernel)) {
+    let data = &Data::new(count);
     slices::for_each(data, each);
     arrays::for_each(data, each);
+    strings::for_each(&Strings::new(count), each);
 }
 
 /// Both sides answer alike at each bit of lengths up to some hundreds.
 fn rows_agree() {
     for count in 0..300 {
-        for_each_on_rows(&Data::new(count), &mut |kernel| {
+        for_each_on_rows(count, &mut |kernel| {
             let repeats = 2 * count + 4;
             assert_eq!(
                 (kernel.ours)(repeats),
@@ -48,7 +54,7 @@ fn main() {
         "kernel", "rows", "ns here", "ns beside", "ratio", "asked"
     );
     for run in 0..RUNS.len() {
-        for_each_on_rows(&Data::new(RUNS[run].count), &mut |kernel| {
+        for_each_on_rows(RUNS[run].count, &mut |kernel| {
             bench.compare(run, kernel);
         });
         bitmaps::compare(&mut bench, run);

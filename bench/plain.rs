@@ -5,7 +5,7 @@
 
 /// The word whose bit `i` is the `i`-th answer, of at most 64.
 #[inline]
-fn word_of(answers: impl Iterator<Item = bool>) -> u64 {
+pub fn word_of(answers: impl Iterator<Item = bool>) -> u64 {
     answers
         .enumerate()
         .fold(0, |word, (i, answer)| word | (u64::from(answer) << i))
@@ -13,7 +13,7 @@ fn word_of(answers: impl Iterator<Item = bool>) -> u64 {
 
 /// Where the elements of two slices of one length pass a test.
 #[inline]
-fn test_pairs<T: Copy>(left: &[T], right: &[T], test: impl Fn(T, T) -> bool) -> Vec<u64> {
+pub fn test_pairs<T: Copy>(left: &[T], right: &[T], test: impl Fn(T, T) -> bool) -> Vec<u64> {
     let (left_words, left_rest) = left.as_chunks::<64>();
     let (right_words, right_rest) = right.as_chunks::<64>();
     let mut words = Vec::with_capacity(left.len().div_ceil(64));
@@ -33,7 +33,7 @@ fn test_pairs<T: Copy>(left: &[T], right: &[T], test: impl Fn(T, T) -> bool) -> 
 
 /// Where the elements of a slice pass a test.
 #[inline]
-fn test_each<T: Copy>(values: &[T], test: impl Fn(T) -> bool) -> Vec<u64> {
+pub fn test_each<T: Copy>(values: &[T], test: impl Fn(T) -> bool) -> Vec<u64> {
     let (full, rest) = values.as_chunks::<64>();
     let mut words = Vec::with_capacity(values.len().div_ceil(64));
     words.extend(

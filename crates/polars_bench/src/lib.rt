@@ -10,6 +10,8 @@ pub mod booleans;
 pub mod numbers;
 mod operands;
 pub mod slices;
+mod string_operands;
+pub mod strings;
 
 use polars_arrays_bits::bitmap::Bitmap;
 use polars_arrays_bits::error::ComputeError;

@@ -1,0 +1,128 @@
+//! The kernels on strings in plain Rust, 64 results a word.
+
+use crate::plain::{test_each, test_pairs, word_of};
+use crate::string_rows::{Texts, Views};
+
+/// The answers for the rows from the first one on.
+#[inline]
+fn test_rows(count: usize, test: impl Fn(usize) -> bool + Copy) -> Vec<u64> {
+    let full = count / 64;
+    let mut words = Vec::with_capacity(count.div_ceil(64));
+    words.extend((0..full).map(move |k| word_of((64 * k..64 * k + 64).map(test))));
+    if count % 64 > 0 {
+        words.push(word_of((64 * full..count).map(test)));
+    }
+    words
+}
+
+/// How many bytes the string of a view has.
+#[inline]
+fn len_of(view: u128) -> usize {
+    view as u32 as usize
+}
+
+/// The first four bytes as a number, the first one being the greatest.
+#[inline]
+fn prefix_of(view: u128) -> u32 {
+    ((view >> 32) as u32).swap_bytes()
+}
+
+/// Whether the string that one view holds is less than that of another.
+#[inline]
+fn short_less(l: u128, r: u128) -> bool {
+    if prefix_of(l) != prefix_of(r) {
+        return prefix_of(l) < prefix_of(r);
+    }
+    l.to_le_bytes()[4..4 + len_of(l)] < r.to_le_bytes()[4..4 + len_of(r)]
+}
+
+/// The bytes of a view's string in its buffer.
+#[inline]
+fn long_row(view: u128, buffers: &[Vec<u8>]) -> &[u8] {
+    let at = (view >> 96) as usize;
+    &buffers[(view >> 64) as u32 as usize][at..at + len_of(view)]
+}
+
+#[inline(never)]
+pub fn equal_short(left: &Views, right: &Views) -> Vec<u64> {
+    test_pairs(&left.views, &right.views, |l, r| l == r)
+}
+
+#[inline(never)]
+pub fn less_short(left: &Views, right: &Views) -> Vec<u64> {
+    test_pairs(&left.views, &right.views, short_less)
+}
+
+#[inline(never)]
+pub fn equal_short_constant(left: &Views, right: &[u8]) -> Vec<u64> {
+    test_each(&left.views, |l| l.to_le_bytes()[4..4 + len_of(l)] == *right)
+}
+
+#[inline(never)]
+pub fn less_short_constant(left: &Views, right: &[u8]) -> Vec<u64> {
+    test_each(&left.views, |l| l.to_le_bytes()[4..4 + len_of(l)] < *right)
+}
+
+#[inline(never)]
+pub fn equal_long(left: &Views, right: &Views) -> Vec<u64> {
+    let (left_buffers, right_buffers) = (&left.buffers[..], &right.buffers[..]);
+    test_pairs(&left.views, &right.views, move |l, r| {
+        long_row(l, left_buffers) == long_row(r, right_buffers)
+    })
+}
+
+#[inline(never)]
+pub fn less_long(left: &Views, right: &Views) -> Vec<u64> {
+    let (left_buffers, right_buffers) = (&left.buffers[..], &right.buffers[..]);
+    test_pairs(&left.views, &right.views, move |l, r| {
+        long_row(l, left_buffers) < long_row(r, right_buffers)
+    })
+}
+
+/// The offsets and the bytes of strings.
+type Parts<'a> = (&'a [i32], &'a [u8]);
+
+#[inline]
+fn parts(texts: &Texts) -> Parts<'_> {
+    (&texts.offsets, &texts.bytes)
+}
+
+/// The bytes between neighbouring offsets.
+#[inline]
+fn text_row<'a>((offsets, bytes): Parts<'a>, i: usize) -> &'a [u8] {
+    &bytes[offsets[i] as usize..offsets[i + 1] as usize]
+}
+
+#[inline(never)]
+pub fn equal_texts(left: &Texts, right: &Texts) -> Vec<u64> {
+    let (l, r) = (parts(left), parts(right));
+    test_rows(left.count(), move |i| text_row(l, i) == text_row(r, i))
+}
+
+#[inline(never)]
+pub fn less_texts(left: &Texts, right: &Texts) -> Vec<u64> {
+    let (l, r) = (parts(left), parts(right));
+    test_rows(left.count(), move |i| text_row(l, i) < text_row(r, i))
+}
+
+#[inline(never)]
+pub fn equal_texts_constant(left: &Texts, right: &[u8]) -> Vec<u64> {
+    let l = parts(left);
+    test_rows(left.count(), move |i| text_row(l, i) == right)
+}
+
+#[inline(never)]
+pub fn less_texts_constant(left: &Texts, right: &[u8]) -> Vec<u64> {
+    let l = parts(left);
+    test_rows(left.count(), move |i| text_row(l, i) < right)
+}
+
+/// How many bytes a string of one size has.
+const SIZE: usize = 16;
+
+#[inline(never)]
+pub fn equal_sized(left: &[u8], right: &[u8]) -> Vec<u64> {
+    let (left, _) = left.as_chunks::<SIZE>();
+    let (right, _) = right.as_chunks::<SIZE>();
+    test_pairs(left, right, |l, r| l[..] == r[..])
+}
