@@ -4,11 +4,9 @@
 //! are the tests of stored rows and the null combination. `laws` has what holds of every answer.
 #![tactic(auto)]
 
-pub use polars_compare_equality::borrowed as borrowed_equality;
-pub use polars_compare_equality::kernel as equality;
+pub use polars_compare_equality::{borrowed as borrowed_equality, kernel as equality};
 pub use polars_compare_leaves::{booleans, bytes, joining, numbers, row_test};
-pub use polars_compare_order::borrowed as borrowed_order;
-pub use polars_compare_order::kernel as order;
+pub use polars_compare_order::{borrowed as borrowed_order, kernel as order};
 pub use polars_compare_views::followed;
 
 pub mod laws;
