@@ -1,4 +1,5 @@
 pub mod BufferWindows
+pub mod CostSums
 pub mod Counts
 pub mod Drafts
 pub mod Firsts

@@ -6,3 +6,4 @@ pub mod Errors
 pub mod Logic
 pub mod StoreLends
 pub mod Packing
+pub mod Costs

@@ -9,6 +9,7 @@ pub mod bitmap;
 pub mod buffer;
 pub mod builder;
 pub mod comparison;
+pub mod counting;
 pub mod error;
 pub mod mutable_bitmap;
 mod operators;

@@ -74,7 +74,7 @@ fn pack_by_flags<V: TruthValues>(values: &V, at: usize, count: usize) -> u64
 
 // The word with the bits of `more` put in from bit `by` on.
 #[inline(always)]
-fn put(word: u64, more: u64, by: usize) -> u64
+pub(crate) fn put(word: u64, more: u64, by: usize) -> u64
     requires { by < 64 }
     ensures below { (i : ℕ) → i < by → is_bit result i ≡ is_bit word i }
     ensures above { (i : ℕ) → i < 64 - by → is_bit result (by + i) ≡ (is_bit word (by + i) || is_bit more i) }

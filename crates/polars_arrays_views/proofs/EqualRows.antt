@@ -64,8 +64,9 @@ module _ (buffers others : List (List ℕ)) (v w xs ys : List ℕ) (good : GoodV
       let rest : drop 4 v ≡ drop 4 w = short_tail buffers v good short ∙ ap (padded 12) (row ∙ same ∙ sym row_too) ∙ sym (short_tail others w good_too (omega arith)) in
       sym (drop-drop 4 4 v) ∙ ap (drop 4) rest ∙ drop-drop 4 4 w
 
-  pub equal_by_tail : take 8 v ≡ take 8 w → view_len v ≤ 12 → (drop 8 v ≡ drop 8 w) ↔ (xs ≡ ys)
-  equal_by_tail head short = (rows_from_tail head short, tail_from_rows head short)
+  pub equal_by_both : view_len v ≤ 12 → ((take 8 v ≡ take 8 w) × (drop 8 v ≡ drop 8 w)) ↔ (xs ≡ ys)
+  equal_by_both short =
+      ((λ both. rows_from_tail both.0 short both.1), (λ same. let head = head_from_rows same in (head, tail_from_rows head short same)))
 
   pub not_followed-short : view_len v ≤ 12 → followed_eq xs ys ≡ false
   not_followed-short short =

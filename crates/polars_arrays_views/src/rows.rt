@@ -26,11 +26,12 @@ pub fn rows_equal(
 {
     let v = left.view(i);
     let w = right.view(j);
+    // both tests, so that no branch hangs on the bytes of short rows
+    if v.len() <= 12 {
+        return v.same_head(w) & v.same_tail(w);
+    }
     if !v.same_head(w) {
         return false;
-    }
-    if v.len() <= 12 {
-        return v.same_tail(w);
     }
     steps.add(1);
     left.value(i) == right.value(j)

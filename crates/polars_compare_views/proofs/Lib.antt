@@ -1,1 +1,1 @@
-mod Pushed
+mod Tested

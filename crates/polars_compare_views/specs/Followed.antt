@@ -1,11 +1,12 @@
 -- How many pairs of byte strings are looked up in buffers.
 use Rattle.std.specs.Prelude.{ℕ, zero, suc, ◌+◌, Bool, List, [], if◌then◌else◌, slice_index_or}
+use Rattle.polars_arrays_bits.specs.Costs.{cost_of}
 
--- how many k below n pass a test
-abbrev pub count_below : (ℕ → Bool) → ℕ → ℕ
-count_below test zero = 0
-count_below test (suc n) = count_below test n + (if test n then 1 else 0)
+-- what pair k costs, from place a on of the left byte strings and from place b on of the right ones: 1 where it is followed
+abbrev pub pair_cost : (List ℕ → List ℕ → Bool) → List (List ℕ) → List (List ℕ) → ℕ → ℕ → ℕ → ℕ
+pair_cost follows xs ys a b k =
+    if follows (slice_index_or xs (a + k) []) (slice_index_or ys (b + k) []) then 1 else 0
 
--- how many of n pairs are followed, from place a on of the left byte strings and from place b on of the right ones
+-- how many of n pairs are followed
 abbrev pub followed : (List ℕ → List ℕ → Bool) → List (List ℕ) → List (List ℕ) → ℕ → ℕ → ℕ → ℕ
-followed follows xs ys a b n = count_below (λ k. follows (slice_index_or xs (a + k) []) (slice_index_or ys (b + k) [])) n
+followed follows xs ys a b n = cost_of (pair_cost follows xs ys a b) 0 n

@@ -2,7 +2,11 @@
 use Rattle.std.specs.Prelude.{◌≡◌, ◌<◌, ◌+◌, ℕ, Bool, false, List, [], length, slice_index_or}
 use Rattle.polars_arrays_flat.specs.Row.{Row, Bytes}
 
--- one bit for each of n pairs, from place a on of the left byte strings and from place b on of the right ones: what the test says of the rows that they are
+-- what a test says of pair k, from place a on of the left byte strings and from place b on of the right ones, as the rows that they are
+abbrev pub pair_test : (Row → Row → Bool) → List (List ℕ) → List (List ℕ) → ℕ → ℕ → ℕ → Bool
+pair_test test xs ys a b k = test (Bytes (slice_index_or xs (a + k) [])) (Bytes (slice_index_or ys (b + k) []))
+
+-- one bit for each of n pairs: what the test says of it
 pub record TestsPairs (test : Row → Row → Bool) (xs ys : List (List ℕ)) (a b n : ℕ) (bits : List Bool) : Type 0 where
   pub size : length bits ≡ n
-  pub at_each : (k : ℕ) → k < n → slice_index_or bits k false ≡ test (Bytes (slice_index_or xs (a + k) [])) (Bytes (slice_index_or ys (b + k) []))
+  pub at_each : (k : ℕ) → k < n → slice_index_or bits k false ≡ pair_test test xs ys a b k

@@ -1,16 +1,17 @@
 //! Tests of stored rows of arrays of views, place by place, whatever the validity says.
 
-ghost use Rattle.std.specs.Prelude.{◌≡◌, ◌+◌, ◌^◌, ◌<◌, ◌≤◌, [], length, map, IfOk, MatchResult};
+ghost use Rattle.std.specs.Prelude.{◌≡◌, ◌+◌, ◌^◌, ◌<◌, ◌≤◌, length, map, IfOk, MatchResult};
+ghost use Rattle.polars_arrays_bits.specs.Bits.{first_of};
 ghost use Rattle.polars_arrays_bits.specs.Errors.{IsMemory};
 ghost use Rattle.polars_arrays_flat.specs.Row.{Bytes};
 ghost use Rattle.polars_arrays_flat.specs.StoredRows.{byte_slots};
 ghost use Rattle.polars_arrays_views.specs.Parts.{view_strings};
-ghost use Rattle.polars_compare_views.specs.Followed.{followed};
-ghost use Rattle.polars_compare_views.specs.Pairs.{TestsPairs};
+ghost use Rattle.polars_compare_views.specs.Followed.{followed, pair_cost};
+ghost use Rattle.polars_compare_views.specs.Pairs.{TestsPairs, pair_test};
 
 use crate::view_test::ViewTest;
 use polars_arrays_bits::bitmap::Bitmap;
-use polars_arrays_bits::builder::BitmapBuilder;
+use polars_arrays_bits::counting::CountedValues;
 use polars_arrays_bits::error::ComputeError;
 use polars_arrays_bits::packing::TruthValues;
 use polars_arrays_flat::array::Array;
@@ -18,30 +19,35 @@ use polars_arrays_numbers::steps::Steps;
 use polars_arrays_views::binary_view::BinaryViewArray;
 use std::alloc::Global;
 
-// Pushes what a test tells of `n` pairs, from row `a` on of the left array and from row `b` on of the right
-// one.
-fn push_pairs<E: ViewTest>(
-    bits: &mut BitmapBuilder,
-    test: &E,
-    left: &BinaryViewArray,
+// A test of `n` rows from row `a` on and of as many from row `b` on, place by place.
+#[derive(Drop)]
+struct ViewPairs<'a, E> {
+    test: &'a E,
+    left: &'a BinaryViewArray,
     a: usize,
-    right: &BinaryViewArray,
+    right: &'a BinaryViewArray,
     b: usize,
     n: usize,
-    steps: &mut Steps,
-)
-    requires empty { bits.old.bits ≡ [] }
-    requires room { n ≤ bits.old.room }
-    requires left_in { a + n ≤ length left.now.views }
-    requires right_in { b + n ≤ length right.now.views }
-    requires left_fits { a + n < 2 ^ 64 }
-    requires right_fits { b + n < 2 ^ 64 }
-    ensures told { TestsPairs E.rows (view_strings left.now) (view_strings right.now) a b n bits.new.bits }
-    ensures counted { steps.new ≡ steps.old + followed E.follows (view_strings left.now) (view_strings right.now) a b n }
-{
-    for i in 0..n {
-        let bit = test.test(left, a + i, right, b + i, steps);
-        bits.push_reserved(bit);
+    ghost left_in: { a + n ≤ length left.now.views },
+    ghost right_in: { b + n ≤ length right.now.views },
+    ghost left_fits: { a + n < 2 ^ 64 },
+    ghost right_fits: { b + n < 2 ^ 64 },
+}
+
+impl<'a, E: ViewTest> CountedValues for ViewPairs<'a, E> {
+    ghost values = { λ p. first_of (pair_test E.rows (view_strings p.left.now) (view_strings p.right.now) p.a p.b) p.n };
+
+    ghost costs = { λ p. pair_cost E.follows (view_strings p.left.now) (view_strings p.right.now) p.a p.b };
+
+    #[inline(always)]
+    fn len(&self) -> usize {
+        self.n
+    }
+
+    #[inline(always)]
+    fn value(&self, i: usize, steps: &mut Steps) -> bool {
+        let (left, right) = (self.left, self.right);
+        self.test.test(left, self.a + i, right, self.b + i, steps)
     }
 }
 
@@ -64,12 +70,18 @@ pub fn test_view_windows<E: ViewTest>(
     ensures counted { IfOk result (λ _. steps.new ≡ steps.old + followed E.follows (view_strings left.now) (view_strings right.now) a b n) }
     ensures kept { steps.old ≤ steps.new }
 {
-    let mut bits = BitmapBuilder::with_capacity(alloc, n)?;
     // No effect at run time. The proof reads from them that places are numbers of 64 bits.
     let _left_len = left.len();
     let _right_len = right.len();
-    push_pairs(&mut bits, test, left, a, right, b, n, steps);
-    Ok(bits.freeze())
+    let pairs = ViewPairs {
+        test,
+        left,
+        a,
+        right,
+        b,
+        n,
+    };
+    Bitmap::from_counted(alloc, &pairs, steps)
 }
 
 // A test of the rows of an array against one byte string.

@@ -1,7 +1,7 @@
 use Rattle.std.proofs.Common.{◌∙◌, sym}
 use Rattle.polars_arrays_flat.specs.Row.{Bytes}
 use Rattle.polars_arrays_views.specs.Parts.{view_strings}
-use Rattle.polars_compare_views.proofs.Pushed.{against-at}
+use Rattle.polars_compare_views.proofs.Tested.{against-at}
 use Rattle.polars_compare_views.proofs.windows.ViewsAgainstTruthValues.value.Goals as goal
 
 pub returns : goal.returns
