@@ -67,7 +67,7 @@ fn push_counted<V: CountedValues>(words: &mut Vec<u64>, values: &V, count: usize
 
 impl Bitmap {
     /// Truth values that are asked for one by one, whose costs the counter rises by. The error is `Memory`,
-    /// after which the counter stands where it stood.
+    /// after which the counter has not fallen.
     pub fn from_counted<V: CountedValues>(
         alloc: Global,
         values: &V,
