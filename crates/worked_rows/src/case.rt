@@ -1,0 +1,253 @@
+//! A case: two arrays and a scalar, and what is asked of them.
+
+use crate::answers::{
+    equal_rows, followed_rows, less_rows, ordered_rows, write_bits, write_present,
+};
+use crate::array::StringArray;
+use crate::fault::Fault;
+use crate::parts::read_bytes;
+use crate::words::Words;
+use polars_arrays_bits::bitmap::Bitmap;
+use polars_arrays_bits::error::ComputeError;
+use polars_arrays_bytes::fixed_size::FixedSizeBinaryArray;
+use polars_arrays_flat::array::Array;
+use polars_arrays_flat::byte_rows::ByteRows;
+use polars_compare_equality::borrowed::{BytesEqKernel, TextEqKernel};
+use polars_compare_equality::kernel::TotalEqKernel;
+use polars_compare_order::borrowed::{BytesOrdKernel, TextOrdKernel};
+use polars_compare_order::kernel::TotalOrdKernel;
+use polars_compare_views::followed::FollowedKernel;
+use std::alloc::Global;
+use std::str::from_utf8;
+
+/// The arrays and the scalar of a case, as far as they were given.
+#[derive(Drop)]
+pub struct Case {
+    left: Option<StringArray>,
+    right: Option<StringArray>,
+    scalar: Option<Vec<u8>>,
+}
+
+/// What two arrays are asked.
+#[derive(Clone, Copy)]
+enum Pairs {
+    Equal,
+    Less,
+    LessOrEqual,
+    Followed,
+}
+
+/// How a row stands to the scalar.
+#[derive(Clone, Copy)]
+enum Beside {
+    Equal,
+    Less,
+    LessOrEqual,
+    Greater,
+    GreaterOrEqual,
+}
+
+impl Case {
+    /// A case of which nothing is given yet.
+    pub fn new() -> Case {
+        Case {
+            left: None,
+            right: None,
+            scalar: None,
+        }
+    }
+
+    /// The answer to a line, where it has one.
+    pub fn answer(&mut self, alloc: Global, line: &str) -> Result<Option<String>, Fault> {
+        let words: Vec<&str> = line.split(' ').collect(alloc)?;
+        let mut words = Words::new(&words);
+        let request = words.read()?;
+        match request {
+            "case" => return Ok(Some(line.to_string(alloc)?)),
+            "left" => self.left = Some(StringArray::read(alloc, &mut words)?),
+            "right" => self.right = Some(StringArray::read(alloc, &mut words)?),
+            "scalar" => self.scalar = Some(read_bytes(alloc, words.read()?)?),
+            _ => {
+                let answer = self.told(alloc, request)?;
+                return Ok(Some(format!(in alloc; "{request} {answer}")?));
+            }
+        }
+        Ok(None)
+    }
+
+    // The answer to a request.
+    fn told(&self, alloc: Global, request: &str) -> Result<String, Fault> {
+        match request {
+            "eq" => self.compared(alloc, Pairs::Equal),
+            "lt" => self.compared(alloc, Pairs::Less),
+            "le" => self.compared(alloc, Pairs::LessOrEqual),
+            "followed" => self.compared(alloc, Pairs::Followed),
+            "bceq" => self.beside_scalar(alloc, Beside::Equal),
+            "bclt" => self.beside_scalar(alloc, Beside::Less),
+            "bcle" => self.beside_scalar(alloc, Beside::LessOrEqual),
+            "bcgt" => self.beside_scalar(alloc, Beside::Greater),
+            "bcge" => self.beside_scalar(alloc, Beside::GreaterOrEqual),
+            _ => Err(Fault::Word),
+        }
+    }
+
+    // What the two arrays are asked.
+    fn compared(&self, alloc: Global, asked: Pairs) -> Result<String, Fault> {
+        let (Some(left), Some(right)) = (&self.left, &self.right) else {
+            return Err(Fault::Case);
+        };
+        compare(alloc, left, right, asked)
+    }
+
+    // How the rows of the left array stand to the scalar.
+    fn beside_scalar(&self, alloc: Global, asked: Beside) -> Result<String, Fault> {
+        let (Some(left), Some(scalar)) = (&self.left, &self.scalar) else {
+            return Err(Fault::Case);
+        };
+        match left {
+            StringArray::Binary(array) => beside_bytes(alloc, array, scalar, asked),
+            StringArray::LargeBinary(array) => beside_bytes(alloc, array, scalar, asked),
+            StringArray::BinaryView(array) => beside_bytes(alloc, array, scalar, asked),
+            StringArray::FixedSizeBinary(array) => equal_to_bytes(alloc, array, scalar, asked),
+            StringArray::Utf8(array) => beside_text(alloc, array, scalar, asked),
+            StringArray::LargeUtf8(array) => beside_text(alloc, array, scalar, asked),
+            StringArray::Utf8View(array) => beside_text(alloc, array, scalar, asked),
+        }
+    }
+}
+
+/// What is asked of two arrays of one kind.
+fn compare(
+    alloc: Global,
+    left: &StringArray,
+    right: &StringArray,
+    asked: Pairs,
+) -> Result<String, Fault> {
+    match (left, right) {
+        (StringArray::Binary(l), StringArray::Binary(r)) => compare_strings(alloc, l, r, asked),
+        (StringArray::LargeBinary(l), StringArray::LargeBinary(r)) => {
+            compare_strings(alloc, l, r, asked)
+        }
+        (StringArray::Utf8(l), StringArray::Utf8(r)) => compare_strings(alloc, l, r, asked),
+        (StringArray::LargeUtf8(l), StringArray::LargeUtf8(r)) => {
+            compare_strings(alloc, l, r, asked)
+        }
+        (StringArray::BinaryView(l), StringArray::BinaryView(r)) => {
+            compare_views(alloc, l, r, asked)
+        }
+        (StringArray::Utf8View(l), StringArray::Utf8View(r)) => compare_views(alloc, l, r, asked),
+        (StringArray::FixedSizeBinary(l), StringArray::FixedSizeBinary(r)) => {
+            compare_sized(alloc, l, r, asked)
+        }
+        _ => Err(Fault::Case),
+    }
+}
+
+/// What is asked of two arrays that have an order.
+fn compare_strings<A: TotalEqKernel + TotalOrdKernel>(
+    alloc: Global,
+    left: &A,
+    right: &A,
+    asked: Pairs,
+) -> Result<String, Fault>
+    requires good_left { A.good left.now }
+    requires good_right { A.good right.now }
+{
+    match asked {
+        Pairs::Equal => equal_rows(alloc, left, right),
+        Pairs::Less => less_rows(alloc, left, right),
+        Pairs::LessOrEqual => ordered_rows(alloc, left, right),
+        Pairs::Followed => Err(Fault::Case),
+    }
+}
+
+/// What is asked of two arrays kept by views.
+fn compare_views<A: TotalEqKernel + TotalOrdKernel + FollowedKernel>(
+    alloc: Global,
+    left: &A,
+    right: &A,
+    asked: Pairs,
+) -> Result<String, Fault>
+    requires good_left { A.good left.now }
+    requires good_right { A.good right.now }
+{
+    match asked {
+        Pairs::Followed => followed_rows(alloc, left, right),
+        _ => compare_strings(alloc, left, right, asked),
+    }
+}
+
+/// What is asked of two arrays of strings of one size, which have no order.
+fn compare_sized(
+    alloc: Global,
+    left: &FixedSizeBinaryArray,
+    right: &FixedSizeBinaryArray,
+    asked: Pairs,
+) -> Result<String, Fault> {
+    match asked {
+        Pairs::Equal => equal_rows(alloc, left, right),
+        _ => Err(Fault::Case),
+    }
+}
+
+/// How rows that are byte strings stand to one.
+fn beside_bytes<A: BytesEqKernel + BytesOrdKernel>(
+    alloc: Global,
+    array: &A,
+    scalar: &[u8],
+    asked: Beside,
+) -> Result<String, Fault>
+    requires { A.good array.now }
+{
+    let bits = match asked {
+        Beside::Equal => return equal_to_bytes(alloc, array, scalar, asked),
+        Beside::Less => BytesOrdKernel::tot_lt_kernel_broadcast(array, alloc, scalar)?,
+        Beside::LessOrEqual => BytesOrdKernel::tot_le_kernel_broadcast(array, alloc, scalar)?,
+        Beside::Greater => BytesOrdKernel::tot_gt_kernel_broadcast(array, alloc, scalar)?,
+        Beside::GreaterOrEqual => BytesOrdKernel::tot_ge_kernel_broadcast(array, alloc, scalar)?,
+    };
+    write_present(alloc, &bits, array.validity(), None)
+}
+
+/// Where rows that are byte strings are equal to one.
+fn equal_to_bytes<A: BytesEqKernel>(
+    alloc: Global,
+    array: &A,
+    scalar: &[u8],
+    asked: Beside,
+) -> Result<String, Fault>
+    requires { A.good array.now }
+{
+    match asked {
+        Beside::Equal => {
+            let bits = BytesEqKernel::tot_eq_missing_kernel_broadcast(array, alloc, scalar)?;
+            write_bits(alloc, &bits)
+        }
+        _ => Err(Fault::Case),
+    }
+}
+
+/// How rows that are texts stand to one.
+fn beside_text<A: TextEqKernel + TextOrdKernel>(
+    alloc: Global,
+    array: &A,
+    scalar: &[u8],
+    asked: Beside,
+) -> Result<String, Fault>
+    requires { A.good array.now }
+{
+    let Ok(scalar) = from_utf8(scalar) else {
+        return Err(Fault::Word);
+    };
+    let bits = match asked {
+        Beside::Equal => {
+            let bits = TextEqKernel::tot_eq_missing_kernel_broadcast(array, alloc, scalar)?;
+            return write_bits(alloc, &bits);
+        }
+        Beside::Less => TextOrdKernel::tot_lt_kernel_broadcast(array, alloc, scalar)?,
+        Beside::LessOrEqual => TextOrdKernel::tot_le_kernel_broadcast(array, alloc, scalar)?,
+        Beside::Greater => TextOrdKernel::tot_gt_kernel_broadcast(array, alloc, scalar)?,
+        Beside::GreaterOrEqual => TextOrdKernel::tot_ge_kernel_broadcast(array, alloc, scalar)?,
+    };
+    write_present(alloc, &bits, array.validity(), None)
+}

@@ -1,0 +1,48 @@
+//! Answers recorded cases: what the kernels say of two arrays of strings.
+//!
+//! A line of the input begins a case, gives an array or a scalar of it, or asks for an answer:
+//!
+//! | Line | Answer |
+//! |---|---|
+//! | `case NAME` | the line itself |
+//! | `left ARRAY`, `right ARRAY`, `scalar HEX` | none |
+//! | `eq` | where the rows are equal, null to null alone, as `eq BITS` |
+//! | `lt`, `le` | where the left row is less, or at most the right one, with `x` where either is null |
+//! | `followed` | how many rows equality and order look up in buffers |
+//! | `bceq` | where the left rows are equal to the scalar, as `bceq BITS` |
+//! | `bclt`, `bcle`, `bcgt`, `bcge` | their order beside the scalar, with `x` where the left row is null |
+//!
+//! A line that can't be answered ends the run with status 1.
+#![tactic(auto)]
+
+use crate::case::Case;
+use crate::fault::Fault;
+use std::io;
+use std::process::ExitCode;
+
+mod answers;
+mod array;
+mod case;
+mod fault;
+mod parts;
+mod words;
+
+/// Answers each line of standard input on standard output.
+fn answer_input(rt: &(impl Input + Print + AllocGlobal)) -> Result<(), Fault> {
+    let alloc = rt.alloc();
+    let mut case = Case::new();
+    for line in rt.lines(alloc) {
+        let line = line?;
+        if let Some(answer) = case.answer(alloc, &line)? {
+            println!(rt; "{answer}")?;
+        }
+    }
+    Ok(())
+}
+
+fn main(rt: HostRuntime) -> ExitCode {
+    match answer_input(&rt) {
+        Ok(()) => ExitCode::from(0),
+        Err(_) => ExitCode::from(1),
+    }
+}
