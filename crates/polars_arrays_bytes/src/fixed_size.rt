@@ -172,7 +172,8 @@ impl ByteRows for FixedSizeBinaryArray {
 }
 
 // String `i` of strings of `size` bytes.
-fn string_at(values: &[u8], size: usize, i: usize) -> &[u8]
+#[inline]
+pub(crate) fn string_at(values: &[u8], size: usize, i: usize) -> &[u8]
     requires { size * i + size ≤ length values.now }
     ensures { result.now ≡ sized_string size values.now i }
 {

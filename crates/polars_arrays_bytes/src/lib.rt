@@ -3,6 +3,7 @@
 
 pub mod binary;
 pub mod fixed_size;
+pub mod of_size;
 pub mod offset_type;
 mod offsets;
 #[cfg(test)]

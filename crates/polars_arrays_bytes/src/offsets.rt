@@ -72,23 +72,14 @@ fn bounds<O: Offset>(from: O, to: O, n: usize) -> bool
 }
 
 // The bytes of row `i`.
+#[inline]
 pub(crate) fn string_at<'a, O: Offset>(offsets: &[O], values: &'a [u8], i: usize) -> &'a [u8]
     requires row { i < row_count offsets.now }
     requires good { IsGoodRow (length values.now) (places O.value offsets.now) i }
     ensures { result.now ≡ string_between (places O.value offsets.now) values.now i }
 {
-    bytes_between(values, offsets[i].to_place(), offsets[i + 1].to_place())
-}
-
-// The bytes from one place up to another.
-fn bytes_between(values: &[u8], from: Option<usize>, to: Option<usize>) -> &[u8]
-    requires { Bounds (length values.now) from to }
-    ensures { result.now ≡ between values.now from to }
-{
-    match (from, to) {
-        (Some(from), Some(to)) => &values[from..to],
-        _ => &[],
-    }
+    let (from, to) = (offsets[i].place(), offsets[i + 1].place());
+    &values[from..to]
 }
 
 // Keeps the offsets of `n` rows from row `at` on.

@@ -2,6 +2,7 @@
 
 use crate::binary::BinaryArray;
 use crate::fixed_size::FixedSizeBinaryArray;
+use crate::of_size::OfSize;
 use crate::offset_type::OffsetType;
 use crate::text::Utf8Array;
 use polars_arrays_bits::bitmap::Bitmap;
@@ -209,5 +210,17 @@ fn sized_slices_cut_validity_too(rt: HostRuntime) -> Result<(), Fail> {
     let copy = array.clone_array(rt.alloc())?;
     assert!(rt; has_strings(&copy, &["bb", "cc"]));
     assert_eq!(rt; counts(&copy), (2, 1));
+    Ok(())
+}
+
+#[test]
+fn strings_of_a_known_size(rt: HostRuntime) -> Result<(), Fail> {
+    let validity = Bitmap::from_bools(rt.alloc(), &[true, false, true])?;
+    let values = buffer(rt.alloc(), b"aabbcc")?;
+    let array = FixedSizeBinaryArray::try_new(2, 3, values, Some(validity))?;
+    assert!(rt; array.size() == 2);
+    let pairs = OfSize::<2>::new(&array);
+    assert!(rt; has_strings(&pairs, &["aa", "bb", "cc"]));
+    assert_eq!(rt; counts(&pairs), (3, 1));
     Ok(())
 }

@@ -1,3 +1,4 @@
+pub mod ByteEquality
 pub mod Examples
 pub mod NullCounts
 pub mod RowWindows

@@ -2,6 +2,7 @@
 
 use crate::array::Array;
 use crate::boolean::BooleanArray;
+use crate::byte_equality::bytes_equal;
 use crate::data_type::{ArrowDataType, Field, IntegerType};
 use crate::null::NullArray;
 use crate::primitive::PrimitiveArray;
@@ -165,4 +166,23 @@ fn types_are_equal_with_names_and_types(rt: HostRuntime) -> Result<(), Fail> {
     assert!(rt; one != nested(rt.alloc(), "c", IntegerType::Int8)?);
     assert!(rt; one != nested(rt.alloc(), "a", IntegerType::UInt8)?);
     Ok(())
+}
+
+#[test]
+fn bytes_are_equal_at_each_length(rt: HostRuntime) {
+    let cases: [(&str, &str, bool); 10] = [
+        ("", "", true),
+        ("abc", "abd", false),
+        ("abcd", "abcd", true),
+        ("abcd", "abcde", false),
+        ("abcdefg", "abcdefx", false),
+        ("abcdefgh", "abcdefgh", true),
+        ("abcdefghijk", "abcdexghijk", false),
+        ("abcdefghijklmnop", "abcdefghijklmnop", true),
+        ("abcdefghijklmnop", "abcdefghijklmnopq", false),
+        ("abcdefghijklmnopq", "abcdefghijklmnopq", true),
+    ];
+    for (left, right, equal) in cases.iter() {
+        assert!(rt; bytes_equal(left.as_bytes(), right.as_bytes()) == *equal);
+    }
 }

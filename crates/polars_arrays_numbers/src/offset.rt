@@ -1,5 +1,5 @@
 //! The types of offsets into bytes or child rows.
-ghost use Rattle.std.specs.Prelude.{◌≡◌};
+ghost use Rattle.std.specs.Prelude.{◌≡◌, ◌≢◌, Some, None};
 ghost use Rattle.polars_arrays_numbers.specs.Naturals.{natural_of};
 
 use crate::native_type::NativeType;
@@ -9,16 +9,31 @@ pub trait Offset: NativeType {
     /// The offset as a place, or `None` where it is negative.
     fn to_place(self) -> Option<usize>
         ensures { result ≡ natural_of (Self.value self) };
+
+    /// An offset that is not negative as a place.
+    fn place(self) -> usize
+        requires { natural_of (Self.value self) ≢ None }
+        ensures { natural_of (Self.value self) ≡ Some result };
 }
 
 impl Offset for i32 {
     fn to_place(self) -> Option<usize> {
         i64::from(self).to_place()
     }
+
+    #[inline(always)]
+    fn place(self) -> usize {
+        i64::from(self).place()
+    }
 }
 
 impl Offset for i64 {
     fn to_place(self) -> Option<usize> {
         usize::try_from(self).ok()
+    }
+
+    #[inline(always)]
+    fn place(self) -> usize {
+        self as usize
     }
 }

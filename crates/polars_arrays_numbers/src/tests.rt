@@ -25,6 +25,7 @@ fn knows_its_range(rt: HostRuntime) {
 #[test]
 fn places(rt: HostRuntime) {
     assert_eq!(rt; (7i32.to_place(), (-1i64).to_place()), (Some(7), None));
+    assert_eq!(rt; (7i32.place(), i64::MAX.place()), (7, 9223372036854775807));
     assert_eq!(rt; (255u8.to_entry(), (-5i8).to_entry()), (Some(255), None));
     assert_eq!(rt; u64::MAX.to_entry(), Some(usize::MAX));
 }

@@ -191,3 +191,10 @@ fn text_views_and_a_borrowed_text(rt: HostRuntime) -> Result<(), Fail> {
     expect(&rt, &unequal, &[true, false]);
     Ok(())
 }
+
+#[test]
+fn sizes_of_16(rt: HostRuntime) -> Result<(), Fail> {
+    let left = sized(rt.alloc(), 16, b"0123456789abcdef0123456789abcdef")?;
+    let right = sized(rt.alloc(), 16, b"0123456789abcdef0123456789abcdeg")?;
+    Ok(expect_raw(&rt, rt.alloc(), &left, &right, &[true, false])?)
+}

@@ -12,6 +12,7 @@ ghost use Rattle.polars_compare_leaves.specs.Sameness.{other_row, same_row};
 use polars_arrays_bits::bitmap::Bitmap;
 use polars_arrays_bits::error::ComputeError;
 use polars_arrays_bits::packing::TruthValues;
+use polars_arrays_flat::byte_equality::bytes_equal;
 use polars_arrays_flat::byte_rows::ByteRows;
 use polars_arrays_numbers::element_test::{
     Equal, Greater, GreaterOrEqual, Less, LessOrEqual, Unequal,
@@ -26,6 +27,14 @@ pub trait ByteTest {
     /// Whether two byte strings pass.
     fn test(&self, left: &[u8], right: &[u8]) -> bool
         ensures { result ≡ rows (Bytes left.now) (Bytes right.now) };
+
+    /// The same, made for a right string that many left ones are tested against.
+    #[inline(always)]
+    fn test_constant(&self, left: &[u8], right: &[u8]) -> bool
+        ensures { result ≡ rows (Bytes left.now) (Bytes right.now) }
+    {
+        self.test(left, right)
+    }
 }
 
 impl ByteTest for Equal {
@@ -33,6 +42,11 @@ impl ByteTest for Equal {
 
     #[inline(always)]
     fn test(&self, left: &[u8], right: &[u8]) -> bool {
+        bytes_equal(left, right)
+    }
+
+    #[inline(always)]
+    fn test_constant(&self, left: &[u8], right: &[u8]) -> bool {
         left == right
     }
 }
@@ -42,6 +56,11 @@ impl ByteTest for Unequal {
 
     #[inline(always)]
     fn test(&self, left: &[u8], right: &[u8]) -> bool {
+        !bytes_equal(left, right)
+    }
+
+    #[inline(always)]
+    fn test_constant(&self, left: &[u8], right: &[u8]) -> bool {
         left != right
     }
 }
@@ -166,7 +185,7 @@ impl<'a, L: ByteRows, E: ByteTest> TruthValues for StringsAgainst<'a, L, E> {
 
     #[inline(always)]
     fn value(&self, i: usize) -> bool {
-        self.test.test(self.left.bytes(i), self.right)
+        self.test.test_constant(self.left.bytes(i), self.right)
     }
 
     #[inline(always)]

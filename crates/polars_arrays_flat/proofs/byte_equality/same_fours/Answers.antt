@@ -1,0 +1,9 @@
+use Rattle.std.specs.Int.{w32, from_le_bytes, to_le_bytes}
+use Rattle.polars_arrays_flat.proofs.ByteEquality.{one_number, both_ends}
+use Rattle.polars_arrays_flat.proofs.byte_equality.same_fours.Goals as goal
+
+pub returns : goal.returns
+returns c =
+    both_ends 4 c.args.n c.args.left.now c.args.right.now _ _ c.requires.some c.requires.few c.requires.left_in c.requires.right_in
+    (one_number (from_le_bytes w32) (to_le_bytes w32) _ _ _ _ c.four_at.ensures.number c.four_at-2.ensures.number c.four_at.ensures.bytes c.four_at-2.ensures.bytes)
+    (one_number (from_le_bytes w32) (to_le_bytes w32) _ _ _ _ c.four_at-3.ensures.number c.four_at-4.ensures.number c.four_at-3.ensures.bytes c.four_at-4.ensures.bytes)
