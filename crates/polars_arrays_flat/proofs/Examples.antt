@@ -1,6 +1,7 @@
 -- Worked examples of the definitions: the check computes both sides of each.
 use Rattle.std.specs.Prelude.{◌≡◌, ℕ, pos, true, false, [], ◌∷◌, Some, None, string_bytes, refl}
 use Rattle.polars_arrays_flat.specs.ArrayRows.{number_rows, truth_rows, is_null, null_total, filled_row, MasksByPlace}
+use Rattle.polars_arrays_flat.specs.ByteOrder.{bytes_lt, few_number}
 use Rattle.polars_arrays_flat.specs.DataType.{key_kind, kind_of, kinds_of, IsSameField}
 use Rattle.polars_arrays_flat.specs.Kind.{UInt64Kind, FixedSizeBinaryKind, Utf8ViewKind, ListKind, LargeListKind, no_kinds, more_kinds}
 use Rattle.polars_arrays_flat.specs.KindTest.{kind_eq, named_eq, dtype_eq, field_eq}
@@ -117,3 +118,22 @@ IsSameField-self f = record { name = refl; kind = refl }
 -- the law of rows, at a row that is masked
 MasksByPlace-masked : MasksByPlace → row (rows_under (Some (false ∷ [])) (truth_slots (true ∷ []))) 0 ≡ Null
 MasksByPlace-masked law = law (Some (false ∷ [])) (truth_slots (true ∷ [])) 0
+
+bytes_lt-first_byte : bytes_lt (97 ∷ 98 ∷ []) (98 ∷ 97 ∷ []) ≡ true
+bytes_lt-first_byte = refl
+
+bytes_lt-fifth_byte : bytes_lt (97 ∷ 98 ∷ 99 ∷ 100 ∷ 101 ∷ []) (97 ∷ 98 ∷ 99 ∷ 100 ∷ 102 ∷ []) ≡ true
+bytes_lt-fifth_byte = refl
+
+-- a proper beginning is less, also where zeros follow it
+bytes_lt-beginning : bytes_lt (97 ∷ []) (97 ∷ 0 ∷ []) ≡ true
+bytes_lt-beginning = refl
+
+bytes_lt-itself : bytes_lt (97 ∷ []) (97 ∷ []) ≡ false
+bytes_lt-itself = refl
+
+few_number-two : few_number 2 (1 ∷ 2 ∷ 3 ∷ []) ≡ 66050
+few_number-two = refl
+
+few_number-none : few_number 0 (1 ∷ []) ≡ 0
+few_number-none = refl

@@ -1,4 +1,5 @@
 pub mod ByteEquality
+pub mod ByteParts
 pub mod Examples
 pub mod NullCounts
 pub mod RowWindows

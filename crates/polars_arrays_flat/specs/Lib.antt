@@ -1,4 +1,6 @@
 pub mod ArrayRows
+pub mod ByteOrder
+pub mod ByteOrderLaws
 pub mod DataType
 pub mod Flat
 pub mod Kind

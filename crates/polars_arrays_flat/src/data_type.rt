@@ -140,9 +140,9 @@ impl PartialEq for Field {
     }
 }
 
-// Whether a type is a struct of those fields.
+/// Whether a type is a struct of those fields.
 #[cycle(same_kind)]
-fn is_struct_of(fields: &[Field], dtype: &ArrowDataType) -> bool
+pub fn is_struct_of(fields: &[Field], dtype: &ArrowDataType) -> bool
     ensures { IsTrue result ↔ (StructKind (kinds_of fields.now) ≡ kind_of dtype.now) }
 {
     match dtype {
@@ -151,9 +151,9 @@ fn is_struct_of(fields: &[Field], dtype: &ArrowDataType) -> bool
     }
 }
 
-// Whether two lists of fields have the same names and types in the same order.
+/// Whether two lists of fields have the same names and types in the same order.
 #[cycle(same_kind)]
-fn same_fields(left: &[Field], right: &[Field]) -> bool
+pub fn same_fields(left: &[Field], right: &[Field]) -> bool
     ensures { IsTrue result ↔ (kinds_of left.now ≡ kinds_of right.now) }
 {
     if left.len() != right.len() {
@@ -174,8 +174,8 @@ fn same_text(left: &str, right: &str) -> bool
     left == right
 }
 
-// Whether two types of keys are the same.
-fn same_keys(left: IntegerType, right: IntegerType) -> bool
+/// Whether two types of keys are the same.
+pub fn same_keys(left: IntegerType, right: IntegerType) -> bool
     ensures { IsTrue result ↔ (key_kind left ≡ key_kind right) }
 {
     left == right

@@ -3,6 +3,7 @@
 use crate::array::Array;
 use crate::boolean::BooleanArray;
 use crate::byte_equality::bytes_equal;
+use crate::byte_order::bytes_less;
 use crate::data_type::{ArrowDataType, Field, IntegerType};
 use crate::null::NullArray;
 use crate::primitive::PrimitiveArray;
@@ -185,4 +186,24 @@ fn bytes_are_equal_at_each_length(rt: HostRuntime) {
     for (left, right, equal) in cases.iter() {
         assert!(rt; bytes_equal(left.as_bytes(), right.as_bytes()) == *equal);
     }
+}
+
+#[test]
+fn byte_strings_in_order(rt: HostRuntime) -> Result<(), Fail> {
+    let pairs: [(&[u8], &[u8]); 8] = [
+        (b"", b"a"),
+        (b"a", b"a\0"),
+        (b"az", b"b"),
+        (b"abc", b"abd"),
+        (b"abcdez", b"abcdfa"),
+        (b"abcdefgh", b"abcdefgh\0"),
+        (b"abcdefghijklmnopqz", b"abcdefghijklmnopra"),
+        (b"abcdefghz", b"\xffbcdefgha"),
+    ];
+    for (less, greater) in pairs {
+        assert!(rt; bytes_less(less, greater));
+        assert!(rt; !bytes_less(greater, less));
+        assert!(rt; !bytes_less(less, less));
+    }
+    Ok(())
 }

@@ -1,12 +1,12 @@
 -- What the bytes of two good views tell of the equality of their rows.
-use Rattle.std.proofs.Common.{◌≡◌, ◌≤◌, ◌<◌, ◌↔◌, ℕ, Bool, true, false, List, ◌++◌, length, take, drop, refl, sym, ap, ◌∙◌, arith}
+use Rattle.std.proofs.Common.{◌≡◌, ◌≤◌, ◌<◌, ◌↔◌, ℕ, Bool, true, false, List, [], ◌++◌, length, take, drop, refl, sym, ap, ◌∙◌, arith}
 use Rattle.std.specs.Bool.{Decides}
 use Rattle.std.specs.Int.{w32, from_be_bytes}
 use Rattle.std.specs.Str.{bytes_eq}
 use Rattle.std.proofs.lemmas.Bool.Decides.{Decides-and, Decides-eqb, Decides-ltb}
 use Rattle.std.proofs.lemmas.List.{take-append-drop, drop-drop}
 use Rattle.std.proofs.lemmas.Slice.Eq.{bytes_eq-Decides}
-use Rattle.polars_arrays_views.specs.Views.{GoodView, view_len, view_prefix, row_bytes, padded, followed_eq}
+use Rattle.polars_arrays_views.specs.Views.{GoodView, HoldsScalar, view_len, view_prefix, row_bytes, padded, followed_eq}
 use Rattle.polars_arrays_views.proofs.GoodViews.{short_row, short_tail, length_of_row, prefix_is, same_head, len_from_head, prefix_from_head}
 use Rattle.polars_arrays_views.proofs.Padding.{padded_long}
 
@@ -81,11 +81,19 @@ module _ (buffers others : List (List ℕ)) (v w xs ys : List ℕ) (good : GoodV
       ((lengths, omega (arith, len)), sym (padded_long 4 xs (omega (arith, len))) ∙ first ∙ padded_long 4 ys (omega (arith, len)))
 
 -- a view of the row xs beside a byte string
-module _ (buffers : List (List ℕ)) (v xs ys : List ℕ) (good : GoodView buffers v) (row : row_bytes buffers v ≡ xs) where
+module _ (buffers : List (List ℕ)) (v w xs ys : List ℕ) (good : GoodView buffers v) (row : row_bytes buffers v ≡ xs) (holds : HoldsScalar w ys) where
   pub unequal_from_length : ¬ (view_len v ≡ length ys) → bytes_eq xs ys ≡ false
   unequal_from_length other =
       decided_false _ (bytes_eq-Decides xs ys) (λ same. other (sym (length_of_row buffers v ys good (row ∙ same))))
 
-  pub unequal_from_prefix : ¬ (from_be_bytes w32 (view_prefix v) ≡ from_be_bytes w32 (padded 4 ys)) → bytes_eq xs ys ≡ false
+  pub unequal_from_prefix : ¬ (from_be_bytes w32 (view_prefix v) ≡ from_be_bytes w32 (view_prefix w)) → bytes_eq xs ys ≡ false
   unequal_from_prefix other =
-      decided_false _ (bytes_eq-Decides xs ys) (λ same. other (ap (from_be_bytes w32) (prefix_is buffers v good ∙ ap (padded 4) (row ∙ same))))
+      decided_false _ (bytes_eq-Decides xs ys) (λ same. other (ap (from_be_bytes w32) (prefix_is buffers v good ∙ ap (padded 4) (row ∙ same) ∙ sym holds.prefix)))
+
+  -- a short byte string is the row exactly where all bytes of the views agree
+  pub equal_to_short : length ys ≤ 12 → ((take 8 w ≡ take 8 v) × (drop 8 w ≡ drop 8 v)) ↔ (xs ≡ ys)
+  equal_to_short short =
+      let good_too = holds.good short in
+      let row_too = holds.row short in
+      let told = equal_by_both [] buffers w v ys xs good_too good row_too row (omega (arith, length_of_row [] w ys good_too row_too)) in
+      ((λ both. sym (told.0 both)), (λ same. told.1 (sym same)))

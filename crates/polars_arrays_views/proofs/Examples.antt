@@ -11,7 +11,7 @@ use Rattle.polars_arrays_flat.specs.Row.{Null, Bytes}
 use Rattle.polars_arrays_views.specs.Faults.{IsFirstBadView, IsFirstFault}
 use Rattle.polars_arrays_views.specs.Parts.{ViewParts, contents, strings_of, view_strings, view_rows, GoodParts}
 use Rattle.polars_arrays_views.specs.Texts.{AllText, IsFirstNotText, IsFirstTextFault}
-use Rattle.polars_arrays_views.specs.Views.{IsView, GoodView, InBuffer, AllZero, u32_at, view_len, view_buffer, view_offset, view_prefix, buffer_at, row_bytes, padded, short_view, bytes_lt, followed_eq, followed_lt}
+use Rattle.polars_arrays_views.specs.Views.{IsView, GoodView, InBuffer, AllZero, u32_at, view_len, view_buffer, view_offset, view_prefix, buffer_at, row_bytes, padded, short_view, followed_eq, followed_lt}
 
 -- whether each number is below m
 abbrev all_below : ℕ → List ℕ → Bool
@@ -173,20 +173,7 @@ GoodView-other_prefix : GoodView (thirteen ∷ []) other_prefix_view → ⊥
 unfolding view_len
 GoodView-other_prefix good = InBuffer-other_prefix (good.long (omega arith))
 
--- ---- order, and rows that are looked up in buffers
-bytes_lt-first_byte : bytes_lt (97 ∷ 98 ∷ []) (98 ∷ 97 ∷ []) ≡ true
-bytes_lt-first_byte = refl
-
-bytes_lt-fifth_byte : bytes_lt (97 ∷ 98 ∷ 99 ∷ 100 ∷ 101 ∷ []) (97 ∷ 98 ∷ 99 ∷ 100 ∷ 102 ∷ []) ≡ true
-bytes_lt-fifth_byte = refl
-
-bytes_lt-long : bytes_lt zeds abcdy ≡ false
-bytes_lt-long = refl
-
--- a proper beginning is less, also where zeros follow it
-bytes_lt-beginning : bytes_lt (97 ∷ []) (97 ∷ 0 ∷ []) ≡ true
-bytes_lt-beginning = refl
-
+-- ---- rows that are looked up in buffers
 followed_eq-itself : followed_eq thirteen thirteen ≡ true
 followed_eq-itself = refl
 

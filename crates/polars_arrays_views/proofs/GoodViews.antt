@@ -6,9 +6,10 @@ use Rattle.std.proofs.lemmas.Bool.{cases_lt}
 use Rattle.std.proofs.lemmas.Bool.Decides.{nat_tests}
 use Rattle.std.proofs.lemmas.List.{get_or-take, length-take, length-drop, take-take, take-append-drop, drop-drop, drop-take}
 use Rattle.std.proofs.lemmas.Nat.{le_bytes_4}
+use Rattle.polars_arrays_flat.specs.ByteOrderLaws.{AreBytes, bytes_take}
 use Rattle.polars_arrays_views.specs.Views.{IsView, GoodView, AllZero, view_len, view_prefix, view_offset, view_buffer, buffer_at, row_bytes, padded, short_view}
 use Rattle.polars_arrays_views.proofs.Padding.{length-padded, zeros_after, front_of_padded, padded_zeros, padded_long}
-use Rattle.polars_arrays_views.proofs.Words.{Bytes, bytes_padded, bytes_take}
+use Rattle.polars_arrays_views.proofs.Words.{bytes_padded}
 
 -- the two forms of a row
 pub short_row : (buffers : List (List ℕ)) (v : List ℕ) → view_len v ≤ 12 → row_bytes buffers v ≡ take (view_len v) (drop 4 v)
@@ -41,12 +42,16 @@ length-behind buffers v good = simp length-drop (omega (arith, good.view.size))
 zeros_behind : (v : List ℕ) → AllZero (drop (4 + view_len v) v) → AllZero (drop (view_len v) (drop 4 v))
 zeros_behind v zeros = rw drop-drop zeros
 
+-- the bytes of a short row, with zeros behind them
+pub inlined_tail : (v : List ℕ) → IsView v → view_len v ≤ 12 → AllZero (drop (4 + view_len v) v) → drop 4 v ≡ padded 12 (take (view_len v) (drop 4 v))
+inlined_tail v view short zeros =
+    let size : length (drop 4 v) ≡ 12 = simp length-drop (omega (arith, view.size)) in
+    sym (rw size at (take-length (drop 4 v))) ∙ padded_zeros 12 (view_len v) (drop 4 v) (omega arith) (zeros_behind v zeros)
+
 -- a short view is its row with zeros behind it
 pub short_tail : (buffers : List (List ℕ)) (v : List ℕ) → GoodView buffers v → view_len v ≤ 12 → drop 4 v ≡ padded 12 (row_bytes buffers v)
 short_tail buffers v good short =
-    let size = length-behind buffers v good in
-    let zeros = zeros_behind v (good.short short) in
-    rw (short_row buffers v short) (sym (rw size at (take-length (drop 4 v))) ∙ padded_zeros 12 (view_len v) (drop 4 v) (omega arith) zeros)
+    inlined_tail v good.view short (good.short short) ∙ ap (padded 12) (sym (short_row buffers v short))
 
 -- the prefix is the row's first four bytes, with zeros where there are fewer
 pub prefix_is : (buffers : List (List ℕ)) (v : List ℕ) → GoodView buffers v → view_prefix v ≡ padded 4 (row_bytes buffers v)
@@ -99,14 +104,14 @@ short_view_len : (row : List ℕ) → length row ≤ 12 → view_len (short_view
 unfolding view_len
 short_view_len row short = omega arith
 
-short_view_bytes : (row : List ℕ) → length row ≤ 12 → Bytes row → Bytes (short_view row)
+short_view_bytes : (row : List ℕ) → length row ≤ 12 → AreBytes row → AreBytes (short_view row)
 short_view_bytes row short bytes zero = omega arith
 short_view_bytes row short bytes (suc zero) = omega arith
 short_view_bytes row short bytes (suc (suc zero)) = omega arith
 short_view_bytes row short bytes (suc (suc (suc zero))) = omega arith
 short_view_bytes row short bytes (suc (suc (suc (suc k)))) = bytes_padded 12 row bytes k
 
-pub good_short : (buffers : List (List ℕ)) (row : List ℕ) → length row ≤ 12 → Bytes row → GoodView buffers (short_view row)
+pub good_short : (buffers : List (List ℕ)) (row : List ℕ) → length row ≤ 12 → AreBytes row → GoodView buffers (short_view row)
 good_short buffers row short bytes =
     let len = short_view_len row short in
     record {

@@ -1,36 +1,40 @@
 -- What prefixes tell of the order of rows.
-use Rattle.std.proofs.Common.{◌≡◌, ◌≢◌, ◌≤◌, ◌<◌, ◌⊎◌, inl, inr, max, ℕ, Bool, true, false, cond, nat_lt, List, length, drop, Some, refl, sym, subst, ap, ◌∙◌, arith}
-use Rattle.std.specs.Cmp.Lexicographic.{slice_cmp, slice_partial_cmp, lists_agrees}
+use Rattle.std.proofs.Common.{◌≡◌, ◌≢◌, ◌≤◌, ◌<◌, ◌+◌, ◌⊎◌, ◌||◌, ◌&&◌, inl, inr, max, ℕ, Bool, true, false, cond, nat_lt, List, length, take, drop, refl, sym, subst, ap, ◌∙◌, arith}
+use Rattle.std.specs.Cmp.Lexicographic.{slice_cmp}
 use Rattle.std.specs.Bool.{Decides}
-use Rattle.std.specs.Int.{w32, from_be_bytes}
-use Rattle.std.specs.Ordering.{nat_cmp, is_lt, is_eq, is_some_and}
+use Rattle.std.specs.Int.{w32, w64, from_be_bytes}
+use Rattle.std.specs.Ordering.{nat_cmp, is_lt, is_eq, ordering_then}
+use Rattle.std.specs.declared.cmp.Ordering.{Ordering}
 use Rattle.std.specs.declared.cmp.Ordering.TheVariants.{Less, Equal, Greater}
 use Rattle.std.proofs.lemmas.Bool.{cases_lt}
 use Rattle.std.proofs.lemmas.Bool.Decides.{Decides-and, Decides-or, Decides-ltb}
+use Rattle.std.proofs.lemmas.List.{drop-drop, length-drop, length-take}
 use Rattle.std.proofs.lemmas.Map.Text.{is_eq-slice_cmp}
 use Rattle.std.proofs.lemmas.Slice.Eq.{bytes_eq-Decides}
-use Rattle.polars_arrays_views.specs.Views.{GoodView, view_prefix, row_bytes, padded, bytes_lt, followed_lt}
+use Rattle.polars_arrays_flat.specs.ByteOrder.{bytes_lt}
+use Rattle.polars_arrays_flat.specs.ByteOrderLaws.{AreBytes, bytes_drop, bytes_take, eight_decide, equal_from, four_decide, overlap}
+use Rattle.polars_arrays_views.specs.Views.{AllZero, GoodView, HoldsScalar, IsView, view_len, view_prefix, row_bytes, padded, followed_lt}
 use Rattle.polars_arrays_views.proofs.EqualRows.{decided_false}
-use Rattle.polars_arrays_views.proofs.GoodViews.{prefix_is}
-use Rattle.polars_arrays_views.proofs.Padding.{length-padded, padded_decides}
-use Rattle.polars_arrays_views.proofs.Words.{Bytes, bytes_padded, bytes_take, bytes_drop, be_decides, equal_from}
+use Rattle.polars_arrays_views.proofs.GoodViews.{inlined_tail, prefix_is}
+use Rattle.polars_arrays_views.proofs.Padding.{filled_decide, length-padded, padded_decides}
+use Rattle.polars_arrays_views.proofs.Words.{bytes_padded}
 
 -- p is the number that the first four bytes of a row spell, the first being the greatest
 pub record IsPrefix (p : ℕ) (row : List ℕ) : Type 0 where
   pub number : p ≡ from_be_bytes w32 (padded 4 row)
-  pub bytes : Bytes (padded 4 row)
+  pub bytes : AreBytes (padded 4 row)
 
 pub prefix_of_view : (buffers : List (List ℕ)) (v row : List ℕ) (p : ℕ) → GoodView buffers v → row_bytes buffers v ≡ row → p ≡ from_be_bytes w32 (view_prefix v) → IsPrefix p row
 prefix_of_view buffers v row p good is_row number =
     let same : view_prefix v ≡ padded 4 row = prefix_is buffers v good ∙ ap (padded 4) is_row in
     record {
       number = number ∙ ap (from_be_bytes w32) same;
-      bytes = subst Bytes same (bytes_take 4 (drop 4 v) (bytes_drop 4 v good.view.bytes));
+      bytes = subst AreBytes same (bytes_take 4 (drop 4 v) (bytes_drop 4 v good.view.bytes));
     }
 
-pub prefix_of_bytes : (row : List ℕ) (p : ℕ) → Bytes row → p ≡ from_be_bytes w32 (padded 4 row) → IsPrefix p row
-prefix_of_bytes row p bytes number =
-    record { number = number; bytes = bytes_padded 4 row bytes }
+pub prefix_of_scalar : (v row : List ℕ) (p : ℕ) → HoldsScalar v row → p ≡ from_be_bytes w32 (view_prefix v) → IsPrefix p row
+prefix_of_scalar v row p holds number =
+    record { number = number ∙ ap (from_be_bytes w32) holds.prefix; bytes = bytes_padded 4 row holds.bytes }
 
 test_of_cmp : (b c : Bool) → b ≡ is_lt (cond b Less (cond c Equal Greater))
 test_of_cmp true c = refl
@@ -46,7 +50,7 @@ module _ (p q : ℕ) (xs ys : List ℕ) (first : IsPrefix p xs) (second : IsPref
   numbers : nat_cmp p q ≡ slice_cmp nat_cmp (padded 4 xs) (padded 4 ys)
   numbers =
       (λ i. nat_cmp (first.number i) (second.number i))
-      ∙ be_decides (padded 4 xs) (padded 4 ys) (length-padded 4 xs) (length-padded 4 ys) first.bytes second.bytes
+      ∙ four_decide (padded 4 xs) (padded 4 ys) (length-padded 4 xs) (length-padded 4 ys) first.bytes second.bytes
 
   filled_differ : p ≢ q → padded 4 xs ≢ padded 4 ys
   filled_differ differ same = differ (first.number ∙ ap (from_be_bytes w32) same ∙ sym second.number)
@@ -75,7 +79,40 @@ pub not_followed-both_short : (xs ys : List ℕ) → max (length xs) (length ys)
 not_followed-both_short xs ys short =
     decided_false _ (Decides-followed_lt xs ys) (λ followed. elim followed.1 [ inl h ↦ omega arith | inr h ↦ omega arith ])
 
--- what `<` says of two byte strings
-pub less_is : (xs ys : List ℕ) → is_some_and is_lt (slice_partial_cmp (λ x y. Some (nat_cmp x y)) xs ys) ≡ bytes_lt xs ys
-less_is xs ys =
-    ap (is_some_and is_lt) (lists_agrees {R = nat_cmp} {C = λ x y. Some (nat_cmp x y)} (λ x y. refl) xs ys)
+either_part : (o e u : Ordering) → ordering_then (ordering_then o e) u ≡ ordering_then o (ordering_then e u)
+either_part Less e u = refl
+either_part Equal e u = refl
+either_part Greater e u = refl
+
+-- less by first numbers, or where these are equal by what follows
+pub either_less : (less same rest : Bool) (o : Ordering) → rest ≡ is_lt o → (less || (same && rest)) ≡ is_lt (ordering_then (cond less Less (cond same Equal Greater)) o)
+either_less true same rest o e = refl
+either_less false true rest o e = e
+either_less false false rest o e = refl
+
+-- two views that hold their rows, and the numbers in them
+module _ (v w : List ℕ) (view : IsView v) (view_too : IsView w) (short : view_len v ≤ 12) (short_too : view_len w ≤ 12) (zeros : AllZero (drop (4 + view_len v) v)) (zeros_too : AllZero (drop (4 + view_len w) w)) where
+  size_of : (u : List ℕ) → IsView u → view_len u ≤ 12 → length (take (view_len u) (drop 4 u)) ≡ view_len u
+  size_of u good small = simp (length-take, length-drop) (omega (arith, good.size))
+
+  prefixes_cmp : nat_cmp (from_be_bytes w32 (view_prefix v)) (from_be_bytes w32 (view_prefix w)) ≡ slice_cmp nat_cmp (view_prefix v) (view_prefix w)
+  prefixes_cmp =
+      four_decide (view_prefix v) (view_prefix w) (simp (length-take, length-drop) (omega (arith, view.size))) (simp (length-take, length-drop) (omega (arith, view_too.size)))
+      (bytes_take 4 (drop 4 v) (bytes_drop 4 v view.bytes)) (bytes_take 4 (drop 4 w) (bytes_drop 4 w view_too.bytes))
+
+  rests_cmp : nat_cmp (from_be_bytes w64 (drop 8 v)) (from_be_bytes w64 (drop 8 w)) ≡ slice_cmp nat_cmp (drop 4 (drop 4 v)) (drop 4 (drop 4 w))
+  rests_cmp =
+      eight_decide (drop 8 v) (drop 8 w) (simp length-drop (omega (arith, view.size))) (simp length-drop (omega (arith, view_too.size)))
+      (bytes_drop 8 v view.bytes) (bytes_drop 8 w view_too.bytes)
+      ∙ (λ i. slice_cmp nat_cmp (sym (drop-drop 4 4 v) i) (sym (drop-drop 4 4 w) i))
+
+  -- the prefixes decide, or else the bytes behind them, or else the lengths
+  pub inlined_decide : slice_cmp nat_cmp (take (view_len v) (drop 4 v)) (take (view_len w) (drop 4 w))
+      ≡ ordering_then (nat_cmp (from_be_bytes w32 (view_prefix v)) (from_be_bytes w32 (view_prefix w))) (ordering_then (nat_cmp (from_be_bytes w64 (drop 8 v)) (from_be_bytes w64 (drop 8 w))) (nat_cmp (view_len v) (view_len w)))
+  inlined_decide =
+      let first = size_of v view short in
+      let second = size_of w view_too short_too in
+      filled_decide 12 (take (view_len v) (drop 4 v)) (take (view_len w) (drop 4 w)) (omega arith) (omega arith)
+      ∙ (λ i. ordering_then (slice_cmp nat_cmp (sym (inlined_tail v view short zeros) i) (sym (inlined_tail w view_too short_too zeros_too) i)) (nat_cmp (first i) (second i)))
+      ∙ ap (λ (o : Ordering). ordering_then o (nat_cmp (view_len v) (view_len w))) (overlap 4 4 (drop 4 v) (drop 4 w) (omega arith) ∙ (λ i. ordering_then (sym prefixes_cmp i) (sym rests_cmp i)))
+      ∙ either_part (nat_cmp (from_be_bytes w32 (view_prefix v)) (from_be_bytes w32 (view_prefix w))) (nat_cmp (from_be_bytes w64 (drop 8 v)) (from_be_bytes w64 (drop 8 w))) (nat_cmp (view_len v) (view_len w))

@@ -1,10 +1,11 @@
 -- Lists cut or filled up with zeros, and how they compare.
 use Rattle.std.proofs.Common.{◌≡◌, ◌≢◌, ◌≤◌, ◌-◌, ℕ, zero, suc, List, [], ◌∷◌, ◌++◌, length, take, drop, replicate, get_or, refl, sym, ap, ◌∙◌, arith}
 use Rattle.std.specs.Cmp.Lexicographic.{slice_cmp}
-use Rattle.std.specs.Ordering.{nat_cmp}
+use Rattle.std.specs.Ordering.{nat_cmp, ordering_then}
 use Rattle.std.specs.declared.cmp.Ordering.TheVariants.{Less, Greater}
 use Rattle.std.proofs.lemmas.Cmp.{ranked, by_ranked}
 use Rattle.std.proofs.lemmas.List.{drop-replicate}
+use Rattle.polars_arrays_flat.specs.ByteOrderLaws.{cmp_suc, greater_from, less_from}
 use Rattle.polars_arrays_views.specs.Views.{padded, AllZero}
 
 -- a list with zeros from k on is its first k elements, filled up
@@ -61,6 +62,45 @@ padded_decides (suc n) (x ∷ xs) (y ∷ ys) differ =
     by_ranked _ _ _ (nat_cmp x y) (ranked x y _ refl)
     (λ e p. rw e refl)
     (λ e p. rw e (padded_decides n xs ys (λ same. differ cc)))
+    (λ e p. rw e refl)
+
+-- filled up, an empty list is not greater
+empty_first : (n : ℕ) (ys : List ℕ) → ordering_then (slice_cmp nat_cmp (padded n []) (padded n ys)) Less ≡ Less
+empty_first zero ys = refl
+empty_first (suc n) [] = empty_first n []
+empty_first (suc n) (y ∷ ys) =
+    by_ranked _ _ _ (nat_cmp 0 y) (ranked 0 y _ refl)
+    (λ e p. rw e refl)
+    (λ e p. rw e (empty_first n ys))
+    (λ e p. absurd (omega arith))
+
+empty_last : (n : ℕ) (xs : List ℕ) → ordering_then (slice_cmp nat_cmp (padded n xs) (padded n [])) Greater ≡ Greater
+empty_last zero xs = refl
+empty_last (suc n) [] = empty_last n []
+empty_last (suc n) (x ∷ xs) =
+    by_ranked _ _ _ (nat_cmp x 0) (ranked x 0 _ refl)
+    (λ e p. absurd (omega arith))
+    (λ e p. rw e (empty_last n xs))
+    (λ e p. rw e refl)
+
+-- byte strings of at most n bytes compare as they do filled up, or else by their lengths
+pub filled_decide : (n : ℕ) (xs ys : List ℕ) → length xs ≤ n → length ys ≤ n → slice_cmp nat_cmp xs ys ≡ ordering_then (slice_cmp nat_cmp (padded n xs) (padded n ys)) (nat_cmp (length xs) (length ys))
+filled_decide zero [] [] first second = refl
+filled_decide zero [] (y ∷ ys) first second = absurd (omega arith)
+filled_decide zero (x ∷ xs) ys first second = absurd (omega arith)
+filled_decide (suc n) [] [] first second = filled_decide n [] [] (omega arith) (omega arith)
+filled_decide (suc n) [] (y ∷ ys) first second =
+    sym
+    (ap (ordering_then (slice_cmp nat_cmp (padded (suc n) []) (padded (suc n) (y ∷ ys)))) (less_from 0 (suc (length ys)) (omega arith))
+    ∙ empty_first (suc n) (y ∷ ys))
+filled_decide (suc n) (x ∷ xs) [] first second =
+    sym
+    (ap (ordering_then (slice_cmp nat_cmp (padded (suc n) (x ∷ xs)) (padded (suc n) []))) (greater_from (suc (length xs)) 0 (omega arith))
+    ∙ empty_last (suc n) (x ∷ xs))
+filled_decide (suc n) (x ∷ xs) (y ∷ ys) first second =
+    by_ranked _ _ _ (nat_cmp x y) (ranked x y _ refl)
+    (λ e p. rw e refl)
+    (λ e p. rw e (filled_decide n xs ys (omega arith) (omega arith) ∙ ap (ordering_then (slice_cmp nat_cmp (padded n xs) (padded n ys))) (cmp_suc (length xs) (length ys))))
     (λ e p. rw e refl)
 
 -- what four reads give, at 0 past the end

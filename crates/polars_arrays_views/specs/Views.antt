@@ -1,8 +1,7 @@
 -- What the sixteen bytes of a view say, and the row that they stand for (the Arrow layout). All numbers in a view are little endian.
 use Rattle.std.specs.Prelude.{◌≡◌, ◌≤◌, ◌<◌, ◌+◌, ◌*◌, ◌&&◌, ◌||◌, ℕ, zero, suc, Bool, List, [], ◌∷◌, if◌then◌else◌, nat_le, nat_lt, nat_eq, length, take, drop, slice_index, slice_index_or, EachIndex}
 use Rattle.std.specs.Str.{bytes_eq}
-use Rattle.std.specs.Cmp.Lexicographic.{slice_cmp}
-use Rattle.std.specs.Ordering.{nat_cmp, is_lt}
+use Rattle.polars_arrays_flat.specs.ByteOrderLaws.{AreBytes}
 
 -- sixteen bytes
 pub record IsView (v : List ℕ) : Type 0 where
@@ -65,9 +64,12 @@ padded (suc n) (x ∷ xs) = x ∷ padded n xs
 abbrev pub short_view : List ℕ → List ℕ
 short_view xs = length xs ∷ 0 ∷ 0 ∷ 0 ∷ padded 12 xs
 
--- the first byte string is less: at the first place where the two differ, or as a proper beginning
-abbrev pub bytes_lt : List ℕ → List ℕ → Bool
-bytes_lt xs ys = is_lt (slice_cmp nat_cmp xs ys)
+-- a view that has the prefix of a byte string, and the whole of it where it has at most 12 bytes
+pub record HoldsScalar (v xs : List ℕ) : Type 0 where
+  pub bytes : AreBytes xs
+  pub prefix : view_prefix v ≡ padded 4 xs
+  pub good : length xs ≤ 12 → GoodView [] v
+  pub row : length xs ≤ 12 → row_bytes [] v ≡ xs
 
 -- whether equality of two rows is looked up in buffers (our own choice): the lengths are equal and above 12, and the first four bytes agree
 abbrev pub followed_eq : List ℕ → List ℕ → Bool

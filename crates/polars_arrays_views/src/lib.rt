@@ -4,6 +4,7 @@
 
 pub mod binary_view;
 pub mod rows;
+pub mod scalar;
 #[cfg(test)]
 mod tests;
 pub mod text_view;

@@ -2,11 +2,13 @@
 
 ghost use Rattle.std.specs.Prelude.{◌≡◌, ◌<◌, ◌+◌, [], if◌then◌else◌, length, slice_index_or};
 ghost use Rattle.std.specs.Str.{bytes_eq};
+ghost use Rattle.polars_arrays_flat.specs.ByteOrder.{bytes_lt};
 ghost use Rattle.polars_arrays_views.specs.Parts.{view_strings};
-ghost use Rattle.polars_arrays_views.specs.Views.{bytes_lt, followed_eq, followed_lt};
+ghost use Rattle.polars_arrays_views.specs.Views.{followed_eq, followed_lt};
 
 use crate::binary_view::BinaryViewArray;
-use crate::view::load_prefix;
+use crate::scalar::ScalarRow;
+use polars_arrays_flat::byte_order::bytes_less;
 use polars_arrays_numbers::steps::Steps;
 
 /// Whether row `i` of one array and row `j` of another have the same bytes. A pair that is looked up in
@@ -54,56 +56,71 @@ pub fn row_less(
 {
     let v = left.view(i);
     let w = right.view(j);
+    if v.len().max(w.len()) <= 12 {
+        return v.inlined_less(w);
+    }
     let (p, q) = (v.prefix(), w.prefix());
     if p != q {
         return p < q;
     }
-    if v.len().max(w.len()) > 12 {
-        steps.add(1);
-    }
-    left.value(i) < right.value(j)
+    steps.add(1);
+    bytes_less(left.value(i), right.value(j))
 }
 
 /// Whether row `i` has the bytes of `scalar`.
 #[inline]
-pub fn row_equals_bytes(left: &BinaryViewArray, i: usize, scalar: &[u8]) -> bool
+pub fn row_equals_bytes(left: &BinaryViewArray, i: usize, scalar: &ScalarRow) -> bool
     requires { i < length left.now.views }
     ensures { result ≡ bytes_eq (slice_index_or (view_strings left.now) i []) scalar.now }
 {
     let v = left.view(i);
-    if v.len() != scalar.len() {
+    let w = scalar.view();
+    let size = scalar.len();
+    // one way for all rows
+    if size <= 12 {
+        return w.same_head(v) & w.same_tail(v);
+    }
+    if v.len() != size {
         return false;
     }
-    if v.prefix() != load_prefix(scalar) {
+    if v.prefix() != w.prefix() {
         return false;
     }
-    left.value(i) == scalar
+    left.value(i) == scalar.bytes()
 }
 
 /// Whether row `i` is less than `scalar`, byte by byte.
 #[inline]
-pub fn row_less_bytes(left: &BinaryViewArray, i: usize, scalar: &[u8]) -> bool
+pub fn row_less_bytes(left: &BinaryViewArray, i: usize, scalar: &ScalarRow) -> bool
     requires { i < length left.now.views }
     ensures { result ≡ bytes_lt (slice_index_or (view_strings left.now) i []) scalar.now }
 {
-    let p = left.view(i).prefix();
-    let q = load_prefix(scalar);
+    let v = left.view(i);
+    let w = scalar.view();
+    let (p, q) = (v.prefix(), w.prefix());
     if p != q {
         return p < q;
     }
-    left.value(i) < scalar
+    if v.len().max(scalar.len()) <= 12 {
+        return v.inlined_less(w);
+    }
+    bytes_less(left.value(i), scalar.bytes())
 }
 
 /// Whether `scalar` is less than row `j`, byte by byte.
 #[inline]
-pub fn bytes_less_row(scalar: &[u8], right: &BinaryViewArray, j: usize) -> bool
+pub fn bytes_less_row(scalar: &ScalarRow, right: &BinaryViewArray, j: usize) -> bool
     requires { j < length right.now.views }
     ensures { result ≡ bytes_lt scalar.now (slice_index_or (view_strings right.now) j []) }
 {
-    let p = load_prefix(scalar);
-    let q = right.view(j).prefix();
+    let v = scalar.view();
+    let w = right.view(j);
+    let (p, q) = (v.prefix(), w.prefix());
     if p != q {
         return p < q;
     }
-    scalar < right.value(j)
+    if scalar.len().max(w.len()) <= 12 {
+        return v.inlined_less(w);
+    }
+    bytes_less(scalar.bytes(), right.value(j))
 }

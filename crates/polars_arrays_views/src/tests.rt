@@ -2,8 +2,9 @@
 
 use crate::binary_view::BinaryViewArray;
 use crate::rows::{bytes_less_row, row_equals_bytes, row_less, row_less_bytes, rows_equal};
+use crate::scalar::ScalarRow;
 use crate::text_view::Utf8ViewArray;
-use crate::view::{View, load_prefix};
+use crate::view::View;
 use polars_arrays_bits::bitmap::Bitmap;
 use polars_arrays_bits::buffer::Buffer;
 use polars_arrays_bits::error::ArrayError;
@@ -110,10 +111,11 @@ fn beside(array: &BinaryViewArray, bytes: &[u8]) -> (bool, bool, bool) {
     if array.views().len() == 0 {
         return (false, false, false);
     }
+    let scalar = ScalarRow::new(bytes);
     (
-        row_equals_bytes(array, 0, bytes),
-        row_less_bytes(array, 0, bytes),
-        bytes_less_row(bytes, array, 0),
+        row_equals_bytes(array, 0, &scalar),
+        row_less_bytes(array, 0, &scalar),
+        bytes_less_row(&scalar, array, 0),
     )
 }
 
@@ -121,7 +123,6 @@ fn beside(array: &BinaryViewArray, bytes: &[u8]) -> (bool, bool, bool) {
 fn rows_beside_bytes(rt: HostRuntime) -> Result<(), Fail> {
     let abcde = View::of_short(b"abcde");
     assert!(rt; abcde.as_u128() == 0x65_64636261_00000005);
-    assert!(rt; load_prefix(b"ba") == 0x62610000);
     let twelve: [(&[u8], (bool, bool, bool)); 4] = [
         (b"abcdefghijkl", (true, false, false)),
         (b"abcdefghijklm", (false, true, false)),

@@ -1,11 +1,13 @@
 //! Views: sixteen bytes that are a row's length and bytes, or say where its bytes lie.
 
-ghost use Rattle.std.specs.Prelude.{◌≡◌, ◌≤◌, ◌<◌, ◌+◌, ◌↔◌, ℕ, List, IsTrue, length, take, drop, slice_index};
+ghost use Rattle.std.specs.Prelude.{◌≡◌, ◌≤◌, ◌<◌, ◌+◌, ◌↔◌, ℕ, List, IsTrue, length, take, drop};
 ghost use Rattle.std.specs.Int.{w32, w64, w128, from_le_bytes, from_be_bytes};
+ghost use Rattle.polars_arrays_flat.specs.ByteOrder.{bytes_lt};
 ghost use Rattle.polars_arrays_views.specs.Parts.{contents};
-ghost use Rattle.polars_arrays_views.specs.Views.{padded, short_view, IsView, GoodView, InBuffer, AllZero, buffer_at, row_bytes, view_len, view_buffer, view_offset, view_prefix};
+ghost use Rattle.polars_arrays_views.specs.Views.{short_view, IsView, GoodView, InBuffer, AllZero, buffer_at, row_bytes, view_len, view_buffer, view_offset, view_prefix};
 
 use polars_arrays_bits::buffer::Buffer;
+use polars_arrays_flat::byte_order::pair_less;
 use std::marker::Model;
 
 /// Any sixteen bytes. As a view of a row they are its length in four bytes, then up to 12 bytes of the row
@@ -160,6 +162,30 @@ impl View {
         u32::from_be_bytes([b[4], b[5], b[6], b[7]])
     }
 
+    /// Whether the row is less than another one, where both have at most 12 bytes and zeros behind them.
+    #[inline(always)]
+    pub fn inlined_less(&self, other: &View) -> bool
+        requires short { view_len self.now ≤ 12 }
+        requires other_short { view_len other.now ≤ 12 }
+        requires zeros { AllZero (drop (4 + view_len self.now) self.now) }
+        requires other_zeros { AllZero (drop (4 + view_len other.now) other.now) }
+        ensures { result ≡ bytes_lt (take (view_len self.now) (drop 4 self.now)) (take (view_len other.now) (drop 4 other.now)) }
+    {
+        let (p, q) = (self.prefix(), other.prefix());
+        let (s, t) = (self.rest(), other.rest());
+        // no branch hangs on the bytes
+        (p < q) | ((p == q) & pair_less(s, t, self.len(), other.len()))
+    }
+
+    // The last eight bytes as a number, the first of them being the greatest.
+    #[inline(always)]
+    fn rest(&self) -> u64
+        ensures { result ≡ from_be_bytes w64 (drop 8 self.now) }
+    {
+        let b = &self.bytes;
+        u64::from_be_bytes([b[8], b[9], b[10], b[11], b[12], b[13], b[14], b[15]])
+    }
+
     // The first eight bytes as a number.
     #[inline]
     fn head(&self) -> u64
@@ -186,25 +212,4 @@ fn is_zero(bytes: &[u8]) -> bool
     ensures { IsTrue result ↔ AllZero bytes.now }
 {
     bytes.iter().all(|b| *b == 0)
-}
-
-/// The first four bytes as a number, the first being the greatest, and zeros standing where there are fewer.
-#[inline]
-pub fn load_prefix(bytes: &[u8]) -> u32
-    ensures { result ≡ from_be_bytes w32 (padded 4 bytes.now) }
-{
-    u32::from_be_bytes([
-        byte_or_zero(bytes, 0),
-        byte_or_zero(bytes, 1),
-        byte_or_zero(bytes, 2),
-        byte_or_zero(bytes, 3),
-    ])
-}
-
-// The byte at place i, or 0 past the end.
-#[inline]
-fn byte_or_zero(bytes: &[u8], i: usize) -> u8
-    ensures { result ≡ slice_index bytes.now i }
-{
-    if i < bytes.len() { bytes[i] } else { 0 }
 }

@@ -1,7 +1,5 @@
 -- Tests of byte strings, as tests of the rows that they stand for.
-use Rattle.std.proofs.Common.{◌≡◌, ◌∙◌, ◌+◌, ◌<◌, ◌≤◌, ℕ, Bool, false, List, [], Some, refl, sym, get_or, length, map, take, drop, ap, ap₂, arith, is_lt, nat_cmp}
-use Rattle.std.specs.Cmp.Lexicographic.{slice_cmp, slice_partial_cmp, lists_agrees}
-use Rattle.std.specs.Ordering.{is_some_and}
+use Rattle.std.proofs.Common.{◌≡◌, ◌∙◌, ◌+◌, ◌<◌, ◌≤◌, ℕ, Bool, false, List, [], sym, get_or, length, map, take, drop, ap, ap₂, arith}
 use Rattle.std.proofs.lemmas.List.{get_or-map, get_or-take, get_or-drop, length-map, length-take, length-drop}
 use Rattle.std.proofs.lemmas.Simd.{get_or-zip2}
 use Rattle.std.specs.Simd.Lanes.{zip2}
@@ -9,10 +7,6 @@ use Rattle.polars_arrays_flat.specs.Row.{Row, Bytes}
 use Rattle.polars_arrays_flat.specs.StoredRows.{byte_slots}
 use Rattle.polars_arrays_flat.specs.Validity.{window}
 use Rattle.polars_compare_leaves.proofs.JoinedBits.{length-zip2}
-
--- what `<` says of two byte strings
-pub less-is : (xs ys : List ℕ) → is_some_and is_lt (slice_partial_cmp (λ x y. Some (nat_cmp x y)) xs ys) ≡ is_lt (slice_cmp nat_cmp xs ys)
-less-is xs ys = ap (is_some_and is_lt) (lists_agrees {R = nat_cmp} {C = λ x y. Some (nat_cmp x y)} (λ x y. refl) xs ys)
 
 -- the test of the row at one place
 pub against-at : (test : Row → Bool) (xs : List (List ℕ)) (i : ℕ) → i < length xs → get_or (map test (byte_slots xs)) i false ≡ test (Bytes (get_or xs i []))

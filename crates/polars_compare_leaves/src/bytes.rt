@@ -13,6 +13,7 @@ use polars_arrays_bits::bitmap::Bitmap;
 use polars_arrays_bits::error::ComputeError;
 use polars_arrays_bits::packing::TruthValues;
 use polars_arrays_flat::byte_equality::bytes_equal;
+use polars_arrays_flat::byte_order::bytes_less;
 use polars_arrays_flat::byte_rows::ByteRows;
 use polars_arrays_numbers::element_test::{
     Equal, Greater, GreaterOrEqual, Less, LessOrEqual, Unequal,
@@ -70,7 +71,7 @@ impl ByteTest for Less {
 
     #[inline(always)]
     fn test(&self, left: &[u8], right: &[u8]) -> bool {
-        left < right
+        bytes_less(left, right)
     }
 }
 
@@ -79,7 +80,7 @@ impl ByteTest for LessOrEqual {
 
     #[inline(always)]
     fn test(&self, left: &[u8], right: &[u8]) -> bool {
-        !(right < left)
+        !bytes_less(right, left)
     }
 }
 
@@ -88,7 +89,7 @@ impl ByteTest for Greater {
 
     #[inline(always)]
     fn test(&self, left: &[u8], right: &[u8]) -> bool {
-        right < left
+        bytes_less(right, left)
     }
 }
 
@@ -97,7 +98,7 @@ impl ByteTest for GreaterOrEqual {
 
     #[inline(always)]
     fn test(&self, left: &[u8], right: &[u8]) -> bool {
-        !(left < right)
+        !bytes_less(left, right)
     }
 }
 

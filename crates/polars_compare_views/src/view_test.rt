@@ -15,6 +15,7 @@ use polars_arrays_views::binary_view::BinaryViewArray;
 use polars_arrays_views::rows::{
     bytes_less_row, row_equals_bytes, row_less, row_less_bytes, rows_equal,
 };
+use polars_arrays_views::scalar::ScalarRow;
 
 /// A test of two byte strings that are kept by views, which is a test of their rows.
 pub trait ViewTest {
@@ -40,7 +41,7 @@ pub trait ViewTest {
         ensures counted { steps.new ≡ steps.old + (if follows (slice_index_or (view_strings left.now) i []) (slice_index_or (view_strings right.now) j []) then 1 else 0) };
 
     /// Whether row `i` passes with a byte string, masked or not.
-    fn test_bytes(&self, left: &BinaryViewArray, i: usize, right: &[u8]) -> bool
+    fn test_bytes(&self, left: &BinaryViewArray, i: usize, right: &ScalarRow) -> bool
         requires { i < length left.now.views }
         ensures { result ≡ rows (Bytes (slice_index_or (view_strings left.now) i [])) (Bytes right.now) };
 }
@@ -63,7 +64,7 @@ impl ViewTest for Equal {
     }
 
     #[inline(always)]
-    fn test_bytes(&self, left: &BinaryViewArray, i: usize, right: &[u8]) -> bool {
+    fn test_bytes(&self, left: &BinaryViewArray, i: usize, right: &ScalarRow) -> bool {
         row_equals_bytes(left, i, right)
     }
 }
@@ -86,7 +87,7 @@ impl ViewTest for Unequal {
     }
 
     #[inline(always)]
-    fn test_bytes(&self, left: &BinaryViewArray, i: usize, right: &[u8]) -> bool {
+    fn test_bytes(&self, left: &BinaryViewArray, i: usize, right: &ScalarRow) -> bool {
         !row_equals_bytes(left, i, right)
     }
 }
@@ -109,7 +110,7 @@ impl ViewTest for Less {
     }
 
     #[inline(always)]
-    fn test_bytes(&self, left: &BinaryViewArray, i: usize, right: &[u8]) -> bool {
+    fn test_bytes(&self, left: &BinaryViewArray, i: usize, right: &ScalarRow) -> bool {
         row_less_bytes(left, i, right)
     }
 }
@@ -132,7 +133,7 @@ impl ViewTest for LessOrEqual {
     }
 
     #[inline(always)]
-    fn test_bytes(&self, left: &BinaryViewArray, i: usize, right: &[u8]) -> bool {
+    fn test_bytes(&self, left: &BinaryViewArray, i: usize, right: &ScalarRow) -> bool {
         !bytes_less_row(right, left, i)
     }
 }
@@ -155,7 +156,7 @@ impl ViewTest for Greater {
     }
 
     #[inline(always)]
-    fn test_bytes(&self, left: &BinaryViewArray, i: usize, right: &[u8]) -> bool {
+    fn test_bytes(&self, left: &BinaryViewArray, i: usize, right: &ScalarRow) -> bool {
         bytes_less_row(right, left, i)
     }
 }
@@ -178,7 +179,7 @@ impl ViewTest for GreaterOrEqual {
     }
 
     #[inline(always)]
-    fn test_bytes(&self, left: &BinaryViewArray, i: usize, right: &[u8]) -> bool {
+    fn test_bytes(&self, left: &BinaryViewArray, i: usize, right: &ScalarRow) -> bool {
         !row_less_bytes(left, i, right)
     }
 }

@@ -17,6 +17,7 @@ use polars_arrays_bits::packing::TruthValues;
 use polars_arrays_flat::array::Array;
 use polars_arrays_numbers::steps::Steps;
 use polars_arrays_views::binary_view::BinaryViewArray;
+use polars_arrays_views::scalar::ScalarRow;
 use std::alloc::Global;
 
 // A test of `n` rows from row `a` on and of as many from row `b` on, place by place.
@@ -89,11 +90,11 @@ pub fn test_view_windows<E: ViewTest>(
 struct ViewsAgainst<'a, E> {
     test: &'a E,
     left: &'a BinaryViewArray,
-    right: &'a [u8],
+    right: ScalarRow<'a>,
 }
 
 impl<'a, E: ViewTest> TruthValues for ViewsAgainst<'a, E> {
-    ghost values = { λ a. map (λ row. E.rows row (Bytes a.right.now)) (byte_slots (view_strings a.left.now)) };
+    ghost values = { λ a. map (λ row. E.rows row (Bytes a.right)) (byte_slots (view_strings a.left.now)) };
 
     #[inline(always)]
     fn len(&self) -> usize {
@@ -102,7 +103,7 @@ impl<'a, E: ViewTest> TruthValues for ViewsAgainst<'a, E> {
 
     #[inline(always)]
     fn value(&self, i: usize) -> bool {
-        self.test.test_bytes(self.left, i, self.right)
+        self.test.test_bytes(self.left, i, &self.right)
     }
 
     #[inline(always)]
@@ -121,5 +122,6 @@ pub fn test_view_bytes<E: ViewTest>(
     ensures { MatchResult result (λ bits. bits ≡ map (λ row. E.rows row (Bytes right.now))
         (byte_slots (view_strings left.now))) IsMemory }
 {
+    let right = ScalarRow::new(right);
     Bitmap::from_values(alloc, &ViewsAgainst { test, left, right })
 }

@@ -1,6 +1,7 @@
 use Rattle.std.proofs.Common.{take, arith}
 use Rattle.std.proofs.lemmas.List.{length-take}
-use Rattle.polars_arrays_views.proofs.Words.{same_word, bytes_take}
+use Rattle.polars_arrays_flat.specs.ByteOrderLaws.{bytes_take}
+use Rattle.polars_arrays_views.proofs.Words.{same_word}
 use Rattle.polars_arrays_views.proofs.view.View.same_head.Goals as goal
 
 pub returns : goal.returns

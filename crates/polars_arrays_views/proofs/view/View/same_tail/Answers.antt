@@ -1,6 +1,7 @@
 use Rattle.std.proofs.Common.{drop, arith}
 use Rattle.std.proofs.lemmas.List.{length-drop}
-use Rattle.polars_arrays_views.proofs.Words.{same_word, bytes_drop}
+use Rattle.polars_arrays_flat.specs.ByteOrderLaws.{bytes_drop}
+use Rattle.polars_arrays_views.proofs.Words.{same_word}
 use Rattle.polars_arrays_views.proofs.view.View.same_tail.Goals as goal
 
 pub returns : goal.returns

@@ -1,0 +1,71 @@
+//! The byte string that rows are compared with.
+
+ghost use Rattle.std.specs.Prelude.{◌≡◌, length};
+ghost use Rattle.polars_arrays_views.specs.Views.{HoldsScalar};
+
+use crate::view::View;
+use std::marker::Model;
+
+/// A byte string that rows are compared with, beside a view that has its prefix, and the whole of it where
+/// it has at most 12 bytes.
+#[derive(Drop)]
+pub struct ScalarRow<'a> {
+    bytes: &'a [u8],
+    view: View,
+}
+
+impl<'a> Model for ScalarRow<'a> {
+    ghost use Rattle.std.specs.Prelude.{List, ℕ};
+    ghost use Rattle.polars_arrays_views.specs.Views.{HoldsScalar};
+
+    ghost Value = { List ℕ };
+
+    ghost view = { λ s. s.bytes.now };
+
+    ghost invariant = { λ s. HoldsScalar s.view s.bytes.now };
+}
+
+impl<'a> ScalarRow<'a> {
+    /// The byte string, made ready once for all rows.
+    pub fn new(bytes: &'a [u8]) -> ScalarRow<'a>
+        ensures { result ≡ bytes.now }
+    {
+        let view = scalar_view(bytes);
+        ScalarRow { bytes, view }
+    }
+
+    /// How many bytes there are.
+    #[inline(always)]
+    pub fn len(&self) -> usize
+        ensures { result ≡ length self.now }
+    {
+        self.bytes.len()
+    }
+
+    /// The byte string.
+    #[inline(always)]
+    pub fn bytes(&self) -> &[u8]
+        ensures { result.now ≡ self.now }
+    {
+        self.bytes
+    }
+
+    /// The view that has the prefix, or all bytes.
+    #[inline(always)]
+    pub fn view(&self) -> &View
+        ensures { HoldsScalar result.now self.now }
+    {
+        &self.view
+    }
+}
+
+// The view of a byte string, or of a long one the prefix alone.
+fn scalar_view(bytes: &[u8]) -> View
+    ensures { HoldsScalar result bytes.now }
+{
+    if bytes.len() <= 12 {
+        return View::of_short(bytes);
+    }
+    let (a, b, c, d) = (bytes[0], bytes[1], bytes[2], bytes[3]);
+    View::new([0, 0, 0, 0, a, b, c, d, 0, 0, 0, 0, 0, 0, 0, 0])
+}
