@@ -18,3 +18,13 @@ pub use Rattle.polars_arrays_numbers.specs.Naturals
 pub use Rattle.polars_arrays_numbers.specs.Ranges
 pub use Rattle.polars_arrays_flat.specs.ArrayRows
 pub use Rattle.polars_arrays_flat.specs.KindTest
+pub use Rattle.polars_arrays_nested.specs.AnyRows
+pub use Rattle.polars_arrays_nested.specs.Clones
+pub use Rattle.polars_arrays_nested.specs.Columns
+pub use Rattle.polars_arrays_nested.specs.Cuts
+pub use Rattle.polars_arrays_nested.specs.DictKeys
+pub use Rattle.polars_arrays_nested.specs.GoodParts
+pub use Rattle.polars_arrays_nested.specs.Leaves
+pub use Rattle.polars_arrays_nested.specs.Lengths
+pub use Rattle.polars_arrays_nested.specs.ListOffsets
+pub use Rattle.polars_arrays_nested.specs.Types

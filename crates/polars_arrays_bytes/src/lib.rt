@@ -5,7 +5,7 @@ pub mod binary;
 pub mod fixed_size;
 pub mod of_size;
 pub mod offset_type;
-mod offsets;
+pub mod offsets;
 #[cfg(test)]
 mod tests;
 pub mod text;

@@ -10,16 +10,16 @@ ghost use Rattle.polars_arrays_numbers.specs.Naturals.{natural_of};
 use polars_arrays_bits::buffer::Buffer;
 use polars_arrays_numbers::offset::Offset;
 
-// How many rows lie between offsets.
-pub(crate) fn row_count<O: Offset>(offsets: &[O]) -> usize
+/// How many rows lie between offsets.
+pub fn row_count<O: Offset>(offsets: &[O]) -> usize
     ensures { result ≡ row_count offsets.now }
 {
     offsets.len().saturating_sub(1)
 }
 
-// The first row that is not good over `n` bytes, or row 0 where no offset tells where the rows begin.
+/// The first row that is not good over `n` bytes, or row 0 where no offset tells where the rows begin.
 #[tactic(auto, using(crate::proofs::OffsetWindows::faults))]
-pub(crate) fn first_bad_row<O: Offset>(offsets: &[O], n: usize) -> Option<usize>
+pub fn first_bad_row<O: Offset>(offsets: &[O], n: usize) -> Option<usize>
     ensures { MatchOption result (AreGood n (places O.value offsets.now)) (IsFirstBad n (places O.value offsets.now)) }
 {
     if !starts_within(offsets, n) {
@@ -82,8 +82,8 @@ pub(crate) fn string_at<'a, O: Offset>(offsets: &[O], values: &'a [u8], i: usize
     &values[from..to]
 }
 
-// Keeps the offsets of `n` rows from row `at` on.
-pub(crate) fn keep_rows<O: Offset>(offsets: &mut Buffer<O>, at: usize, n: usize)
+/// Keeps the offsets of `n` rows from row `at` on.
+pub fn keep_rows<O: Offset>(offsets: &mut Buffer<O>, at: usize, n: usize)
     requires { at + n < length offsets.old.items }
     ensures { offsets.new ≡ record { items = window at (n + 1) offsets.old.items; owned = offsets.old.owned } }
 {

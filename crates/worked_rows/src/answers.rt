@@ -17,7 +17,7 @@ fn digit(bit: bool) -> char {
 }
 
 /// Whether a row is null, by the bits of its array.
-fn is_null(validity: Option<&Bitmap>, i: usize) -> bool {
+pub fn is_null(validity: Option<&Bitmap>, i: usize) -> bool {
     match validity {
         Some(bits) => bits.get(i) == Some(false),
         None => false,

@@ -3,15 +3,17 @@
 use crate::answers::{
     equal_rows, followed_rows, less_rows, ordered_rows, write_bits, write_present,
 };
-use crate::array::StringArray;
 use crate::fault::Fault;
+use crate::nested::{DEPTH, read_array};
 use crate::parts::read_bytes;
+use crate::row_text::write_rows;
 use crate::words::Words;
 use polars_arrays_bits::bitmap::Bitmap;
 use polars_arrays_bits::error::ComputeError;
 use polars_arrays_bytes::fixed_size::FixedSizeBinaryArray;
 use polars_arrays_flat::array::Array;
 use polars_arrays_flat::byte_rows::ByteRows;
+use polars_arrays_nested::any_array::AnyArray;
 use polars_compare_equality::borrowed::{BytesEqKernel, TextEqKernel};
 use polars_compare_equality::kernel::TotalEqKernel;
 use polars_compare_order::borrowed::{BytesOrdKernel, TextOrdKernel};
@@ -23,8 +25,8 @@ use std::str::from_utf8;
 /// The arrays and the scalar of a case, as far as they were given.
 #[derive(Drop)]
 pub struct Case {
-    left: Option<StringArray>,
-    right: Option<StringArray>,
+    left: Option<AnyArray>,
+    right: Option<AnyArray>,
     scalar: Option<Vec<u8>>,
 }
 
@@ -64,8 +66,16 @@ impl Case {
         let request = words.read()?;
         match request {
             "case" => return Ok(Some(line.to_string(alloc)?)),
-            "left" => self.left = Some(StringArray::read(alloc, &mut words)?),
-            "right" => self.right = Some(StringArray::read(alloc, &mut words)?),
+            "rows" => {
+                let rows = rows_of(alloc, &mut words)?;
+                return Ok(Some(format!(in alloc; "rows {rows}")?));
+            }
+            "copy" => {
+                let rows = copied_rows(alloc, &mut words)?;
+                return Ok(Some(format!(in alloc; "copy {rows}")?));
+            }
+            "left" => self.left = Some(read_array(alloc, &mut words, DEPTH)?),
+            "right" => self.right = Some(read_array(alloc, &mut words, DEPTH)?),
             "scalar" => self.scalar = Some(read_bytes(alloc, words.read()?)?),
             _ => {
                 let answer = self.told(alloc, request)?;
@@ -105,38 +115,67 @@ impl Case {
             return Err(Fault::Case);
         };
         match left {
-            StringArray::Binary(array) => beside_bytes(alloc, array, scalar, asked),
-            StringArray::LargeBinary(array) => beside_bytes(alloc, array, scalar, asked),
-            StringArray::BinaryView(array) => beside_bytes(alloc, array, scalar, asked),
-            StringArray::FixedSizeBinary(array) => equal_to_bytes(alloc, array, scalar, asked),
-            StringArray::Utf8(array) => beside_text(alloc, array, scalar, asked),
-            StringArray::LargeUtf8(array) => beside_text(alloc, array, scalar, asked),
-            StringArray::Utf8View(array) => beside_text(alloc, array, scalar, asked),
+            AnyArray::Binary(array) => beside_bytes(alloc, array, scalar, asked),
+            AnyArray::LargeBinary(array) => beside_bytes(alloc, array, scalar, asked),
+            AnyArray::BinaryView(array) => beside_bytes(alloc, array, scalar, asked),
+            AnyArray::FixedSizeBinary(array) => equal_to_bytes(alloc, array, scalar, asked),
+            AnyArray::Utf8(array) => beside_text(alloc, array, scalar, asked),
+            AnyArray::LargeUtf8(array) => beside_text(alloc, array, scalar, asked),
+            AnyArray::Utf8View(array) => beside_text(alloc, array, scalar, asked),
+            _ => Err(Fault::Case),
         }
+    }
+}
+
+/// The rows of the array that words write.
+fn read_rows(alloc: Global, words: &mut Words) -> Result<String, Fault> {
+    let array = read_array(alloc, words, DEPTH)?;
+    write_rows(alloc, &array)
+}
+
+/// The rows of a clone of the array that words write.
+fn copied_rows(alloc: Global, words: &mut Words) -> Result<String, Fault> {
+    let array = read_array(alloc, words, DEPTH)?;
+    let copy = array.clone_array(alloc)?;
+    write_rows(alloc, &copy)
+}
+
+/// The rows of the array that words write, or why its parts make none.
+fn rows_of(alloc: Global, words: &mut Words) -> Result<String, Fault> {
+    match read_rows(alloc, words) {
+        Err(Fault::Parts(error)) => Ok(format!(in alloc; "refused: {error}")?),
+        answer => answer,
     }
 }
 
 /// What is asked of two arrays of one kind.
 fn compare(
     alloc: Global,
-    left: &StringArray,
-    right: &StringArray,
+    left: &AnyArray,
+    right: &AnyArray,
     asked: Pairs,
 ) -> Result<String, Fault> {
     match (left, right) {
-        (StringArray::Binary(l), StringArray::Binary(r)) => compare_strings(alloc, l, r, asked),
-        (StringArray::LargeBinary(l), StringArray::LargeBinary(r)) => {
-            compare_strings(alloc, l, r, asked)
+        (AnyArray::Boolean(l), AnyArray::Boolean(r)) => compare_ordered(alloc, l, r, asked),
+        (AnyArray::Int8(l), AnyArray::Int8(r)) => compare_ordered(alloc, l, r, asked),
+        (AnyArray::Int16(l), AnyArray::Int16(r)) => compare_ordered(alloc, l, r, asked),
+        (AnyArray::Int32(l), AnyArray::Int32(r)) => compare_ordered(alloc, l, r, asked),
+        (AnyArray::Int64(l), AnyArray::Int64(r)) => compare_ordered(alloc, l, r, asked),
+        (AnyArray::Int128(l), AnyArray::Int128(r)) => compare_ordered(alloc, l, r, asked),
+        (AnyArray::UInt8(l), AnyArray::UInt8(r)) => compare_ordered(alloc, l, r, asked),
+        (AnyArray::UInt16(l), AnyArray::UInt16(r)) => compare_ordered(alloc, l, r, asked),
+        (AnyArray::UInt32(l), AnyArray::UInt32(r)) => compare_ordered(alloc, l, r, asked),
+        (AnyArray::UInt64(l), AnyArray::UInt64(r)) => compare_ordered(alloc, l, r, asked),
+        (AnyArray::UInt128(l), AnyArray::UInt128(r)) => compare_ordered(alloc, l, r, asked),
+        (AnyArray::Binary(l), AnyArray::Binary(r)) => compare_ordered(alloc, l, r, asked),
+        (AnyArray::LargeBinary(l), AnyArray::LargeBinary(r)) => {
+            compare_ordered(alloc, l, r, asked)
         }
-        (StringArray::Utf8(l), StringArray::Utf8(r)) => compare_strings(alloc, l, r, asked),
-        (StringArray::LargeUtf8(l), StringArray::LargeUtf8(r)) => {
-            compare_strings(alloc, l, r, asked)
-        }
-        (StringArray::BinaryView(l), StringArray::BinaryView(r)) => {
-            compare_views(alloc, l, r, asked)
-        }
-        (StringArray::Utf8View(l), StringArray::Utf8View(r)) => compare_views(alloc, l, r, asked),
-        (StringArray::FixedSizeBinary(l), StringArray::FixedSizeBinary(r)) => {
+        (AnyArray::Utf8(l), AnyArray::Utf8(r)) => compare_ordered(alloc, l, r, asked),
+        (AnyArray::LargeUtf8(l), AnyArray::LargeUtf8(r)) => { compare_ordered(alloc, l, r, asked) }
+        (AnyArray::BinaryView(l), AnyArray::BinaryView(r)) => { compare_views(alloc, l, r, asked) }
+        (AnyArray::Utf8View(l), AnyArray::Utf8View(r)) => compare_views(alloc, l, r, asked),
+        (AnyArray::FixedSizeBinary(l), AnyArray::FixedSizeBinary(r)) => {
             compare_sized(alloc, l, r, asked)
         }
         _ => Err(Fault::Case),
@@ -144,7 +183,7 @@ fn compare(
 }
 
 /// What is asked of two arrays that have an order.
-fn compare_strings<A: TotalEqKernel + TotalOrdKernel>(
+fn compare_ordered<A: TotalEqKernel + TotalOrdKernel>(
     alloc: Global,
     left: &A,
     right: &A,
@@ -173,7 +212,7 @@ fn compare_views<A: TotalEqKernel + TotalOrdKernel + FollowedKernel>(
 {
     match asked {
         Pairs::Followed => followed_rows(alloc, left, right),
-        _ => compare_strings(alloc, left, right, asked),
+        _ => compare_ordered(alloc, left, right, asked),
     }
 }
 

@@ -1,4 +1,4 @@
-//! Answers recorded cases: what the kernels say of two arrays of strings.
+//! Answers recorded cases: what the kernels say of two arrays.
 //!
 //! A line of the input begins a case, gives an array or a scalar of it, or asks for an answer:
 //!
@@ -6,6 +6,8 @@
 //! |---|---|
 //! | `case NAME` | the line itself |
 //! | `left ARRAY`, `right ARRAY`, `scalar HEX` | none |
+//! | `rows ARRAY` | the rows of the array as text, or why its parts make no array |
+//! | `copy ARRAY` | the rows of a clone of the array |
 //! | `eq` | where the rows are equal, null to null alone, as `eq BITS` |
 //! | `lt`, `le` | where the left row is less, or at most the right one, with `x` where either is null |
 //! | `followed` | how many rows equality and order look up in buffers |
@@ -21,10 +23,12 @@ use std::io;
 use std::process::ExitCode;
 
 mod answers;
-mod array;
 mod case;
 mod fault;
+mod flat;
+mod nested;
 mod parts;
+mod row_text;
 mod words;
 
 /// Answers each line of standard input on standard output.

@@ -1,0 +1,22 @@
+use Rattle.std.proofs.Common.{◌∙◌, refl, ap, sym, subst}
+use Rattle.polars_arrays_flat.specs.DataType.{kinds_of}
+use Rattle.polars_arrays_nested.specs.Clones.{AreClones, IsClone}
+use Rattle.polars_arrays_nested.specs.Parts.{columns}
+use Rattle.polars_arrays_nested.proofs.Clones.{clone-list, clone-struct, clones-more}
+use Rattle.polars_arrays_nested.proofs.+clones.Goals as goal
+
+pub list::ListArray::clone_array-returns : goal.list::ListArray::clone_array-returns
+list::ListArray::clone_array-returns t c =
+    let item : IsClone c.in_ok-values.values c.args.self.now.values.value = rw c.deref.ensures at c.in_ok-values.ensures in
+    clone-list _ c.args.self.now c.in_ok-offsets.ensures (subst (λ v. IsClone v c.args.self.now.values.value) (sym c.in_ok-values-2.ensures.ok) item) c.in_ok-validity.ensures
+
+pub struct_array::StructArray::clone_array-returns :
+    goal.struct_array::StructArray::clone_array-returns
+struct_array::StructArray::clone_array-returns t c =
+    let each : AreClones c.in_ok-values.values.items (columns c.args.self.now) = rw c.deref-2.ensures.value at c.in_ok-values.ensures in
+    clone-struct _ c.args.self.now (c.in_ok-fields.ensures ∙ ap kinds_of c.deref.ensures.value) refl each.as_many each.each c.in_ok-validity.ensures
+
+pub struct_array::clone_columns-loop-column-preserved :
+    goal.struct_array::clone_columns-loop-column-preserved
+struct_array::clone_columns-loop-column-preserved t c =
+    clones-more _ c.loop-column.copies.items c.args.columns.now c.in_ok-copy.copy c.column-item.result c.loop-column.column-index c.in_ok-push.ensures.items c.loop-column.invariant.0 c.loop-column-test.true c.column-item.is c.in_ok-copy.ensures c.loop-column.invariant.1

@@ -1,0 +1,125 @@
+-- Second copies of the parts of an array make a second copy of the array.
+use Rattle.std.proofs.Common.{◌≡◌, ◌<◌, ◌+◌, ℕ, suc, List, [], ◌∷◌, length, get_or, refl, ap, sym, subst, ◌∙◌, arith, ◌*◌, ◌++◌, inl, inr, length-append}
+use Rattle.std.proofs.Math.Seq.{get_or-append_seam}
+use Rattle.std.proofs.lemmas.Bool.{cases_lt}
+use Rattle.std.proofs.lemmas.List.{get_or_append_left, get_or_default}
+use Rattle.polars_arrays_flat.specs.DataType.{kind_of, kinds_of}
+use Rattle.polars_arrays_flat.specs.Kind.{StructKind}
+use Rattle.polars_arrays_flat.specs.Row.{Rows, Entry}
+use Rattle.polars_arrays_flat.specs.StoredRows.{kept}
+use Rattle.polars_arrays_flat.specs.Validity.{is_present}
+use Rattle.polars_arrays_flat.specs.declared.data_type.Field.{Field}
+use Rattle.polars_arrays_nested.specs.AnyRows.{row}
+use Rattle.polars_arrays_nested.specs.Clones.{IsClone}
+use Rattle.polars_arrays_nested.specs.Columns.{AreColumns, good-struct, row-struct, rows_at, struct-good}
+use Rattle.polars_arrays_nested.specs.DictKeys.{key_at, key_validity}
+use Rattle.polars_arrays_nested.specs.GoodParts.{IsGood}
+use Rattle.polars_arrays_nested.specs.Lengths.{len_of}
+use Rattle.polars_arrays_nested.specs.ListOffsets.{offset_at, span}
+use Rattle.polars_arrays_nested.specs.Parts.{columns, struct_fields, struct_validity}
+use Rattle.polars_arrays_nested.specs.Types.{kind_of_lists, type_of}
+use Rattle.polars_arrays_nested.specs.declared.any_array.AnyArray.{AnyArray, FixedSizeList, Struct, Dictionary}
+use Rattle.polars_arrays_nested.specs.declared.any_array.AnyArray.{List as Lists}
+use Rattle.polars_arrays_nested.specs.declared.dictionary.DictionaryArray.{DictionaryArray}
+use Rattle.polars_arrays_nested.specs.declared.fixed_size_list.FixedSizeListArray.{FixedSizeListArray}
+use Rattle.polars_arrays_nested.specs.declared.list.ListArray.{ListArray}
+use Rattle.polars_arrays_nested.specs.declared.struct_array.StructArray.{StructArray}
+use Rattle.polars_arrays_nested.proofs.Cuts.{windows_agree}
+
+pub clone-same : (a b : AnyArray) → a ≡ b → IsClone a b
+clone-same a b same = record {
+  one_type = ap type_of same;
+  as_long = ap len_of same;
+  same_rows = λ i. ap (λ x. row x i) same;
+  good = λ good. subst IsGood (sym same) good;
+}
+
+pub clone-list : (a b : ListArray) → a.offsets ≡ b.offsets → IsClone a.values.value b.values.value → a.validity ≡ b.validity → IsClone (Lists a) (Lists b)
+clone-list a b offsets child mask = record {
+  one_type = rw offsets (ap (kind_of_lists b.offsets) child.one_type);
+  as_long = rw offsets refl;
+  same_rows = λ i.
+      rw (offsets, mask)
+      (ap (λ r. kept (is_present b.validity i) (Rows r))
+      (windows_agree (λ k. row a.values.value k) (λ k. row b.values.value k) (offset_at b.offsets i) (offset_at b.offsets i) (span b.offsets i) (λ k low. child.same_rows (offset_at b.offsets i + k))));
+  good = λ good. (
+    record { bits = rw (offsets, mask) good.0.bits; good = rw (offsets, child.as_long) good.0.good },
+    child.good good.1,
+  );
+}
+
+pub clone-fixed : (a b : FixedSizeListArray) → a.width ≡ b.width → a.len ≡ b.len → IsClone a.values.value b.values.value → a.validity ≡ b.validity → IsClone (FixedSizeList a) (FixedSizeList b)
+clone-fixed a b width len child mask = record {
+  one_type = rw (width, child.one_type) refl;
+  as_long = len;
+  same_rows = λ i.
+      rw (width, mask)
+      (ap (λ r. kept (is_present b.validity i) (Rows r))
+      (windows_agree (λ k. row a.values.value k) (λ k. row b.values.value k) (b.width * i) (b.width * i) b.width (λ k low. child.same_rows (b.width * i + k))));
+  good = λ good. (
+    record { bits = rw (len, mask) good.0.bits; items = rw (child.as_long, width, len) good.0.items },
+    child.good good.1,
+  );
+}
+
+pub clone-dictionary : (a b : DictionaryArray) → a.keys ≡ b.keys → IsClone a.values.value b.values.value → IsClone (Dictionary a) (Dictionary b)
+clone-dictionary a b keys child = record {
+  one_type = rw (keys, child.one_type) refl;
+  as_long = rw keys refl;
+  same_rows = λ i.
+      rw keys (ap (λ r. kept (is_present (key_validity b.keys) i) (Entry r)) (child.same_rows (key_at b.keys i)));
+  good = λ good. (record { named = rw (keys, child.as_long) good.0.named }, child.good good.1);
+}
+
+clone-columns : (fs gs : List Field) (len : ℕ) (xs ys : List AnyArray) → kinds_of fs ≡ kinds_of gs → AreColumns gs len ys → length xs ≡ length ys → ((i : ℕ) (d : AnyArray) → i < length ys → IsClone (get_or xs i d) (get_or ys i d)) → AreColumns fs len xs
+clone-columns [] [] len [] [] same good many each = good
+clone-columns (f ∷ fs) [] len xs ys same good many each = absurd (let e : ⊥ = cc in e)
+clone-columns [] (g ∷ gs) len xs ys same good many each = absurd (let e : ⊥ = cc in e)
+clone-columns [] [] len (x ∷ xs) [] same good many each = absurd (omega arith)
+clone-columns [] [] len [] (y ∷ ys) same good many each = absurd (omega arith)
+clone-columns [] [] len (x ∷ xs) (y ∷ ys) same good many each = good
+clone-columns (f ∷ fs) (g ∷ gs) len [] [] same good many each = good
+clone-columns (f ∷ fs) (g ∷ gs) len (x ∷ xs) [] same good many each = absurd (omega arith)
+clone-columns (f ∷ fs) (g ∷ gs) len [] (y ∷ ys) same good many each = absurd (omega arith)
+clone-columns (f ∷ fs) (g ∷ gs) len (x ∷ xs) (y ∷ ys) same good many each =
+    let first : IsClone x y = each 0 x (omega arith) in
+    let kind : kind_of g.dtype ≡ kind_of f.dtype = cc in
+    let rest : kinds_of fs ≡ kinds_of gs = cc in
+    (first.as_long ∙ good.0, first.one_type ∙ good.1 ∙ kind, first.good good.2, clone-columns fs gs len xs ys rest good.3 (omega arith) (λ i d low. each (suc i) d (omega arith)))
+
+clone-rows_at : (xs ys : List AnyArray) → length xs ≡ length ys → ((i : ℕ) (d : AnyArray) → i < length ys → IsClone (get_or xs i d) (get_or ys i d)) → (j : ℕ) → rows_at xs j ≡ rows_at ys j
+clone-rows_at [] [] many each j = refl
+clone-rows_at [] (y ∷ ys) many each j = absurd (omega arith)
+clone-rows_at (x ∷ xs) [] many each j = absurd (omega arith)
+clone-rows_at (x ∷ xs) (y ∷ ys) many each j =
+    let first : IsClone x y = each 0 x (omega arith) in
+    let one = first.same_rows j in
+    let rest = clone-rows_at xs ys (omega arith) (λ i d low. each (suc i) d (omega arith)) j in
+    cc
+
+pub clone-struct : (a b : StructArray) → kinds_of (struct_fields a) ≡ kinds_of (struct_fields b) → a.len ≡ b.len → length (columns a) ≡ length (columns b) → ((i : ℕ) (d : AnyArray) → i < length (columns b) → IsClone (get_or (columns a) i d) (get_or (columns b) i d)) → struct_validity a ≡ struct_validity b → IsClone (Struct a) (Struct b)
+clone-struct a b kinds len many each mask = record {
+  one_type = ap StructKind kinds;
+  as_long = len;
+  same_rows = λ i. row-struct a i ∙ rw (mask, clone-rows_at (columns a) (columns b) many each i) (sym (row-struct b i));
+  good = λ good.
+      let known = good-struct b good in
+      struct-good a (rw (mask, len) known.0) (rw len (clone-columns (struct_fields a) (struct_fields b) b.len (columns a) (columns b) kinds known.1 many each));
+}
+
+-- one array more was copied
+pub clones-more : (copies before columns : List AnyArray) (copy column : AnyArray) (i : ℕ) → copies ≡ before ++ (copy ∷ []) → length before ≡ i → i < length columns → column ≡ get_or columns i column → IsClone copy column → ((k : ℕ) (d : AnyArray) → k < i → IsClone (get_or before k d) (get_or columns k d)) → (length copies ≡ i + 1) × ((k : ℕ) (d : AnyArray) → k < i + 1 → IsClone (get_or copies k d) (get_or columns k d))
+clones-more copies before columns copy column i pushed many low was clone each = (
+  ap (λ (l : List AnyArray). length l) pushed ∙ omega (arith, many, length-append before (copy ∷ [])),
+  λ k d below.
+      rw pushed (elim (cases_lt k i) [
+        | inl less ↦ subst (λ z. IsClone z (get_or columns k d)) (sym (get_or_append_left before (copy ∷ []) d k (omega (arith, less, many)))) (each k d less)
+        | inr past ↦
+            let e : k ≡ i = omega (arith, below, past) in
+            let here : column ≡ get_or columns i d = was ∙ get_or_default columns i column d low in
+            let there : get_or (before ++ (copy ∷ [])) i d ≡ copy = subst (λ (j : ℕ). get_or (before ++ (copy ∷ [])) j d ≡ copy) many (get_or-append_seam before copy [] d) in
+            subst (λ j. IsClone (get_or (before ++ (copy ∷ [])) j d) (get_or columns j d)) (sym e) (subst (λ z. IsClone z (get_or columns i d)) (sym there) (subst (λ z. IsClone copy z) here clone))
+      ]),
+)
+
+pub ruleset copies = (clone-same, clone-list, clone-fixed, clone-dictionary)

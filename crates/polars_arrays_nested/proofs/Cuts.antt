@@ -1,0 +1,199 @@
+-- What slices of the parts of an array make of the array.
+use Rattle.std.proofs.Common.{◌≡◌, ◌<◌, ◌≤◌, ◌+◌, ◌*◌, ℕ, zero, suc, true, List, [], ◌∷◌, length, get_or, refl, ap, sym, subst, ◌∙◌, arith, add-zero, inl, inr, set, ◌≢◌}
+use Rattle.std.specs.Prelude.{Option, None}
+use Rattle.std.proofs.Math.Nat.{mul-add}
+use Rattle.std.proofs.lemmas.Bool.{cases_lt}
+use Rattle.std.proofs.lemmas.List.{get_or-set_other, get_or-set_same, get_or_default}
+use Rattle.std.proofs.lemmas.Nat.{mul-add-lt}
+use Rattle.polars_arrays_bytes.specs.OffsetStrings.{place_at}
+use Rattle.polars_arrays_flat.specs.DataType.{kinds_of}
+use Rattle.polars_arrays_flat.specs.Kind.{Kind, StructKind}
+use Rattle.polars_arrays_flat.specs.Row.{Row, Rows}
+use Rattle.polars_arrays_flat.specs.StoredRows.{kept}
+use Rattle.polars_arrays_flat.specs.Validity.{is_present, validity_window, window}
+use Rattle.polars_arrays_flat.specs.declared.data_type.Field.{Field}
+use Rattle.polars_arrays_nested.specs.AnyRows.{row, rows_from}
+use Rattle.polars_arrays_nested.specs.Columns.{AreColumns, good-struct, row-struct, rows_at, struct-good}
+use Rattle.polars_arrays_nested.specs.Cuts.{IsCut}
+use Rattle.polars_arrays_nested.specs.DictKeys.{key_count, key_places, key_type, key_validity}
+use Rattle.polars_arrays_nested.specs.GoodParts.{IsGood}
+use Rattle.polars_arrays_nested.specs.Lengths.{len_of}
+use Rattle.polars_arrays_nested.specs.ListOffsets.{is_large, list_count, list_places, offset_at}
+use Rattle.polars_arrays_nested.specs.Parts.{columns, struct_fields, struct_validity}
+use Rattle.polars_arrays_nested.specs.Places.{place_or_zero}
+use Rattle.polars_arrays_nested.specs.Types.{kind_of_lists, type_of}
+use Rattle.polars_arrays_nested.specs.declared.any_array.AnyArray.{AnyArray, FixedSizeList, Struct, Dictionary}
+use Rattle.polars_arrays_nested.specs.declared.any_array.AnyArray.{List as Lists}
+use Rattle.polars_arrays_nested.specs.declared.dict_keys.DictKeys.{DictKeys}
+use Rattle.polars_arrays_nested.specs.declared.dictionary.DictionaryArray.{DictionaryArray}
+use Rattle.polars_arrays_nested.specs.declared.fixed_size_list.FixedSizeListArray.{FixedSizeListArray}
+use Rattle.polars_arrays_nested.specs.declared.list.ListArray.{ListArray}
+use Rattle.polars_arrays_nested.specs.declared.list_offsets.ListOffsets.{ListOffsets}
+use Rattle.polars_arrays_nested.specs.declared.list_offsets.ListOffsets.TheVariants.{Small, Large}
+use Rattle.polars_arrays_nested.specs.declared.struct_array.StructArray.{StructArray}
+use Rattle.polars_arrays_nested.proofs.Windows.{bits-window, get_or-window, good-window, length-window, one_more, present-window, row-window}
+
+-- windows of the same rows are the same
+pub windows_agree : (f g : ℕ → Row) (p q n : ℕ) → ((k : ℕ) → k < n → f (p + k) ≡ g (q + k)) → rows_from f p n ≡ rows_from g q n
+windows_agree f g p q zero h = refl
+windows_agree f g p q (suc n) h =
+    let first : f p ≡ g q =
+    (let at : f (p + 0) ≡ g (q + 0) = h 0 (omega arith) in rw (add-zero, add-zero) at at) in
+    let rest = windows_agree f g (p + 1) (q + 1) n
+    (λ k low.
+    let at : f (p + suc k) ≡ g (q + suc k) = h (suc k) (omega arith) in
+    let i' : p + 1 + k ≡ p + suc k = omega arith in
+    let j' : q + 1 + k ≡ q + suc k = omega arith in
+    rw (i', j') at) in
+    cc
+
+-- offsets of one width make lists of one kind
+kind-offsets : (a b : ListOffsets) (item : Kind) → is_large a ≡ is_large b → kind_of_lists a item ≡ kind_of_lists b item
+kind-offsets (Small a) (Small b) item same = refl
+kind-offsets (Large a) (Large b) item same = refl
+kind-offsets (Small a) (Large b) item same = cc
+kind-offsets (Large a) (Small b) item same = cc
+
+-- an offset of a window of offsets
+offset-window : (a b : ListOffsets) (at n i : ℕ) → list_places a ≡ window at (n + 1) (list_places b) → i < n + 1 → offset_at a i ≡ offset_at b (at + i)
+offset-window a b at n i cut below =
+    ap place_or_zero (ap (λ (all : List (Option ℕ)). place_at all i) cut ∙ get_or-window at (n + 1) (list_places b) i None below)
+
+-- lists between a window of offsets
+pub cut-list : (a b : ListArray) (at n : ℕ) → IsGood (Lists b) → at + n ≤ list_count b.offsets → list_places a.offsets ≡ window at (n + 1) (list_places b.offsets) → is_large a.offsets ≡ is_large b.offsets → a.values ≡ b.values → a.validity ≡ validity_window at n b.validity → IsCut (Lists a) (Lists b) at n
+cut-list a b at n good within cut same values mask =
+    let inside = one_more (len_of b.values.value) (list_places b.offsets) (at + n) good.0.good within in
+    let long : list_count a.offsets ≡ n =
+    (let e : length (list_places a.offsets) ≡ n + 1 = ap (λ (all : List (Option ℕ)). length all) cut ∙ length-window at (n + 1) (list_places b.offsets) (omega (arith, inside)) in omega (arith, e)) in
+    record {
+      one_type = kind-offsets a.offsets b.offsets (type_of a.values.value) same ∙ ap (λ v. kind_of_lists b.offsets (type_of v.value)) values;
+      as_long = long;
+      same_rows = λ i low.
+          let from = offset-window a.offsets b.offsets at n i cut (omega (arith, low)) in
+          let next : at + (i + 1) ≡ at + i + 1 = omega arith in
+          let to = offset-window a.offsets b.offsets at n (i + 1) cut (omega (arith, low)) ∙ ap (offset_at b.offsets) next in
+          rw (values, mask, from, to, present-window at n b.validity i low) refl;
+      good = (
+        record {
+          bits = rw (mask, long) (bits-window (list_count b.offsets) at n b.validity good.0.bits within);
+          good = rw (cut, values) (good-window (len_of b.values.value) at n (list_places b.offsets) good.0.good inside);
+        },
+        rw values good.1,
+      );
+    }
+
+-- lists of one width over a slice of the items
+pub cut-fixed : (a b : FixedSizeListArray) (at n : ℕ) → IsGood (FixedSizeList b) → at + n ≤ b.len → a.width ≡ b.width → a.len ≡ n → IsCut a.values.value b.values.value (b.width * at) (b.width * n) → a.validity ≡ validity_window at n b.validity → IsCut (FixedSizeList a) (FixedSizeList b) at n
+cut-fixed a b at n good within ew el child mask = record {
+  one_type = rw (ew, child.one_type) refl;
+  as_long = el;
+  same_rows = λ i low.
+      rw (mask, present-window at n b.validity i low, ew)
+      (ap (λ r. kept (is_present b.validity (at + i)) (Rows r))
+      (windows_agree (λ k. row a.values.value k) (λ k. row b.values.value k) (b.width * i) (b.width * (at + i)) b.width
+      (λ k low'.
+      let w = b.width in
+      let inside = mul-add-lt i w k n low low' in
+      let e : b.width * (at + i) + k ≡ b.width * at + (b.width * i + k) = grind (arith, mul-add) in
+      let l : b.width * i + k < b.width * n = omega (arith, inside) in
+      rw e (child.same_rows (b.width * i + k) l))));
+  good = (
+    record {
+      bits = rw (mask, el) (bits-window b.len at n b.validity good.0.bits within);
+      items = rw (ew, el) child.as_long;
+    },
+    child.good,
+  );
+}
+
+-- a key of a window of keys
+key-window : (a b : DictKeys) (at n i : ℕ) → key_places a ≡ window at n (key_places b) → i < n → place_at (key_places a) i ≡ place_at (key_places b) (at + i)
+key-window a b at n i cut below =
+    ap (λ (all : List (Option ℕ)). place_at all i) cut ∙ get_or-window at n (key_places b) i None below
+
+-- rows of a window of keys
+pub cut-dictionary : (a b : DictionaryArray) (at n : ℕ) → IsGood (Dictionary b) → at + n ≤ key_count b.keys → key_places a.keys ≡ window at n (key_places b.keys) → key_validity a.keys ≡ validity_window at n (key_validity b.keys) → key_type a.keys ≡ key_type b.keys → a.values ≡ b.values → IsCut (Dictionary a) (Dictionary b) at n
+cut-dictionary a b at n good within cut mask name values =
+    let long : key_count a.keys ≡ n = ap (λ (all : List (Option ℕ)). length all) cut ∙ length-window at n (key_places b.keys) within in
+    record {
+      one_type = rw (name, values) refl;
+      as_long = long;
+      same_rows = λ i low.
+          let key = ap place_or_zero (key-window a.keys b.keys at n i cut low) in
+          rw (values, mask, key, present-window at n (key_validity b.keys) i low) refl;
+      good = (
+        record {
+          named = λ i low here.
+              let below : i < n = omega (arith, low, long) in
+              let there : is_present (key_validity b.keys) (at + i) ≡ true = sym (present-window at n (key_validity b.keys) i below) ∙ sym (ap (λ v. is_present v i) mask) ∙ here in
+              let entry = good.0.named (at + i) (omega (arith, below, within)) there in
+              rw (values, key-window a.keys b.keys at n i cut below) entry;
+        },
+        rw values good.1,
+      );
+    }
+
+-- what is known of one column
+pub column_good : (fields : List Field) (n : ℕ) (xs : List AnyArray) → AreColumns fields n xs → (i : ℕ) (d : AnyArray) → i < length xs → IsGood (get_or xs i d) × (len_of (get_or xs i d) ≡ n)
+column_good fields n [] h i d low = absurd (omega arith)
+column_good [] n (x ∷ xs) h i d low = absurd h
+column_good (field ∷ fields) n (x ∷ xs) h zero d low = (h.2, h.0)
+column_good (field ∷ fields) n (x ∷ xs) h (suc i) d low = column_good fields n xs h.3 i d (omega arith)
+
+cut-columns : (fields : List Field) (len at n : ℕ) (xs ys : List AnyArray) → AreColumns fields len ys → length xs ≡ length ys → ((i : ℕ) (d : AnyArray) → i < length ys → IsCut (get_or xs i d) (get_or ys i d) at n) → AreColumns fields n xs
+cut-columns [] len at n [] [] h e k = h
+cut-columns (field ∷ fields) len at n [] [] h e k = h
+cut-columns fields len at n [] (y ∷ ys) h e k = absurd (omega arith)
+cut-columns fields len at n (x ∷ xs) [] h e k = absurd (omega arith)
+cut-columns [] len at n (x ∷ xs) (y ∷ ys) h e k = absurd h
+cut-columns (field ∷ fields) len at n (x ∷ xs) (y ∷ ys) h e k =
+    let first : IsCut x y at n = k 0 x (omega arith) in
+    (first.as_long, first.one_type ∙ h.1, first.good, cut-columns fields len at n xs ys h.3 (omega arith) (λ i d low. k (suc i) d (omega arith)))
+
+cut-rows_at : (at n : ℕ) (xs ys : List AnyArray) → length xs ≡ length ys → ((i : ℕ) (d : AnyArray) → i < length ys → IsCut (get_or xs i d) (get_or ys i d) at n) → (j : ℕ) → j < n → rows_at xs j ≡ rows_at ys (at + j)
+cut-rows_at at n [] [] e k j low = refl
+cut-rows_at at n [] (y ∷ ys) e k j low = absurd (omega arith)
+cut-rows_at at n (x ∷ xs) [] e k j low = absurd (omega arith)
+cut-rows_at at n (x ∷ xs) (y ∷ ys) e k j low =
+    let first : IsCut x y at n = k 0 x (omega arith) in
+    let one = first.same_rows j low in
+    let rest = cut-rows_at at n xs ys (omega arith) (λ i d low'. k (suc i) d (omega arith)) j low in
+    cc
+
+-- one column more was cut, of the columns zs that the struct had before
+pub cuts-more : (xs zs : List AnyArray) (i : ℕ) (new old : AnyArray) (at n : ℕ) → length xs ≡ length zs → i < length zs → old ≡ get_or zs i old → IsCut new old at n → ((k : ℕ) (d : AnyArray) → k < i → IsCut (get_or xs k d) (get_or zs k d) at n) → (k : ℕ) (d : AnyArray) → k < i + 1 → IsCut (get_or (set xs i new) k d) (get_or zs k d) at n
+cuts-more xs zs i new old at n many low was cut before k d below = elim (cases_lt k i) [
+  | inl less ↦
+      let other : k ≢ i = omega (arith, less) in
+      subst (λ z. IsCut z (get_or zs k d) at n) (sym (get_or-set_other xs i k new d other)) (before k d less)
+  | inr past ↦
+      let e : k ≡ i = omega (arith, below, past) in
+      let here : old ≡ get_or zs i d = was ∙ get_or_default zs i old d low in
+      let there : get_or (set xs i new) i d ≡ new = get_or-set_same xs i new d (omega (arith, many, low)) in
+      subst (λ j. IsCut (get_or (set xs i new) j d) (get_or zs j d) at n) (sym e) (subst (λ z. IsCut z (get_or zs i d) at n) (sym there) (subst (λ z. IsCut new z at n) here cut))
+]
+
+-- the columns after it are still those that the struct had before
+pub unvisited-more : (xs zs : List AnyArray) (i : ℕ) (new : AnyArray) → ((k : ℕ) (d : AnyArray) → i ≤ k → get_or xs k d ≡ get_or zs k d) → (k : ℕ) (d : AnyArray) → i + 1 ≤ k → get_or (set xs i new) k d ≡ get_or zs k d
+unvisited-more xs zs i new same k d past =
+    let other : k ≢ i = omega (arith, past) in
+    get_or-set_other xs i k new d other ∙ same k d (omega (arith, past))
+
+-- structs of which each column was cut
+pub cut-struct : (a b : StructArray) (at n : ℕ) → IsGood (Struct b) → at + n ≤ b.len → a.fields ≡ b.fields → a.len ≡ n → length (columns a) ≡ length (columns b) → ((i : ℕ) (d : AnyArray) → i < length (columns b) → IsCut (get_or (columns a) i d) (get_or (columns b) i d) at n) → struct_validity a ≡ validity_window at n (struct_validity b) → IsCut (Struct a) (Struct b) at n
+cut-struct a b at n good within ef el many each mask =
+    let known = good-struct b good in
+    record {
+      one_type = ap (λ f. StructKind (kinds_of f.items)) ef;
+      as_long = el;
+      same_rows = λ i low.
+          row-struct a i
+          ∙ rw (mask, present-window at n (struct_validity b) i low, cut-rows_at at n (columns a) (columns b) many each i low) (sym (row-struct b (at + i)));
+      good = struct-good a
+          (rw (mask, el) (bits-window b.len at n (struct_validity b) known.0 within))
+          (rw (ef, el) (cut-columns (struct_fields b) b.len at n (columns a) (columns b) known.1 many each));
+    }
+
+pub ruleset leaf_cuts = (length-window, row-window)
+
+pub ruleset kept_parts = (cut-list, cut-dictionary, one_more)

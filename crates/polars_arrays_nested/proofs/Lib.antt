@@ -1,0 +1,13 @@
+pub mod Clones
+pub mod Cuts
+pub mod Examples
+pub mod Faults
+pub mod FieldKinds
+pub mod LeafSlots
+pub mod Lengths
+pub mod NullCounts
+pub mod Places
+pub mod RowLists
+pub mod SameTypes
+pub mod Structs
+pub mod Windows

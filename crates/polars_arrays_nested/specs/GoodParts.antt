@@ -1,0 +1,44 @@
+-- What arrays that hold arrays ask of their parts, all over the tree.
+use Rattle.std.specs.Prelude.{◌≡◌, ◌*◌, ℕ, Bool, List, [], ◌∷◌, Option, ⊤}
+use Rattle.polars_arrays_bytes.specs.OffsetStrings.{AreGood}
+use Rattle.polars_arrays_flat.specs.DataType.{kind_of}
+use Rattle.polars_arrays_flat.specs.Validity.{HasBits}
+use Rattle.polars_arrays_flat.specs.declared.data_type.Field.{Field}
+use Rattle.polars_arrays_nested.specs.DictKeys.{NameEntries, key_places, key_validity}
+use Rattle.polars_arrays_nested.specs.Lengths.{len_of}
+use Rattle.polars_arrays_nested.specs.ListOffsets.{list_count, list_places}
+use Rattle.polars_arrays_nested.specs.Types.{type_of}
+use Rattle.polars_arrays_nested.specs.declared.any_array.AnyArray.{AnyArray, List', FixedSizeList', Struct', Dictionary', Row_of-AnyArray, end_of-AnyArray, more_of-AnyArray}
+use Rattle.polars_arrays_nested.specs.declared.dict_keys.DictKeys.{DictKeys}
+use Rattle.polars_arrays_nested.specs.declared.list_offsets.ListOffsets.{ListOffsets}
+
+-- offsets and a validity that make lists of n items: a bit for each list, and each list within the items
+pub record AreLists (n : ℕ) (offsets : ListOffsets) (validity : Option (List Bool)) : Type 0 where
+  pub bits : HasBits (list_count offsets) validity
+  pub good : AreGood n (list_places offsets)
+
+-- n items and a validity that make `len` lists of `width` items: a bit for each list, and the items are those of the lists and no more
+pub record AreFixedLists (n width len : ℕ) (validity : Option (List Bool)) : Type 0 where
+  pub bits : HasBits len validity
+  pub items : n ≡ width * len
+
+-- keys that make rows of n entries: each present key names one
+pub record AreKeys (n : ℕ) (keys : DictKeys) : Type 0 where
+  pub named : NameEntries n (key_validity keys) (key_places keys)
+
+abbrev mutual
+  -- an array and all arrays inside it are made of good parts; one of one level always is, by its type
+  pub IsGood : AnyArray → Type 0
+  IsGood (List' offsets p values validity) = AreLists (len_of values) offsets validity × IsGood values
+  IsGood (FixedSizeList' width len p values validity) =
+      AreFixedLists (len_of values) width len validity × IsGood values
+  IsGood (Struct' fields len p values validity) = HasBits len validity × AreFields fields.items len values
+  IsGood (Dictionary' keys p values) = AreKeys (len_of values) keys × IsGood values
+  IsGood _ = ⊤
+
+  -- there is one good array for each field, of its type and of `len` rows
+  pub AreFields : {m : _} → List Field → ℕ → Row_of-AnyArray m → Type 0
+  AreFields [] len end_of-AnyArray = ⊤
+  AreFields (field ∷ fields) len (more_of-AnyArray first rest) =
+      (len_of first ≡ len) × (type_of first ≡ kind_of field.dtype) × IsGood first × AreFields fields len rest
+  AreFields _ len _ = ⊥

@@ -1,0 +1,35 @@
+-- The leaf slots of any array: what a comparison of it may cost.
+use Rattle.std.specs.Prelude.{◌≡◌, ◌≤◌, ◌+◌, ◌-◌, ◌*◌, ℕ, zero, suc, cond}
+use Rattle.polars_arrays_flat.specs.Validity.{is_present}
+use Rattle.polars_arrays_nested.specs.DictKeys.{key_at, key_validity}
+use Rattle.polars_arrays_nested.specs.GoodParts.{IsGood}
+use Rattle.polars_arrays_nested.specs.Lengths.{len_of}
+use Rattle.polars_arrays_nested.specs.ListOffsets.{offset_at}
+use Rattle.polars_arrays_nested.specs.declared.any_array.AnyArray.{AnyArray, Null, List', FixedSizeList', Struct', Dictionary', Row_of-AnyArray, end_of-AnyArray, more_of-AnyArray}
+
+-- the sum of f over `count` numbers from `from` on
+abbrev pub total : (ℕ → ℕ) → ℕ → ℕ → ℕ
+total f from zero = 0
+total f from (suc count) = total f from count + f (from + count)
+
+abbrev mutual
+  -- the leaf slots in the n rows from row `from` on: of an array of one level its rows, of lists those of their items, of structs those of all fields, of a dictionary those of each present row's entry, and of nulls none
+  pub leaves : AnyArray → ℕ → ℕ → ℕ
+  leaves (Null a) from n = 0
+  leaves (List' offsets p values validity) from n =
+      leaves values (offset_at offsets from) (offset_at offsets (from + n) - offset_at offsets from)
+  leaves (FixedSizeList' width len p values validity) from n = leaves values (width * from) (width * n)
+  leaves (Struct' fields len p values validity) from n = leaves_across values from n
+  leaves (Dictionary' keys p values) from n =
+      total (λ k. cond (is_present (key_validity keys) k) (leaves values (key_at keys k) 1) 0) from n
+  leaves _ from n = n
+
+  -- those of each array, added up
+  pub leaves_across : {m : _} → Row_of-AnyArray m → ℕ → ℕ → ℕ
+  leaves_across end_of-AnyArray from n = 0
+  leaves_across (more_of-AnyArray first rest) from n = leaves first from n + leaves_across rest from n
+
+-- of two windows, the second beginning where the first ends, the leaf slots are those of both together
+abbrev pub LeavesAddUp : Type 0
+LeavesAddUp =
+    (a : AnyArray) (from m n : ℕ) → IsGood a → from + m + n ≤ len_of a → leaves a from (m + n) ≡ leaves a from m + leaves a (from + m) n

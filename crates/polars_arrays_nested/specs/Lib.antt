@@ -1,0 +1,14 @@
+pub mod AnyRows
+pub mod Clones
+pub mod Columns
+pub mod Cuts
+pub mod DictKeys
+pub mod Faults
+pub mod GoodParts
+pub mod Leaves
+pub mod Lengths
+pub mod ListOffsets
+pub mod Parts
+pub mod Places
+pub mod StoredRows
+pub mod Types

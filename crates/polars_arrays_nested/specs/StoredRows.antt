@@ -1,0 +1,61 @@
+-- The rows of arrays that hold arrays as they are stored, whatever the validity says.
+use Rattle.std.specs.Prelude.{◌≡◌, ◌<◌, ◌*◌, ℕ, false, List, length, map}
+use Rattle.std.specs.List.{range_with_len}
+use Rattle.std.proofs.Common.{arith, ap, sym, ◌∙◌}
+use Rattle.std.proofs.lemmas.List.FromFn.{length-map-range_with_len, get_or-map-range_with_len}
+use Rattle.polars_arrays_flat.specs.ArrayRows.{is_null}
+use Rattle.polars_arrays_flat.specs.Row.{Row, Null, Rows, Fields, Entry}
+use Rattle.polars_arrays_flat.specs.StoredRows.{row as row_at}
+use Rattle.polars_arrays_nested.specs.AnyRows.{row, rows_from}
+use Rattle.polars_arrays_nested.specs.Columns.{rows_at}
+use Rattle.polars_arrays_nested.specs.DictKeys.{key_at, key_count}
+use Rattle.polars_arrays_nested.specs.ListOffsets.{list_count, offset_at, span}
+use Rattle.polars_arrays_nested.specs.Parts.{columns, dictionary_keys, dictionary_values, fixed_values, fixed_width, list_offsets, list_values}
+use Rattle.polars_arrays_nested.specs.declared.dictionary.DictionaryArray.{DictionaryArray}
+use Rattle.polars_arrays_nested.specs.declared.fixed_size_list.FixedSizeListArray.{FixedSizeListArray}
+use Rattle.polars_arrays_nested.specs.declared.list.ListArray.{ListArray}
+use Rattle.polars_arrays_nested.specs.declared.struct_array.StructArray.{StructArray}
+
+-- the n rows that f gives
+abbrev pub listed : (ℕ → Row) → ℕ → List Row
+listed f n = map f (range_with_len 0 n)
+
+-- list i: the items between its two offsets
+abbrev pub stored_list : ListArray → ℕ → Row
+stored_list a i =
+    Rows (rows_from (row (list_values a)) (offset_at (list_offsets a) i) (span (list_offsets a) i))
+
+-- all lists
+abbrev pub stored_lists : ListArray → List Row
+stored_lists a = listed (stored_list a) (list_count (list_offsets a))
+
+-- list i of one width: as many items from width * i on
+abbrev pub stored_fixed_list : FixedSizeListArray → ℕ → Row
+stored_fixed_list a i = Rows (rows_from (row (fixed_values a)) (fixed_width a * i) (fixed_width a))
+
+-- all lists of one width
+abbrev pub stored_fixed_lists : FixedSizeListArray → List Row
+stored_fixed_lists a = listed (stored_fixed_list a) a.len
+
+-- struct i: the row of each column there
+abbrev pub stored_struct : StructArray → ℕ → Row
+stored_struct a i = Fields (rows_at (columns a) i)
+
+-- all structs
+abbrev pub stored_structs : StructArray → List Row
+stored_structs a = listed (stored_struct a) a.len
+
+-- row i of a dictionary array: the entry that its key names
+abbrev pub stored_entry : DictionaryArray → ℕ → Row
+stored_entry a i = Entry (row (dictionary_values a) (key_at (dictionary_keys a) i))
+
+-- all rows of a dictionary array
+abbrev pub stored_entries : DictionaryArray → List Row
+stored_entries a = listed (stored_entry a) (key_count (dictionary_keys a))
+
+-- rows of which none is Null are not stored as Null
+pub listed-present : (f : ℕ → Row) (n i : ℕ) → ((k : ℕ) → is_null (f k) ≡ false) → i < length (listed f n) → row_at (listed f n) i ≡ Null → ⊥
+listed-present f n i present within null =
+    let there : row_at (listed f n) i ≡ f i = get_or-map-range_with_len f 0 n i i Null (omega (arith, within, length-map-range_with_len f 0 n)) (omega arith) in
+    let is : is_null Null ≡ false = sym (ap is_null (sym there ∙ null)) ∙ present i in
+    cc

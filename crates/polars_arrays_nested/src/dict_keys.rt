@@ -1,0 +1,228 @@
+//! The keys of dictionaries.
+
+ghost use Rattle.std.specs.Option.{MatchOption, option_copied};
+ghost use Rattle.std.specs.Prelude.{◌≡◌, ◌↔◌, ◌+◌, ◌<◌, ◌≤◌, ℕ, Bool, List, Some, IsTrue, MatchResult, length, slice_index_or};
+ghost use Rattle.polars_arrays_bits.specs.Errors.{IsMemory};
+ghost use Rattle.polars_arrays_bytes.specs.OffsetStrings.{place_at, places};
+ghost use Rattle.polars_arrays_flat.specs.Validity.{HasBits, is_present, masked_count, validity_window, window};
+ghost use Rattle.polars_arrays_nested.specs.DictKeys.{IsEntry, IsFirstBadKey, IsGoodKey, NameEntries, key_at, key_count, key_places, key_type, key_validity};
+ghost use Rattle.polars_arrays_nested.specs.Places.{place_or_zero};
+
+use polars_arrays_bits::bitmap::Bitmap;
+use polars_arrays_bits::error::ComputeError;
+use polars_arrays_flat::array::Array;
+use polars_arrays_flat::data_type::IntegerType;
+use polars_arrays_flat::primitive::PrimitiveArray;
+use polars_arrays_numbers::dictionary_key::DictionaryKey;
+use std::alloc::Global;
+
+/// For each row the number of its entry, of which a validity masks some.
+#[derive(Drop)]
+pub enum DictKeys {
+    Int8(PrimitiveArray<i8>),
+    Int16(PrimitiveArray<i16>),
+    Int32(PrimitiveArray<i32>),
+    Int64(PrimitiveArray<i64>),
+    UInt8(PrimitiveArray<u8>),
+    UInt16(PrimitiveArray<u16>),
+    UInt32(PrimitiveArray<u32>),
+    UInt64(PrimitiveArray<u64>),
+}
+
+impl DictKeys {
+    /// How many keys there are.
+    #[tactic(auto, using(crate::proofs::Places::places_of))]
+    pub fn len(&self) -> usize
+        ensures { result ≡ key_count self.now }
+    {
+        match self {
+            DictKeys::Int8(keys) => keys.len(),
+            DictKeys::Int16(keys) => keys.len(),
+            DictKeys::Int32(keys) => keys.len(),
+            DictKeys::Int64(keys) => keys.len(),
+            DictKeys::UInt8(keys) => keys.len(),
+            DictKeys::UInt16(keys) => keys.len(),
+            DictKeys::UInt32(keys) => keys.len(),
+            DictKeys::UInt64(keys) => keys.len(),
+        }
+    }
+
+    /// A bit for each key, set where it is present, or None where no key is masked.
+    #[tactic(auto, using(crate::proofs::Places::places_of))]
+    pub fn validity(&self) -> Option<&Bitmap>
+        ensures mask { option_copied result ≡ key_validity self.now }
+        ensures bits { HasBits (key_count self.now) (key_validity self.now) }
+    {
+        match self {
+            DictKeys::Int8(keys) => keys.validity(),
+            DictKeys::Int16(keys) => keys.validity(),
+            DictKeys::Int32(keys) => keys.validity(),
+            DictKeys::Int64(keys) => keys.validity(),
+            DictKeys::UInt8(keys) => keys.validity(),
+            DictKeys::UInt16(keys) => keys.validity(),
+            DictKeys::UInt32(keys) => keys.validity(),
+            DictKeys::UInt64(keys) => keys.validity(),
+        }
+    }
+
+    /// How many keys are masked.
+    pub fn null_count(&self) -> usize
+        ensures { result ≡ masked_count (key_validity self.now) }
+    {
+        match self {
+            DictKeys::Int8(keys) => keys.null_count(),
+            DictKeys::Int16(keys) => keys.null_count(),
+            DictKeys::Int32(keys) => keys.null_count(),
+            DictKeys::Int64(keys) => keys.null_count(),
+            DictKeys::UInt8(keys) => keys.null_count(),
+            DictKeys::UInt16(keys) => keys.null_count(),
+            DictKeys::UInt32(keys) => keys.null_count(),
+            DictKeys::UInt64(keys) => keys.null_count(),
+        }
+    }
+
+    /// The type of the keys.
+    pub fn key_type(&self) -> IntegerType
+        ensures { result ≡ key_type self.now }
+    {
+        match self {
+            DictKeys::Int8(_) => IntegerType::Int8,
+            DictKeys::Int16(_) => IntegerType::Int16,
+            DictKeys::Int32(_) => IntegerType::Int32,
+            DictKeys::Int64(_) => IntegerType::Int64,
+            DictKeys::UInt8(_) => IntegerType::UInt8,
+            DictKeys::UInt16(_) => IntegerType::UInt16,
+            DictKeys::UInt32(_) => IntegerType::UInt32,
+            DictKeys::UInt64(_) => IntegerType::UInt64,
+        }
+    }
+
+    /// Key `i` as a place among the entries, also where it is masked. A negative one, which only a masked
+    /// row of an array may have, gives 0.
+    #[tactic(auto, using(crate::proofs::Places::places_of))]
+    pub fn key(&self, i: usize) -> usize
+        requires { i < key_count self.now }
+        ensures { result ≡ key_at self.now i }
+    {
+        match self {
+            DictKeys::Int8(keys) => entry_of(keys.values(), i),
+            DictKeys::Int16(keys) => entry_of(keys.values(), i),
+            DictKeys::Int32(keys) => entry_of(keys.values(), i),
+            DictKeys::Int64(keys) => entry_of(keys.values(), i),
+            DictKeys::UInt8(keys) => entry_of(keys.values(), i),
+            DictKeys::UInt16(keys) => entry_of(keys.values(), i),
+            DictKeys::UInt32(keys) => entry_of(keys.values(), i),
+            DictKeys::UInt64(keys) => entry_of(keys.values(), i),
+        }
+    }
+
+    /// The first present key that names none of `n` entries.
+    pub fn first_bad_key(&self, n: usize) -> Option<usize>
+        ensures { MatchOption result (NameEntries n (key_validity self.now) (key_places self.now)) (IsFirstBadKey n (key_validity self.now) (key_places self.now)) }
+    {
+        match self {
+            DictKeys::Int8(keys) => first_bad(keys, n),
+            DictKeys::Int16(keys) => first_bad(keys, n),
+            DictKeys::Int32(keys) => first_bad(keys, n),
+            DictKeys::Int64(keys) => first_bad(keys, n),
+            DictKeys::UInt8(keys) => first_bad(keys, n),
+            DictKeys::UInt16(keys) => first_bad(keys, n),
+            DictKeys::UInt32(keys) => first_bad(keys, n),
+            DictKeys::UInt64(keys) => first_bad(keys, n),
+        }
+    }
+
+    /// Keeps `n` keys from key `at` on. No key moves.
+    #[tactic(auto, using(crate::proofs::Places::places_of))]
+    pub fn slice(&mut self, at: usize, n: usize)
+        requires { at + n ≤ key_count self.old }
+        ensures places { key_places self.new ≡ window at n (key_places self.old) }
+        ensures validity { key_validity self.new ≡ validity_window at n (key_validity self.old) }
+        ensures name { key_type self.new ≡ key_type self.old }
+    {
+        match self {
+            DictKeys::Int8(keys) => keys.slice(at, n),
+            DictKeys::Int16(keys) => keys.slice(at, n),
+            DictKeys::Int32(keys) => keys.slice(at, n),
+            DictKeys::Int64(keys) => keys.slice(at, n),
+            DictKeys::UInt8(keys) => keys.slice(at, n),
+            DictKeys::UInt16(keys) => keys.slice(at, n),
+            DictKeys::UInt32(keys) => keys.slice(at, n),
+            DictKeys::UInt64(keys) => keys.slice(at, n),
+        }
+    }
+
+    /// A second copy of the keys, in the very values where these are shared. The error is `Memory`.
+    pub fn clone_keys(&self, alloc: Global) -> Result<DictKeys, ComputeError>
+        ensures { MatchResult result (λ copy. copy ≡ self.now) IsMemory }
+    {
+        let copy = match self {
+            DictKeys::Int8(keys) => DictKeys::Int8(keys.clone_array(alloc)?),
+            DictKeys::Int16(keys) => DictKeys::Int16(keys.clone_array(alloc)?),
+            DictKeys::Int32(keys) => DictKeys::Int32(keys.clone_array(alloc)?),
+            DictKeys::Int64(keys) => DictKeys::Int64(keys.clone_array(alloc)?),
+            DictKeys::UInt8(keys) => DictKeys::UInt8(keys.clone_array(alloc)?),
+            DictKeys::UInt16(keys) => DictKeys::UInt16(keys.clone_array(alloc)?),
+            DictKeys::UInt32(keys) => DictKeys::UInt32(keys.clone_array(alloc)?),
+            DictKeys::UInt64(keys) => DictKeys::UInt64(keys.clone_array(alloc)?),
+        };
+        Ok(copy)
+    }
+}
+
+// Key `i` as a place, or 0 where it is negative.
+#[tactic(auto, using(crate::proofs::Places::places_of))]
+fn entry_of<K: DictionaryKey>(keys: &[K], i: usize) -> usize
+    requires { i < length keys.now }
+    ensures { result ≡ place_or_zero (place_at (places K.value keys.now) i) }
+{
+    keys[i].to_entry().unwrap_or(0)
+}
+
+// The first present key that names none of `n` entries.
+fn first_bad<K: DictionaryKey>(keys: &PrimitiveArray<K>, n: usize) -> Option<usize>
+    ensures { MatchOption result (NameEntries n keys.now.validity (places K.value keys.now.values)) (IsFirstBadKey n keys.now.validity (places K.value keys.now.values)) }
+{
+    for row in 0..keys.len() {
+        if !is_good_key(keys, row, n) {
+            return Some(row);
+        }
+    }
+    None
+}
+
+// Whether the key of a row is masked, or names one of `n` entries.
+#[tactic(auto, using(crate::proofs::Places::places_of))]
+fn is_good_key<K: DictionaryKey>(keys: &PrimitiveArray<K>, row: usize, n: usize) -> bool
+    requires { row < length keys.now.values }
+    ensures { IsTrue result ↔ IsGoodKey n keys.now.validity (places K.value keys.now.values) row }
+{
+    if is_present(keys.validity(), row) {
+        names_entry(keys.values(), row, n)
+    } else {
+        true
+    }
+}
+
+// Whether row `row` is present.
+#[tactic(auto, using(crate::proofs::Places::reads))]
+fn is_present(validity: Option<&Bitmap>, row: usize) -> bool
+    ensures { result ≡ is_present (option_copied validity.entry) row }
+{
+    match validity {
+        Some(bits) => bits.get(row).unwrap_or(false),
+        None => true,
+    }
+}
+
+// Whether the key of a row names one of `n` entries.
+#[tactic(auto, using(crate::proofs::Places::places_of))]
+fn names_entry<K: DictionaryKey>(keys: &[K], row: usize, n: usize) -> bool
+    requires { row < length keys.now }
+    ensures { IsTrue result ↔ IsEntry n (place_at (places K.value keys.now) row) }
+{
+    match keys[row].to_entry() {
+        Some(entry) => entry < n,
+        None => false,
+    }
+}

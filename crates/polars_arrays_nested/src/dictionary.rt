@@ -1,0 +1,134 @@
+//! Arrays of entries of a dictionary.
+
+ghost use Rattle.std.specs.Prelude.{◌≡◌, ◌<◌, ◌+◌, ◌≤◌, ℕ, true, IfOk, IfErr, refl, MatchResult};
+ghost use Rattle.std.specs.Result.{OkIff};
+ghost use Rattle.polars_arrays_bits.specs.Errors.{IsMemory};
+ghost use Rattle.polars_arrays_flat.specs.Row.{Entry};
+ghost use Rattle.polars_arrays_flat.specs.StoredRows.{kept};
+ghost use Rattle.polars_arrays_flat.specs.Validity.{is_present, masked_count};
+ghost use Rattle.polars_arrays_nested.specs.AnyRows.{row};
+ghost use Rattle.polars_arrays_nested.specs.Clones.{IsClone};
+ghost use Rattle.polars_arrays_nested.specs.Cuts.{IsCut};
+ghost use Rattle.polars_arrays_nested.specs.DictKeys.{key_at, key_count, key_validity};
+ghost use Rattle.polars_arrays_nested.specs.Faults.{IsKeyFault};
+ghost use Rattle.polars_arrays_nested.specs.GoodParts.{AreKeys, IsGood};
+ghost use Rattle.polars_arrays_nested.specs.Lengths.{len_of};
+ghost use Rattle.polars_arrays_nested.specs.Parts.{dictionary_keys, dictionary_values};
+ghost use Rattle.polars_arrays_nested.specs.StoredRows.{listed-present, stored_entry, stored_entries};
+ghost use Rattle.polars_arrays_nested.specs.Types.{type_of};
+ghost use Rattle.polars_arrays_nested.specs.declared.any_array.AnyArray.{Dictionary, size-AnyArray};
+ghost use Rattle.polars_arrays_nested.specs.declared.dictionary.DictionaryArray.{size-DictionaryArray};
+
+use crate::any_array::AnyArray;
+use crate::dict_keys::DictKeys;
+use polars_arrays_bits::bitmap::Bitmap;
+use polars_arrays_bits::error::{ArrayError, ComputeError};
+use polars_arrays_flat::array::Array;
+use std::alloc::Global;
+
+/// Rows that name entries of another array by keys, of which a validity masks some.
+#[cycle(arrays)]
+#[derive(Drop)]
+pub struct DictionaryArray {
+    keys: DictKeys,
+    values: Box<AnyArray>,
+}
+
+impl DictionaryArray {
+    /// An array of the entries that the keys name, null where the key is. The error is `Key` with the first
+    /// row whose key is present and negative, or not below the number of entries. A key under a null may be
+    /// anything.
+    #[tactic(auto, using(crate::proofs::Faults::faults))]
+    pub fn try_new(keys: DictKeys, values: Box<AnyArray>) -> Result<DictionaryArray, ArrayError>
+        requires { IsGood values.value }
+        ensures made { OkIff result (AreKeys (len_of values.value) keys) (record { keys = keys; values = values }) }
+        ensures refused { IfErr result (IsKeyFault (len_of values.value) keys) }
+        ensures good { IfOk result (λ a. IsGood (Dictionary a)) }
+        ensures rows { IfOk result (λ a. (i : ℕ) → row (Dictionary a) i ≡ kept (is_present (key_validity keys) i) (Entry (row values.value (key_at keys i)))) }
+    {
+        match keys.first_bad_key(values.len()) {
+            Some(row) => Err(ArrayError::Key { row }),
+            None => Ok(DictionaryArray { keys, values }),
+        }
+    }
+
+    /// For each row the number of its entry.
+    pub fn keys(&self) -> &DictKeys
+        ensures { result.now ≡ dictionary_keys self.now }
+    {
+        &self.keys
+    }
+
+    /// The entries, and those that no key names.
+    pub fn values(&self) -> &AnyArray
+        ensures values { result.now ≡ dictionary_values self.now }
+        ensures smaller { size-AnyArray result.now < size-DictionaryArray self.now }
+    {
+        &self.values
+    }
+
+    /// The number of the entry that the key of a present row names.
+    pub fn key_value(&self, i: usize) -> usize
+        requires good { IsGood (Dictionary self.now) }
+        requires within { i < key_count (dictionary_keys self.now) }
+        requires present { is_present (key_validity (dictionary_keys self.now)) i ≡ true }
+        ensures key { result ≡ key_at (dictionary_keys self.now) i }
+        ensures entry { result < len_of (dictionary_values self.now) }
+    {
+        self.keys.key(i)
+    }
+
+    /// Keeps `n` rows from row `at` on.
+    #[tactic(auto, using(crate::proofs::Cuts::kept_parts))]
+    pub fn slice(&mut self, at: usize, n: usize)
+        requires good { IsGood (Dictionary self.old) }
+        requires within { at + n ≤ len_of (Dictionary self.old) }
+        ensures { IsCut (Dictionary self.new) (Dictionary self.old) at n }
+    {
+        self.keys.slice(at, n);
+    }
+
+    /// A second array of the same rows and type. The error is `Memory`.
+    #[cycle(clones)]
+    #[tactic(auto, using(crate::proofs::Clones::copies))]
+    pub fn clone_array(&self, alloc: Global) -> Result<DictionaryArray, ComputeError>
+        ensures { MatchResult result (λ copy. IsClone (Dictionary copy) (Dictionary self.now)) IsMemory }
+    {
+        let keys = self.keys.clone_keys(alloc)?;
+        let values = self.values.clone_array(alloc)?;
+        let values = Box::new(alloc, values)?;
+        Ok(DictionaryArray { keys, values })
+    }
+}
+
+impl Array for DictionaryArray {
+    ghost slots = { stored_entries };
+
+    ghost mask = { λ a. key_validity (dictionary_keys a) };
+
+    ghost nulls = { λ a. masked_count (key_validity (dictionary_keys a)) };
+
+    ghost same_type = { λ a b. type_of (Dictionary a) ≡ type_of (Dictionary b) };
+
+    ghost good = { λ a. IsGood (Dictionary a) };
+
+    #[tactic(auto, using(crate::proofs::Lengths::lengths))]
+    fn len(&self) -> usize {
+        self.keys.len()
+    }
+
+    #[tactic(auto, using(crate::proofs::Lengths::lengths))]
+    fn validity(&self) -> Option<&Bitmap> {
+        self.keys.validity()
+    }
+
+    #[tactic(auto, using(crate::proofs::NullCounts::nulls_counted))]
+    fn null_count(&self) -> usize {
+        match self.keys.validity() {
+            Some(bits) => bits.unset_bits(),
+            None => 0,
+        }
+    }
+
+    ghost null_law = { λ a b i within is_null. absurd (listed-present (stored_entry a) _ i (λ k. refl) within is_null) };
+}

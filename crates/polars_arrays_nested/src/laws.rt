@@ -1,0 +1,31 @@
+//! Laws of the definitions, each the contract of a function without parameters.
+
+ghost use Rattle.std.specs.Prelude.{◌≡◌};
+ghost use Rattle.polars_arrays_flat.specs.StoredRows.{rows_under};
+ghost use Rattle.polars_arrays_flat.specs.Validity.{HasBits};
+ghost use Rattle.polars_arrays_nested.specs.AnyRows.{rows};
+ghost use Rattle.polars_arrays_nested.specs.DictKeys.{key_count, key_validity};
+ghost use Rattle.polars_arrays_nested.specs.GoodParts.{IsGood};
+ghost use Rattle.polars_arrays_nested.specs.Leaves.{LeavesAddUp};
+ghost use Rattle.polars_arrays_nested.specs.Parts.{dictionary_keys, fixed_validity, list_validity, struct_validity};
+ghost use Rattle.polars_arrays_nested.specs.StoredRows.{stored_entries, stored_fixed_lists, stored_lists, stored_structs};
+ghost use Rattle.polars_arrays_nested.specs.declared.any_array.AnyArray.{List, FixedSizeList, Struct, Dictionary};
+ghost use Rattle.polars_arrays_nested.specs.declared.dictionary.DictionaryArray.{DictionaryArray};
+ghost use Rattle.polars_arrays_nested.specs.declared.fixed_size_list.FixedSizeListArray.{FixedSizeListArray};
+ghost use Rattle.polars_arrays_nested.specs.declared.list.ListArray.{ListArray};
+ghost use Rattle.polars_arrays_nested.specs.declared.struct_array.StructArray.{StructArray};
+
+/// The leaf slots of two windows, the second beginning where the first ends, are those of both together.
+#[tactic(auto, using(crate::proofs::LeafSlots::leaf_slots))]
+pub fn law_leaves()
+    ensures { LeavesAddUp }
+{}
+
+/// The rows of an array that holds arrays are its stored rows, with null where the validity has 0.
+#[tactic(auto, using(crate::proofs::RowLists::stored_rows))]
+pub fn law_rows()
+    ensures lists { (a : ListArray) → IsGood (List a) → rows (List a) ≡ rows_under (list_validity a) (stored_lists a) }
+    ensures fixed_lists { (a : FixedSizeListArray) → IsGood (FixedSizeList a) → rows (FixedSizeList a) ≡ rows_under (fixed_validity a) (stored_fixed_lists a) }
+    ensures structs { (a : StructArray) → IsGood (Struct a) → rows (Struct a) ≡ rows_under (struct_validity a) (stored_structs a) }
+    ensures entries { (a : DictionaryArray) → HasBits (key_count (dictionary_keys a)) (key_validity (dictionary_keys a)) → rows (Dictionary a) ≡ rows_under (key_validity (dictionary_keys a)) (stored_entries a) }
+{}

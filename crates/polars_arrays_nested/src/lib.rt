@@ -1,0 +1,15 @@
+//! Arrays that hold arrays: lists, lists of one width, structs and dictionaries, and any array.
+#![tactic(auto)]
+
+pub mod any_array;
+pub mod data_types;
+pub mod dict_keys;
+pub mod dictionary;
+pub mod fixed_size_list;
+pub mod laws;
+pub mod list;
+pub mod list_offsets;
+pub mod struct_array;
+#[cfg(test)]
+mod tests;
+pub mod types;

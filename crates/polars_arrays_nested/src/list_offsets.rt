@@ -1,0 +1,103 @@
+//! The offsets of lists.
+
+ghost use Rattle.std.specs.Option.{MatchOption};
+ghost use Rattle.std.specs.Prelude.{◌≡◌, ◌+◌, ◌<◌, MatchResult, length};
+ghost use Rattle.polars_arrays_bits.specs.Errors.{IsMemory};
+ghost use Rattle.polars_arrays_bytes.specs.Faults.{IsFirstBad};
+ghost use Rattle.polars_arrays_bytes.specs.OffsetStrings.{AreGood, place_at, places};
+ghost use Rattle.polars_arrays_flat.specs.Validity.{window};
+ghost use Rattle.polars_arrays_nested.specs.ListOffsets.{is_large, list_count, list_places, offset_at};
+ghost use Rattle.polars_arrays_nested.specs.Places.{place_or_zero};
+
+use polars_arrays_bits::buffer::Buffer;
+use polars_arrays_bits::error::ComputeError;
+use polars_arrays_bytes::offsets::{first_bad_row, keep_rows, row_count};
+use polars_arrays_numbers::offset::Offset;
+use std::alloc::Global;
+
+/// Where the items of each list begin and end among all items: one offset more than there are lists.
+#[derive(Drop)]
+pub enum ListOffsets {
+    Small(Buffer<i32>),
+    Large(Buffer<i64>),
+}
+
+impl ListOffsets {
+    /// How many lists there are: one fewer than offsets, and none without an offset.
+    #[tactic(auto, using(crate::proofs::Places::places_of))]
+    pub fn rows(&self) -> usize
+        ensures { result ≡ list_count self.now }
+    {
+        match self {
+            ListOffsets::Small(offsets) => row_count(offsets.as_slice()),
+            ListOffsets::Large(offsets) => row_count(offsets.as_slice()),
+        }
+    }
+
+    /// Whether the offsets have 64 bits.
+    pub fn is_large(&self) -> bool
+        ensures { result ≡ is_large self.now }
+    {
+        matches!(self, ListOffsets::Large(_))
+    }
+
+    /// Offset `i` as a place among the items. A negative one, which no array has, gives 0.
+    #[tactic(auto, using(crate::proofs::Places::places_of))]
+    pub fn offset(&self, i: usize) -> usize
+        requires { i < length (list_places self.now) }
+        ensures { result ≡ offset_at self.now i }
+    {
+        match self {
+            ListOffsets::Small(offsets) => place_of(offsets.as_slice(), i),
+            ListOffsets::Large(offsets) => place_of(offsets.as_slice(), i),
+        }
+    }
+
+    /// The first list that is not good over `n` items, or list 0 where no offset tells where the lists begin.
+    pub fn first_bad_row(&self, n: usize) -> Option<usize>
+        ensures { MatchOption result (AreGood n (list_places self.now)) (IsFirstBad n (list_places self.now)) }
+    {
+        match self {
+            ListOffsets::Small(offsets) => first_bad_row(offsets.as_slice(), n),
+            ListOffsets::Large(offsets) => first_bad_row(offsets.as_slice(), n),
+        }
+    }
+
+    /// Keeps the offsets of `n` lists from list `at` on. No offset moves.
+    #[tactic(auto, using(crate::proofs::Places::places_of))]
+    pub fn slice(&mut self, at: usize, n: usize)
+        requires { at + n < length (list_places self.old) }
+        ensures places { list_places self.new ≡ window at (n + 1) (list_places self.old) }
+        ensures width { is_large self.new ≡ is_large self.old }
+    {
+        match self {
+            ListOffsets::Small(offsets) => keep_rows(offsets, at, n),
+            ListOffsets::Large(offsets) => keep_rows(offsets, at, n),
+        }
+    }
+
+    /// A second copy of the offsets, in the very buffer where it is shared. The error is `Memory`.
+    pub fn clone_offsets(&self, alloc: Global) -> Result<ListOffsets, ComputeError>
+        ensures { MatchResult result (λ copy. copy ≡ self.now) IsMemory }
+    {
+        match self {
+            ListOffsets::Small(offsets) => {
+                let copy = offsets.clone_buffer(alloc)?;
+                Ok(ListOffsets::Small(copy))
+            }
+            ListOffsets::Large(offsets) => {
+                let copy = offsets.clone_buffer(alloc)?;
+                Ok(ListOffsets::Large(copy))
+            }
+        }
+    }
+}
+
+// Offset `i` as a place, or 0 where it is negative.
+#[tactic(auto, using(crate::proofs::Places::places_of))]
+fn place_of<O: Offset>(offsets: &[O], i: usize) -> usize
+    requires { i < length offsets.now }
+    ensures { result ≡ place_or_zero (place_at (places O.value offsets.now) i) }
+{
+    offsets[i].to_place().unwrap_or(0)
+}
