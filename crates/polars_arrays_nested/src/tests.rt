@@ -126,6 +126,30 @@ fn structs_without_fields(rt: HostRuntime) -> Result<(), Fail> {
     Ok(())
 }
 
+// Structs of two rows of one column of numbers, without fields or with those of that name.
+fn one_column(alloc: Global, names: &[&str]) -> Result<Option<ArrayError>, AllocError> {
+    let mut fields = Vec::new(alloc);
+    for name in names {
+        let name = String::from_str(alloc, name)?;
+        let dtype = ArrowDataType::Int32;
+        fields.push(Field { name, dtype })?;
+    }
+    let xs = Vec::from_slice(alloc, &[7, 8])?;
+    let columns = vec![in alloc; AnyArray::Int32(PrimitiveArray::from_vec(xs))]?;
+    Ok(StructArray::try_new(fields, 2, columns, None).err())
+}
+
+#[test]
+fn as_many_columns_as_fields(rt: HostRuntime) -> Result<(), Fail> {
+    let no_field = one_column(rt.alloc(), &[])?;
+    assert_eq!(rt; no_field, Some(ArrayError::Field { at: 0 }));
+    let more_fields = one_column(rt.alloc(), &["a", "b"])?;
+    assert_eq!(rt; more_fields, Some(ArrayError::Field { at: 1 }));
+    let as_many = one_column(rt.alloc(), &["a"])?;
+    assert!(rt; as_many.is_none());
+    Ok(())
+}
+
 // One list of one row of an array.
 fn listed(alloc: Global, values: Box<AnyArray>) -> Result<Box<AnyArray>, Fail>
     requires { IsGood values.value }

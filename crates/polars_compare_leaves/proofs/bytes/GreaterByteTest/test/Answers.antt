@@ -1,6 +1,0 @@
-use Rattle.std.proofs.Common.{◌∙◌, not, ap}
-use Rattle.polars_compare_leaves.proofs.Strings.{less-is}
-use Rattle.polars_compare_leaves.proofs.bytes.GreaterByteTest.test.Goals as goal
-
-pub returns : goal.returns
-returns c = c.lt.ensures ∙ less-is c.args.right.now c.args.left.now
