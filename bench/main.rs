@@ -3,18 +3,22 @@
 //! ratio, and what is asked for. Arguments: words of the names of the kernels to run.
 //!
 //! To add a kernel: an entry point in `crates/polars_bench`, its line in an `extern` block, its peer
-//! in `plain.rs` or `plain_strings.rs`, and a line where its group hands out its kernels.
+//! in `plain.rs`, `plain_strings.rs` or `plain_nested.rs`, and a line where its group hands out its kernels.
 
 mod arrays;
 mod bitmaps;
+mod nested;
+mod nested_rows;
 mod operands;
 mod plain;
+mod plain_nested;
 mod plain_strings;
 mod slices;
 mod string_rows;
 mod strings;
 mod timing;
 
+use nested_rows::Nested;
 use operands::Data;
 use string_rows::Strings;
 use timing::{Bench, Kernel, RUNS};
@@ -25,21 +29,27 @@ fn for_each_on_rows(count: usize, each: &mut dyn FnMut(&Kernel)) {
     slices::for_each(data, each);
     arrays::for_each(data, each);
     strings::for_each(&Strings::new(count), each);
+    nested::for_each(&Nested::new(count), each);
 }
 
-/// Both sides answer alike at each bit of lengths up to some hundreds.
+/// Both sides answer alike at each bit of so many rows.
+fn agree(count: usize, kernel: &Kernel) {
+    let repeats = 2 * count + 4;
+    assert_eq!(
+        (kernel.ours)(repeats),
+        (kernel.plain)(repeats),
+        "{} of {count} rows",
+        kernel.name
+    );
+}
+
+/// Both sides answer alike at lengths up to some hundreds.
 fn rows_agree() {
     for count in 0..300 {
-        for_each_on_rows(count, &mut |kernel| {
-            let repeats = 2 * count + 4;
-            assert_eq!(
-                (kernel.ours)(repeats),
-                (kernel.plain)(repeats),
-                "{} of {count} rows",
-                kernel.name
-            );
-        });
+        for_each_on_rows(count, &mut |kernel| agree(count, kernel));
+        nested::for_structs(count, &mut |kernel| agree(count, kernel));
     }
+    nested::for_deep_lists(&mut |kernel| agree(1, kernel));
 }
 
 fn main() {
@@ -50,7 +60,7 @@ fn main() {
         over: 0,
     };
     println!(
-        "{:34} {:>9} {:>9} {:>9} {:>7} {:>8}",
+        "{:40} {:>9} {:>9} {:>9} {:>7} {:>8}",
         "kernel", "rows", "ns here", "ns beside", "ratio", "asked"
     );
     for run in 0..RUNS.len() {
@@ -59,5 +69,6 @@ fn main() {
         });
         bitmaps::compare(&mut bench, run);
     }
+    nested::compare(&mut bench);
     println!("{} over what is asked for", bench.over);
 }

@@ -5,7 +5,7 @@ use crate::string_rows::{Texts, Views};
 
 /// The answers for the rows from the first one on.
 #[inline]
-fn test_rows(count: usize, test: impl Fn(usize) -> bool + Copy) -> Vec<u64> {
+pub fn test_rows(count: usize, test: impl Fn(usize) -> bool + Copy) -> Vec<u64> {
     let full = count / 64;
     let mut words = Vec::with_capacity(count.div_ceil(64));
     words.extend((0..full).map(move |k| word_of((64 * k..64 * k + 64).map(test))));

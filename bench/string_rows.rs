@@ -10,14 +10,14 @@ pub struct Texts {
 }
 
 impl Texts {
-    fn new() -> Texts {
+    pub fn new() -> Texts {
         Texts {
             offsets: vec![0],
             bytes: Vec::new(),
         }
     }
 
-    fn push(&mut self, row: &[u8]) {
+    pub fn push(&mut self, row: &[u8]) {
         self.bytes.extend_from_slice(row);
         self.offsets.push(self.bytes.len() as i32);
     }
@@ -126,6 +126,16 @@ impl Shape {
             right: Views::new(&right),
         }
     }
+}
+
+/// So many texts of about 6 bytes.
+pub fn entries(numbers: &mut Numbers, count: usize) -> Texts {
+    let shape = Shape {
+        prefix: b"",
+        least: 3,
+        most: 9,
+    };
+    shape.pair(numbers, count).left
 }
 
 /// The strings of one run.

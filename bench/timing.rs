@@ -50,6 +50,17 @@ pub const RUNS: [Run; 2] = [
     },
 ];
 
+impl Run {
+    /// That of a kernel which is timed at numbers of rows of its own.
+    pub fn of(count: usize) -> Run {
+        Run {
+            count,
+            times: 60,
+            least: Duration::from_millis(5),
+        }
+    }
+}
+
 /// The most that is accepted in each run, as the numbers of rows stand in `RUNS`.
 #[derive(Clone, Copy)]
 pub enum Asked {
@@ -123,15 +134,21 @@ pub struct Bench {
 impl Bench {
     /// Times both sides in turn, and prints the line. `run` says which of `RUNS` it is.
     pub fn compare(&mut self, run: usize, kernel: &Kernel) {
+        self.time(&RUNS[run], run, kernel);
+    }
+
+    /// The same at any number of rows, where `run` says which of the numbers that are asked counts. Answers
+    /// the nanoseconds a row of the library, if the kernel is one of those to run.
+    pub fn time(&mut self, rows: &Run, run: usize, kernel: &Kernel) -> Option<f64> {
         let name = kernel.name;
         if !self.words.is_empty() && !self.words.iter().any(|word| name.contains(word.as_str())) {
-            return;
+            return None;
         }
         let Run {
             count,
             times,
             least,
-        } = RUNS[run];
+        } = *rows;
         let ours = kernel.ours;
         assert_eq!(
             ours(9),
@@ -157,7 +174,24 @@ impl Bench {
         };
         self.over += usize::from(over);
         println!(
-            "{name:34} {count:9} {our_time:9.4} {other_time:9.4} {ratio:7.2} {limit:>8}  {}",
+            "{name:40} {count:9} {our_time:9.4} {other_time:9.4} {ratio:7.2} {limit:>8}  {}",
+            if over { "OVER" } else { "ok" },
+        );
+        Some(our_time)
+    }
+
+    /// Prints by how much the time of a row grows from the first number of rows to the last one.
+    pub fn growth(&mut self, name: &str, times: &[f64], limit: f64) {
+        let (Some(first), Some(last)) = (times.first(), times.last()) else {
+            return;
+        };
+        let ratio = last / first;
+        let over = ratio > limit;
+        self.over += usize::from(over);
+        println!(
+            "{:40} {:9} {last:9.4} {first:9.4} {ratio:7.2} {limit:>8.2}  {}",
+            format!("{name}, growth"),
+            "",
             if over { "OVER" } else { "ok" },
         );
     }

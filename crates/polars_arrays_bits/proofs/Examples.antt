@@ -2,6 +2,7 @@
 use Rattle.std.specs.Prelude.{◌≡◌, true, false, [], ◌∷◌, ◌^◌, refl}
 use Rattle.std.specs.Simd.Lanes.{zip2}
 use Rattle.polars_arrays_bits.specs.Bits.{is_bit, bit_of, first_of, true_count, window, zip3}
+use Rattle.polars_arrays_bits.specs.Blocks.{blocks_all}
 use Rattle.polars_arrays_bits.specs.Logic.{xor, xnor, and_not, or_not, merged_eq, merged_ne}
 
 -- 9 has the bits 0 and 3, and the lowest bit of the second word is bit 64
@@ -46,3 +47,10 @@ first_of-three = refl
 
 true_count-three : true_count (is_bit 5) 3 ≡ 2
 true_count-three = refl
+
+-- two blocks of two, and two of none
+blocks_all-pairs : blocks_all 2 2 (true ∷ true ∷ true ∷ false ∷ []) ≡ true ∷ false ∷ []
+blocks_all-pairs = refl
+
+blocks_all-empty : blocks_all 0 2 [] ≡ true ∷ true ∷ []
+blocks_all-empty = refl

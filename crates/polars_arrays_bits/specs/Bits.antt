@@ -44,3 +44,9 @@ pub record IsWritten (old new : List ℕ) (from to : ℕ) (value : Bool) : Type 
   pub within : (p : ℕ) → from ≤ p → p < to → bit_of new p ≡ value
   pub below : (p : ℕ) → p < from → bit_of new p ≡ bit_of old p
   pub above : (p : ℕ) → to ≤ p → bit_of new p ≡ bit_of old p
+
+-- the new words have the bits of `word` from bit p on, as far as they go, and before it the bits of the old ones
+pub record IsPut (old new : List ℕ) (p word : ℕ) : Type 0 where
+  pub count : length new ≡ length old
+  pub before : (q : ℕ) → q < p → bit_of new q ≡ bit_of old q
+  pub bits : (i : ℕ) → i < 64 → p + i < 64 * length old → bit_of new (p + i) ≡ is_bit word i

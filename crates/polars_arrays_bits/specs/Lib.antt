@@ -1,4 +1,5 @@
 pub mod Bits
+pub mod Blocks
 pub mod Buffer
 pub mod BufferLends
 pub mod Draft

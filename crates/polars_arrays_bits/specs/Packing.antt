@@ -1,6 +1,6 @@
 -- Truth values that are being packed.
 use Rattle.std.specs.Prelude.{◌≡◌, ◌<◌, ◌≤◌, ◌+◌, ℕ, Bool, false, List, length, get_or, slice_index, slice_index_or, if◌then◌else◌}
-use Rattle.polars_arrays_bits.specs.Bits.{is_bit}
+use Rattle.polars_arrays_bits.specs.Bits.{is_bit, bit_of}
 
 -- 64 flags: 1 at each place before `to` whose truth value, counted from place `at` on, is true, and else 0
 pub record IsMarked (flags : List ℕ) (values : List Bool) (at to : ℕ) : Type 0 where
@@ -12,3 +12,9 @@ pub record IsMarked (flags : List ℕ) (values : List Bool) (at to : ℕ) : Type
 pub record IsPacked (word : ℕ) (values : List Bool) (at count : ℕ) : Type 0 where
   pub bits : (i : ℕ) → i < count → is_bit word i ≡ get_or values (at + i) false
   pub rest : (i : ℕ) → count ≤ i → i < 64 → is_bit word i ≡ false
+
+-- the new words have the first `count` truth values from bit `from` on, and before it the bits of the old ones
+pub record AreAppended (old new : List ℕ) (from : ℕ) (values : List Bool) (count : ℕ) : Type 0 where
+  pub long : length new ≡ length old
+  pub before : (p : ℕ) → p < from → bit_of new p ≡ bit_of old p
+  pub added : (i : ℕ) → i < count → bit_of new (from + i) ≡ get_or values i false

@@ -1,10 +1,14 @@
 //! Packed truth values that are borrowed.
 
 ghost use Rattle.std.specs.Prelude.{◌≡◌, ◌+◌, ◌<◌, ◌≤◌, not, length, take, drop, count_by, slice_get};
+ghost use Rattle.std.specs.List.{list_all};
 
+mod blocks;
 mod logic;
+mod merges;
 
 use crate::bitmap::Bitmap;
+use crate::runs::all_set;
 use crate::source::count_window;
 use crate::words::{bit_from, place_of};
 use std::marker::Model;
@@ -65,6 +69,15 @@ impl<'a> BitMask<'a> {
         ensures { slice_get self.now i ≡ Some result }
     {
         bit_from(self.words, self.at, i)
+    }
+
+    /// Whether the `n` bits from `at` on are all true.
+    #[inline]
+    pub fn all_set(&self, at: usize, n: usize) -> bool
+        requires { at + n ≤ length self.now }
+        ensures { result ≡ list_all (λ b. b) (take n (drop at self.now)) }
+    {
+        all_set(self.words, self.at, at, n)
     }
 
     /// How many bits are false.

@@ -5,8 +5,9 @@ ghost use Rattle.polars_arrays_bits.specs.Errors.{IsMemory};
 
 use crate::bitmap::Bitmap;
 use crate::error::ComputeError;
+use crate::packing::TruthValues;
 use crate::words::WORD_BITS;
-use crate::write::{fill_bits, write_bit};
+use crate::write::{append_values, fill_bits, write_bit};
 use std::alloc::Global;
 use std::marker::Model;
 
@@ -79,6 +80,17 @@ impl BitmapBuilder {
         fill_bits(self.words.as_mut_slice(), self.len, end, value);
         self.len = end;
         self.room -= n;
+    }
+
+    /// Pushes truth values that are asked for one by one, a word of them at a time.
+    pub fn extend_values<V: TruthValues>(&mut self, values: &V)
+        requires { length (V.values values.now) ≤ self.old.room }
+        ensures { self.new ≡ record { bits = self.old.bits ++ V.values values.now; room = self.old.room - length (V.values values.now) } }
+    {
+        let count = values.len();
+        append_values(self.words.as_mut_slice(), self.len, values);
+        self.len += count;
+        self.room -= count;
     }
 
     /// The bits that were pushed.

@@ -11,9 +11,11 @@ pub mod builder;
 pub mod comparison;
 pub mod counting;
 pub mod error;
+mod folds;
 pub mod mutable_bitmap;
 mod operators;
 pub mod packing;
+mod runs;
 mod source;
 #[cfg(test)]
 mod tests;

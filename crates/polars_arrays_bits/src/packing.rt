@@ -122,7 +122,7 @@ fn pack_by_bytes<V: TruthValues>(values: &V, at: usize, count: usize) -> u64
 
 // The word of the `count` truth values from place `at` on, with zeros behind them.
 #[inline(always)]
-fn pack_word<V: TruthValues>(values: &V, at: usize, count: usize) -> u64
+pub(crate) fn pack_word<V: TruthValues>(values: &V, at: usize, count: usize) -> u64
     requires few { count ≤ 64 }
     requires within { at + count ≤ length (V.values values.now) }
     requires fits { at + count < 2 ^ 64 }
@@ -132,6 +132,22 @@ fn pack_word<V: TruthValues>(values: &V, at: usize, count: usize) -> u64
         pack_by_bytes(values, at, count)
     } else {
         pack_by_flags(values, at, count)
+    }
+}
+
+// The same where `count` is found as the code runs: flags cost a few steps whatever their number, so
+// that they pay from sixteen on.
+#[inline(always)]
+pub(crate) fn pack_few<V: TruthValues>(values: &V, at: usize, count: usize) -> u64
+    requires few { count ≤ 64 }
+    requires within { at + count ≤ length (V.values values.now) }
+    requires fits { at + count < 2 ^ 64 }
+    ensures { IsPacked result (V.values values.now) at count }
+{
+    if count < 16 {
+        pack_bits(values, at, count)
+    } else {
+        pack_word(values, at, count)
     }
 }
 

@@ -2,6 +2,8 @@
 
 ghost use Rattle.std.specs.Prelude.{◌≡◌, ◌+◌, ◌^◌, ◌<◌, ◌≤◌, length, IfOk};
 
+mod runs;
+
 use crate::bit_mask::BitMask;
 use crate::bitmap::Bitmap;
 use crate::buffer::Buffer;
@@ -394,6 +396,21 @@ fn tests_the_greater_ones(rt: HostRuntime) -> Result<(), Fail> {
     assert_eq!(rt;
         (at_least.get(1), at_least.get(2), at_least.set_bits()),
         (Some(true), Some(true), 2)
+    );
+    Ok(())
+}
+
+#[test]
+fn bits_true_in_both(rt: HostRuntime) -> Result<(), ComputeError> {
+    let mut left = MutableBitmap::from_len_set(rt.alloc(), 70)?;
+    let mut right = Bitmap::new_with_value(rt.alloc(), true, 75)?;
+    assert!(rt; right.len() == 75);
+    right.slice(5, 70);
+    left.set(64, false);
+    left.and_assign(&right);
+    assert_eq!(rt;
+        (left.get(64), left.get(69), left.set_bits()),
+        (false, true, 69)
     );
     Ok(())
 }

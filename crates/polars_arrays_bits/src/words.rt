@@ -25,6 +25,31 @@ pub(crate) fn join(low: u64, high: u64, by: usize) -> u64
     (low >> by) | (high << (64 - by))
 }
 
+// The same from any bit on. This becomes one shift of two words, without a branch.
+#[inline]
+pub(crate) fn join_from(low: u64, high: u64, by: usize) -> u64
+    requires { by < 64 }
+    ensures { (i : ℕ) → i < 64 → is_bit result i ≡ bit_of (low ∷ high ∷ []) (by + i) }
+{
+    if by == 0 { low } else { join(low, high, by) }
+}
+
+// The 64 bits from bit `at` on of those that begin `by` bits into the first word, and zeros past the
+// end.
+#[inline]
+pub(crate) fn word_from(words: &[u64], by: usize, at: usize) -> u64
+    requires { by < 64 }
+    ensures { (i : ℕ) → i < 64 → is_bit result i ≡ bit_of words.now (by + at + i) }
+{
+    let begin = by + at % WORD_BITS;
+    let k = at / WORD_BITS + begin / WORD_BITS;
+    join_from(
+        word_or_zero(words, k),
+        word_or_zero(words, k + 1),
+        begin % WORD_BITS,
+    )
+}
+
 // Bit `i` of those that begin `by` bits into the first word.
 #[inline]
 pub(crate) fn bit_from(words: &[u64], by: usize, i: usize) -> bool

@@ -1,9 +1,11 @@
 //! Bits that are written into words.
 
-ghost use Rattle.std.specs.Prelude.{◌+◌, ◌*◌, ◌<◌, ◌≤◌, Bool, length};
-ghost use Rattle.polars_arrays_bits.specs.Bits.{IsWritten};
+ghost use Rattle.std.specs.Prelude.{◌≡◌, ◌+◌, ◌*◌, ◌^◌, ◌<◌, ◌≤◌, Bool, length, slice_set};
+ghost use Rattle.polars_arrays_bits.specs.Bits.{IsPut, IsWritten};
+ghost use Rattle.polars_arrays_bits.specs.Packing.{AreAppended};
 
-use crate::words::{WORD_BITS, filled_word};
+use crate::packing::{TruthValues, pack_few, pack_word, put};
+use crate::words::{WORD_BITS, filled_word, word_or_zero};
 
 // Bit `p` becomes `value`, and no other changes.
 #[inline]
@@ -54,4 +56,47 @@ pub(crate) fn fill_bits(words: &mut [u64], from: usize, to: usize, value: bool)
     } else {
         write_bits(words, from, to, value);
     }
+}
+
+// Word `k` becomes `word`, where there is one.
+#[inline]
+fn set_word(words: &mut [u64], k: usize, word: u64)
+    ensures { words.new ≡ slice_set words.old k word }
+{
+    if k < words.len() {
+        words[k] = word;
+    }
+}
+
+// The 64 bits from bit `p` on become those of `word`, as far as there are words, and no bit before
+// them changes. Bits behind them may.
+#[inline]
+fn put_word(words: &mut [u64], p: usize, word: u64)
+    ensures { IsPut words.old words.new p word }
+{
+    let k = p / WORD_BITS;
+    let by = p % WORD_BITS;
+    let before = word_or_zero(words, k) & ((1 << by) - 1);
+    set_word(words, k, put(before, word, by));
+    set_word(words, k + 1, (word >> 1) >> (WORD_BITS - 1 - by));
+}
+
+// The bits from bit `from` on become the truth values, a word of them at a time, and no bit before
+// them changes. Bits behind them may.
+pub(crate) fn append_values<V: TruthValues>(words: &mut [u64], from: usize, values: &V)
+    requires room { from + length (V.values values.now) ≤ 64 * length words.old }
+    requires fits { from + length (V.values values.now) < 2 ^ 64 }
+    ensures { AreAppended words.old words.new from (V.values values.now) (length (V.values values.now)) }
+{
+    let len = values.len();
+    for k in 0..len / WORD_BITS {
+        let at = WORD_BITS * k;
+        put_word(words, from + at, pack_word(values, at, WORD_BITS));
+    }
+    let rest = len % WORD_BITS;
+    put_word(
+        words,
+        from + (len - rest),
+        pack_few(values, len - rest, rest),
+    );
 }

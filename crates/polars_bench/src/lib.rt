@@ -7,6 +7,8 @@
 
 pub mod bitmaps;
 pub mod booleans;
+pub mod nested;
+mod nested_operands;
 pub mod numbers;
 mod operands;
 pub mod slices;

@@ -1,6 +1,6 @@
 //! Arrays of byte strings, texts and views that the kernels are run on, made once for many runs.
 
-ghost use Rattle.std.specs.Prelude.{◌≡◌, length};
+ghost use Rattle.std.specs.Prelude.{◌≡◌, length, IfOk};
 
 use polars_arrays_bits::buffer::Buffer;
 use polars_arrays_bits::error::ComputeError;
@@ -31,8 +31,10 @@ fn comparable_strings<A: ByteRows + Drop>(left: A, right: A) -> Result<Strings<A
     Ok(Strings { left, right })
 }
 
-// A copy of a slice, which clones share.
-fn shared<T: Copy>(alloc: Global, elements: &[T]) -> Result<Buffer<T>, ComputeError> {
+/// A copy of a slice, which clones share.
+pub(crate) fn shared<T: Copy>(alloc: Global, elements: &[T]) -> Result<Buffer<T>, ComputeError>
+    ensures { IfOk result (λ buffer. buffer.items ≡ elements.now) }
+{
     Buffer::from_vec(Vec::from_slice(alloc, elements)?).share(alloc)
 }
 

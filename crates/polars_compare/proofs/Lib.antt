@@ -1,3 +1,4 @@
+mod Arrays
 mod Bits
 mod Examples
 mod Missing

@@ -3,6 +3,7 @@ pub use Rattle.polars_compare_leaves.specs.Equality
 pub use Rattle.polars_compare_leaves.specs.Joining
 pub use Rattle.polars_compare_leaves.specs.Order
 pub use Rattle.polars_compare_leaves.specs.Sameness
+pub mod ArrayLaws
 pub mod MissingLaws
 pub mod OrderLaws
 pub mod RowsLaws

@@ -1,9 +1,13 @@
 //! What holds of the answers of the comparisons, over the definitions of their contracts alone. A law is a
-//! function that does nothing, and its clauses are what is proved.
+//! function that does nothing, and its clauses are what is proved. `law_tally` bounds the comparisons of
+//! any two arrays by their leaf slots, and `law_steps` says that the counter's kernel tells equality.
 
+ghost use Rattle.polars_compare.specs.ArrayLaws.{ArraysAreReflexive, ArraysAreSymmetric, ArraysAreTransitive, ArraysByRows, ArraysUnequalIsNotEqual};
 ghost use Rattle.polars_compare.specs.MissingLaws.{MissingIsReflexive, MissingIsSymmetric, MissingIsTransitive, UnequalIsNotEqual};
 ghost use Rattle.polars_compare.specs.OrderLaws.{AtMostIsLessOrSame, LessIsTransitive, OneOfThree, SameIsEqual};
 ghost use Rattle.polars_compare.specs.RowsLaws.{MissingByRows, RawEqualityByRows, RawOrderByRows};
+
+pub use polars_compare_nested::laws::{law_steps, law_tally};
 
 /// Of two rows with an order exactly one holds: the first is less, they are equal, or it is greater. It is
 /// at most the other where it is less or equal.
@@ -15,18 +19,23 @@ pub fn law_1()
 {}
 
 /// For arrays of one type and length missing equality is reflexive, symmetric and transitive, and missing
-/// inequality is its complement.
+/// inequality is its complement: of arrays of one kind by their rows, and of any two arrays.
 pub fn law_2()
     ensures reflexive { MissingIsReflexive }
     ensures symmetric { MissingIsSymmetric }
     ensures transitive { MissingIsTransitive }
     ensures complement { UnequalIsNotEqual }
+    ensures arrays_reflexive { ArraysAreReflexive }
+    ensures arrays_symmetric { ArraysAreSymmetric }
+    ensures arrays_transitive { ArraysAreTransitive }
+    ensures arrays_complement { ArraysUnequalIsNotEqual }
 {}
 
 /// Arrays with the same rows get the same bits, however they are stored and masked; the raw comparisons
 /// get them at each row that is null on neither side.
 pub fn law_3()
     ensures missing { MissingByRows }
+    ensures arrays { ArraysByRows }
     ensures raw_equality { RawEqualityByRows }
     ensures raw_order { RawOrderByRows }
 {}

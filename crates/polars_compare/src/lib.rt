@@ -6,6 +6,7 @@
 
 pub use polars_compare_equality::{borrowed as borrowed_equality, kernel as equality};
 pub use polars_compare_leaves::{booleans, bytes, joining, numbers, row_test};
+pub use polars_compare_nested::{kernels as dispatch, leaf_kernel};
 pub use polars_compare_order::{borrowed as borrowed_order, kernel as order};
 pub use polars_compare_views::followed;
 

@@ -3,3 +3,4 @@ mod Raw
 mod Trees
 mod Pairs
 mod Sized
+mod Listed

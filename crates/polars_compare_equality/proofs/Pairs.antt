@@ -1,5 +1,5 @@
 -- Byte strings that are tested pair by pair are raw equality.
-use Rattle.std.proofs.Common.{◌≡◌, ◌<◌, ◌↔◌, ◌∙◌, ◌+◌, ℕ, Bool, true, false, IsTrue, List, [], Option, length, sym, ap, subst, arith, slice_index_or}
+use Rattle.std.proofs.Common.{◌≡◌, ◌<◌, ◌↔◌, ◌∙◌, ◌+◌, ℕ, Bool, true, false, List, [], Option, length, sym, subst, arith, slice_index_or}
 use Rattle.std.specs.Bool.{⊤}
 use Rattle.std.proofs.lemmas.List.{get_or-map, length-map}
 use Rattle.polars_arrays_flat.specs.Row.{Row, Null, Bytes}

@@ -1,5 +1,5 @@
 -- Stored rows that are tested place by place are raw equality.
-use Rattle.std.proofs.Common.{◌≡◌, ◌<◌, ◌↔◌, ◌∙◌, ◌+◌, ℕ, zero, suc, Bool, true, false, not, IsTrue, List, [], ◌∷◌, Option, None, length, map, take, drop, replicate, refl, sym, ap, ap₂, subst, arith, slice_index_or}
+use Rattle.std.proofs.Common.{◌≡◌, ◌↔◌, ◌∙◌, ℕ, zero, suc, Bool, true, false, not, List, [], ◌∷◌, Option, length, map, take, drop, replicate, refl, sym, ap, ap₂, subst, arith, slice_index_or}
 use Rattle.std.specs.Bool.{⊤}
 use Rattle.std.specs.Simd.Lanes.{zip2}
 use Rattle.std.proofs.lemmas.Simd.{get_or-zip2, zip2_splat}
@@ -16,7 +16,7 @@ length-zip2 f [] ys e = refl
 length-zip2 f (x ∷ xs) [] e = absurd (omega arith)
 length-zip2 f (x ∷ xs) (y ∷ ys) e = ap suc (length-zip2 f xs ys (omega arith))
 
-not-false : (b : Bool) → not b ≡ false → b ≡ true
+pub not-false : (b : Bool) → not b ≡ false → b ≡ true
 not-false true e = refl
 not-false false e = cc
 

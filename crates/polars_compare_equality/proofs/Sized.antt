@@ -1,11 +1,11 @@
 -- Byte strings of different sizes are never equal.
-use Rattle.std.proofs.Common.{◌≡◌, ◌<◌, ◌+◌, ◌*◌, ◌≤◌, ◌↔◌, ◌∙◌, ℕ, Bool, IsTrue, List, [], ◌∷◌, Option, length, map, take, drop, refl, sym, ap, subst, arith}
+use Rattle.std.proofs.Common.{◌≡◌, ◌<◌, ◌+◌, ◌*◌, ◌≤◌, ◌∙◌, ℕ, Bool, List, [], Option, length, take, drop, sym, ap, arith}
 use Rattle.std.specs.Bool.{⊤}
 use Rattle.std.specs.List.{range_with_len}
 use Rattle.std.proofs.lemmas.List.{get_or-map, length-map, length-take, length-drop}
 use Rattle.std.proofs.lemmas.List.FromFn.{get_or-map-range_with_len, length-range_with_len}
 use Rattle.std.proofs.lemmas.Nat.{mul-le}
-use Rattle.polars_arrays_flat.specs.Row.{Row, Null, Bytes}
+use Rattle.polars_arrays_flat.specs.Row.{Null, Bytes}
 use Rattle.polars_arrays_flat.specs.StoredRows.{row, byte_slots}
 use Rattle.polars_arrays_bytes.specs.SizedStrings.{sized_string, sized_strings}
 use Rattle.polars_compare_leaves.specs.Equality.{RawEquality}

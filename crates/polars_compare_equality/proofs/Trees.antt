@@ -1,10 +1,10 @@
 -- Rows that pass the test of sameness are equal trees.
-use Rattle.std.proofs.Common.{◌≡◌, ◌&&◌, Bool, true, false, refl, ap, ap₂, ◌∙◌}
+use Rattle.std.proofs.Common.{◌≡◌, ◌&&◌, Bool, true, false, refl, ap, ap₂}
 use Rattle.std.proofs.lemmas.Bool.Decides.{Decides-int_eq}
 use Rattle.std.proofs.lemmas.Slice.Eq.{bytes_eq-Decides}
 use Rattle.std.specs.Cmp.{booleans_Decides}
 use Rattle.polars_arrays_flat.specs.Row.{Row, Null, Int, Truth, Bytes, Rows, Fields, Entry, RowList, no_rows, more_rows}
-use Rattle.polars_compare_leaves.specs.Sameness.{same, same_rows, same_leaf, same_row}
+use Rattle.polars_compare_leaves.specs.Sameness.{same, same_rows, same_leaf}
 
 both : (x y : Bool) → x && y ≡ true → (x ≡ true) × (y ≡ true)
 both true y h = (refl, h)

@@ -1,13 +1,9 @@
 //! Equality of arrays of byte strings between offsets and of byte strings of one size.
 
-ghost use Rattle.std.specs.Prelude.{◌≡◌, ◌*◌, ◌≤◌, true, length, MatchResult, ⊤};
-ghost use Rattle.std.specs.Simd.Lanes.{zip2};
-ghost use Rattle.polars_arrays_bits.specs.Errors.{IsMemory};
+ghost use Rattle.std.specs.Prelude.{◌≡◌, ◌*◌, true, length, ⊤};
 ghost use Rattle.polars_arrays_bytes.specs.OffsetStrings.{offset_strings};
 ghost use Rattle.polars_arrays_bytes.specs.SizedStrings.{sized_strings};
 ghost use Rattle.polars_arrays_flat.specs.Row.{Bytes};
-ghost use Rattle.polars_arrays_flat.specs.StoredRows.{byte_slots};
-ghost use Rattle.polars_arrays_flat.specs.Validity.{window};
 ghost use Rattle.polars_compare_equality.specs.Slots.{byte_slots-as_long};
 
 use crate::borrowed::BytesEqKernel;
@@ -16,11 +12,11 @@ use polars_arrays_bits::bitmap::Bitmap;
 use polars_arrays_bits::error::ComputeError;
 use polars_arrays_bytes::binary::BinaryArray;
 use polars_arrays_bytes::fixed_size::FixedSizeBinaryArray;
-use polars_arrays_bytes::of_size::OfSize;
 use polars_arrays_flat::byte_rows::ByteRows;
 use polars_arrays_numbers::element_test::{Equal, Unequal};
 use polars_arrays_numbers::offset::Offset;
-use polars_compare_leaves::bytes::{ByteTest, test_byte_windows};
+use polars_compare_leaves::bytes::test_byte_windows;
+use polars_compare_nested::sized::test_sized_windows;
 use std::alloc::Global;
 
 impl<O: Offset + 'static> TotalEqKernel for BinaryArray<O> {
@@ -98,12 +94,12 @@ impl TotalEqKernel for FixedSizeBinaryArray {
 
     fn tot_eq_kernel(&self, alloc: Global, other: &Self) -> Result<Bitmap, ComputeError> {
         read_sizes(self, other);
-        test_sized(alloc, &Equal, self, other, self.count())
+        test_sized_windows(alloc, &Equal, self, 0, other, 0, self.count())
     }
 
     fn tot_ne_kernel(&self, alloc: Global, other: &Self) -> Result<Bitmap, ComputeError> {
         read_sizes(self, other);
-        test_sized(alloc, &Unequal, self, other, self.count())
+        test_sized_windows(alloc, &Unequal, self, 0, other, 0, self.count())
     }
 
     fn tot_eq_kernel_broadcast(
@@ -128,34 +124,6 @@ impl TotalEqKernel for FixedSizeBinaryArray {
 }
 
 impl BytesEqKernel for FixedSizeBinaryArray {}
-
-// How many bytes a string has where the loop is compiled for that size: those of UUIDs, and of numbers
-// of 128 bits.
-const UUID_SIZE: usize = 16;
-
-// Whether the stored rows pass a test, place by place: the first `n` byte strings of both arrays. The
-// error is `Memory`.
-fn test_sized<E: ByteTest>(
-    alloc: Global,
-    test: &E,
-    left: &FixedSizeBinaryArray,
-    right: &FixedSizeBinaryArray,
-    n: usize,
-) -> Result<Bitmap, ComputeError>
-    requires left_in { n ≤ length (sized_strings left.now.size left.now.count left.now.values) }
-    requires right_in { n ≤ length (sized_strings right.now.size right.now.count right.now.values) }
-    ensures { MatchResult result (λ bits. bits ≡ zip2 E.rows
-        (window 0 n (byte_slots (sized_strings left.now.size left.now.count left.now.values)))
-        (window 0 n (byte_slots (sized_strings right.now.size right.now.count right.now.values)))) IsMemory }
-{
-    if left.size() == UUID_SIZE && right.size() == UUID_SIZE {
-        let left = OfSize::<UUID_SIZE>::new(left);
-        let right = OfSize::<UUID_SIZE>::new(right);
-        test_byte_windows(alloc, test, &left, 0, &right, 0, n)
-    } else {
-        test_byte_windows(alloc, test, left, 0, right, 0, n)
-    }
-}
 
 // No effect at run time. The proof reads from it that strings of different sizes are unequal.
 fn read_sizes(left: &FixedSizeBinaryArray, right: &FixedSizeBinaryArray)

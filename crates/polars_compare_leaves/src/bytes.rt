@@ -139,6 +139,7 @@ impl<'a, L: ByteRows, R: ByteRows, E: ByteTest> TruthValues for StringPairs<'a, 
 
 /// Whether the stored rows of two windows pass a test, place by place: `n` byte strings from place `a` on
 /// of the left ones, and as many from place `b` on of the right ones. The error is `Memory`.
+#[inline]
 pub fn test_byte_windows<L: ByteRows, R: ByteRows, E: ByteTest>(
     alloc: Global,
     test: &E,

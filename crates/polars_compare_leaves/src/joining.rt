@@ -6,6 +6,7 @@ ghost use Rattle.polars_arrays_bits.specs.Errors.{IsMemory};
 ghost use Rattle.polars_arrays_flat.specs.Validity.{HasBits};
 ghost use Rattle.polars_compare_leaves.specs.Joining.{Joined, told};
 
+use polars_arrays_bits::bit_mask::BitMask;
 use polars_arrays_bits::bitmap::Bitmap;
 use polars_arrays_bits::error::ComputeError;
 use std::alloc::Global;
@@ -22,12 +23,13 @@ fn join_one(
     alloc: Global,
     relation: Relation,
     raw: &Bitmap,
-    mask: &Bitmap,
+    mask: &BitMask<'_>,
 ) -> Result<Bitmap, ComputeError>
     requires { length mask.now ≡ length raw.now }
     ensures left { MatchResult result (Joined (told relation) (Some mask.now) None raw.now) IsMemory }
     ensures right { MatchResult result (Joined (told relation) None (Some mask.now) raw.now) IsMemory }
 {
+    let raw = BitMask::from_bitmap(raw);
     match relation {
         Relation::Equal => raw.and(alloc, mask),
         Relation::Unequal => raw.or_not(alloc, mask),
@@ -39,22 +41,54 @@ fn join_both(
     alloc: Global,
     relation: Relation,
     raw: &Bitmap,
-    left: &Bitmap,
-    right: &Bitmap,
+    left: &BitMask<'_>,
+    right: &BitMask<'_>,
 ) -> Result<Bitmap, ComputeError>
     requires left { length left.now ≡ length raw.now }
     requires right { length right.now ≡ length raw.now }
     ensures { MatchResult result (Joined (told relation) (Some left.now) (Some right.now) raw.now) IsMemory }
 {
+    let raw = BitMask::from_bitmap(raw);
     match relation {
-        Relation::Equal => Bitmap::merge_eq(alloc, raw, left, right),
-        Relation::Unequal => Bitmap::merge_ne(alloc, raw, left, right),
+        Relation::Equal => BitMask::merge_eq(alloc, &raw, left, right),
+        Relation::Unequal => BitMask::merge_ne(alloc, &raw, left, right),
     }
 }
 
-/// Raw bits of a comparison joined with the validities of both sides, where there are any: a row that is
-/// present on both keeps its bit, of the others those are equal that are null on both. The error is
-/// `Memory`.
+/// Raw bits of a comparison joined with the validities of both sides, where there are any, of which windows
+/// are lent: a row that is present on both keeps its bit, of the others those are equal that are null on both.
+/// The error is `Memory`.
+#[inline]
+pub fn join_masks(
+    alloc: Global,
+    relation: Relation,
+    raw: Bitmap,
+    left: Option<BitMask<'_>>,
+    right: Option<BitMask<'_>>,
+) -> Result<Bitmap, ComputeError>
+    requires left { HasBits (length raw) left }
+    requires right { HasBits (length raw) right }
+    ensures { MatchResult result (Joined (told relation) left.entry right.entry raw) IsMemory }
+{
+    match (left, right) {
+        (None, None) => Ok(raw),
+        (Some(mask), None) => join_one(alloc, relation, &raw, &mask),
+        (None, Some(mask)) => join_one(alloc, relation, &raw, &mask),
+        (Some(left), Some(right)) => join_both(alloc, relation, &raw, &left, &right),
+    }
+}
+
+// A validity, lent.
+fn lent(validity: Option<&Bitmap>) -> Option<BitMask<'_>>
+    ensures { result ≡ option_copied validity.entry }
+{
+    match validity {
+        Some(bits) => Some(BitMask::from_bitmap(bits)),
+        None => None,
+    }
+}
+
+/// The same for whole validities.
 pub fn join_nulls(
     alloc: Global,
     relation: Relation,
@@ -66,10 +100,5 @@ pub fn join_nulls(
     requires right { HasBits (length raw) (option_copied right) }
     ensures { MatchResult result (Joined (told relation) (option_copied left.entry) (option_copied right.entry) raw) IsMemory }
 {
-    match (left, right) {
-        (None, None) => Ok(raw),
-        (Some(mask), None) => join_one(alloc, relation, &raw, mask),
-        (None, Some(mask)) => join_one(alloc, relation, &raw, mask),
-        (Some(left), Some(right)) => join_both(alloc, relation, &raw, left, right),
-    }
+    join_masks(alloc, relation, raw, lent(left), lent(right))
 }

@@ -64,6 +64,22 @@ pub fn equal_rows<A: TotalEqKernel>(alloc: Global, left: &A, right: &A) -> Resul
     write_bits(alloc, &bits)
 }
 
+/// Where rows are equal to a scalar, which no null is.
+pub fn equal_to_scalar<A: TotalEqKernel>(
+    alloc: Global,
+    rows: &A,
+    scalar: &A::Scalar,
+) -> Result<String, Fault>
+    requires good { A.good rows.now }
+    requires good_scalar { A.good_scalar scalar.now }
+{
+    if !rows.can_broadcast(scalar) {
+        return Err(Fault::Case);
+    }
+    let bits = rows.tot_eq_missing_kernel_broadcast(alloc, scalar)?;
+    write_bits(alloc, &bits)
+}
+
 /// Where the left row is less than the right one.
 pub fn less_rows<A: TotalOrdKernel>(alloc: Global, left: &A, right: &A) -> Result<String, Fault>
     requires good_left { A.good left.now }

@@ -1,8 +1,11 @@
-//! A case: two arrays and a scalar, and what is asked of them.
+//! A case: two arrays and scalars, and what is asked of them.
+
+ghost use Rattle.worked_rows.specs.Cases.{HasGoodArrays};
 
 use crate::answers::{
     equal_rows, followed_rows, less_rows, ordered_rows, write_bits, write_present,
 };
+use crate::any_kind::{Asked, compare_any, equal_to_list};
 use crate::fault::Fault;
 use crate::nested::{DEPTH, read_array};
 use crate::parts::read_bytes;
@@ -22,12 +25,14 @@ use polars_compare_views::followed::FollowedKernel;
 use std::alloc::Global;
 use std::str::from_utf8;
 
-/// The arrays and the scalar of a case, as far as they were given.
+/// The arrays and the scalars of a case, as far as they were given: a scalar for strings, and the items of
+/// the list that lists are set against.
 #[derive(Drop)]
 pub struct Case {
     left: Option<AnyArray>,
     right: Option<AnyArray>,
     scalar: Option<Vec<u8>>,
+    items: Option<AnyArray>,
 }
 
 /// What two arrays are asked.
@@ -51,16 +56,22 @@ enum Beside {
 
 impl Case {
     /// A case of which nothing is given yet.
-    pub fn new() -> Case {
+    pub fn new() -> Case
+        ensures { HasGoodArrays result }
+    {
         Case {
             left: None,
             right: None,
             scalar: None,
+            items: None,
         }
     }
 
     /// The answer to a line, where it has one.
-    pub fn answer(&mut self, alloc: Global, line: &str) -> Result<Option<String>, Fault> {
+    pub fn answer(&mut self, alloc: Global, line: &str) -> Result<Option<String>, Fault>
+        requires { HasGoodArrays self.old }
+        ensures { HasGoodArrays self.new }
+    {
         let words: Vec<&str> = line.split(' ').collect(alloc)?;
         let mut words = Words::new(&words);
         let request = words.read()?;
@@ -77,6 +88,7 @@ impl Case {
             "left" => self.left = Some(read_array(alloc, &mut words, DEPTH)?),
             "right" => self.right = Some(read_array(alloc, &mut words, DEPTH)?),
             "scalar" => self.scalar = Some(read_bytes(alloc, words.read()?)?),
+            "scalar_any" => self.items = Some(read_array(alloc, &mut words, DEPTH)?),
             _ => {
                 let answer = self.told(alloc, request)?;
                 return Ok(Some(format!(in alloc; "{request} {answer}")?));
@@ -86,13 +98,20 @@ impl Case {
     }
 
     // The answer to a request.
-    fn told(&self, alloc: Global, request: &str) -> Result<String, Fault> {
+    fn told(&self, alloc: Global, request: &str) -> Result<String, Fault>
+        requires { HasGoodArrays self.now }
+    {
         match request {
             "eq" => self.compared(alloc, Pairs::Equal),
             "lt" => self.compared(alloc, Pairs::Less),
             "le" => self.compared(alloc, Pairs::LessOrEqual),
             "followed" => self.compared(alloc, Pairs::Followed),
+            "eq_any" => self.compared_any(alloc, Asked::Equal),
+            "ne_any" => self.compared_any(alloc, Asked::Unequal),
+            "tally" => self.compared_any(alloc, Asked::Comparisons),
+            "leaves" => self.compared_any(alloc, Asked::LeafSlots),
             "bceq" => self.beside_scalar(alloc, Beside::Equal),
+            "bceq_any" => self.equal_to_items(alloc),
             "bclt" => self.beside_scalar(alloc, Beside::Less),
             "bcle" => self.beside_scalar(alloc, Beside::LessOrEqual),
             "bcgt" => self.beside_scalar(alloc, Beside::Greater),
@@ -107,6 +126,26 @@ impl Case {
             return Err(Fault::Case);
         };
         compare(alloc, left, right, asked)
+    }
+
+    // What the two arrays are asked, of whatever kind they are.
+    fn compared_any(&self, alloc: Global, asked: Asked) -> Result<String, Fault>
+        requires { HasGoodArrays self.now }
+    {
+        let (Some(left), Some(right)) = (&self.left, &self.right) else {
+            return Err(Fault::Case);
+        };
+        compare_any(alloc, left, right, asked)
+    }
+
+    // Where the rows of the left array are equal to the list of the items given.
+    fn equal_to_items(&self, alloc: Global) -> Result<String, Fault>
+        requires { HasGoodArrays self.now }
+    {
+        let (Some(left), Some(items)) = (&self.left, &self.items) else {
+            return Err(Fault::Case);
+        };
+        equal_to_list(alloc, left, items)
     }
 
     // How the rows of the left array stand to the scalar.

@@ -5,13 +5,17 @@
 //! | Line | Answer |
 //! |---|---|
 //! | `case NAME` | the line itself |
-//! | `left ARRAY`, `right ARRAY`, `scalar HEX` | none |
+//! | `left ARRAY`, `right ARRAY`, `scalar HEX`, `scalar_any ARRAY` | none |
 //! | `rows ARRAY` | the rows of the array as text, or why its parts make no array |
 //! | `copy ARRAY` | the rows of a clone of the array |
-//! | `eq` | where the rows are equal, null to null alone, as `eq BITS` |
+//! | `eq` | where the rows are equal, null to null alone, by the kernel of their kind, as `eq BITS` |
+//! | `eq_any`, `ne_any` | where the rows are equal or not by the kernels for arrays of any kind |
+//! | `tally` | how many comparisons the first of these makes |
+//! | `leaves` | how many leaf slots the two arrays have |
 //! | `lt`, `le` | where the left row is less, or at most the right one, with `x` where either is null |
 //! | `followed` | how many rows equality and order look up in buffers |
 //! | `bceq` | where the left rows are equal to the scalar, as `bceq BITS` |
+//! | `bceq_any` | where the left rows are equal to the list of all rows of `scalar_any` |
 //! | `bclt`, `bcle`, `bcgt`, `bcge` | their order beside the scalar, with `x` where the left row is null |
 //!
 //! A line that can't be answered ends the run with status 1.
@@ -23,9 +27,11 @@ use std::io;
 use std::process::ExitCode;
 
 mod answers;
+mod any_kind;
 mod case;
 mod fault;
 mod flat;
+mod leaf_slots;
 mod nested;
 mod parts;
 mod row_text;

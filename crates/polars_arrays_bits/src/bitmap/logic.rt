@@ -2,90 +2,16 @@
 
 ghost use Rattle.std.specs.Prelude.{◌≡◌, Bool, not, ◌&&◌, ◌||◌, length, map, MatchResult};
 ghost use Rattle.std.specs.Simd.Lanes.{zip2};
-ghost use Rattle.polars_arrays_bits.specs.Bits.{first_of, zip3};
+ghost use Rattle.polars_arrays_bits.specs.Bits.{zip3};
 ghost use Rattle.polars_arrays_bits.specs.Logic.{xor, xnor, and_not, or_not, merged_eq, merged_ne};
 ghost use Rattle.polars_arrays_bits.specs.Errors.{IsMemory};
 
 use super::Bitmap;
 use crate::bit_mask::BitMask;
 use crate::error::ComputeError;
-use crate::operators::{MergeEq, MergeNe, Merged, TernaryOperator};
-use crate::source::{Aligned, BitSource, Shifted};
 use std::alloc::Global;
 
 impl Bitmap {
-    // The operator at each bit of three bitmaps.
-    fn merge<O: TernaryOperator>(
-        &self,
-        alloc: Global,
-        left: &Bitmap,
-        right: &Bitmap,
-        operator: O,
-    ) -> Result<Bitmap, ComputeError>
-        requires left { length left.now ≡ length self.now }
-        requires right { length right.now ≡ length self.now }
-        ensures { MatchResult result (λ bits. bits ≡ zip3 O.bit self.now left.now right.now) IsMemory }
-    {
-        let words = self.words.as_slice();
-        if self.at == 0 {
-            return left.merge_last_two(alloc, operator, Aligned { words }, right);
-        }
-        let by = self.at;
-        left.merge_last_two(alloc, operator, Shifted { words, by }, right)
-    }
-
-    // The operator at each bit of a source, of this bitmap and of another one.
-    fn merge_last_two<O: TernaryOperator, A: BitSource + Drop>(
-        &self,
-        alloc: Global,
-        operator: O,
-        first: A,
-        third: &Bitmap,
-    ) -> Result<Bitmap, ComputeError>
-        requires { length third.now ≡ length self.now }
-        ensures { MatchResult result (λ bits. bits ≡ zip3 O.bit (first_of (A.bit first) (length self.now)) self.now third.now) IsMemory }
-    {
-        let words = self.words.as_slice();
-        if self.at == 0 {
-            return third.merge_last(alloc, operator, first, Aligned { words });
-        }
-        let by = self.at;
-        third.merge_last(alloc, operator, first, Shifted { words, by })
-    }
-
-    // The operator at each bit of two sources and of this bitmap.
-    fn merge_last<O: TernaryOperator, A: BitSource + Drop, B: BitSource + Drop>(
-        &self,
-        alloc: Global,
-        operator: O,
-        first: A,
-        second: B,
-    ) -> Result<Bitmap, ComputeError>
-        ensures { MatchResult result (λ bits. bits ≡ zip3 O.bit (first_of (A.bit first) (length self.now))
-            (first_of (B.bit second) (length self.now)) self.now) IsMemory }
-    {
-        let words = self.words.as_slice();
-        if self.at == 0 {
-            let third = Aligned { words };
-            let source = Merged {
-                operator,
-                first,
-                second,
-                third,
-            };
-            return Bitmap::from_source(alloc, &source, self.len);
-        }
-        let by = self.at;
-        let third = Shifted { words, by };
-        let source = Merged {
-            operator,
-            first,
-            second,
-            third,
-        };
-        Bitmap::from_source(alloc, &source, self.len)
-    }
-
     /// Where both bits are true. The error is `Memory`.
     pub fn and(&self, alloc: Global, other: &Bitmap) -> Result<Bitmap, ComputeError>
         requires { length other.now ≡ length self.now }
@@ -154,7 +80,12 @@ impl Bitmap {
         requires right { length r.now ≡ length q.now }
         ensures { MatchResult result (λ bits. bits ≡ zip3 merged_eq q.now l.now r.now) IsMemory }
     {
-        q.merge(alloc, l, r, MergeEq)
+        BitMask::merge_eq(
+            alloc,
+            &BitMask::from_bitmap(q),
+            &BitMask::from_bitmap(l),
+            &BitMask::from_bitmap(r),
+        )
     }
 
     /// Where two rows are unequal, null being equal to null alone: `(q & l & r) | (l ^ r)`, where `q` says
@@ -170,6 +101,11 @@ impl Bitmap {
         requires right { length r.now ≡ length q.now }
         ensures { MatchResult result (λ bits. bits ≡ zip3 merged_ne q.now l.now r.now) IsMemory }
     {
-        q.merge(alloc, l, r, MergeNe)
+        BitMask::merge_ne(
+            alloc,
+            &BitMask::from_bitmap(q),
+            &BitMask::from_bitmap(l),
+            &BitMask::from_bitmap(r),
+        )
     }
 }

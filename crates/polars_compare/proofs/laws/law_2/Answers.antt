@@ -1,4 +1,5 @@
 use Rattle.polars_compare.proofs.Missing.{missing-reflexive, missing-symmetric, missing-transitive, missing-complement}
+use Rattle.polars_compare.proofs.Arrays.{arrays-complement, arrays-reflexive, arrays-symmetric, arrays-transitive}
 use Rattle.polars_compare.proofs.laws.law_2.Goals as goal
 
 pub returns : goal.returns
@@ -7,4 +8,8 @@ returns c = record {
   symmetric = missing-symmetric;
   transitive = missing-transitive;
   complement = missing-complement;
+  arrays_reflexive = arrays-reflexive;
+  arrays_symmetric = arrays-symmetric;
+  arrays_transitive = arrays-transitive;
+  arrays_complement = arrays-complement;
 }

@@ -1,0 +1,164 @@
+//! The arrays that hold arrays that the kernels are run on.
+
+use crate::operands::Numbers;
+use crate::string_rows::{Pair, Texts, entries};
+
+/// How many items a list has.
+pub const WIDTH: usize = 4;
+
+/// How many columns a struct has.
+pub const COLUMNS: usize = 8;
+
+/// How many entries a dictionary has.
+const ENTRIES: usize = 1_000;
+
+/// What is the matter with every seventh list.
+#[derive(Clone, Copy)]
+pub enum Seventh {
+    /// Nothing.
+    Like,
+    /// It is null on both sides, and has no items.
+    NullWithoutItems,
+    /// It is null on both sides, and has items.
+    NullWithItems,
+    /// It has one more item on the right.
+    Longer,
+}
+
+/// Lists of numbers between offsets.
+pub struct Lists {
+    /// Where each list begins, and behind them where the last one ends.
+    pub offsets: Vec<i32>,
+    pub items: Vec<i32>,
+    /// Words of the validity, or none where no list is null.
+    pub present: Vec<u64>,
+}
+
+impl Lists {
+    fn new() -> Lists {
+        Lists {
+            offsets: vec![0],
+            items: Vec::new(),
+            present: Vec::new(),
+        }
+    }
+
+    fn push(&mut self, row: &[i32]) {
+        self.items.extend_from_slice(row);
+        self.offsets.push(self.items.len() as i32);
+    }
+
+    /// Makes every seventh list null.
+    fn mask(&mut self) {
+        let count = self.count();
+        self.present = vec![u64::MAX; count.div_ceil(64)];
+        for i in (6..count).step_by(7) {
+            self.present[i / 64] &= !(1 << (i % 64));
+        }
+    }
+
+    pub fn count(&self) -> usize {
+        self.offsets.len() - 1
+    }
+
+    /// Two columns of so many lists, of which about three quarters are equal.
+    fn pair(numbers: &mut Numbers, count: usize, seventh: Seventh) -> Pair<Lists> {
+        let (mut left, mut right) = (Lists::new(), Lists::new());
+        for i in 0..count {
+            let row: [i32; WIDTH] = std::array::from_fn(|_| numbers.next() as i32);
+            let mut other = row;
+            other[i % WIDTH] ^= i32::from(numbers.next() & 3 == 0);
+            match seventh {
+                Seventh::NullWithoutItems if i % 7 == 6 => {
+                    left.push(&[]);
+                    right.push(&[]);
+                }
+                Seventh::Longer if i % 7 == 6 => {
+                    left.push(&row);
+                    right.push(&[0, 1, 2, 3, 4]);
+                }
+                _ => {
+                    left.push(&row);
+                    right.push(&other);
+                }
+            }
+        }
+        if matches!(seventh, Seventh::NullWithoutItems | Seventh::NullWithItems) {
+            left.mask();
+            right.mask();
+        }
+        Pair { left, right }
+    }
+}
+
+/// Rows that keys name among texts.
+pub struct Keyed {
+    pub keys: Vec<u32>,
+    pub entries: Texts,
+}
+
+impl Keyed {
+    /// Two columns of so many rows, which have the same text in about half of them, at differing places
+    /// among the entries.
+    fn pair(numbers: &mut Numbers, count: usize) -> Pair<Keyed> {
+        let texts = entries(numbers, ENTRIES);
+        let mut turned = Texts::new();
+        (0..ENTRIES).rev().for_each(|k| turned.push(texts.row(k)));
+        let (mut left, mut right) = (Vec::new(), Vec::new());
+        for _ in 0..count {
+            let key = numbers.next() as usize % ENTRIES;
+            let other = match numbers.next() & 1 {
+                0 => key,
+                _ => numbers.next() as usize % ENTRIES,
+            };
+            left.push(key as u32);
+            right.push((ENTRIES - 1 - other) as u32);
+        }
+        Pair {
+            left: Keyed {
+                keys: left,
+                entries: texts,
+            },
+            right: Keyed {
+                keys: right,
+                entries: turned,
+            },
+        }
+    }
+}
+
+/// Columns one behind the other, of `count` rows each, of which about one in sixteen rows differs.
+pub fn structs(count: usize) -> Pair<Vec<i32>> {
+    let numbers = &mut Numbers::new(521_288_629);
+    let left: Vec<i32> = (0..COLUMNS * count)
+        .map(|_| numbers.next() as i32)
+        .collect();
+    let right = left
+        .iter()
+        .map(|x| x ^ i32::from(numbers.next() & 127 == 0))
+        .collect();
+    Pair { left, right }
+}
+
+/// The arrays of one run. There are as many items of lists as rows of the others.
+pub struct Nested {
+    pub like: Pair<Lists>,
+    pub null_without_items: Pair<Lists>,
+    pub null_with_items: Pair<Lists>,
+    pub longer: Pair<Lists>,
+    pub keyed: Pair<Keyed>,
+}
+
+impl Nested {
+    pub fn new(count: usize) -> Nested {
+        let numbers = &mut Numbers::new(362_436_069);
+        let mut lists = |seventh| Lists::pair(numbers, count / WIDTH, seventh);
+        Nested {
+            like: lists(Seventh::Like),
+            null_without_items: lists(Seventh::NullWithoutItems),
+            null_with_items: lists(Seventh::NullWithItems),
+            longer: lists(Seventh::Longer),
+            keyed: Keyed::pair(numbers, count),
+        }
+    }
+}

@@ -1,0 +1,114 @@
+//! Blocks of bits, of which one bit each says whether they are all true.
+
+ghost use Rattle.std.specs.Prelude.{◌≡◌, ◌*◌, ◌^◌, ◌<◌, ◌≤◌, length, MatchResult};
+ghost use Rattle.polars_arrays_bits.specs.Blocks.{blocks_all};
+ghost use Rattle.polars_arrays_bits.specs.Errors.{IsMemory};
+
+use super::BitMask;
+use crate::bitmap::Bitmap;
+use crate::error::ComputeError;
+use crate::folds::{Fours, Pairs};
+use crate::packing::TruthValues;
+use std::alloc::Global;
+
+// Whether the bits of each block are all true, which is asked block by block.
+#[derive(Drop)]
+struct Blocks<'m, 'a> {
+    bits: &'m BitMask<'a>,
+    width: usize,
+    count: usize,
+    ghost within: { width * count ≤ length bits.now },
+}
+
+impl TruthValues for Blocks<'_, '_> {
+    ghost values = { λ b. blocks_all b.width b.count b.bits.now };
+
+    #[inline(always)]
+    fn len(&self) -> usize {
+        self.count
+    }
+
+    #[inline(always)]
+    fn value(&self, i: usize) -> bool {
+        // No effect at run time. The proof reads from it that places are numbers of 64 bits.
+        let _len = self.bits.len();
+        self.bits.all_set(self.width * i, self.width)
+    }
+
+    // A block lies in two words.
+    #[inline(always)]
+    fn is_wide(&self) -> bool {
+        true
+    }
+}
+
+impl BitMask<'_> {
+    // Whether the bits of each pair are both true.
+    fn all_in_pairs(&self, alloc: Global, n: usize) -> Result<Bitmap, ComputeError>
+        requires { 2 * n ≤ length self.now }
+        ensures { MatchResult result (λ bits. bits ≡ blocks_all 2 n self.now) IsMemory }
+    {
+        let words = self.words;
+        let by = self.at;
+        Bitmap::from_source(alloc, &Pairs { words, by }, n)
+    }
+
+    // Whether the bits of each four are all true.
+    fn all_in_fours(&self, alloc: Global, n: usize) -> Result<Bitmap, ComputeError>
+        requires { 4 * n ≤ length self.now }
+        ensures { MatchResult result (λ bits. bits ≡ blocks_all 4 n self.now) IsMemory }
+    {
+        let words = self.words;
+        let by = self.at;
+        Bitmap::from_source(alloc, &Fours { words, by }, n)
+    }
+
+    // Whether the bits of each eight are all true, four by four.
+    fn all_in_eights(&self, alloc: Global, n: usize) -> Result<Bitmap, ComputeError>
+        requires few { n < 2 ^ 63 }
+        requires within { 8 * n ≤ length self.now }
+        ensures { MatchResult result (λ bits. bits ≡ blocks_all 8 n self.now) IsMemory }
+    {
+        let fours = self.all_in_fours(alloc, 2 * n)?;
+        let eights = BitMask::from_bitmap(&fours).all_in_pairs(alloc, n)?;
+        Ok(eights)
+    }
+
+    // Whether the bits of each sixteen are all true, four by four.
+    fn all_in_sixteens(&self, alloc: Global, n: usize) -> Result<Bitmap, ComputeError>
+        requires few { n < 2 ^ 62 }
+        requires within { 16 * n ≤ length self.now }
+        ensures { MatchResult result (λ bits. bits ≡ blocks_all 16 n self.now) IsMemory }
+    {
+        let fours = self.all_in_fours(alloc, 4 * n)?;
+        let sixteens = BitMask::from_bitmap(&fours).all_in_fours(alloc, n)?;
+        Ok(sixteens)
+    }
+
+    /// Whether the bits of each block are all true: of `n` blocks of `width` bits, the first of which begins
+    /// at the first bit. The bits of an empty block are. Blocks of 2, 4, 8 and 16 bits are folded a word at
+    /// a time. The error is `Memory`.
+    pub fn all_in_blocks(
+        &self,
+        alloc: Global,
+        width: usize,
+        n: usize,
+    ) -> Result<Bitmap, ComputeError>
+        requires { width * n ≤ length self.now }
+        ensures { MatchResult result (λ bits. bits ≡ blocks_all width n self.now) IsMemory }
+    {
+        // No effect at run time. The proof reads from it that places are numbers of 64 bits.
+        let _len = self.len();
+        match width {
+            2 => self.all_in_pairs(alloc, n),
+            4 => self.all_in_fours(alloc, n),
+            8 => self.all_in_eights(alloc, n),
+            16 => self.all_in_sixteens(alloc, n),
+            _ => {
+                let bits = self;
+                let count = n;
+                Bitmap::from_values(alloc, &Blocks { bits, width, count })
+            }
+        }
+    }
+}

@@ -1,0 +1,119 @@
+//! Equality and inequality of rows that may be null, on windows that are borrowed, by words.
+
+ghost use Rattle.std.specs.Prelude.{◌≡◌, Bool, length, MatchResult};
+ghost use Rattle.polars_arrays_bits.specs.Bits.{first_of, zip3};
+ghost use Rattle.polars_arrays_bits.specs.Logic.{merged_eq, merged_ne};
+ghost use Rattle.polars_arrays_bits.specs.Errors.{IsMemory};
+
+use super::BitMask;
+use crate::bitmap::Bitmap;
+use crate::error::ComputeError;
+use crate::operators::{MergeEq, MergeNe, Merged, TernaryOperator};
+use crate::source::{Aligned, BitSource, Shifted};
+use std::alloc::Global;
+
+impl BitMask<'_> {
+    // The operator at each bit of three windows.
+    fn merge<O: TernaryOperator>(
+        &self,
+        alloc: Global,
+        left: &BitMask<'_>,
+        right: &BitMask<'_>,
+        operator: O,
+    ) -> Result<Bitmap, ComputeError>
+        requires left { length left.now ≡ length self.now }
+        requires right { length right.now ≡ length self.now }
+        ensures { MatchResult result (λ bits. bits ≡ zip3 O.bit self.now left.now right.now) IsMemory }
+    {
+        let words = self.words;
+        if self.at == 0 {
+            return left.merge_last_two(alloc, operator, Aligned { words }, right);
+        }
+        let by = self.at;
+        left.merge_last_two(alloc, operator, Shifted { words, by }, right)
+    }
+
+    // The operator at each bit of a source, of this window and of another one.
+    fn merge_last_two<O: TernaryOperator, A: BitSource + Drop>(
+        &self,
+        alloc: Global,
+        operator: O,
+        first: A,
+        third: &BitMask<'_>,
+    ) -> Result<Bitmap, ComputeError>
+        requires { length third.now ≡ length self.now }
+        ensures { MatchResult result (λ bits. bits ≡ zip3 O.bit (first_of (A.bit first) (length self.now)) self.now third.now) IsMemory }
+    {
+        let words = self.words;
+        if self.at == 0 {
+            return third.merge_last(alloc, operator, first, Aligned { words });
+        }
+        let by = self.at;
+        third.merge_last(alloc, operator, first, Shifted { words, by })
+    }
+
+    // The operator at each bit of two sources and of this window.
+    fn merge_last<O: TernaryOperator, A: BitSource + Drop, B: BitSource + Drop>(
+        &self,
+        alloc: Global,
+        operator: O,
+        first: A,
+        second: B,
+    ) -> Result<Bitmap, ComputeError>
+        ensures { MatchResult result (λ bits. bits ≡ zip3 O.bit (first_of (A.bit first) (length self.now))
+            (first_of (B.bit second) (length self.now)) self.now) IsMemory }
+    {
+        let words = self.words;
+        if self.at == 0 {
+            let third = Aligned { words };
+            let source = Merged {
+                operator,
+                first,
+                second,
+                third,
+            };
+            return Bitmap::from_source(alloc, &source, self.len);
+        }
+        let by = self.at;
+        let third = Shifted { words, by };
+        let source = Merged {
+            operator,
+            first,
+            second,
+            third,
+        };
+        Bitmap::from_source(alloc, &source, self.len)
+    }
+
+    /// Where two rows are equal, null being equal to null alone: `(q & l & r) | !(l | r)`, where `q` says
+    /// which rows' values are equal, and `l` and `r` which rows are present on each side. The error is
+    /// `Memory`.
+    pub fn merge_eq(
+        alloc: Global,
+        q: &BitMask<'_>,
+        l: &BitMask<'_>,
+        r: &BitMask<'_>,
+    ) -> Result<Bitmap, ComputeError>
+        requires left { length l.now ≡ length q.now }
+        requires right { length r.now ≡ length q.now }
+        ensures { MatchResult result (λ bits. bits ≡ zip3 merged_eq q.now l.now r.now) IsMemory }
+    {
+        q.merge(alloc, l, r, MergeEq)
+    }
+
+    /// Where two rows are unequal, null being equal to null alone: `(q & l & r) | (l ^ r)`, where `q` says
+    /// which rows' values are unequal, and `l` and `r` which rows are present on each side. The error is
+    /// `Memory`.
+    pub fn merge_ne(
+        alloc: Global,
+        q: &BitMask<'_>,
+        l: &BitMask<'_>,
+        r: &BitMask<'_>,
+    ) -> Result<Bitmap, ComputeError>
+        requires left { length l.now ≡ length q.now }
+        requires right { length r.now ≡ length q.now }
+        ensures { MatchResult result (λ bits. bits ≡ zip3 merged_ne q.now l.now r.now) IsMemory }
+    {
+        q.merge(alloc, l, r, MergeNe)
+    }
+}

@@ -1,0 +1,13 @@
+use Rattle.std.proofs.Common.{refl, ap, ◌∙◌}
+use Rattle.std.proofs.lemmas.Result.{MatchResult-weaker}
+use Rattle.polars_arrays_nested.specs.DictKeys.{key_count}
+use Rattle.polars_arrays_nested.specs.StoredRows.{stored_entry}
+use Rattle.polars_arrays_nested.specs.declared.any_array.AnyArray.{Dictionary}
+use Rattle.polars_compare_equality.proofs.Listed.{equal-bits}
+use Rattle.polars_compare_equality.proofs.dictionaries.DictionaryArrayTotalEqKernel.tot_eq_kernel.Goals as goal
+
+pub returns : goal.returns
+returns c =
+    MatchResult-weaker c.dictionary_windows.result c.dictionary_windows.ensures.told
+    (λ bits raw. equal-bits (Dictionary c.args.self.now) (Dictionary c.args.other.now) (stored_entry c.args.self.now) (stored_entry c.args.other.now) _ _ _ bits (λ i. refl) (λ i. refl) (c.len-n.ensures ∙ ap key_count c.keys.ensures) c.requires.comparable.0 c.requires.comparable.1 raw)
+    (λ error m. m)

@@ -1,0 +1,78 @@
+//! Equality of arrays of lists of one width.
+
+ghost use Rattle.std.specs.Prelude.{◌≡◌, true};
+ghost use Rattle.polars_arrays_nested.specs.GoodParts.{IsGood};
+ghost use Rattle.polars_arrays_nested.specs.Lengths.{len_of};
+ghost use Rattle.polars_arrays_nested.specs.Parts.{fixed_values};
+ghost use Rattle.polars_arrays_nested.specs.StoredRows.{stored_fixed_list};
+ghost use Rattle.polars_arrays_nested.specs.Types.{type_of};
+ghost use Rattle.polars_arrays_nested.specs.declared.any_array.AnyArray.{FixedSizeList};
+ghost use Rattle.polars_compare_equality.specs.Slots.{listed-as_long};
+ghost use Rattle.polars_compare_nested.specs.Broadcasts.{all_rows};
+
+use crate::kernel::TotalEqKernel;
+use polars_arrays_bits::bitmap::Bitmap;
+use polars_arrays_bits::error::ComputeError;
+use polars_arrays_nested::any_array::AnyArray;
+use polars_arrays_nested::fixed_size_list::FixedSizeListArray;
+use polars_arrays_numbers::steps::Steps;
+use polars_compare_nested::broadcasts::fixed_size_list_broadcast;
+use polars_compare_nested::windows::fixed_size_list_windows;
+use std::alloc::Global;
+
+impl TotalEqKernel for FixedSizeListArray {
+    type Scalar = AnyArray;
+
+    ghost comparable = { λ a b. (len_of (FixedSizeList a) ≡ len_of (FixedSizeList b)) × (type_of (fixed_values a) ≡ type_of (fixed_values b)) };
+
+    ghost broadcasts = { true };
+
+    ghost fits = { λ a s. type_of (fixed_values a) ≡ type_of s };
+
+    ghost good_scalar = { IsGood };
+
+    ghost scalar_row = { all_rows };
+
+    fn can_compare(&self, other: &Self) -> bool {
+        self.count() == other.count() && self.values().same_type(other.values())
+    }
+
+    fn can_broadcast(&self, other: &AnyArray) -> bool {
+        self.values().same_type(other)
+    }
+
+    fn tot_eq_kernel(&self, alloc: Global, other: &Self) -> Result<Bitmap, ComputeError> {
+        let n = self.count();
+        // rows of different types are nowhere equal
+        if self.width() != other.width() {
+            return Bitmap::new_zeroed(alloc, n);
+        }
+        fixed_size_list_windows(alloc, self, 0, other, 0, n, &mut Steps::new())
+    }
+
+    fn tot_ne_kernel(&self, alloc: Global, other: &Self) -> Result<Bitmap, ComputeError> {
+        let equal = self.tot_eq_kernel(alloc, other)?;
+        equal.not(alloc)
+    }
+
+    fn tot_eq_kernel_broadcast(
+        &self,
+        alloc: Global,
+        other: &AnyArray,
+    ) -> Result<Bitmap, ComputeError> {
+        fixed_size_list_broadcast(alloc, self, other)
+    }
+
+    fn tot_ne_kernel_broadcast(
+        &self,
+        alloc: Global,
+        other: &AnyArray,
+    ) -> Result<Bitmap, ComputeError> {
+        let equal = self.tot_eq_kernel_broadcast(alloc, other)?;
+        equal.not(alloc)
+    }
+
+    ghost comparable_law = { λ a b can. listed-as_long (stored_fixed_list a) (stored_fixed_list b) _ _ can.0 };
+
+    ghost scalar_law = { λ s has e. cc };
+}

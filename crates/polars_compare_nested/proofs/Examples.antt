@@ -1,0 +1,98 @@
+-- Worked examples of the definitions: the check computes both sides of each.
+use Rattle.std.specs.Prelude.{◌≡◌, ◌+◌, pos, true, false, [], ◌∷◌, Some, None, refl}
+use Rattle.polars_arrays_flat.specs.Kind.{NullKind, Int8Kind, FixedSizeBinaryKind, ListKind, LargeListKind, FixedSizeListKind, StructKind, DictionaryKind, UInt32Kind, no_kinds}
+use Rattle.polars_arrays_flat.specs.Row.{Rows, Int, no_rows, more_rows}
+use Rattle.polars_arrays_nested.specs.declared.any_array.AnyArray.{AnyArray, Int32, List', FixedSizeList', Dictionary', end_of-AnyArray, more_of-AnyArray}
+use Rattle.polars_arrays_nested.specs.declared.any_array.AnyArray.{Null as Nulls}
+use Rattle.polars_arrays_nested.specs.declared.dict_keys.DictKeys.TheVariants.{UInt8}
+use Rattle.polars_arrays_nested.specs.declared.list_offsets.ListOffsets.TheVariants.{Small}
+use Rattle.polars_compare_nested.specs.Broadcasts.{all_rows}
+use Rattle.polars_compare_nested.specs.KindSorts.{is_dictionary, is_fixed_list, is_list, is_sized, is_struct}
+use Rattle.polars_compare_nested.specs.Leaf.{is_leaf}
+use Rattle.polars_compare_nested.specs.Runs.{all_items}
+use Rattle.polars_compare_nested.specs.Tally.{tally, tally_across, total_pairs}
+
+is_leaf-number : is_leaf Int8Kind ≡ true
+is_leaf-number = refl
+
+-- a null array has no leaves, and an array that holds arrays is none
+is_leaf-null : is_leaf NullKind ≡ false
+is_leaf-null = refl
+
+is_leaf-list : is_leaf (ListKind Int8Kind) ≡ false
+is_leaf-list = refl
+
+is_list-large : is_list (LargeListKind Int8Kind) ≡ true
+is_list-large = refl
+
+is_list-fixed : is_list (FixedSizeListKind Int8Kind 2) ≡ false
+is_list-fixed = refl
+
+is_fixed_list-fixed : is_fixed_list (FixedSizeListKind Int8Kind 2) ≡ true
+is_fixed_list-fixed = refl
+
+is_sized-sixteen : is_sized (FixedSizeBinaryKind 16) ≡ true
+is_sized-sixteen = refl
+
+is_struct-empty : is_struct (StructKind no_kinds) ≡ true
+is_struct-empty = refl
+
+is_dictionary-numbers : is_dictionary (DictionaryKind UInt32Kind Int8Kind) ≡ true
+is_dictionary-numbers = refl
+
+-- the sum of f 5 7, f 6 8 and f 7 9
+total_pairs-three : total_pairs (λ i j. i + j) 5 7 3 ≡ 42
+total_pairs-three = refl
+
+-- the numbers 1, 2 and 3
+three : AnyArray
+three = Int32 (record { values = pos 1 ∷ pos 2 ∷ pos 3 ∷ []; validity = None; owned = true })
+
+-- the numbers 1 to 4
+four : AnyArray
+four = Int32 (record { values = pos 1 ∷ pos 2 ∷ pos 3 ∷ pos 4 ∷ []; validity = None; owned = true })
+
+-- leaves cost one comparison a row, nulls none
+tally-numbers : tally three four 1 2 2 ≡ 2
+unfolding three four
+tally-numbers = refl
+
+tally-nulls : tally (Nulls 5) (Nulls 5) 0 0 5 ≡ 0
+tally-nulls = refl
+
+-- the lists 1 and 2, 3, and a null, against 1 and 2, 3 and 4, and a null: the items of the first alone are compared
+tally-lists : (p q : _) → tally
+    (List' (Small (record { items = pos 0 ∷ pos 2 ∷ pos 3 ∷ pos 3 ∷ []; owned = true })) p three (Some (true ∷ true ∷ false ∷ [])))
+    (List' (Small (record { items = pos 0 ∷ pos 2 ∷ pos 4 ∷ pos 4 ∷ []; owned = true })) q four (Some (true ∷ true ∷ false ∷ []))) 0 0 3 ≡ 2
+unfolding three four
+tally-lists p q = refl
+
+-- lists of one width cost all their items, those of nulls too
+tally-fixed_lists : (p q : _) → tally
+    (FixedSizeList' 2 2 p four (Some (true ∷ false ∷ []))) (FixedSizeList' 2 2 q four (Some (true ∷ false ∷ []))) 0 0 2 ≡ 4
+unfolding four
+tally-fixed_lists p q = refl
+
+-- a dictionary costs the entries of each row that is present on both sides, here of the first alone
+tally-entries : (p q : _) → tally
+    (Dictionary' (UInt8 (record { values = 2 ∷ 0 ∷ 1 ∷ []; validity = Some (true ∷ true ∷ false ∷ []); owned = true })) p three)
+    (Dictionary' (UInt8 (record { values = 0 ∷ 0 ∷ 0 ∷ []; validity = Some (true ∷ false ∷ true ∷ []); owned = true })) q three) 0 0 3 ≡ 1
+unfolding three
+tally-entries p q = refl
+
+-- a struct costs those of each column
+tally-columns : tally_across (more_of-AnyArray three (more_of-AnyArray three end_of-AnyArray)) (three ∷ three ∷ []) 0 0 3 ≡ 6
+unfolding three
+tally-columns = refl
+
+-- of the bits of the items from item 4 on, those of list 1 (items 6 and 7) are not both set
+all_items-second : all_items (true ∷ true ∷ true ∷ false ∷ []) (Some 4 ∷ Some 6 ∷ Some 8 ∷ []) 4 1 ≡ false
+all_items-second = refl
+
+all_items-first : all_items (true ∷ true ∷ true ∷ false ∷ []) (Some 4 ∷ Some 6 ∷ Some 8 ∷ []) 4 0 ≡ true
+all_items-first = refl
+
+-- a list is set against all rows of an array
+all_rows-numbers : all_rows three ≡ Rows (more_rows (Int (pos 1)) (more_rows (Int (pos 2)) (more_rows (Int (pos 3)) no_rows)))
+unfolding three
+all_rows-numbers = refl

@@ -1,0 +1,125 @@
+-- Raw bits of windows, as they grow, and as they come from those of what the rows hold.
+use Rattle.std.proofs.Common.{◌≡◌, ◌<◌, ◌≤◌, ◌+◌, ◌-◌, ◌*◌, ◌∙◌, ℕ, Bool, true, false, IsTrue, cond, List, [], ◌∷◌, ◌++◌, Some, length, length-append, get_or, refl, sym, ap, subst, arith, add-zero, inl, inr, slice_get}
+use Rattle.std.proofs.lemmas.Bool.{cases_lt}
+use Rattle.std.proofs.lemmas.List.FromFn.{length-map-range_with_len, get_or-map-range_with_len}
+use Rattle.std.specs.List.{list_all}
+use Rattle.std.proofs.Math.ListN.{get_or-append}
+use Rattle.std.proofs.Math.Nat.{mul-add, mul-one, mul-le-mul_left}
+use Rattle.std.proofs.Math.Seq.{get_or-append_seam}
+use Rattle.std.proofs.lemmas.Option.{get_or_from_slice_get}
+use Rattle.polars_arrays_bits.specs.Blocks.{blocks_all}
+use Rattle.polars_arrays_flat.specs.Row.{Row, Rows, Entry}
+use Rattle.polars_arrays_flat.specs.StoredRows.{kept}
+use Rattle.polars_arrays_flat.specs.Validity.{is_present, window}
+use Rattle.polars_arrays_nested.specs.AnyRows.{row, rows_from}
+use Rattle.polars_arrays_nested.specs.DictKeys.{key_at, key_validity}
+use Rattle.polars_arrays_nested.specs.Parts.{dictionary_keys, dictionary_values, fixed_validity, fixed_values, fixed_width}
+use Rattle.polars_arrays_nested.specs.Types.{type_of}
+use Rattle.polars_arrays_nested.specs.declared.any_array.AnyArray.{AnyArray, FixedSizeList, Dictionary}
+use Rattle.polars_arrays_nested.specs.declared.dictionary.DictionaryArray.{DictionaryArray}
+use Rattle.polars_arrays_nested.specs.declared.fixed_size_list.FixedSizeListArray.{FixedSizeListArray}
+use Rattle.polars_compare_leaves.specs.Sameness.{same, same_rows}
+use Rattle.polars_compare_nested.specs.Bits.{AddsRawBits, RawBits, SameBits, SamePresent}
+use Rattle.polars_compare_nested.specs.Entries.{AreEntries}
+use Rattle.polars_compare_nested.specs.Tally.{tally, entry_tally}
+use Rattle.polars_compare_nested.specs.declared.entries.EntryPair.{EntryPair}
+use Rattle.polars_compare_nested.proofs.WindowBits.{part_same}
+
+-- no bits say nothing
+pub raw_none : (agree : Row → Row → Bool) (l : AnyArray) (a : ℕ) (r : AnyArray) (b : ℕ) → RawBits agree l a r b 0 []
+raw_none agree l a r b = record { size = refl; at_present = λ i low both. absurd (omega arith) }
+
+-- bits that are added to those of a window make those of a longer one
+pub raw_adds : (agree : Row → Row → Bool) (l : AnyArray) (a : ℕ) (r : AnyArray) (b m k : ℕ) (old new : List Bool) → RawBits agree l a r b m old → AddsRawBits agree l (a + m) r (b + m) k old new → RawBits agree l a r b (m + k) new
+raw_adds agree l a r b m k old new h adds = record {
+  size = omega (arith, h.size, adds.size);
+  at_present = λ i low both. elim (cases_lt i m) [
+    | inl before ↦ adds.kept i (omega (arith, before, h.size)) ∙ h.at_present i before both
+    | inr after ↦ (
+        let at : m + (i - m) ≡ i = omega arith in
+        let left : a + m + (i - m) ≡ a + i = omega arith in
+        let right : b + m + (i - m) ≡ b + i = omega arith in
+        let bit = adds.at_present (i - m) (omega arith) (rw (left, right) both) in
+        rw (h.size, at, left, right) at bit)
+  ];
+}
+
+-- a bit that is right where its two rows are present is added
+pub adds_one : (agree : Row → Row → Bool) (l : AnyArray) (i : ℕ) (r : AnyArray) (j : ℕ) (old : List Bool) (bit : Bool) → SamePresent agree l i r j bit → AddsRawBits agree l i r j 1 old (old ++ bit ∷ [])
+adds_one agree l i r j old bit h = record {
+  size = omega (arith, length-append {A = Bool});
+  kept = λ k low. rw get_or-append refl;
+  at_present = λ k low both.
+      let none : k ≡ 0 = omega arith in
+      rw (none, add-zero (length old), add-zero i, add-zero j)
+      (get_or-append_seam old bit [] false ∙ h (rw none at both));
+}
+
+-- raw bits, once joined with the validities
+pub joined : (agree : Row → Row → Bool) (l : AnyArray) (a : ℕ) (r : AnyArray) (b n : ℕ) (raw bits : List Bool) → RawBits agree l a r b n raw → ((by : Row → Row → Bool) → RawBits by l a r b (length raw) raw → SameBits by l a r b (length raw) bits) → SameBits agree l a r b n bits
+joined agree l a r b n raw bits h join =
+    subst (λ (m : ℕ). SameBits agree l a r b m bits) h.size
+    (join agree (subst (λ (m : ℕ). RawBits agree l a r b m raw) (sym h.size) h))
+
+both_kept : (agree : Row → Row → Bool) (p q : Bool) (x y : Row) → IsTrue p → IsTrue q → same agree (kept p x) (kept q y) ≡ same agree x y
+both_kept agree true true x y h k = refl
+both_kept agree false q x y h k = cc
+both_kept agree true false x y h k = cc
+
+fixed_widths : (l r : FixedSizeListArray) → type_of (FixedSizeList l) ≡ type_of (FixedSizeList r) → fixed_width l ≡ fixed_width r
+fixed_widths l r e = cc
+
+block_within : (w k n : ℕ) → k < n → w * k + w ≤ w * n
+block_within w k n low =
+    let here : w * (k + 1) ≤ w * n = mul-le-mul_left w (omega arith) in
+    rw (mul-add, mul-one) at here
+
+-- there is a bit for each block
+blocks_count : (width n : ℕ) (items bits : List Bool) → bits ≡ blocks_all width n items → length bits ≡ n
+blocks_count width n items bits e =
+    rw e (length-map-range_with_len (λ i. list_all (λ b. b) (window (width * i) width items)) 0 n)
+
+-- and it says whether all bits of the block are set
+blocks_at : (width n : ℕ) (items bits : List Bool) (i : ℕ) → bits ≡ blocks_all width n items → i < n → get_or bits i false ≡ list_all (λ b. b) (window (width * i) width items)
+blocks_at width n items bits i e low =
+    rw e (get_or-map-range_with_len (λ i. list_all (λ b. b) (window (width * i) width items)) 0 n i i false low (omega arith))
+
+-- the block of list k has all bits set where lists a + k and b + k have the same items
+block_same : (agree : Row → Row → Bool) (x y : AnyArray) (w v a b n k : ℕ) (items : List Bool) → w ≡ v → SameBits agree x (w * a) y (v * b) (w * n) items → k < n → list_all (λ b. b) (window (w * k) w items) ≡ same_rows agree (rows_from (row x) (w * (a + k)) w) (rows_from (row y) (v * (b + k)) v)
+block_same agree x y w v a b n k items wide =
+    subst (λ (v : ℕ). SameBits agree x (w * a) y (v * b) (w * n) items → k < n → list_all (λ b. b) (window (w * k) w items) ≡ same_rows agree (rows_from (row x) (w * (a + k)) w) (rows_from (row y) (v * (b + k)) v)) wide
+    (λ h low. rw (mul-add w a k, mul-add w b k) (part_same agree x y (w * a) (w * b) (w * n) items (w * k) w h (block_within w k n low)))
+
+-- bits of lists of one width, of those of their items
+pub fixed_bits : (agree : Row → Row → Bool) (l r : FixedSizeListArray) (a b n : ℕ) (x y : AnyArray) (from at count width : ℕ) (items bits : List Bool) → x ≡ fixed_values l → y ≡ fixed_values r → from ≡ fixed_width l * a → at ≡ fixed_width r * b → count ≡ fixed_width l * n → width ≡ fixed_width l → type_of (FixedSizeList l) ≡ type_of (FixedSizeList r) → SameBits agree x from y at count items → bits ≡ blocks_all width n items → RawBits agree (FixedSizeList l) a (FixedSizeList r) b n bits
+fixed_bits agree l r a b n x y from at count width items bits ex ey ef ea ec ew one_type same blocks =
+    let same' : SameBits agree (fixed_values l) (fixed_width l * a) (fixed_values r) (fixed_width r * b) (fixed_width l * n) items =
+    rw (ex, ey, ef, ea, ec) at same in
+    record {
+      size = blocks_count width n items bits blocks;
+      at_present = λ i low both.
+          let block : get_or bits i false ≡ list_all (λ b. b) (window (fixed_width l * i) (fixed_width l) items) = rw ew at (blocks_at width n items bits i blocks low) in
+          block
+          ∙ block_same agree (fixed_values l) (fixed_values r) (fixed_width l) (fixed_width r) a b n i items (fixed_widths l r one_type) same' low
+          ∙ sym (both_kept agree (is_present (fixed_validity l) (a + i)) (is_present (fixed_validity r) (b + i)) (Rows (rows_from (row (fixed_values l)) (fixed_width l * (a + i)) (fixed_width l))) (Rows (rows_from (row (fixed_values r)) (fixed_width r * (b + i)) (fixed_width r))) both.0 both.1);
+    }
+
+-- the bit of two dictionary rows, of that of their entries
+pub entry_bit : (agree : Row → Row → Bool) (l r : DictionaryArray) (i j : ℕ) (x y : AnyArray) (pair : EntryPair) (bits : List Bool) (bit : Bool) → x ≡ dictionary_values l → y ≡ dictionary_values r → AreEntries l i r j pair → SameBits agree x pair.left y pair.right 1 bits → slice_get bits 0 ≡ Some bit → SamePresent agree (Dictionary l) i (Dictionary r) j bit
+entry_bit agree l r i j x y pair bits bit ex ey entries h read both =
+    let here : IsTrue (is_present (key_validity (dictionary_keys l)) i) = rw (add-zero i) at both.0 in
+    let there : IsTrue (is_present (key_validity (dictionary_keys r)) j) = rw (add-zero j) at both.1 in
+    let at : get_or bits 0 false ≡ same agree (row x (pair.left + 0)) (row y (pair.right + 0)) = h.at_each 0 (omega arith) in
+    let at' : get_or bits 0 false ≡ same agree (row (dictionary_values l) (key_at (dictionary_keys l) i)) (row (dictionary_values r) (key_at (dictionary_keys r) j)) =
+    rw (ex, ey, add-zero, add-zero, entries.left_is, entries.right_is) at at in
+    sym (get_or_from_slice_get bits 0 bit false read)
+    ∙ at'
+    ∙ sym (both_kept agree (is_present (key_validity (dictionary_keys l)) i) (is_present (key_validity (dictionary_keys r)) j) (Entry (row (dictionary_values l) (key_at (dictionary_keys l) i))) (Entry (row (dictionary_values r) (key_at (dictionary_keys r) j))) here there)
+
+-- two dictionary rows cost what their entries cost
+pub entry_count : (l r : DictionaryArray) (i j : ℕ) (x y : AnyArray) (pair : EntryPair) → x ≡ dictionary_values l → y ≡ dictionary_values r → AreEntries l i r j pair → tally x y pair.left pair.right 1 ≡ tally (Dictionary l) (Dictionary r) i j 1
+entry_count l r i j x y pair ex ey entries =
+    let child : ℕ → ℕ → ℕ → ℕ = λ i j m. tally (dictionary_values l) (dictionary_values r) i j m in
+    let cost : entry_tally child (dictionary_keys l) (dictionary_keys r) i j ≡ child (key_at (dictionary_keys l) i) (key_at (dictionary_keys r) j) 1 =
+    ap (λ (p : Bool). cond p (child (key_at (dictionary_keys l) i) (key_at (dictionary_keys r) j) 1) 0) entries.present in
+    rw (ex, ey, entries.left_is, entries.right_is, add-zero i, add-zero j) (omega (arith, cost))

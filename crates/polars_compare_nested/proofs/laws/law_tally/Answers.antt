@@ -1,0 +1,11 @@
+use Rattle.polars_compare_nested.proofs.TallyAdds.{tally-adds}
+use Rattle.polars_compare_nested.proofs.TallySwap.{tally-swap}
+use Rattle.polars_compare_nested.proofs.TallyWithin.{tally-within}
+use Rattle.polars_compare_nested.proofs.laws.law_tally.Goals as goal
+
+pub returns : goal.returns
+returns c = record {
+  within = tally-within c.law_leaves.ensures;
+  adds_up = tally-adds;
+  symmetric = tally-swap;
+}

@@ -1,0 +1,39 @@
+use Rattle.std.proofs.Common.{◌<◌, sym, ◌∙◌, arith}
+use Rattle.polars_arrays_bytes.specs.OffsetStrings.{places}
+use Rattle.polars_compare_nested.proofs.ListBits.{length-lists, get_or-lists}
+use Rattle.polars_compare_nested.proofs.spans.ListBitsTruthValues.value.Goals as goal
+
+pub overflow_add-self : goal.overflow_add-self
+overflow_add-self g c =
+    let l = c.args.self.now in
+    record { fits = omega (arith, c.requires, l.fits, length-lists l.items.now (places g.O.Number.value l.offsets.now) l.first l.a l.rows) }
+
+pub place_of-requires-after_bounds : goal.place_of-requires-after_bounds
+place_of-requires-after_bounds g c κs within =
+    let l = c.args.self.now in
+    omega (arith, c.requires, l.has_offsets, length-lists l.items.now (places g.O.Number.value l.offsets.now) l.first l.a l.rows)
+
+pub overflow_add-self-2 : goal.overflow_add-self-2
+overflow_add-self-2 g c =
+    let l = c.args.self.now in
+    record { fits = omega (arith, c.requires, l.fits, length-lists l.items.now (places g.O.Number.value l.offsets.now) l.first l.a l.rows) }
+
+pub span_at-requires-after_bounds : goal.span_at-requires-after_bounds
+span_at-requires-after_bounds g c κs within =
+    let l = c.args.self.now in
+    omega (arith, c.requires, l.has_offsets, length-lists l.items.now (places g.O.Number.value l.offsets.now) l.first l.a l.rows)
+
+pub all_set-requires : goal.all_set-requires
+all_set-requires g c =
+    let l = c.args.self.now in
+    let below : c.args.i < l.rows = omega (arith, c.requires, length-lists l.items.now (places g.O.Number.value l.offsets.now) l.first l.a l.rows) in
+    let place = rw c.place_of.ensures at c.saturating_sub-place.ensures in
+    rw (place, c.span_at.ensures) (l.within c.args.i below)
+
+pub returns : goal.returns
+returns g c =
+    let l = c.args.self.now in
+    let below : c.args.i < l.rows = omega (arith, c.requires, length-lists l.items.now (places g.O.Number.value l.offsets.now) l.first l.a l.rows) in
+    let place = rw c.place_of.ensures at c.saturating_sub-place.ensures in
+    let set = rw (place, c.span_at.ensures) at c.all_set.ensures in
+    set ∙ sym (get_or-lists l.items.now (places g.O.Number.value l.offsets.now) l.first l.a l.rows c.args.i below)

@@ -1,0 +1,28 @@
+use Rattle.std.proofs.Common.{arith, refl}
+use Rattle.polars_arrays_bytes.specs.OffsetStrings.{places}
+use Rattle.polars_arrays_nested.specs.ListOffsets.{list_places}
+use Rattle.polars_arrays_nested.specs.Parts.{list_offsets}
+use Rattle.polars_compare_nested.proofs.ListBits.{adds_lists, length-lists, lent_offset, lists_within}
+use Rattle.polars_compare_nested.proofs.spans.push_lists.Goals as goal
+
+pub invariant_of-extend_values-clause-within : goal.invariant_of-extend_values-clause-within
+invariant_of-extend_values-clause-within g c =
+    rw c.from_bitmap.ensures
+    (lists_within _ _ (places g.O.Number.value c.args.offsets.now) (list_offsets c.args.array.now) c.args.a c.args.rows c.place_of-first.result c.requires.good.0.good c.requires.offsets c.requires.within c.place_of-first.ensures c.requires.items)
+
+pub invariant_of-extend_values-clause-has_offsets : goal.invariant_of-extend_values-clause-has_offsets
+invariant_of-extend_values-clause-has_offsets g c =
+    lent_offset g.O.Number.value c.args.offsets.now _ (list_offsets c.args.array.now) _ c.requires.good.0.good c.requires.offsets c.requires.within
+
+pub extend_values-requires : goal.extend_values-requires
+extend_values-requires g c =
+    omega (arith, c.requires.room, length-lists c.from_bitmap.result (places g.O.Number.value c.args.offsets.now) c.place_of-first.result c.args.a c.args.rows)
+
+pub returns-clause-bits : goal.returns-clause-bits
+returns-clause-bits g c =
+    rw (c.extend_values.ensures, c.from_bitmap.ensures, c.place_of-first.ensures, c.requires.offsets)
+    (adds_lists c.args.items.now (list_places (list_offsets c.args.array.now)) c.args.a c.args.rows c.args.bits.now.bits)
+
+pub returns-clause-room : goal.returns-clause-room
+returns-clause-room g c =
+    rw (c.extend_values.ensures, length-lists c.from_bitmap.result (places g.O.Number.value c.args.offsets.now) c.place_of-first.result c.args.a c.args.rows) refl

@@ -1,0 +1,161 @@
+use Rattle.std.proofs.Common.{◌≡◌, ◌≤◌, ◌<◌, ◌+◌, ◌∙◌, ℕ, length, sym, ap, subst, arith}
+use Rattle.std.specs.Prelude.{IfOk}
+use Rattle.std.proofs.lemmas.Result.{MatchResult-weaker}
+use Rattle.polars_arrays_nested.specs.Parts.{columns}
+use Rattle.polars_arrays_nested.specs.declared.any_array.AnyArray.{List, Dictionary}
+use Rattle.polars_compare_nested.proofs.Columns.{columns_tally-take, more_columns, no_columns, struct_bits, struct_count, struct_tally}
+use Rattle.polars_compare_nested.proofs.LeafSorts.{leaf_bits, leaf_case, leaf_tally}
+use Rattle.polars_compare_nested.proofs.ListRuns.{apart_bits, run_bits, run_tally}
+use Rattle.polars_compare_nested.proofs.RawRows.{adds_one, entry_bit, entry_count, fixed_bits, joined, raw_adds, raw_none}
+use Rattle.polars_compare_nested.proofs.TallyAdds.{tally-adds}
+use Rattle.polars_compare_nested.proofs.windows.+equal.Goals as goal
+
+pub equal_windows-returns-clause-told : goal.equal_windows-returns-clause-told
+equal_windows-returns-clause-told g t c =
+    MatchResult-weaker c.join_windows.result c.join_windows.ensures
+    (λ bits join. joined _ _ _ _ _ _ _ bits c.in_ok-raw.ensures.told join)
+    (λ e memory. memory)
+
+pub raw_windows-leaf_eq-requires : goal.raw_windows-leaf_eq-requires
+raw_windows-leaf_eq-requires g t c = record {
+  leaves = leaf_case c.args.left.now c.in_default.not-Null c.in_default.not-List c.in_default.not-FixedSizeList c.in_default.not-Struct c.in_default.not-Dictionary;
+  one_type = c.requires.one_type;
+  left_good = c.requires.left_good;
+  right_good = c.requires.right_good;
+  left_in = c.requires.left_in;
+  right_in = c.requires.right_in;
+}
+
+pub raw_windows-returns-in_default : goal.raw_windows-returns-in_default
+raw_windows-returns-in_default g t c =
+    let leaves = leaf_case c.args.left.now c.in_default.not-Null c.in_default.not-List c.in_default.not-FixedSizeList c.in_default.not-Struct c.in_default.not-Dictionary in
+    record {
+      told =
+          MatchResult-weaker c.leaf_eq.result c.leaf_eq.ensures.told
+          (λ bits says. leaf_bits _ _ _ _ _ _ bits leaves c.requires.one_type c.requires.left_in c.requires.right_in says)
+          (λ e memory. memory);
+      counted =
+          subst (λ (k : ℕ). IfOk c.leaf_eq.result (λ _. g.K.LeafKernel.count c.leaf_eq.new.self ≡ g.K.LeafKernel.count c.args.steps.now + k))
+          (sym (leaf_tally c.args.left.now c.args.right.now c.args.a c.args.b c.args.n leaves)) c.leaf_eq.ensures.counted;
+      kept = c.leaf_eq.ensures.kept;
+    }
+
+pub list_windows-loop-done-init : goal.list_windows-loop-done-init
+list_windows-loop-done-init g t c = (
+  omega arith,
+  rw c.in_ok-bits.ensures.empty (raw_none _ _ _ _ _),
+  omega arith,
+  omega arith,
+  omega (arith, c.in_ok-bits.ensures.room),
+)
+
+pub list_windows-loop-done-preserved : goal.list_windows-loop-done-preserved
+list_windows-loop-done-preserved g t c =
+    let next = c.in_ok-done.ensures in
+    let adds = tally-adds (List c.args.left.now) (List c.args.right.now) c.args.a c.args.b c.loop-done.done c.in_ok-done.field-0 in (
+      omega (arith, next.within),
+      raw_adds _ _ _ _ _ _ _ _ _ c.loop-done.invariant.1 next.told,
+      next.counted ∙ omega (arith, c.loop-done.invariant.2, adds),
+      omega (arith, next.kept, c.loop-done.invariant.3),
+      omega (arith, next.room, next.within, c.loop-done.invariant.4),
+    )
+
+pub push_next-returns-in-Apart-clause-told : goal.push_next-returns-in-Apart-clause-told
+push_next-returns-in-Apart-clause-told g t c =
+    rw c.push_reserved.ensures
+    (apart_bits _ c.args.left.now c.args.right.now c.args.a c.args.b _ (rw c.in-Apart.is at c.next_rows.ensures))
+
+pub push_next-returns-in_ok-items-in-Run-clause-told :
+    goal.push_next-returns-in_ok-items-in-Run-clause-told
+push_next-returns-in_ok-items-in-Run-clause-told g t c =
+    let run = rw c.in-Run.is at c.next_rows.ensures in
+    let items = rw (c.values-these.ensures.values, c.values-those.ensures.values) at c.in_ok-items-in-Run.ensures.told in
+    run_bits _ c.args.left.now c.args.right.now c.args.a c.args.b c.args.n c.in-Run.run' c.in_ok-items-in-Run.items _ _ c.requires.left_good c.requires.right_good c.requires.left_in c.requires.right_in run items c.push_rows.ensures.bits
+
+pub push_next-returns-in_ok-items-in-Run-clause-counted :
+    goal.push_next-returns-in_ok-items-in-Run-clause-counted
+push_next-returns-in_ok-items-in-Run-clause-counted g t c =
+    let run = rw c.in-Run.is at c.next_rows.ensures in
+    let cost = run_tally c.args.left.now c.args.right.now c.args.a c.args.b c.args.n c.in-Run.run' c.requires.left_good c.requires.right_good c.requires.left_in c.requires.right_in run in
+    let counted = rw (c.values-these.ensures.values, c.values-those.ensures.values) at c.in_ok-items-in-Run.ensures.counted in
+    counted ∙ ap (λ (k : ℕ). g.K.LeafKernel.count c.args.steps.now + k) (sym cost)
+
+pub fixed_size_list_windows-returns-clause-told : goal.fixed_size_list_windows-returns-clause-told
+fixed_size_list_windows-returns-clause-told g t c =
+    MatchResult-weaker c.all_in_blocks.result (rw c.from_bitmap.ensures at c.all_in_blocks.ensures)
+    (λ bits blocks.
+    fixed_bits _ c.args.left.now c.args.right.now c.args.a c.args.b c.args.n _ _ _ _ _ _ c.in_ok-items.items bits c.values.ensures.values c.values-2.ensures.values c.item_window-from.ensures.first c.item_window-at.ensures.first c.item_window-from.ensures.count c.width.ensures c.requires.one_type c.in_ok-items.ensures.told blocks)
+    (λ e memory. memory)
+
+pub struct_windows-loop-i-init : goal.struct_windows-loop-i-init
+struct_windows-loop-i-init g t c = (
+  no_columns _ _ _ _ _ _ _ c.in_ok-bits.ensures,
+  omega arith,
+  omega arith,
+  ap length c.values-i-end.ensures,
+)
+
+pub struct_windows-and_assign-requires : goal.struct_windows-and_assign-requires
+struct_windows-and_assign-requires g t c =
+    c.in_ok-same.ensures.told.size ∙ sym c.loop-i.invariant.0.size
+
+pub struct_windows-loop-i-preserved : goal.struct_windows-loop-i-preserved
+struct_windows-loop-i-preserved g t c =
+    let l = c.args.left.now in
+    let r = c.args.right.now in
+    let pair = c.column_pair.ensures in
+    let low : c.loop-i.i < length (columns l) = omega (arith, c.loop-i-test.true, c.loop-i.invariant.3) in (
+      more_columns _ (columns l) _ (columns r) _ _ c.loop-i.i _ _ _ c.in_ok-same.same _ c.loop-i.invariant.0 c.in_ok-same.ensures.told c.and_assign.ensures low pair.as_many pair.left_is pair.right_is,
+      omega (arith, c.in_ok-same.ensures.counted, c.loop-i.invariant.1, columns_tally-take (columns l) (columns r) _ _ c.loop-i.i c.args.a c.args.b c.args.n low pair.as_many pair.left_is pair.right_is),
+      omega (arith, c.in_ok-same.ensures.kept, c.loop-i.invariant.2),
+      c.loop-i.invariant.3,
+    )
+
+pub struct_windows-returns-clause-told : goal.struct_windows-returns-clause-told
+struct_windows-returns-clause-told g t c =
+    let l = c.args.left.now in
+    let r = c.args.right.now in
+    let many = struct_count l r c.requires.left_good c.requires.right_good c.requires.one_type in
+    let all : length (columns l) ≤ c.loop-i.i = omega (arith, c.loop-i.invariant.3) in
+    rw c.freeze.ensures (struct_bits _ l r _ _ _ c.loop-i.i _ all (omega (arith, all, many)) c.loop-i.invariant.0)
+
+pub struct_windows-returns-clause-counted : goal.struct_windows-returns-clause-counted
+struct_windows-returns-clause-counted g t c =
+    let l = c.args.left.now in
+    let r = c.args.right.now in
+    let many = struct_count l r c.requires.left_good c.requires.right_good c.requires.one_type in
+    let all : length (columns l) ≤ c.loop-i.i = omega (arith, c.loop-i.invariant.3) in
+    c.loop-i.invariant.1
+    ∙ ap (λ (k : ℕ). g.K.LeafKernel.count c.args.steps.now + k) (sym (struct_tally l r c.args.a c.args.b c.args.n c.loop-i.i all (omega (arith, all, many))))
+
+pub dictionary_windows-loop-i-init : goal.dictionary_windows-loop-i-init
+dictionary_windows-loop-i-init g t c = (
+  rw c.in_ok-bits.ensures.empty (raw_none _ _ _ _ _),
+  omega arith,
+  omega arith,
+  omega (arith, c.in_ok-bits.ensures.room),
+)
+
+pub dictionary_windows-loop-i-preserved : goal.dictionary_windows-loop-i-preserved
+dictionary_windows-loop-i-preserved g t c =
+    let same = c.in_ok-same.ensures in
+    let adds = tally-adds (Dictionary c.args.left.now) (Dictionary c.args.right.now) c.args.a c.args.b c.loop-i.i 1 in
+    rw c.push_reserved.ensures (
+      raw_adds _ _ _ _ _ _ _ _ _ c.loop-i.invariant.0 (adds_one _ _ _ _ _ _ _ same.told),
+      same.counted ∙ omega (arith, c.loop-i.invariant.1, adds),
+      omega (arith, same.kept, c.loop-i.invariant.2),
+      omega (arith, c.loop-i.invariant.3),
+    )
+
+pub equal_entries-returns-in_ok-same-in-Some-clause-told :
+    goal.equal_entries-returns-in_ok-same-in-Some-clause-told
+equal_entries-returns-in_ok-same-in-Some-clause-told g t c =
+    let entries = rw c.in-Some.is at c.row_entries.ensures in
+    entry_bit _ c.args.left.now c.args.right.now c.args.a c.args.b _ _ c.in-Some.pair c.in_ok-same-in-Some.same _ c.values-these.ensures.values c.values-those.ensures.values entries c.in_ok-same-in-Some.ensures.told c.get_bit.ensures
+
+pub equal_entries-returns-in_ok-same-in-Some-clause-counted :
+    goal.equal_entries-returns-in_ok-same-in-Some-clause-counted
+equal_entries-returns-in_ok-same-in-Some-clause-counted g t c =
+    let entries = rw c.in-Some.is at c.row_entries.ensures in
+    c.in_ok-same-in-Some.ensures.counted
+    ∙ ap (λ (k : ℕ). g.K.LeafKernel.count c.args.steps.now + k) (entry_count c.args.left.now c.args.right.now c.args.a c.args.b _ _ c.in-Some.pair c.values-these.ensures.values c.values-those.ensures.values entries)

@@ -1,0 +1,46 @@
+-- What bits tell of the rows of two windows: n rows from row a on of the left array, and as many from row b on of the right one.
+use Rattle.std.specs.Prelude.{◌≡◌, ◌+◌, ◌<◌, ℕ, Bool, false, IsTrue, List, Option, length, slice_index_or}
+use Rattle.polars_arrays_flat.specs.Row.{Row}
+use Rattle.polars_arrays_flat.specs.Validity.{is_present}
+use Rattle.polars_arrays_nested.specs.AnyRows.{row}
+use Rattle.polars_arrays_nested.specs.Lengths.{validity_of}
+use Rattle.polars_arrays_nested.specs.declared.any_array.AnyArray.{AnyArray}
+use Rattle.polars_compare_leaves.specs.Sameness.{same}
+
+-- row a + i of the left array and row b + i of the right one are both present
+abbrev pub BothPresent : AnyArray → ℕ → AnyArray → ℕ → ℕ → Type 0
+BothPresent left a right b i =
+    IsTrue (is_present (validity_of left) (a + i)) × IsTrue (is_present (validity_of right) (b + i))
+
+-- each bit says whether two rows are the same, where `agree` says it of leaf rows
+pub record SameBits (agree : Row → Row → Bool) (left : AnyArray) (a : ℕ) (right : AnyArray) (b n : ℕ) (bits : List Bool) : Type 0 where
+  pub size : length bits ≡ n
+  pub at_each : (i : ℕ) → i < n → slice_index_or bits i false ≡ same agree (row left (a + i)) (row right (b + i))
+
+-- each bit of two rows that are both present says whether they are the same; at other rows any bit may stand
+pub record RawBits (agree : Row → Row → Bool) (left : AnyArray) (a : ℕ) (right : AnyArray) (b n : ℕ) (bits : List Bool) : Type 0 where
+  pub size : length bits ≡ n
+  pub at_present : (i : ℕ) → i < n → BothPresent left a right b i
+      → slice_index_or bits i false ≡ same agree (row left (a + i)) (row right (b + i))
+
+-- Each bit of two rows that are both present says whether they agree; at other rows any bit may stand. `left` and `right` give a row by its place.
+pub record PresentBits (agree : Row → Row → Bool) (left : ℕ → Row) (left_mask : Option (List Bool)) (a : ℕ) (right : ℕ → Row) (right_mask : Option (List Bool)) (b n : ℕ) (bits : List Bool) : Type 0 where
+  pub size : length bits ≡ n
+  pub at_present : (i : ℕ) → i < n → IsTrue (is_present left_mask (a + i)) × IsTrue (is_present right_mask (b + i))
+      → slice_index_or bits i false ≡ agree (left (a + i)) (right (b + i))
+
+-- each bit of two leaf rows that are both present says whether they agree
+abbrev pub LeafBits : (Row → Row → Bool) → AnyArray → ℕ → AnyArray → ℕ → ℕ → List Bool → Type 0
+LeafBits agree left a right b n = PresentBits agree (row left) (validity_of left) a (row right) (validity_of right) b n
+
+-- bits for n rows are added to old ones; at rows that are both present they say whether these are the same
+pub record AddsRawBits (agree : Row → Row → Bool) (left : AnyArray) (a : ℕ) (right : AnyArray) (b n : ℕ) (old new : List Bool) : Type 0 where
+  pub size : length new ≡ length old + n
+  pub kept : (i : ℕ) → i < length old → slice_index_or new i false ≡ slice_index_or old i false
+  pub at_present : (i : ℕ) → i < n → BothPresent left a right b i
+      → slice_index_or new (length old + i) false ≡ same agree (row left (a + i)) (row right (b + i))
+
+-- where two rows are both present, the bit says whether they are the same
+abbrev pub SamePresent : (Row → Row → Bool) → AnyArray → ℕ → AnyArray → ℕ → Bool → Type 0
+SamePresent agree left i right j bit =
+    BothPresent left i right j 0 → bit ≡ same agree (row left i) (row right j)

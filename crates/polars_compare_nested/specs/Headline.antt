@@ -1,0 +1,21 @@
+-- What the missing kernels say of two whole arrays.
+use Rattle.std.specs.Prelude.{◌≡◌, ◌<◌, ◌↔◌, ℕ, Bool, false, IsTrue, List, length, slice_index_or}
+use Rattle.polars_arrays_flat.specs.Row.{Row}
+use Rattle.polars_arrays_nested.specs.AnyRows.{row}
+use Rattle.polars_arrays_nested.specs.Lengths.{len_of}
+use Rattle.polars_arrays_nested.specs.declared.any_array.AnyArray.{AnyArray}
+use Rattle.polars_compare_leaves.specs.Sameness.{same}
+
+-- one bit for each row, which is `told` exactly where the two rows are the same, where `agree` says it of leaf rows
+pub record SameRows (told : Bool) (agree : Row → Row → Bool) (left right : AnyArray) (bits : List Bool) : Type 0 where
+  pub size : length bits ≡ len_of left
+  pub at_each : (i : ℕ) → i < len_of left → (slice_index_or bits i false ≡ told) ↔ IsTrue (same agree (row left i) (row right i))
+
+-- one bit for each row, which is `told` exactly where the two rows are the same tree
+pub record SameTrees (told : Bool) (left right : AnyArray) (bits : List Bool) : Type 0 where
+  pub size : length bits ≡ len_of left
+  pub at_each : (i : ℕ) → i < len_of left → (slice_index_or bits i false ≡ told) ↔ (row left i ≡ row right i)
+
+-- leaf rows agree exactly where they are equal, so that rows are the same exactly where they are the same tree
+abbrev pub IsEquality : (Row → Row → Bool) → Type 0
+IsEquality agree = (x y : Row) → IsTrue (same agree x y) ↔ (x ≡ y)

@@ -1,0 +1,10 @@
+pub mod Bits
+pub mod Broadcasts
+pub mod Entries
+pub mod Headline
+pub mod KindSorts
+pub mod Leaf
+pub mod Runs
+pub mod Tally
+pub mod TallyColumns
+pub mod TallyLaws

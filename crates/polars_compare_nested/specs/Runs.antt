@@ -1,0 +1,65 @@
+-- Runs of lists whose items are adjacent on both sides.
+use Rattle.std.specs.Prelude.{◌≡◌, ◌+◌, ◌-◌, ◌≤◌, ◌<◌, ℕ, Bool, false, ◌&&◌, ◌||◌, eqb, IsTrue, List, Option, length, slice_index_or}
+use Rattle.std.specs.List.{list_all}
+use Rattle.polars_arrays_bits.specs.Bits.{first_of}
+use Rattle.polars_arrays_bytes.specs.OffsetStrings.{place_at}
+use Rattle.polars_arrays_flat.specs.Validity.{is_present, window}
+use Rattle.polars_arrays_nested.specs.Lengths.{len_of}
+use Rattle.polars_arrays_nested.specs.ListOffsets.{offset_at, span}
+use Rattle.polars_arrays_nested.specs.Parts.{list_offsets, list_validity, list_values}
+use Rattle.polars_arrays_nested.specs.Places.{place_or_zero}
+use Rattle.polars_arrays_nested.specs.declared.list.ListArray.{ListArray}
+use Rattle.polars_compare_nested.specs.declared.runs.ItemRun.{ItemRun}
+use Rattle.polars_compare_nested.specs.declared.runs.NextRows.{NextRows}
+use Rattle.polars_compare_nested.specs.declared.runs.NextRows.TheVariants.{Apart, Run}
+
+-- place i, as good offsets have it
+abbrev pub start_of : List (Option ℕ) → ℕ → ℕ
+start_of all i = place_or_zero (place_at all i)
+
+-- how many items lie between places i and i + 1
+abbrev pub span_between : List (Option ℕ) → ℕ → ℕ
+span_between all i = start_of all (i + 1) - start_of all i
+
+-- whether list i of the one and list j of the other have as many items, and are both present or have none
+abbrev pub is_match : ListArray → ℕ → ListArray → ℕ → Bool
+is_match l i r j =
+    eqb (span (list_offsets l) i) (span (list_offsets r) j) && (is_present (list_validity l) i && is_present (list_validity r) j || eqb (span (list_offsets l) i) 0)
+
+-- n lists match, one after another
+abbrev pub Match : ListArray → ℕ → ListArray → ℕ → ℕ → Type 0
+Match l a r b n = (k : ℕ) → k < n → IsTrue (is_match l (a + k) r (b + k))
+
+-- a run is the first of at most n lists: they match, and its windows are those of all their items
+pub record IsRun (l : ListArray) (a : ℕ) (r : ListArray) (b n : ℕ) (run : ItemRun) : Type 0 where
+  pub some : 1 ≤ run.rows
+  pub within : run.rows ≤ n
+  pub matching : Match l a r b run.rows
+  pub left_is : run.left ≡ offset_at (list_offsets l) a
+  pub right_is : run.right ≡ offset_at (list_offsets r) b
+  pub count_is : run.count ≡ offset_at (list_offsets l) (a + run.rows) - offset_at (list_offsets l) a
+  pub left_in : run.left + run.count ≤ len_of (list_values l)
+  pub right_in : run.right + run.count ≤ len_of (list_values r)
+
+-- the first lists either do not match, or begin a run
+abbrev pub AreNext : ListArray → ℕ → ListArray → ℕ → ℕ → NextRows → Type 0
+AreNext l a r b n Apart = is_match l a r b ≡ false
+AreNext l a r b n (Run run) = IsRun l a r b n run
+
+-- whether all items of list k have their bits set, where the first bit is that of the item at place `from`
+abbrev pub all_items : List Bool → List (Option ℕ) → ℕ → ℕ → Bool
+all_items items all from k = list_all (λ b. b) (window (start_of all k - from) (span_between all k) items)
+
+-- the same of each of n lists from list a on
+abbrev pub all_lists : List Bool → List (Option ℕ) → ℕ → ℕ → ℕ → List Bool
+all_lists items all from a n = first_of (λ i. all_items items all from (a + i)) n
+
+-- each of n lists from list a on lies within `count` items, the first of which is at place `from`
+abbrev pub AreWithin : ℕ → List (Option ℕ) → ℕ → ℕ → ℕ → Type 0
+AreWithin count all from a n = (i : ℕ) → i < n → start_of all (a + i) - from + span_between all (a + i) ≤ count
+
+-- a bit is added for each of n lists from list a on: whether the bits of its items are all set
+pub record AddsRun (items : List Bool) (all : List (Option ℕ)) (a n : ℕ) (old new : List Bool) : Type 0 where
+  pub size : length new ≡ length old + n
+  pub kept : (i : ℕ) → i < length old → slice_index_or new i false ≡ slice_index_or old i false
+  pub added : (i : ℕ) → i < n → slice_index_or new (length old + i) false ≡ all_items items all (start_of all a) (a + i)

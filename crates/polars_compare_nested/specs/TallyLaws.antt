@@ -1,0 +1,20 @@
+-- Laws of the comparisons of two windows.
+use Rattle.std.specs.Prelude.{◌≡◌, ◌≤◌, ◌+◌, ℕ}
+use Rattle.polars_arrays_nested.specs.GoodParts.{IsGood}
+use Rattle.polars_arrays_nested.specs.Leaves.{leaves}
+use Rattle.polars_arrays_nested.specs.Lengths.{len_of}
+use Rattle.polars_arrays_nested.specs.Types.{type_of}
+use Rattle.polars_arrays_nested.specs.declared.any_array.AnyArray.{AnyArray}
+use Rattle.polars_compare_nested.specs.Tally.{tally}
+
+-- they are no more than the leaf slots of the left window
+abbrev pub TallyIsWithinLeaves : Type 0
+TallyIsWithinLeaves = (x y : AnyArray) → IsGood x → (a b n : ℕ) → a + n ≤ len_of x → tally x y a b n ≤ leaves x a n
+
+-- of two windows, the second beginning where the first ends on both sides, they are those of both together
+abbrev pub TallyAddsUp : Type 0
+TallyAddsUp = (x y : AnyArray) (a b m n : ℕ) → tally x y a b (m + n) ≡ tally x y a b m + tally x y (a + m) (b + m) n
+
+-- they stay when the sides are exchanged
+abbrev pub TallyIsSymmetric : Type 0
+TallyIsSymmetric = (x y : AnyArray) → IsGood x → IsGood y → type_of x ≡ type_of y → (a b n : ℕ) → tally x y a b n ≡ tally y x b a n

@@ -1,0 +1,22 @@
+//! The items of lists of one width.
+
+ghost use Rattle.std.specs.Prelude.{◌≡◌, ◌+◌, ◌*◌, ◌≤◌};
+ghost use Rattle.polars_arrays_nested.specs.GoodParts.{IsGood};
+ghost use Rattle.polars_arrays_nested.specs.Lengths.{len_of};
+ghost use Rattle.polars_arrays_nested.specs.Parts.{fixed_values, fixed_width};
+ghost use Rattle.polars_arrays_nested.specs.declared.any_array.AnyArray.{FixedSizeList};
+
+use polars_arrays_nested::fixed_size_list::FixedSizeListArray;
+
+/// The place of the first item of list `at`, and how many items `n` lists have.
+pub(crate) fn item_window(array: &FixedSizeListArray, at: usize, n: usize) -> (usize, usize)
+    requires good { IsGood (FixedSizeList array.now) }
+    requires within { at + n ≤ len_of (FixedSizeList array.now) }
+    ensures first { result.0 ≡ fixed_width array.now * at }
+    ensures count { result.1 ≡ fixed_width array.now * n }
+    ensures within { result.0 + result.1 ≤ len_of (fixed_values array.now) }
+{
+    // No effect at run time. The proof reads from it that the products are numbers of 64 bits.
+    let _items = array.values().len();
+    (array.width() * at, array.width() * n)
+}

@@ -1,0 +1,109 @@
+//! Missing equality of two whole arrays of one type and length, whatever kind they are.
+
+ghost use Rattle.std.specs.Prelude.{◌≡◌, ◌+◌, ◌≤◌, true, false, IfOk, MatchResult};
+ghost use Rattle.polars_arrays_bits.specs.Errors.{IsMemory};
+ghost use Rattle.polars_arrays_nested.specs.AnyRows.{rows};
+ghost use Rattle.polars_arrays_nested.specs.GoodParts.{IsGood};
+ghost use Rattle.polars_arrays_nested.specs.Leaves.{leaves};
+ghost use Rattle.polars_arrays_nested.specs.Lengths.{len_of};
+ghost use Rattle.polars_arrays_nested.specs.Types.{type_of};
+ghost use Rattle.polars_compare_leaves.specs.Equality.{MissingEquality};
+ghost use Rattle.polars_compare_nested.specs.Headline.{IsEquality, SameRows, SameTrees};
+ghost use Rattle.polars_compare_nested.specs.Tally.{tally};
+
+use crate::laws::law_tally;
+use crate::leaf_kernel::LeafKernel;
+use crate::windows::equal_windows;
+use polars_arrays_bits::bitmap::Bitmap;
+use polars_arrays_bits::error::ComputeError;
+use polars_arrays_nested::any_array::AnyArray;
+use polars_arrays_numbers::steps::Steps;
+use std::alloc::Global;
+
+/// Where the rows of two arrays of one type and length are the same, null as null alone, where the kernel
+/// says it of leaves.
+///
+/// The count rises by exactly one for each leaf slot of the left array that is set against one of the right:
+/// at most the leaf slots of either array, a dictionary's entries counted once per present row. Where the
+/// kernel tells equality, as that of `Steps` does, a row's bit is set exactly where the two rows are the same
+/// tree. The error is `Memory`, and then the count has not fallen.
+#[tactic(auto, using(crate::proofs::Headline::bounds))]
+pub fn array_tot_eq_missing_kernel_counted<K: LeafKernel>(
+    alloc: Global,
+    left: &AnyArray,
+    right: &AnyArray,
+    steps: &mut K,
+) -> Result<Bitmap, ComputeError>
+    requires left_good { IsGood left.now }
+    requires right_good { IsGood right.now }
+    requires one_type { type_of left.now ≡ type_of right.now }
+    requires one_length { len_of left.now ≡ len_of right.now }
+    ensures told { MatchResult result (SameRows true K.agree left.now right.now) IsMemory }
+    ensures trees { IsEquality K.agree → MatchResult result (SameTrees true left.now right.now) IsMemory }
+    ensures counted { IfOk result (λ _. K.count steps.new ≡ K.count steps.old + tally left.now right.now 0 0 (len_of left.now)) }
+    ensures within_left { tally left.now right.now 0 0 (len_of left.now) ≤ leaves left.now 0 (len_of left.now) }
+    ensures within_right { tally left.now right.now 0 0 (len_of left.now) ≤ leaves right.now 0 (len_of right.now) }
+    ensures kept { K.count steps.old ≤ K.count steps.new }
+{
+    law_tally();
+    equal_windows(alloc, left, 0, right, 0, left.len(), steps)
+}
+
+/// Where the rows of two arrays of one type and length are not the same: the answer of
+/// `array_tot_eq_missing_kernel_counted` with each bit turned, after the same comparisons.
+#[tactic(auto, using(crate::proofs::Headline::bounds))]
+pub fn array_tot_ne_missing_kernel_counted<K: LeafKernel>(
+    alloc: Global,
+    left: &AnyArray,
+    right: &AnyArray,
+    steps: &mut K,
+) -> Result<Bitmap, ComputeError>
+    requires left_good { IsGood left.now }
+    requires right_good { IsGood right.now }
+    requires one_type { type_of left.now ≡ type_of right.now }
+    requires one_length { len_of left.now ≡ len_of right.now }
+    ensures told { MatchResult result (SameRows false K.agree left.now right.now) IsMemory }
+    ensures trees { IsEquality K.agree → MatchResult result (SameTrees false left.now right.now) IsMemory }
+    ensures counted { IfOk result (λ _. K.count steps.new ≡ K.count steps.old + tally left.now right.now 0 0 (len_of left.now)) }
+    ensures within_left { tally left.now right.now 0 0 (len_of left.now) ≤ leaves left.now 0 (len_of left.now) }
+    ensures within_right { tally left.now right.now 0 0 (len_of left.now) ≤ leaves right.now 0 (len_of right.now) }
+    ensures kept { K.count steps.old ≤ K.count steps.new }
+{
+    law_tally();
+    let same = equal_windows(alloc, left, 0, right, 0, left.len(), steps)?;
+    same.not(alloc)
+}
+
+/// Where the rows of two arrays of one type and length are the same tree, null as null alone. The error is
+/// `Memory`.
+pub fn array_tot_eq_missing_kernel(
+    alloc: Global,
+    left: &AnyArray,
+    right: &AnyArray,
+) -> Result<Bitmap, ComputeError>
+    requires left_good { IsGood left.now }
+    requires right_good { IsGood right.now }
+    requires one_type { type_of left.now ≡ type_of right.now }
+    requires one_length { len_of left.now ≡ len_of right.now }
+    ensures trees { MatchResult result (SameTrees true left.now right.now) IsMemory }
+    ensures missing { MatchResult result (MissingEquality true (type_of left.now ≡ type_of right.now) (rows left.now) (rows right.now)) IsMemory }
+{
+    array_tot_eq_missing_kernel_counted(alloc, left, right, &mut Steps::new())
+}
+
+/// Where the rows of two arrays of one type and length are not the same tree, null being the same as null
+/// alone. The error is `Memory`.
+pub fn array_tot_ne_missing_kernel(
+    alloc: Global,
+    left: &AnyArray,
+    right: &AnyArray,
+) -> Result<Bitmap, ComputeError>
+    requires left_good { IsGood left.now }
+    requires right_good { IsGood right.now }
+    requires one_type { type_of left.now ≡ type_of right.now }
+    requires one_length { len_of left.now ≡ len_of right.now }
+    ensures trees { MatchResult result (SameTrees false left.now right.now) IsMemory }
+    ensures missing { MatchResult result (MissingEquality false (type_of left.now ≡ type_of right.now) (rows left.now) (rows right.now)) IsMemory }
+{
+    array_tot_ne_missing_kernel_counted(alloc, left, right, &mut Steps::new())
+}

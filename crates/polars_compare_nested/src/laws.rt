@@ -1,0 +1,23 @@
+//! Laws of the definitions, each the contract of a function that does nothing.
+
+ghost use Rattle.polars_compare_leaves.specs.Sameness.{same_leaf};
+ghost use Rattle.polars_compare_nested.specs.Headline.{IsEquality};
+ghost use Rattle.polars_compare_nested.specs.TallyLaws.{TallyAddsUp, TallyIsSymmetric, TallyIsWithinLeaves};
+
+use polars_arrays_nested::laws::law_leaves;
+
+/// The comparisons of two windows are no more than the leaf slots of the left one; of adjacent windows they
+/// add up; and they stay when the sides are exchanged, so that the leaf slots of the right one bound them
+/// too.
+pub fn law_tally()
+    ensures within { TallyIsWithinLeaves }
+    ensures adds_up { TallyAddsUp }
+    ensures symmetric { TallyIsSymmetric }
+{
+    law_leaves();
+}
+
+/// The kernel of `Steps` tells equality: by it two rows are the same exactly where they are the same tree.
+pub fn law_steps()
+    ensures { IsEquality same_leaf }
+{}

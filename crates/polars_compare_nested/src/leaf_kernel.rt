@@ -1,0 +1,70 @@
+//! How leaf rows are compared, and what a comparison counts.
+
+ghost use Rattle.std.specs.Prelude.{◌≡◌, ◌+◌, ◌≤◌, ℕ, Bool, IsTrue, IfOk, MatchResult};
+ghost use Rattle.polars_arrays_bits.specs.Errors.{IsMemory};
+ghost use Rattle.polars_arrays_flat.specs.Row.{Row};
+ghost use Rattle.polars_arrays_nested.specs.GoodParts.{IsGood};
+ghost use Rattle.polars_arrays_nested.specs.Lengths.{len_of};
+ghost use Rattle.polars_arrays_nested.specs.Types.{type_of};
+ghost use Rattle.polars_compare_leaves.specs.Sameness.{same_leaf};
+ghost use Rattle.polars_compare_nested.specs.Bits.{LeafBits};
+ghost use Rattle.polars_compare_nested.specs.Leaf.{is_leaf};
+
+use crate::leaf_windows::leaf_windows;
+use polars_arrays_bits::bitmap::Bitmap;
+use polars_arrays_bits::error::ComputeError;
+use polars_arrays_nested::any_array::AnyArray;
+use polars_arrays_numbers::steps::Steps;
+use std::alloc::Global;
+
+/// What compares stored leaves (numbers, truth values, byte strings and texts) and counts the comparisons.
+/// The comparison of arrays that hold arrays knows no more of it.
+pub trait LeafKernel {
+    // Whether two leaf rows agree.
+    ghost agree: { Row → Row → Bool };
+
+    // How many comparisons were counted.
+    ghost count: { Self → ℕ };
+
+    /// Whether the leaves of two windows agree, place by place: `n` rows from row `a` on of the left array,
+    /// and as many from row `b` on of the right one. A bit is right where both rows are present. The count
+    /// rises by `n`, a comparison a row. The error is `Memory`, and then the count has not fallen.
+    fn leaf_eq(
+        &mut self,
+        alloc: Global,
+        left: &AnyArray,
+        a: usize,
+        right: &AnyArray,
+        b: usize,
+        n: usize,
+    ) -> Result<Bitmap, ComputeError>
+        requires leaves { IsTrue (is_leaf (type_of left.now)) }
+        requires one_type { type_of left.now ≡ type_of right.now }
+        requires left_good { IsGood left.now }
+        requires right_good { IsGood right.now }
+        requires left_in { a + n ≤ len_of left.now }
+        requires right_in { b + n ≤ len_of right.now }
+        ensures told { MatchResult result (LeafBits agree left.now a right.now b n) IsMemory }
+        ensures counted { IfOk result (λ _. count self.new ≡ count self.old + n) }
+        ensures kept { count self.old ≤ count self.new };
+}
+
+impl LeafKernel for Steps {
+    ghost agree = { same_leaf };
+
+    ghost count = { λ steps. steps };
+
+    fn leaf_eq(
+        &mut self,
+        alloc: Global,
+        left: &AnyArray,
+        a: usize,
+        right: &AnyArray,
+        b: usize,
+        n: usize,
+    ) -> Result<Bitmap, ComputeError> {
+        let bits = leaf_windows(alloc, left, a, right, b, n)?;
+        self.add(n);
+        Ok(bits)
+    }
+}

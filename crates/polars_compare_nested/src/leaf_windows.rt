@@ -1,0 +1,169 @@
+//! Raw equality of windows of two arrays of leaves of one type.
+
+ghost use Rattle.std.specs.Prelude.{◌≡◌, ◌+◌, ◌≤◌, IsTrue, length, MatchResult};
+ghost use Rattle.polars_arrays_bits.specs.Errors.{IsMemory};
+ghost use Rattle.polars_arrays_bytes.specs.SizedStrings.{sized_rows};
+ghost use Rattle.polars_arrays_flat.specs.ArrayRows.{number_rows, truth_rows};
+ghost use Rattle.polars_arrays_flat.specs.StoredRows.{byte_slots, rows_under};
+ghost use Rattle.polars_arrays_flat.specs.StoredRows.{row as row_at};
+ghost use Rattle.polars_arrays_nested.specs.Lengths.{len_of};
+ghost use Rattle.polars_arrays_nested.specs.Types.{type_of};
+ghost use Rattle.polars_arrays_views.specs.Parts.{view_rows};
+ghost use Rattle.polars_compare_leaves.specs.Sameness.{same_leaf};
+ghost use Rattle.polars_compare_nested.specs.Bits.{LeafBits, PresentBits};
+ghost use Rattle.polars_compare_nested.specs.Leaf.{is_leaf};
+
+use crate::opened::{
+    as_binary, as_binary_view, as_boolean, as_fixed_size_binary, as_int8, as_int16, as_int32,
+    as_int64, as_int128, as_large_binary, as_large_utf8, as_uint8, as_uint16, as_uint32, as_uint64,
+    as_uint128, as_utf8, as_utf8_view,
+};
+use crate::sized::test_sized_windows;
+use polars_arrays_bits::bitmap::Bitmap;
+use polars_arrays_bits::error::ComputeError;
+use polars_arrays_bytes::fixed_size::FixedSizeBinaryArray;
+use polars_arrays_flat::boolean::BooleanArray;
+use polars_arrays_flat::byte_rows::ByteRows;
+use polars_arrays_flat::primitive::PrimitiveArray;
+use polars_arrays_nested::any_array::AnyArray;
+use polars_arrays_numbers::element_test::Equal;
+use polars_arrays_numbers::native_type::NativeType;
+use polars_arrays_numbers::steps::Steps;
+use polars_arrays_views::binary_view::BinaryViewArray;
+use polars_compare_leaves::booleans::test_truth_windows;
+use polars_compare_leaves::bytes::test_byte_windows;
+use polars_compare_leaves::numbers::test_number_windows;
+use polars_compare_views::windows::test_view_windows;
+use std::alloc::Global;
+
+/// Whether the leaves of two windows are equal, place by place: `n` rows from row `a` on of the left array,
+/// and as many from row `b` on of the right one. The error is `Memory`.
+#[tactic(auto, using(crate::proofs::Strings::counts))]
+#[inline]
+pub(crate) fn leaf_windows(
+    alloc: Global,
+    left: &AnyArray,
+    a: usize,
+    right: &AnyArray,
+    b: usize,
+    n: usize,
+) -> Result<Bitmap, ComputeError>
+    requires leaves { IsTrue (is_leaf (type_of left.now)) }
+    requires one_type { type_of left.now ≡ type_of right.now }
+    requires left_in { a + n ≤ len_of left.now }
+    requires right_in { b + n ≤ len_of right.now }
+    ensures { MatchResult result (LeafBits same_leaf left.now a right.now b n) IsMemory }
+{
+    match left {
+        AnyArray::Boolean(left) => truth_windows(alloc, left, a, as_boolean(right), b, n),
+        AnyArray::Int8(left) => number_windows(alloc, left, a, as_int8(right), b, n),
+        AnyArray::Int16(left) => number_windows(alloc, left, a, as_int16(right), b, n),
+        AnyArray::Int32(left) => number_windows(alloc, left, a, as_int32(right), b, n),
+        AnyArray::Int64(left) => number_windows(alloc, left, a, as_int64(right), b, n),
+        AnyArray::Int128(left) => number_windows(alloc, left, a, as_int128(right), b, n),
+        AnyArray::UInt8(left) => number_windows(alloc, left, a, as_uint8(right), b, n),
+        AnyArray::UInt16(left) => number_windows(alloc, left, a, as_uint16(right), b, n),
+        AnyArray::UInt32(left) => number_windows(alloc, left, a, as_uint32(right), b, n),
+        AnyArray::UInt64(left) => number_windows(alloc, left, a, as_uint64(right), b, n),
+        AnyArray::UInt128(left) => number_windows(alloc, left, a, as_uint128(right), b, n),
+        AnyArray::Binary(left) => byte_windows(alloc, left, a, as_binary(right), b, n),
+        AnyArray::LargeBinary(left) => byte_windows(alloc, left, a, as_large_binary(right), b, n),
+        AnyArray::Utf8(left) => byte_windows(alloc, left, a, as_utf8(right), b, n),
+        AnyArray::LargeUtf8(left) => byte_windows(alloc, left, a, as_large_utf8(right), b, n),
+        AnyArray::BinaryView(left) => view_windows(alloc, left, a, as_binary_view(right), b, n),
+        AnyArray::Utf8View(left) => {
+            let right = as_utf8_view(right).as_binview();
+            view_windows(alloc, left.as_binview(), a, right, b, n)
+        }
+        AnyArray::FixedSizeBinary(left) => {
+            let right = as_fixed_size_binary(right);
+            sized_windows(alloc, left, a, right, b, n)
+        }
+        _ => unreachable!(),
+    }
+}
+
+// Whether the truth values of two windows are equal, place by place, as `leaf_windows` says it of any leaves.
+#[inline]
+fn truth_windows(
+    alloc: Global,
+    left: &BooleanArray,
+    a: usize,
+    right: &BooleanArray,
+    b: usize,
+    n: usize,
+) -> Result<Bitmap, ComputeError>
+    requires left_in { a + n ≤ length left.now.values }
+    requires right_in { b + n ≤ length right.now.values }
+    ensures { MatchResult result (PresentBits same_leaf (row_at (truth_rows left.now)) left.now.validity a (row_at (truth_rows right.now)) right.now.validity b n) IsMemory }
+{
+    test_truth_windows(alloc, &Equal, left, a, right, b, n)
+}
+
+// The same of numbers.
+#[inline]
+fn number_windows<T: NativeType>(
+    alloc: Global,
+    left: &PrimitiveArray<T>,
+    a: usize,
+    right: &PrimitiveArray<T>,
+    b: usize,
+    n: usize,
+) -> Result<Bitmap, ComputeError>
+    requires left_in { a + n ≤ length left.now.values }
+    requires right_in { b + n ≤ length right.now.values }
+    ensures { MatchResult result (PresentBits same_leaf (row_at (number_rows T.value left.now)) left.now.validity a (row_at (number_rows T.value right.now)) right.now.validity b n) IsMemory }
+{
+    test_number_windows(alloc, &Equal, left, a, right, b, n)
+}
+
+// The same of byte strings and texts between offsets.
+#[inline]
+fn byte_windows<R: ByteRows>(
+    alloc: Global,
+    left: &R,
+    a: usize,
+    right: &R,
+    b: usize,
+    n: usize,
+) -> Result<Bitmap, ComputeError>
+    requires left_in { a + n ≤ length (R.strings left.now) }
+    requires right_in { b + n ≤ length (R.strings right.now) }
+    ensures { MatchResult result (PresentBits same_leaf (row_at (rows_under (R.mask left.now) (byte_slots (R.strings left.now)))) (R.mask left.now) a (row_at (rows_under (R.mask right.now) (byte_slots (R.strings right.now)))) (R.mask right.now) b n) IsMemory }
+{
+    test_byte_windows(alloc, &Equal, left, a, right, b, n)
+}
+
+// The same of byte strings of one size.
+#[tactic(auto, using(crate::proofs::Strings::counts))]
+fn sized_windows(
+    alloc: Global,
+    left: &FixedSizeBinaryArray,
+    a: usize,
+    right: &FixedSizeBinaryArray,
+    b: usize,
+    n: usize,
+) -> Result<Bitmap, ComputeError>
+    requires left_in { a + n ≤ left.now.count }
+    requires right_in { b + n ≤ right.now.count }
+    ensures { MatchResult result (PresentBits same_leaf (row_at (sized_rows left.now)) left.now.validity a (row_at (sized_rows right.now)) right.now.validity b n) IsMemory }
+{
+    test_sized_windows(alloc, &Equal, left, a, right, b, n)
+}
+
+// The same of byte strings and texts kept by views; how many rows are looked up in buffers is not asked.
+#[inline]
+fn view_windows(
+    alloc: Global,
+    left: &BinaryViewArray,
+    a: usize,
+    right: &BinaryViewArray,
+    b: usize,
+    n: usize,
+) -> Result<Bitmap, ComputeError>
+    requires left_in { a + n ≤ length left.now.views }
+    requires right_in { b + n ≤ length right.now.views }
+    ensures { MatchResult result (PresentBits same_leaf (row_at (view_rows left.now)) left.now.validity a (row_at (view_rows right.now)) right.now.validity b n) IsMemory }
+{
+    test_view_windows(alloc, &Equal, left, a, right, b, n, &mut Steps::new())
+}

@@ -1,0 +1,23 @@
+//! Missing equality of any two arrays of one type, nested to any depth, with the exact count of comparisons.
+#![tactic(auto)]
+
+pub mod broadcasts;
+mod entries;
+mod items;
+#[cfg(test)]
+mod kernel_tests;
+pub mod kernels;
+pub mod laws;
+pub mod leaf_kernel;
+mod leaf_windows;
+mod masks;
+mod opened;
+mod runs;
+pub mod sized;
+mod spans;
+mod structs;
+#[cfg(test)]
+mod test_arrays;
+#[cfg(test)]
+mod tests;
+pub mod windows;

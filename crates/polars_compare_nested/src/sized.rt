@@ -1,0 +1,46 @@
+//! Tests of stored byte strings of one size, place by place, whatever the validity says.
+
+ghost use Rattle.std.specs.Prelude.{◌≡◌, ◌+◌, ◌≤◌, length, MatchResult};
+ghost use Rattle.std.specs.Simd.Lanes.{zip2};
+ghost use Rattle.polars_arrays_bits.specs.Errors.{IsMemory};
+ghost use Rattle.polars_arrays_bytes.specs.SizedStrings.{sized_strings};
+ghost use Rattle.polars_arrays_flat.specs.StoredRows.{byte_slots};
+ghost use Rattle.polars_arrays_flat.specs.Validity.{window};
+
+use polars_arrays_bits::bitmap::Bitmap;
+use polars_arrays_bits::error::ComputeError;
+use polars_arrays_bytes::fixed_size::FixedSizeBinaryArray;
+use polars_arrays_bytes::of_size::OfSize;
+use polars_compare_leaves::bytes::{ByteTest, test_byte_windows};
+use std::alloc::Global;
+
+// How many bytes a string has where the loop is compiled for that size: those of UUIDs, and of numbers
+// of 128 bits.
+const UUID_SIZE: usize = 16;
+
+/// Whether the stored rows of two windows pass a test, place by place: `n` byte strings from place `a` on
+/// of the left array, and as many from place `b` on of the right one, whose strings may have another size.
+/// The error is `Memory`.
+pub fn test_sized_windows<E: ByteTest>(
+    alloc: Global,
+    test: &E,
+    left: &FixedSizeBinaryArray,
+    a: usize,
+    right: &FixedSizeBinaryArray,
+    b: usize,
+    n: usize,
+) -> Result<Bitmap, ComputeError>
+    requires left_in { a + n ≤ length (sized_strings left.now.size left.now.count left.now.values) }
+    requires right_in { b + n ≤ length (sized_strings right.now.size right.now.count right.now.values) }
+    ensures { MatchResult result (λ bits. bits ≡ zip2 E.rows
+        (window a n (byte_slots (sized_strings left.now.size left.now.count left.now.values)))
+        (window b n (byte_slots (sized_strings right.now.size right.now.count right.now.values)))) IsMemory }
+{
+    if left.size() == UUID_SIZE && right.size() == UUID_SIZE {
+        let left = OfSize::<UUID_SIZE>::new(left);
+        let right = OfSize::<UUID_SIZE>::new(right);
+        test_byte_windows(alloc, test, &left, a, &right, b, n)
+    } else {
+        test_byte_windows(alloc, test, left, a, right, b, n)
+    }
+}

@@ -1,0 +1,160 @@
+//! Lists between offsets of a known width: how many of them match, and which have all bits of their items
+//! set.
+
+ghost use Rattle.std.specs.Prelude.{◌≡◌, ◌+◌, ◌-◌, ◌^◌, ◌<◌, ◌≤◌, false, length};
+ghost use Rattle.polars_arrays_bytes.specs.OffsetStrings.{place_at, places};
+ghost use Rattle.polars_arrays_nested.specs.GoodParts.{IsGood};
+ghost use Rattle.polars_arrays_nested.specs.Lengths.{len_of};
+ghost use Rattle.polars_arrays_nested.specs.ListOffsets.{list_places, offset_at};
+ghost use Rattle.polars_arrays_nested.specs.Parts.{list_offsets};
+ghost use Rattle.polars_arrays_nested.specs.Places.{place_or_zero};
+ghost use Rattle.polars_arrays_nested.specs.declared.any_array.AnyArray.{List};
+ghost use Rattle.polars_compare_nested.specs.Runs.{AddsRun, AreWithin, Match, all_lists, is_match, span_between};
+
+use crate::runs::has_row;
+use polars_arrays_bits::bit_mask::BitMask;
+use polars_arrays_bits::bitmap::Bitmap;
+use polars_arrays_bits::builder::BitmapBuilder;
+use polars_arrays_bits::packing::TruthValues;
+use polars_arrays_nested::list::ListArray;
+use polars_arrays_numbers::offset::Offset;
+
+// Offset `i` as a place, or 0 where it is negative.
+#[inline(always)]
+#[tactic(auto, using(crate::proofs::OffsetPlaces::places_of))]
+fn place_of<O: Offset>(offsets: &[O], i: usize) -> usize
+    requires { i < length offsets.now }
+    ensures { result ≡ place_or_zero (place_at (places O.value offsets.now) i) }
+{
+    offsets[i].to_place().unwrap_or(0)
+}
+
+// How many items lie between offsets `i` and `i + 1`.
+#[inline(always)]
+fn span_at<O: Offset>(offsets: &[O], i: usize) -> usize
+    requires { i + 1 < length offsets.now }
+    ensures { result ≡ span_between (places O.value offsets.now) i }
+{
+    // No effect at run time. The proof reads from it that `i + 1` is a number of 64 bits.
+    let _len = offsets.len();
+    place_of(offsets, i + 1).saturating_sub(place_of(offsets, i))
+}
+
+// Whether two lists have as many items, and are both present or have none, where the offsets of both arrays
+// are lent.
+#[inline(always)]
+fn rows_match<L: Offset, R: Offset>(
+    left: &ListArray,
+    these: &[L],
+    i: usize,
+    right: &ListArray,
+    those: &[R],
+    j: usize,
+) -> bool
+    requires left_good { IsGood (List left.now) }
+    requires right_good { IsGood (List right.now) }
+    requires left_offsets { places L.value these.now ≡ list_places (list_offsets left.now) }
+    requires right_offsets { places R.value those.now ≡ list_places (list_offsets right.now) }
+    requires left_in { i < len_of (List left.now) }
+    requires right_in { j < len_of (List right.now) }
+    ensures { result ≡ is_match left.now i right.now j }
+{
+    let count = span_at(these, i);
+    count == span_at(those, j) && (count == 0 || has_row(left, i) && has_row(right, j))
+}
+
+/// How many of the first `n` lists match, one after another, where the offsets of both arrays are lent.
+pub(crate) fn matching_rows<L: Offset, R: Offset>(
+    left: &ListArray,
+    these: &[L],
+    a: usize,
+    right: &ListArray,
+    those: &[R],
+    b: usize,
+    n: usize,
+) -> usize
+    requires left_good { IsGood (List left.now) }
+    requires right_good { IsGood (List right.now) }
+    requires left_offsets { places L.value these.now ≡ list_places (list_offsets left.now) }
+    requires right_offsets { places R.value those.now ≡ list_places (list_offsets right.now) }
+    requires left_in { a + n ≤ len_of (List left.now) }
+    requires right_in { b + n ≤ len_of (List right.now) }
+    ensures within { result ≤ n }
+    ensures matching { Match left.now a right.now b result }
+    ensures longest { result < n → is_match left.now (a + result) right.now (b + result) ≡ false }
+{
+    // No effect at run time. The proof reads from it that the sums are numbers of 64 bits.
+    let (_lists, _others) = (left.offsets().rows(), right.offsets().rows());
+    for k in 0..n {
+        if !rows_match(left, these, a + k, right, those, b + k) {
+            return k;
+        }
+    }
+    n
+}
+
+// For each list of a run whether the bits of its items are all set, of which the first is that of the item
+// at place `first`.
+#[derive(Drop)]
+struct ListBits<'m, 'a, O: Offset> {
+    items: &'m BitMask<'a>,
+    offsets: &'m [O],
+    a: usize,
+    first: usize,
+    rows: usize,
+    ghost within: { AreWithin (length items.now) (places O.value offsets.now) first a rows },
+    ghost has_offsets: { a + rows < length offsets.now },
+    ghost fits: { a + rows < 2 ^ 64 },
+}
+
+impl<O: Offset> TruthValues for ListBits<'_, '_, O> {
+    ghost values = { λ l. all_lists l.items.now (places O.value l.offsets.now) l.first l.a l.rows };
+
+    #[inline(always)]
+    fn len(&self) -> usize {
+        self.rows
+    }
+
+    #[inline(always)]
+    fn value(&self, i: usize) -> bool {
+        let place = place_of(self.offsets, self.a + i).saturating_sub(self.first);
+        self.items.all_set(place, span_at(self.offsets, self.a + i))
+    }
+
+    // A list lies in two words.
+    #[inline(always)]
+    fn is_wide(&self) -> bool {
+        true
+    }
+}
+
+/// Adds a bit for each of `rows` lists from row `a` on: whether the bits of its items are all set. The offsets
+/// of the array are lent.
+pub(crate) fn push_lists<O: Offset>(
+    bits: &mut BitmapBuilder,
+    items: &Bitmap,
+    array: &ListArray,
+    offsets: &[O],
+    a: usize,
+    rows: usize,
+)
+    requires good { IsGood (List array.now) }
+    requires offsets { places O.value offsets.now ≡ list_places (list_offsets array.now) }
+    requires within { a + rows ≤ len_of (List array.now) }
+    requires items { length items.now ≡ offset_at (list_offsets array.now) (a + rows) - offset_at (list_offsets array.now) a }
+    requires room { rows ≤ bits.old.room }
+    ensures bits { AddsRun items.now (list_places (list_offsets array.now)) a rows bits.old.bits bits.new.bits }
+    ensures room { bits.new.room ≡ bits.old.room - rows }
+{
+    // No effect at run time. The proof reads from it that the sums are numbers of 64 bits.
+    let _lists = array.offsets().rows();
+    let first = place_of(offsets, a);
+    let items = &BitMask::from_bitmap(items);
+    bits.extend_values(&ListBits {
+        items,
+        offsets,
+        a,
+        first,
+        rows,
+    });
+}

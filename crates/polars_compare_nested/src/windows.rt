@@ -1,0 +1,293 @@
+//! Equality of the rows of two windows: `n` rows from row `a` on of the left array, and as many from row `b`
+//! on of the right one, which are of one type.
+//!
+//! The windows of arrays that hold arrays are compared by windows of what they hold, and no array is copied.
+//! A struct is compared by one window a field, lists of one width by one window in all, lists between offsets
+//! by one window a run of lists whose items are adjacent, and a dictionary by one entry a row. Leaves are
+//! compared by a `LeafKernel` alone.
+
+ghost use Rattle.std.specs.Prelude.{◌≡◌, ◌+◌, ◌-◌, ◌<◌, ◌≤◌, length, IfOk, MatchResult};
+ghost use Rattle.polars_arrays_bits.specs.Errors.{IsMemory};
+ghost use Rattle.polars_arrays_nested.specs.GoodParts.{IsGood};
+ghost use Rattle.polars_arrays_nested.specs.Lengths.{len_of};
+ghost use Rattle.polars_arrays_nested.specs.Types.{type_of};
+ghost use Rattle.polars_arrays_nested.specs.declared.any_array.AnyArray.{AnyArray, List, FixedSizeList, Struct, Dictionary};
+ghost use Rattle.polars_compare_nested.specs.Bits.{AddsRawBits, RawBits, SameBits, SamePresent};
+ghost use Rattle.polars_compare_nested.specs.Tally.{tally};
+
+use crate::entries::row_entries;
+use crate::items::item_window;
+use crate::leaf_kernel::LeafKernel;
+use crate::masks::join_windows;
+use crate::opened::{as_dictionary, as_fixed_size_list, as_list, as_struct};
+use crate::runs::{NextRows, next_rows, push_rows};
+use crate::structs::column_pair;
+use polars_arrays_bits::bit_mask::BitMask;
+use polars_arrays_bits::bitmap::Bitmap;
+use polars_arrays_bits::builder::BitmapBuilder;
+use polars_arrays_bits::error::ComputeError;
+use polars_arrays_bits::mutable_bitmap::MutableBitmap;
+use polars_arrays_nested::any_array::AnyArray;
+use polars_arrays_nested::dictionary::DictionaryArray;
+use polars_arrays_nested::fixed_size_list::FixedSizeListArray;
+use polars_arrays_nested::list::ListArray;
+use polars_arrays_nested::struct_array::StructArray;
+use std::alloc::Global;
+
+/// Where the rows of two windows are the same, null as null alone. The count rises by a comparison for each
+/// leaf that is set against another. The error is `Memory`, and then the count has not fallen.
+#[cycle(equal)]
+pub fn equal_windows<K: LeafKernel>(
+    alloc: Global,
+    left: &AnyArray,
+    a: usize,
+    right: &AnyArray,
+    b: usize,
+    n: usize,
+    steps: &mut K,
+) -> Result<Bitmap, ComputeError>
+    requires left_good { IsGood left.now }
+    requires right_good { IsGood right.now }
+    requires one_type { type_of left.now ≡ type_of right.now }
+    requires left_in { a + n ≤ len_of left.now }
+    requires right_in { b + n ≤ len_of right.now }
+    ensures told { MatchResult result (SameBits K.agree left.now a right.now b n) IsMemory }
+    ensures counted { IfOk result (λ _. K.count steps.new ≡ K.count steps.old + tally left.now right.now a b n) }
+    ensures kept { K.count steps.old ≤ K.count steps.new }
+{
+    let raw = raw_windows(alloc, left, a, right, b, n, steps)?;
+    join_windows(alloc, raw, left, a, right, b)
+}
+
+// The same, whatever the validities of the two arrays say: a bit is right where both rows are present.
+#[cycle(equal)]
+fn raw_windows<K: LeafKernel>(
+    alloc: Global,
+    left: &AnyArray,
+    a: usize,
+    right: &AnyArray,
+    b: usize,
+    n: usize,
+    steps: &mut K,
+) -> Result<Bitmap, ComputeError>
+    requires left_good { IsGood left.now }
+    requires right_good { IsGood right.now }
+    requires one_type { type_of left.now ≡ type_of right.now }
+    requires left_in { a + n ≤ len_of left.now }
+    requires right_in { b + n ≤ len_of right.now }
+    ensures told { MatchResult result (RawBits K.agree left.now a right.now b n) IsMemory }
+    ensures counted { IfOk result (λ _. K.count steps.new ≡ K.count steps.old + tally left.now right.now a b n) }
+    ensures kept { K.count steps.old ≤ K.count steps.new }
+{
+    match left {
+        AnyArray::Null(_) => Bitmap::new_with_value(alloc, true, n),
+        AnyArray::List(left) => list_windows(alloc, left, a, as_list(right), b, n, steps),
+        AnyArray::FixedSizeList(left) => {
+            fixed_size_list_windows(alloc, left, a, as_fixed_size_list(right), b, n, steps)
+        }
+        AnyArray::Struct(left) => struct_windows(alloc, left, a, as_struct(right), b, n, steps),
+        AnyArray::Dictionary(left) => {
+            dictionary_windows(alloc, left, a, as_dictionary(right), b, n, steps)
+        }
+        _ => steps.leaf_eq(alloc, left, a, right, b, n),
+    }
+}
+
+/// Where the lists of two windows have as many items on both sides, which are the same in order. A bit is
+/// right where both lists are present. The error is `Memory`.
+#[cycle(equal)]
+pub fn list_windows<K: LeafKernel>(
+    alloc: Global,
+    left: &ListArray,
+    a: usize,
+    right: &ListArray,
+    b: usize,
+    n: usize,
+    steps: &mut K,
+) -> Result<Bitmap, ComputeError>
+    requires left_good { IsGood (List left.now) }
+    requires right_good { IsGood (List right.now) }
+    requires one_type { type_of (List left.now) ≡ type_of (List right.now) }
+    requires left_in { a + n ≤ len_of (List left.now) }
+    requires right_in { b + n ≤ len_of (List right.now) }
+    ensures told { MatchResult result (RawBits K.agree (List left.now) a (List right.now) b n) IsMemory }
+    ensures counted { IfOk result (λ _. K.count steps.new ≡ K.count steps.old + tally (List left.now) (List right.now) a b n) }
+    ensures kept { K.count steps.old ≤ K.count steps.new }
+{
+    // No effect at run time. The proof reads from them that the places of all rows are numbers of 64 bits.
+    let (_rows, _others) = (left.offsets().rows(), right.offsets().rows());
+    let mut bits = BitmapBuilder::with_capacity(alloc, n)?;
+    let mut done = 0;
+    while done < n {
+        done += push_next(
+            alloc,
+            &mut bits,
+            left,
+            a + done,
+            right,
+            b + done,
+            n - done,
+            steps,
+        )?;
+    }
+    Ok(bits.freeze())
+}
+
+// Adds the bits of the first of `n` lists, and says of how many. The error is `Memory`.
+#[cycle(equal)]
+fn push_next<K: LeafKernel>(
+    alloc: Global,
+    bits: &mut BitmapBuilder,
+    left: &ListArray,
+    a: usize,
+    right: &ListArray,
+    b: usize,
+    n: usize,
+    steps: &mut K,
+) -> Result<usize, ComputeError>
+    requires left_good { IsGood (List left.now) }
+    requires right_good { IsGood (List right.now) }
+    requires one_type { type_of (List left.now) ≡ type_of (List right.now) }
+    requires some { 1 ≤ n }
+    requires left_in { a + n ≤ len_of (List left.now) }
+    requires right_in { b + n ≤ len_of (List right.now) }
+    requires room { n ≤ bits.old.room }
+    ensures some { MatchResult result (λ rows. 1 ≤ rows) IsMemory }
+    ensures within { IfOk result (λ rows. rows ≤ n) }
+    ensures told { IfOk result (λ rows. AddsRawBits K.agree (List left.now) a (List right.now) b rows bits.old.bits bits.new.bits) }
+    ensures room { IfOk result (λ rows. bits.new.room ≡ bits.old.room - rows) }
+    ensures counted { IfOk result (λ rows. K.count steps.new ≡ K.count steps.old + tally (List left.now) (List right.now) a b rows) }
+    ensures kept { K.count steps.old ≤ K.count steps.new }
+{
+    match next_rows(left, a, right, b, n) {
+        NextRows::Apart => {
+            bits.push_reserved(false);
+            Ok(1)
+        }
+        NextRows::Run(run) => {
+            let (from, at) = (run.left, run.right);
+            let (these, those) = (left.values(), right.values());
+            let items = equal_windows(alloc, these, from, those, at, run.count, steps)?;
+            push_rows(bits, &items, left, a, run.rows);
+            Ok(run.rows)
+        }
+    }
+}
+
+/// Where the lists of two windows of one width have the same items in order. A bit is right where both lists
+/// are present. The error is `Memory`.
+#[cycle(equal)]
+pub fn fixed_size_list_windows<K: LeafKernel>(
+    alloc: Global,
+    left: &FixedSizeListArray,
+    a: usize,
+    right: &FixedSizeListArray,
+    b: usize,
+    n: usize,
+    steps: &mut K,
+) -> Result<Bitmap, ComputeError>
+    requires left_good { IsGood (FixedSizeList left.now) }
+    requires right_good { IsGood (FixedSizeList right.now) }
+    requires one_type { type_of (FixedSizeList left.now) ≡ type_of (FixedSizeList right.now) }
+    requires left_in { a + n ≤ len_of (FixedSizeList left.now) }
+    requires right_in { b + n ≤ len_of (FixedSizeList right.now) }
+    ensures told { MatchResult result (RawBits K.agree (FixedSizeList left.now) a (FixedSizeList right.now) b n) IsMemory }
+    ensures counted { IfOk result (λ _. K.count steps.new ≡ K.count steps.old + tally (FixedSizeList left.now) (FixedSizeList right.now) a b n) }
+    ensures kept { K.count steps.old ≤ K.count steps.new }
+{
+    let (from, count) = item_window(left, a, n);
+    let (at, _) = item_window(right, b, n);
+    let items = equal_windows(alloc, left.values(), from, right.values(), at, count, steps)?;
+    BitMask::from_bitmap(&items).all_in_blocks(alloc, left.width(), n)
+}
+
+/// Where the structs of two windows have the same row in each field. A bit is right where both structs are
+/// present. The error is `Memory`.
+#[cycle(equal)]
+pub fn struct_windows<K: LeafKernel>(
+    alloc: Global,
+    left: &StructArray,
+    a: usize,
+    right: &StructArray,
+    b: usize,
+    n: usize,
+    steps: &mut K,
+) -> Result<Bitmap, ComputeError>
+    requires left_good { IsGood (Struct left.now) }
+    requires right_good { IsGood (Struct right.now) }
+    requires one_type { type_of (Struct left.now) ≡ type_of (Struct right.now) }
+    requires left_in { a + n ≤ len_of (Struct left.now) }
+    requires right_in { b + n ≤ len_of (Struct right.now) }
+    ensures told { MatchResult result (RawBits K.agree (Struct left.now) a (Struct right.now) b n) IsMemory }
+    ensures counted { IfOk result (λ _. K.count steps.new ≡ K.count steps.old + tally (Struct left.now) (Struct right.now) a b n) }
+    ensures kept { K.count steps.old ≤ K.count steps.new }
+{
+    let mut bits = MutableBitmap::from_len_set(alloc, n)?;
+    for i in 0..left.values().len() {
+        let (column, other) = column_pair(left, right, i);
+        let same = equal_windows(alloc, column, a, other, b, n, steps)?;
+        bits.and_assign(&same);
+    }
+    Ok(bits.freeze())
+}
+
+/// Where the keys of two windows name the same entries. A bit is right where both keys are present. The error
+/// is `Memory`.
+#[cycle(equal)]
+pub fn dictionary_windows<K: LeafKernel>(
+    alloc: Global,
+    left: &DictionaryArray,
+    a: usize,
+    right: &DictionaryArray,
+    b: usize,
+    n: usize,
+    steps: &mut K,
+) -> Result<Bitmap, ComputeError>
+    requires left_good { IsGood (Dictionary left.now) }
+    requires right_good { IsGood (Dictionary right.now) }
+    requires one_type { type_of (Dictionary left.now) ≡ type_of (Dictionary right.now) }
+    requires left_in { a + n ≤ len_of (Dictionary left.now) }
+    requires right_in { b + n ≤ len_of (Dictionary right.now) }
+    ensures told { MatchResult result (RawBits K.agree (Dictionary left.now) a (Dictionary right.now) b n) IsMemory }
+    ensures counted { IfOk result (λ _. K.count steps.new ≡ K.count steps.old + tally (Dictionary left.now) (Dictionary right.now) a b n) }
+    ensures kept { K.count steps.old ≤ K.count steps.new }
+{
+    // No effect at run time. The proof reads from them that the places of all rows are numbers of 64 bits.
+    let (_rows, _others) = (left.keys().len(), right.keys().len());
+    let mut bits = BitmapBuilder::with_capacity(alloc, n)?;
+    for i in 0..n {
+        let same = equal_entries(alloc, left, a + i, right, b + i, steps)?;
+        bits.push_reserved(same);
+    }
+    Ok(bits.freeze())
+}
+
+// Whether the entries of two rows are the same, or false where one of the rows is masked. The error is
+// `Memory`.
+#[cycle(equal)]
+fn equal_entries<K: LeafKernel>(
+    alloc: Global,
+    left: &DictionaryArray,
+    a: usize,
+    right: &DictionaryArray,
+    b: usize,
+    steps: &mut K,
+) -> Result<bool, ComputeError>
+    requires left_good { IsGood (Dictionary left.now) }
+    requires right_good { IsGood (Dictionary right.now) }
+    requires one_type { type_of (Dictionary left.now) ≡ type_of (Dictionary right.now) }
+    requires left_in { a < len_of (Dictionary left.now) }
+    requires right_in { b < len_of (Dictionary right.now) }
+    ensures told { MatchResult result (λ bit. SamePresent K.agree (Dictionary left.now) a (Dictionary right.now) b bit) IsMemory }
+    ensures counted { IfOk result (λ _. K.count steps.new ≡ K.count steps.old + tally (Dictionary left.now) (Dictionary right.now) a b 1) }
+    ensures kept { K.count steps.old ≤ K.count steps.new }
+{
+    match row_entries(left, a, right, b) {
+        Some(pair) => {
+            let (these, those) = (left.values(), right.values());
+            let same = equal_windows(alloc, these, pair.left, those, pair.right, 1, steps)?;
+            Ok(same.get_bit(0))
+        }
+        None => Ok(false),
+    }
+}
