@@ -1,5 +1,5 @@
 -- Costs of neighbouring places.
-use Rattle.std.proofs.Common.{◌≡◌, ◌+◌, ◌-◌, ◌*◌, ◌<◌, ◌≤◌, ℕ, zero, suc, min, refl, sym, ap, ◌∙◌, arith, add-one}
+use Rattle.std.proofs.Common.{◌≡◌, ◌+◌, ◌-◌, ◌*◌, ◌<◌, ℕ, zero, suc, min, sym, ap, ◌∙◌, arith, add-one}
 use Rattle.polars_arrays_bits.specs.Costs.{cost_of}
 
 -- one place more

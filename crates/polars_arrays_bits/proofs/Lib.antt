@@ -7,6 +7,7 @@ pub mod Drafts
 pub mod Firsts
 pub mod FourFolds
 pub mod Joins
+pub mod Merges
 pub mod NestedBlocks
 pub mod OperatorBits
 pub mod Packs

@@ -2,12 +2,13 @@
 
 ghost use Rattle.std.specs.Prelude.{◌≡◌, ℕ, ◌*◌, ◌^◌, ◌<◌, ◌≤◌, Bool, false, true, ◌&&◌, ◌||◌, length, count_by, replicate, slice_get, slice_set, MatchResult};
 ghost use Rattle.std.specs.Simd.Lanes.{zip2};
-ghost use Rattle.polars_arrays_bits.specs.Bits.{bit_of, first_of};
+ghost use Rattle.polars_arrays_bits.specs.Bits.{first_of, IsMerged};
 ghost use Rattle.polars_arrays_bits.specs.Errors.{IsMemory};
 
 use crate::bitmap::Bitmap;
 use crate::error::ComputeError;
-use crate::source::{BitSource, Shifted, count_window};
+use crate::operators::{And, BinaryOperator, Or};
+use crate::source::{Aligned, BitSource, Shifted, count_window};
 use crate::words::{WORD_BITS, bit_from, filled_word};
 use crate::write::write_bit;
 use std::alloc::Global;
@@ -32,49 +33,65 @@ impl Model for MutableBitmap {
     ghost invariant = { λ b. b.len ≤ 64 * length b.words.items };
 }
 
-// Each word becomes its union with the other of its place.
-fn union_words(words: &mut [u64], others: &[u64], count: usize)
-    requires within { count ≤ length words.old }
-    requires others { count ≤ length others.now }
-    ensures len { length words.new ≡ length words.old }
-    ensures bits { (p : ℕ) → p < 64 * count → bit_of words.new p ≡ (bit_of words.old p || bit_of others.now p) }
+// The first `to` words become the operator's results with the source's, which are read with no test
+// for an end.
+#[inline(always)]
+fn merge_inner_words<O: BinaryOperator, S: BitSource>(
+    words: &mut [u64],
+    operator: &O,
+    source: &S,
+    to: usize,
+)
+    requires within { to ≤ length words.old }
+    requires inner { to ≤ S.inner source.now }
+    ensures { IsMerged O.bit (S.bit source.now) words.old words.new 0 to }
 {
-    for k in 0..count {
-        words[k] = words[k] | others[k];
+    for k in 0..to {
+        words[k] = operator.apply(words[k], source.inner_word(k));
     }
 }
 
-// Each of the first `count` words keeps the bits that are set in the source too.
-fn intersect_words<S: BitSource>(words: &mut [u64], source: &S, count: usize)
-    requires within { count ≤ length words.old }
-    requires few { count ≤ 2 ^ 58 }
-    ensures len { length words.new ≡ length words.old }
-    ensures bits { (p : ℕ) → p < 64 * count → bit_of words.new p ≡ (bit_of words.old p && S.bit source.now p) }
+// The words from `from` to `to` become the operator's results with the source's.
+#[inline(always)]
+fn merge_words<O: BinaryOperator, S: BitSource>(
+    words: &mut [u64],
+    operator: &O,
+    source: &S,
+    from: usize,
+    to: usize,
+)
+    requires order { from ≤ to }
+    requires within { to ≤ length words.old }
+    requires few { to ≤ 2 ^ 58 }
+    ensures { IsMerged O.bit (S.bit source.now) words.old words.new from to }
 {
-    for k in 0..count {
-        words[k] = words[k] & source.word(k);
-    }
-}
-
-// The same where the source is words themselves: without a test for their end.
-fn intersect_aligned(words: &mut [u64], others: &[u64], count: usize)
-    requires within { count ≤ length words.old }
-    requires others { count ≤ length others.now }
-    ensures len { length words.new ≡ length words.old }
-    ensures bits { (p : ℕ) → p < 64 * count → bit_of words.new p ≡ (bit_of words.old p && bit_of others.now p) }
-{
-    for k in 0..count {
-        words[k] = words[k] & others[k];
+    for k in from..to {
+        words[k] = operator.apply(words[k], source.word(k));
     }
 }
 
 impl MutableBitmap {
+    // `n` bits that are all `value`. The error is `Memory`.
+    #[inline]
+    fn filled(alloc: Global, value: bool, n: usize) -> Result<MutableBitmap, ComputeError>
+        ensures { MatchResult result (λ bits. bits ≡ replicate n value) IsMemory }
+    {
+        let words = vec![in alloc; filled_word(value); n.div_ceil(WORD_BITS)]?;
+        Ok(MutableBitmap { words, len: n })
+    }
+
     /// `n` bits that are all false. The error is `Memory`.
     pub fn from_len_zeroed(alloc: Global, n: usize) -> Result<MutableBitmap, ComputeError>
         ensures { MatchResult result (λ bits. bits ≡ replicate n false) IsMemory }
     {
-        let words = vec![in alloc; 0u64; n.div_ceil(WORD_BITS)]?;
-        Ok(MutableBitmap { words, len: n })
+        MutableBitmap::filled(alloc, false, n)
+    }
+
+    /// `n` bits that are all true. The error is `Memory`.
+    pub fn from_len_set(alloc: Global, n: usize) -> Result<MutableBitmap, ComputeError>
+        ensures { MatchResult result (λ bits. bits ≡ replicate n true) IsMemory }
+    {
+        MutableBitmap::filled(alloc, true, n)
     }
 
     /// How many bits there are.
@@ -107,29 +124,24 @@ impl MutableBitmap {
         count_window(self.words.as_slice(), 0, self.len)
     }
 
+    // Each bit becomes the operator's result with the source's.
+    fn assign<O: BinaryOperator, S: BitSource>(&mut self, operator: &O, source: &S)
+        ensures { self.new ≡ zip2 O.bit self.old (first_of (S.bit source.now) (length self.old)) }
+    {
+        let count = self.len.div_ceil(WORD_BITS);
+        let inner = source.inner_words().min(count);
+        let words = self.words.as_mut_slice();
+        merge_inner_words(words, operator, source, inner);
+        merge_words(words, operator, source, inner, count);
+    }
+
     /// Each bit becomes true where the other bitmap's is.
     pub fn or_assign(&mut self, other: &MutableBitmap)
         requires { length other.now ≡ length self.old }
         ensures { self.new ≡ zip2 ◌||◌ self.old other.now }
     {
-        let count = self.len.div_ceil(WORD_BITS);
-        union_words(self.words.as_mut_slice(), other.words.as_slice(), count);
-    }
-
-    /// `n` bits that are all true. The error is `Memory`.
-    pub fn from_len_set(alloc: Global, n: usize) -> Result<MutableBitmap, ComputeError>
-        ensures { MatchResult result (λ bits. bits ≡ replicate n true) IsMemory }
-    {
-        let words = vec![in alloc; filled_word(true); n.div_ceil(WORD_BITS)]?;
-        Ok(MutableBitmap { words, len: n })
-    }
-
-    // Each bit stays true where the source's is.
-    fn keep_common<S: BitSource>(&mut self, source: &S)
-        ensures { self.new ≡ zip2 ◌&&◌ self.old (first_of (S.bit source.now) (length self.old)) }
-    {
-        let count = self.len.div_ceil(WORD_BITS);
-        intersect_words(self.words.as_mut_slice(), source, count);
+        let words = other.words.as_slice();
+        self.assign(&Or, &Aligned { words });
     }
 
     /// Each bit stays true where the other bitmap's is.
@@ -139,10 +151,9 @@ impl MutableBitmap {
     {
         let (words, by) = other.packed();
         if by == 0 {
-            let count = self.len.div_ceil(WORD_BITS);
-            intersect_aligned(self.words.as_mut_slice(), words, count);
+            self.assign(&And, &Aligned { words });
         } else {
-            self.keep_common(&Shifted { words, by });
+            self.assign(&And, &Shifted { words, by });
         }
     }
 

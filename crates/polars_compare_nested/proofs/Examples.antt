@@ -9,7 +9,7 @@ use Rattle.polars_arrays_nested.specs.declared.list_offsets.ListOffsets.TheVaria
 use Rattle.polars_compare_nested.specs.Broadcasts.{all_rows}
 use Rattle.polars_compare_nested.specs.KindSorts.{is_dictionary, is_fixed_list, is_list, is_sized, is_struct}
 use Rattle.polars_compare_nested.specs.Leaf.{is_leaf}
-use Rattle.polars_compare_nested.specs.Runs.{all_items}
+use Rattle.polars_compare_nested.specs.Runs.{all_items, all_lists, span_between, start_of}
 use Rattle.polars_compare_nested.specs.Tally.{tally, tally_across, total_pairs}
 
 is_leaf-number : is_leaf Int8Kind ≡ true
@@ -85,12 +85,23 @@ tally-columns : tally_across (more_of-AnyArray three (more_of-AnyArray three end
 unfolding three
 tally-columns = refl
 
+-- of the offsets 4, 6 and 9: list 1 starts at item 6, and has three items
+start_of-second : start_of (Some 4 ∷ Some 6 ∷ Some 9 ∷ []) 1 ≡ 6
+start_of-second = refl
+
+span_between-second : span_between (Some 4 ∷ Some 6 ∷ Some 9 ∷ []) 1 ≡ 3
+span_between-second = refl
+
 -- of the bits of the items from item 4 on, those of list 1 (items 6 and 7) are not both set
 all_items-second : all_items (true ∷ true ∷ true ∷ false ∷ []) (Some 4 ∷ Some 6 ∷ Some 8 ∷ []) 4 1 ≡ false
 all_items-second = refl
 
 all_items-first : all_items (true ∷ true ∷ true ∷ false ∷ []) (Some 4 ∷ Some 6 ∷ Some 8 ∷ []) 4 0 ≡ true
 all_items-first = refl
+
+-- the same of both lists
+all_lists-two : all_lists (true ∷ true ∷ true ∷ false ∷ []) (Some 4 ∷ Some 6 ∷ Some 8 ∷ []) 4 0 2 ≡ true ∷ false ∷ []
+all_lists-two = refl
 
 -- a list is set against all rows of an array
 all_rows-numbers : all_rows three ≡ Rows (more_rows (Int (pos 1)) (more_rows (Int (pos 2)) (more_rows (Int (pos 3)) no_rows)))

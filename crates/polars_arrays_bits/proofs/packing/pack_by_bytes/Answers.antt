@@ -1,4 +1,4 @@
-use Rattle.std.proofs.Common.{◌≡◌, ◌+◌, ◌-◌, ◌*◌, ◌%◌, ◌/◌, arith, subst}
+use Rattle.std.proofs.Common.{◌≡◌, ◌+◌, ◌-◌, ◌*◌, ◌%◌, arith, subst}
 use Rattle.polars_arrays_bits.specs.Packing.{IsPacked}
 use Rattle.polars_arrays_bits.proofs.Puts.{packed-put}
 use Rattle.polars_arrays_bits.proofs.packing.pack_by_bytes.Goals as goal

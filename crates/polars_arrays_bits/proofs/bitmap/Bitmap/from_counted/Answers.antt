@@ -1,4 +1,4 @@
-use Rattle.std.proofs.Common.{◌≡◌, ◌∙◌, ◌*◌, ◌≤◌, List, Bool, ℕ, false, length, get_or, ap, arith}
+use Rattle.std.proofs.Common.{◌∙◌, List, Bool, ℕ, false, get_or, ap, arith}
 use Rattle.polars_arrays_bits.specs.Bits.{first_of}
 use Rattle.polars_arrays_bits.proofs.Firsts.{window-words}
 use Rattle.polars_arrays_bits.proofs.Packs.{first-elements}

@@ -1,0 +1,12 @@
+use Rattle.std.proofs.Common.{ap, ◌∙◌, arith}
+use Rattle.std.proofs.lemmas.List.{with_items_is}
+use Rattle.polars_arrays_bits.specs.Bits.{window}
+use Rattle.polars_arrays_bits.proofs.Merges.{window-merged}
+use Rattle.polars_arrays_bits.proofs.mutable_bitmap.MutableBitmap.assign.Goals as goal
+
+pub returns : goal.returns
+returns g c =
+    let n = c.self.inside.len in
+    ap (λ ws. window ws 0 n) (with_items_is c.self.inside.words c.merge_words.new.words (omega (arith, c.merge_words.ensures.count, c.merge_inner_words.ensures.count)))
+    ∙ window-merged _ _ c.as_mut_slice-words.result.now c.merge_inner_words.new.words c.merge_words.new.words c.min-inner.result c.div_ceil-count.result n c.args.self.now
+    (ap (λ ws. window ws 0 n) c.as_mut_slice-words.ensures.value ∙ c.self.view_is) c.merge_inner_words.ensures c.merge_words.ensures (omega (arith, c.div_ceil-count.ensures))
