@@ -99,6 +99,7 @@ impl DictKeys {
 
     /// Key `i` as a place among the entries, also where it is masked. A negative one, which only a masked
     /// row of an array may have, gives 0.
+    #[inline]
     #[tactic(auto, using(crate::proofs::Places::places_of))]
     pub fn key(&self, i: usize) -> usize
         requires { i < key_count self.now }

@@ -68,6 +68,7 @@ impl DictionaryArray {
     }
 
     /// The number of the entry that the key of a present row names.
+    #[inline]
     pub fn key_value(&self, i: usize) -> usize
         requires good { IsGood (Dictionary self.now) }
         requires within { i < key_count (dictionary_keys self.now) }

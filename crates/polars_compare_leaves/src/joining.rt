@@ -58,7 +58,7 @@ fn join_both(
 /// Raw bits of a comparison joined with the validities of both sides, where there are any, of which windows
 /// are lent: a row that is present on both keeps its bit, of the others those are equal that are null on both.
 /// The error is `Memory`.
-#[inline]
+#[inline(always)]
 pub fn join_masks(
     alloc: Global,
     relation: Relation,

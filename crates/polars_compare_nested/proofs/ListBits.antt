@@ -7,9 +7,9 @@ use Rattle.std.proofs.lemmas.List.FromFn.{length-map-range_with_len, get_or-map-
 use Rattle.polars_arrays_bytes.specs.OffsetStrings.{AreGood, places}
 use Rattle.polars_arrays_nested.specs.ListOffsets.{list_count, list_places, offset_at}
 use Rattle.polars_arrays_nested.specs.declared.list_offsets.ListOffsets.{ListOffsets}
-use Rattle.polars_compare_nested.specs.Runs.{AddsRun, AreWithin, all_items, all_lists, start_of}
+use Rattle.polars_compare_nested.specs.Runs.{AddsRun, AreSpans, AreWithin, all_items, all_lists, start_of}
 use Rattle.polars_compare_nested.proofs.OffsetPlaces.{length-places}
-use Rattle.polars_compare_nested.proofs.Offsets.{has_offset, list_part}
+use Rattle.polars_compare_nested.proofs.Offsets.{good_span, has_offset, list_part}
 
 -- there is a bit for each list
 pub length-lists : (items : List Bool) (all : List (Option ℕ)) (from a n : ℕ) → length (all_lists items all from a n) ≡ n
@@ -39,3 +39,8 @@ lists_within count items all offsets a n first good e low first_is count_is i wi
 pub lent_offset : {A : Type 0} (value : A → ℤ) (numbers : List A) (items : ℕ) (offsets : ListOffsets) (i : ℕ) → AreGood items (list_places offsets) → places value numbers ≡ list_places offsets → i ≤ list_count offsets → i < length numbers
 lent_offset value numbers items offsets i good e low =
     omega (arith, has_offset items offsets i good low, length-places value numbers, ap length e)
+
+-- each list lies between two places
+pub lists_lie : (items : ℕ) (all : List (Option ℕ)) (offsets : ListOffsets) (a n : ℕ) → AreGood items (list_places offsets) → all ≡ list_places offsets → a + n ≤ list_count offsets → AreSpans all a n
+lists_lie items all offsets a n good e low i within =
+    rw e (good_span items (list_places offsets) (a + i) good (omega (arith, low, within)))

@@ -1,10 +1,11 @@
 -- Where good lists lie among their items.
-use Rattle.std.proofs.Common.{◌≡◌, ◌≤◌, ◌<◌, ◌+◌, ◌-◌, ℕ, zero, suc, List, [], ◌∷◌, length, sym, subst, arith, add-zero}
+use Rattle.std.proofs.Common.{◌≡◌, ◌≤◌, ◌<◌, ◌+◌, ◌-◌, ℕ, zero, suc, List, [], ◌∷◌, ◌≢◌, length, sym, subst, arith, add-zero}
 use Rattle.std.specs.Prelude.{Option, Some, None}
 use Rattle.polars_arrays_bytes.specs.OffsetStrings.{AreGood, Bounds, IsWithin, place_at, row_count}
 use Rattle.polars_arrays_nested.specs.ListOffsets.{list_count, list_places, offset_at, span}
 use Rattle.polars_arrays_nested.specs.Places.{place_or_zero}
 use Rattle.polars_arrays_nested.specs.declared.list_offsets.ListOffsets.{ListOffsets}
+use Rattle.polars_compare_nested.specs.Runs.{IsSpan}
 
 rises : (n : ℕ) (from to : Option ℕ) → Bounds n from to → place_or_zero from ≤ place_or_zero to
 rises n (Some from) (Some to) bounds = bounds.0
@@ -59,3 +60,23 @@ list_part items offsets a n k good within low =
     let rest = offset_rise items offsets (a + k + 1) (n - (k + 1)) good (omega (arith, within, low)) in
     let last : a + k + 1 + (n - (k + 1)) ≡ a + n = omega (arith, low) in
     omega (arith, start, step, rw last at rest)
+
+known_from : (n : ℕ) (from to : Option ℕ) → Bounds n from to → from ≢ None
+known_from n (Some from) (Some to) bounds = λ e. cc
+known_from n None (Some to) bounds = absurd bounds
+known_from n (Some from) None bounds = absurd bounds
+known_from n None None bounds = absurd bounds
+
+known_to : (n : ℕ) (from to : Option ℕ) → Bounds n from to → to ≢ None
+known_to n (Some from) (Some to) bounds = λ e. cc
+known_to n None (Some to) bounds = absurd bounds
+known_to n (Some from) None bounds = absurd bounds
+known_to n None None bounds = absurd bounds
+
+-- a list of good offsets lies between two places
+pub good_span : (n : ℕ) (all : List (Option ℕ)) (i : ℕ) → AreGood n all → i < row_count all → IsSpan all i
+good_span n all i good within =
+    let from = place_at all i in
+    let to = place_at all (i + 1) in
+    let bounds = good.rows i within in
+    (known_from n from to bounds, known_to n from to bounds, rises n from to bounds)

@@ -1,5 +1,5 @@
 -- Runs of lists whose items are adjacent on both sides.
-use Rattle.std.specs.Prelude.{◌≡◌, ◌+◌, ◌-◌, ◌≤◌, ◌<◌, ℕ, Bool, false, ◌&&◌, ◌||◌, eqb, IsTrue, List, Option, length, slice_index_or}
+use Rattle.std.specs.Prelude.{◌≡◌, ◌≢◌, ◌+◌, ◌-◌, ◌≤◌, ◌<◌, ℕ, Bool, false, ◌&&◌, ◌||◌, eqb, IsTrue, List, Option, None, length, slice_index_or}
 use Rattle.std.specs.List.{list_all}
 use Rattle.polars_arrays_bits.specs.Bits.{first_of}
 use Rattle.polars_arrays_bytes.specs.OffsetStrings.{place_at}
@@ -20,6 +20,14 @@ start_of all i = place_or_zero (place_at all i)
 -- how many items lie between places i and i + 1
 abbrev pub span_between : List (Option ℕ) → ℕ → ℕ
 span_between all i = start_of all (i + 1) - start_of all i
+
+-- list i lies between two places, of which the second is no lower
+abbrev pub IsSpan : List (Option ℕ) → ℕ → Type 0
+IsSpan all i = (place_at all i ≢ None) × (place_at all (i + 1) ≢ None) × (start_of all i ≤ start_of all (i + 1))
+
+-- the same of each of n lists from list a on
+abbrev pub AreSpans : List (Option ℕ) → ℕ → ℕ → Type 0
+AreSpans all a n = (i : ℕ) → i < n → IsSpan all (a + i)
 
 -- whether list i of the one and list j of the other have as many items, and are both present or have none
 abbrev pub is_match : ListArray → ℕ → ListArray → ℕ → Bool

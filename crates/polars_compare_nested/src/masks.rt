@@ -18,7 +18,7 @@ use std::alloc::Global;
 
 // The validity of `n` rows from row `at` on, lent. No other place says which rows of a window are masked.
 #[tactic(auto, using(crate::proofs::WindowBits::window_bits))]
-#[inline]
+#[inline(always)]
 fn missing_mask(array: &AnyArray, at: usize, n: usize) -> Option<BitMask<'_>>
     requires good { IsGood array.now }
     requires within { at + n ≤ len_of array.now }
@@ -33,7 +33,7 @@ fn missing_mask(array: &AnyArray, at: usize, n: usize) -> Option<BitMask<'_>>
 
 /// The raw bits of two windows joined with their validities, in which two null rows are equal and one alone
 /// is not. The error is `Memory`.
-#[inline]
+#[inline(always)]
 pub(crate) fn join_windows(
     alloc: Global,
     raw: Bitmap,

@@ -2,14 +2,14 @@
 //! set.
 
 ghost use Rattle.std.specs.Prelude.{◌≡◌, ◌+◌, ◌-◌, ◌^◌, ◌<◌, ◌≤◌, false, length};
-ghost use Rattle.polars_arrays_bytes.specs.OffsetStrings.{place_at, places};
+ghost use Rattle.polars_arrays_bytes.specs.OffsetStrings.{place_at, places, row_count};
 ghost use Rattle.polars_arrays_nested.specs.GoodParts.{IsGood};
 ghost use Rattle.polars_arrays_nested.specs.Lengths.{len_of};
 ghost use Rattle.polars_arrays_nested.specs.ListOffsets.{list_places, offset_at};
 ghost use Rattle.polars_arrays_nested.specs.Parts.{list_offsets};
 ghost use Rattle.polars_arrays_nested.specs.Places.{place_or_zero};
 ghost use Rattle.polars_arrays_nested.specs.declared.any_array.AnyArray.{List};
-ghost use Rattle.polars_compare_nested.specs.Runs.{AddsRun, AreWithin, Match, all_lists, is_match, span_between};
+ghost use Rattle.polars_compare_nested.specs.Runs.{AddsRun, AreSpans, AreWithin, IsSpan, Match, all_lists, is_match, span_between, start_of};
 
 use crate::runs::has_row;
 use polars_arrays_bits::bit_mask::BitMask;
@@ -29,15 +29,16 @@ fn place_of<O: Offset>(offsets: &[O], i: usize) -> usize
     offsets[i].to_place().unwrap_or(0)
 }
 
-// How many items lie between offsets `i` and `i + 1`.
+// Where list `i` begins among the items, and how many it has.
 #[inline(always)]
-fn span_at<O: Offset>(offsets: &[O], i: usize) -> usize
-    requires { i + 1 < length offsets.now }
-    ensures { result ≡ span_between (places O.value offsets.now) i }
+fn list_at<O: Offset>(offsets: &[O], i: usize) -> (usize, usize)
+    requires within { i < row_count offsets.now }
+    requires good { IsSpan (places O.value offsets.now) i }
+    ensures start { result.0 ≡ start_of (places O.value offsets.now) i }
+    ensures count { result.1 ≡ span_between (places O.value offsets.now) i }
 {
-    // No effect at run time. The proof reads from it that `i + 1` is a number of 64 bits.
-    let _len = offsets.len();
-    place_of(offsets, i + 1).saturating_sub(place_of(offsets, i))
+    let (from, to) = (offsets[i].place(), offsets[i + 1].place());
+    (from, to - from)
 }
 
 // Whether two lists have as many items, and are both present or have none, where the offsets of both arrays
@@ -59,8 +60,9 @@ fn rows_match<L: Offset, R: Offset>(
     requires right_in { j < len_of (List right.now) }
     ensures { result ≡ is_match left.now i right.now j }
 {
-    let count = span_at(these, i);
-    count == span_at(those, j) && (count == 0 || has_row(left, i) && has_row(right, j))
+    let (_, count) = list_at(these, i);
+    let (_, other) = list_at(those, j);
+    count == other && (count == 0 || has_row(left, i) && has_row(right, j))
 }
 
 /// How many of the first `n` lists match, one after another, where the offsets of both arrays are lent.
@@ -104,6 +106,7 @@ struct ListBits<'m, 'a, O: Offset> {
     rows: usize,
     ghost within: { AreWithin (length items.now) (places O.value offsets.now) first a rows },
     ghost has_offsets: { a + rows < length offsets.now },
+    ghost good: { AreSpans (places O.value offsets.now) a rows },
     ghost fits: { a + rows < 2 ^ 64 },
 }
 
@@ -117,8 +120,8 @@ impl<O: Offset> TruthValues for ListBits<'_, '_, O> {
 
     #[inline(always)]
     fn value(&self, i: usize) -> bool {
-        let place = place_of(self.offsets, self.a + i).saturating_sub(self.first);
-        self.items.all_set(place, span_at(self.offsets, self.a + i))
+        let (place, count) = list_at(self.offsets, self.a + i);
+        self.items.all_set(place.saturating_sub(self.first), count)
     }
 
     // A list lies in two words.

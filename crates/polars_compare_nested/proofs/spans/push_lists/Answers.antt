@@ -2,7 +2,7 @@ use Rattle.std.proofs.Common.{arith, refl}
 use Rattle.polars_arrays_bytes.specs.OffsetStrings.{places}
 use Rattle.polars_arrays_nested.specs.ListOffsets.{list_places}
 use Rattle.polars_arrays_nested.specs.Parts.{list_offsets}
-use Rattle.polars_compare_nested.proofs.ListBits.{adds_lists, length-lists, lent_offset, lists_within}
+use Rattle.polars_compare_nested.proofs.ListBits.{adds_lists, length-lists, lent_offset, lists_lie, lists_within}
 use Rattle.polars_compare_nested.proofs.spans.push_lists.Goals as goal
 
 pub invariant_of-extend_values-clause-within : goal.invariant_of-extend_values-clause-within
@@ -13,6 +13,10 @@ invariant_of-extend_values-clause-within g c =
 pub invariant_of-extend_values-clause-has_offsets : goal.invariant_of-extend_values-clause-has_offsets
 invariant_of-extend_values-clause-has_offsets g c =
     lent_offset g.O.Number.value c.args.offsets.now _ (list_offsets c.args.array.now) _ c.requires.good.0.good c.requires.offsets c.requires.within
+
+pub invariant_of-extend_values-clause-good : goal.invariant_of-extend_values-clause-good
+invariant_of-extend_values-clause-good g c =
+    lists_lie _ (places g.O.Number.value c.args.offsets.now) (list_offsets c.args.array.now) c.args.a c.args.rows c.requires.good.0.good c.requires.offsets c.requires.within
 
 pub extend_values-requires : goal.extend_values-requires
 extend_values-requires g c =

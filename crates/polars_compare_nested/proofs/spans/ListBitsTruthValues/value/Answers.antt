@@ -8,32 +8,27 @@ overflow_add-self g c =
     let l = c.args.self.now in
     record { fits = omega (arith, c.requires, l.fits, length-lists l.items.now (places g.O.Number.value l.offsets.now) l.first l.a l.rows) }
 
-pub place_of-requires-after_bounds : goal.place_of-requires-after_bounds
-place_of-requires-after_bounds g c κs within =
+pub list_at-place-requires-clause-within : goal.list_at-place-requires-clause-within
+list_at-place-requires-clause-within g c =
     let l = c.args.self.now in
     omega (arith, c.requires, l.has_offsets, length-lists l.items.now (places g.O.Number.value l.offsets.now) l.first l.a l.rows)
 
-pub overflow_add-self-2 : goal.overflow_add-self-2
-overflow_add-self-2 g c =
+pub list_at-place-requires-clause-good : goal.list_at-place-requires-clause-good
+list_at-place-requires-clause-good g c κs within =
     let l = c.args.self.now in
-    record { fits = omega (arith, c.requires, l.fits, length-lists l.items.now (places g.O.Number.value l.offsets.now) l.first l.a l.rows) }
-
-pub span_at-requires-after_bounds : goal.span_at-requires-after_bounds
-span_at-requires-after_bounds g c κs within =
-    let l = c.args.self.now in
-    omega (arith, c.requires, l.has_offsets, length-lists l.items.now (places g.O.Number.value l.offsets.now) l.first l.a l.rows)
+    l.good c.args.i (omega (arith, c.requires, length-lists l.items.now (places g.O.Number.value l.offsets.now) l.first l.a l.rows))
 
 pub all_set-requires : goal.all_set-requires
 all_set-requires g c =
     let l = c.args.self.now in
     let below : c.args.i < l.rows = omega (arith, c.requires, length-lists l.items.now (places g.O.Number.value l.offsets.now) l.first l.a l.rows) in
-    let place = rw c.place_of.ensures at c.saturating_sub-place.ensures in
-    rw (place, c.span_at.ensures) (l.within c.args.i below)
+    let place = rw c.list_at-place.ensures.start at c.saturating_sub.ensures in
+    rw (place, c.list_at-place.ensures.count) (l.within c.args.i below)
 
 pub returns : goal.returns
 returns g c =
     let l = c.args.self.now in
     let below : c.args.i < l.rows = omega (arith, c.requires, length-lists l.items.now (places g.O.Number.value l.offsets.now) l.first l.a l.rows) in
-    let place = rw c.place_of.ensures at c.saturating_sub-place.ensures in
-    let set = rw (place, c.span_at.ensures) at c.all_set.ensures in
+    let place = rw c.list_at-place.ensures.start at c.saturating_sub.ensures in
+    let set = rw (place, c.list_at-place.ensures.count) at c.all_set.ensures in
     set ∙ sym (get_or-lists l.items.now (places g.O.Number.value l.offsets.now) l.first l.a l.rows c.args.i below)
