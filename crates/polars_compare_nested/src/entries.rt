@@ -1,14 +1,12 @@
 //! The entries that rows of two dictionaries name.
 
-ghost use Rattle.std.specs.Prelude.{◌≡◌, ◌<◌};
-ghost use Rattle.polars_arrays_flat.specs.Validity.{is_present};
-ghost use Rattle.polars_arrays_nested.specs.DictKeys.{key_validity};
+ghost use Rattle.std.specs.Prelude.{◌<◌};
 ghost use Rattle.polars_arrays_nested.specs.GoodParts.{IsGood};
 ghost use Rattle.polars_arrays_nested.specs.Lengths.{len_of};
-ghost use Rattle.polars_arrays_nested.specs.Parts.{dictionary_keys};
 ghost use Rattle.polars_arrays_nested.specs.declared.any_array.AnyArray.{Dictionary};
 ghost use Rattle.polars_compare_nested.specs.Entries.{AreRowEntries};
 
+use crate::masks::has_row;
 use polars_arrays_nested::dictionary::DictionaryArray;
 
 /// The numbers of two entries, one of each dictionary.
@@ -16,16 +14,6 @@ use polars_arrays_nested::dictionary::DictionaryArray;
 pub(crate) struct EntryPair {
     pub(crate) left: usize,
     pub(crate) right: usize,
-}
-
-// Whether row `i` is present.
-#[inline]
-fn has_row(array: &DictionaryArray, i: usize) -> bool
-    requires good { IsGood (Dictionary array.now) }
-    requires within { i < len_of (Dictionary array.now) }
-    ensures { result ≡ is_present (key_validity (dictionary_keys array.now)) i }
-{
-    array.keys().validity().is_none_or(|bits| bits.get_bit(i))
 }
 
 /// The entries of row `i` of the one and row `j` of the other, or None where one of the rows is masked.
@@ -42,7 +30,7 @@ pub(crate) fn row_entries(
     requires right_in { j < len_of (Dictionary right.now) }
     ensures { AreRowEntries left.now i right.now j result }
 {
-    if has_row(left, i) && has_row(right, j) {
+    if has_row(left.keys().validity(), i) && has_row(right.keys().validity(), j) {
         Some(EntryPair {
             left: left.key_value(i),
             right: right.key_value(j),

@@ -1,9 +1,10 @@
 //! The validities of two windows, joined with the raw bits of a comparison of them.
 
-ghost use Rattle.std.specs.Prelude.{◌≡◌, ◌+◌, ◌≤◌, Bool, MatchResult, length};
+ghost use Rattle.std.specs.Prelude.{◌≡◌, ◌+◌, ◌<◌, ◌≤◌, Bool, IfSome, MatchResult, length};
+ghost use Rattle.std.specs.Option.{option_copied};
 ghost use Rattle.polars_arrays_bits.specs.Errors.{IsMemory};
 ghost use Rattle.polars_arrays_flat.specs.Row.{Row};
-ghost use Rattle.polars_arrays_flat.specs.Validity.{HasBits, validity_window};
+ghost use Rattle.polars_arrays_flat.specs.Validity.{HasBits, is_present, validity_window};
 ghost use Rattle.polars_arrays_nested.specs.GoodParts.{IsGood};
 ghost use Rattle.polars_arrays_nested.specs.Lengths.{len_of, validity_of};
 ghost use Rattle.polars_arrays_nested.specs.Types.{type_of};
@@ -15,6 +16,15 @@ use polars_arrays_bits::error::ComputeError;
 use polars_arrays_nested::any_array::AnyArray;
 use polars_compare_leaves::joining::{Relation, join_masks};
 use std::alloc::Global;
+
+/// Whether row `i` is present, where the validity has a bit for it.
+#[inline]
+pub(crate) fn has_row(validity: Option<&Bitmap>, i: usize) -> bool
+    requires { IfSome (option_copied validity) (λ bits. i < length bits) }
+    ensures { result ≡ is_present (option_copied validity.entry) i }
+{
+    validity.is_none_or(|bits| bits.get_bit(i))
+}
 
 // The validity of `n` rows from row `at` on, lent. No other place says which rows of a window are masked.
 #[tactic(auto, using(crate::proofs::WindowBits::window_bits))]

@@ -1,18 +1,16 @@
 //! Runs of lists whose items are adjacent on both sides, so that one comparison serves them all.
 
 ghost use Rattle.std.specs.Prelude.{◌≡◌, ◌+◌, ◌-◌, ◌<◌, ◌≤◌, false, length, IfOk};
-ghost use Rattle.polars_arrays_flat.specs.Validity.{is_present};
 ghost use Rattle.polars_arrays_nested.specs.GoodParts.{IsGood};
 ghost use Rattle.polars_arrays_nested.specs.Lengths.{len_of};
 ghost use Rattle.polars_arrays_nested.specs.ListOffsets.{list_places, offset_at, span};
-ghost use Rattle.polars_arrays_nested.specs.Parts.{list_offsets, list_validity};
+ghost use Rattle.polars_arrays_nested.specs.Parts.{list_offsets};
 ghost use Rattle.polars_arrays_nested.specs.declared.any_array.AnyArray.{List};
 ghost use Rattle.polars_compare_nested.specs.Runs.{AddsRun, AreNext, Match, is_match};
 
 use crate::spans::{matching_rows, push_lists};
 use polars_arrays_bits::bitmap::Bitmap;
 use polars_arrays_bits::builder::BitmapBuilder;
-use polars_arrays_flat::array::Array;
 use polars_arrays_nested::list::ListArray;
 use polars_arrays_nested::list_offsets::ListOffsets;
 
@@ -36,16 +34,6 @@ pub(crate) enum NextRows {
     Apart,
     /// The first lists match.
     Run(ItemRun),
-}
-
-/// Whether row `i` is present.
-#[inline]
-pub(crate) fn has_row(array: &ListArray, i: usize) -> bool
-    requires good { IsGood (List array.now) }
-    requires within { i < len_of (List array.now) }
-    ensures { result ≡ is_present (list_validity array.now) i }
-{
-    array.validity().is_none_or(|bits| bits.get_bit(i))
 }
 
 /// How many items list `i` has.
