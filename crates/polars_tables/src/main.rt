@@ -1,27 +1,12 @@
 //! Reads lines such as `eq_missing i32 1 null | 1 null`, and answers each with a line.
 #![tactic(auto)]
 
-use crate::arguments::command;
-use crate::program::{Command, exit_status, fault_text};
-use crate::running::{RunError, run};
+use polars_tables_lines::arguments::command;
+use polars_tables_lines::program::{Command, exit_status, fault_text};
+use polars_tables_lines::running::{RunError, run};
 use std::process::ExitCode;
 use std::rt::Env;
 use std::{env, io};
-
-mod answers;
-pub mod arguments;
-mod comparing;
-pub mod line;
-mod operation;
-pub mod program;
-mod row_array;
-mod row_number;
-mod row_type;
-pub mod running;
-mod sum;
-#[cfg(test)]
-mod tests;
-mod words;
 
 /// The words after the program's name.
 fn read_arguments<R: Env + AllocGlobal>(rt: &R) -> io::Result<Vec<String>> {

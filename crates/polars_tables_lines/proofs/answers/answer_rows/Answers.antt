@@ -1,0 +1,18 @@
+use Rattle.std.proofs.Common.{◌∙◌, ap, sym, inr}
+use Rattle.polars_tables_lines.specs.Line.{answer_words}
+use Rattle.polars_tables_lines.proofs.Shapes.{rows_answer-text, rows_answer-length}
+use Rattle.polars_tables_lines.proofs.Shown.{answers-are}
+use Rattle.polars_tables_lines.proofs.answers.answer_rows.Goals as goal
+
+pub returns-then-left_count-right_count-clause-fault : goal.returns-then-left_count-right_count-clause-fault
+returns-then-left_count-right_count-clause-fault g c =
+    inr (rows_answer-length c.args.comparison _ _ (λ e. c.if-left_count-right_count.true (c.count_rows-left_count.ensures.rows ∙ e ∙ sym c.count_rows-right_count.ensures.rows)))
+
+pub returns-clause-text : goal.returns-clause-text
+returns-clause-text g c =
+    let law = g.met.A.RowArray in
+    let same = sym c.count_rows-left_count.ensures.rows ∙ c.if-left_count-right_count.false ∙ c.count_rows-right_count.ensures.rows in
+    let stored = sym c.count_rows-left_count.ensures.slots ∙ c.if-left_count-right_count.false ∙ c.count_rows-right_count.ensures.slots in
+    let written = rw (c.null_mask-left_mask.ensures, c.null_mask-right_mask.ensures, c.validity-left_mask.ensures.mask, c.validity-right_mask.ensures.mask) at c.in_ok-write_answers.ensures in
+    rows_answer-text c.args.comparison _ _ _ same
+    (written ∙ ap answer_words (answers-are g.A.RowArray.value_row law.values_law c.args.comparison _ _ _ _ _ c.validity-left_mask.ensures.bits c.validity-right_mask.ensures.bits (law.stored_law c.args.left.now) (law.stored_law c.args.right.now) (sym stored) c.in_ok-bits.ensures))

@@ -1,0 +1,23 @@
+-- What the program is asked to do, and how it ends.
+use Rattle.std.specs.Prelude.{ℕ, ◌==◌, if◌then◌else◌, List, [], ◌∷◌, codes, Result, Ok, Err}
+use Rattle.polars_tables_lines.specs.declared.program.Command.{Command}
+use Rattle.polars_tables_lines.specs.declared.program.Command.TheVariants.{Lines, Usage}
+use Rattle.polars_tables_lines.specs.declared.running.Report.{Report}
+use Rattle.polars_tables_lines.specs.declared.running.RunError.{RunError}
+use Rattle.polars_tables_lines.specs.declared.running.RunError.TheVariants.{Read, Write, Memory}
+
+-- without words the lines of standard input are answered, and with any the usage line is printed
+abbrev pub command_of : {A : Type 0} → List A → Command
+command_of [] = Lines
+command_of (word ∷ more) = Usage
+
+-- a run ends well where no line was refused
+abbrev pub exit_status_of : Result Report RunError → ℕ
+exit_status_of (Ok report) = if report.refused == 0 then 0 else 1
+exit_status_of (Err fault) = 1
+
+-- the words for a run that stopped
+abbrev pub fault_text_of : RunError → List ℕ
+fault_text_of Read = codes "read failed"
+fault_text_of Write = codes "write failed"
+fault_text_of Memory = codes "out of memory"

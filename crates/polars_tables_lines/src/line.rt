@@ -1,0 +1,169 @@
+//! A line of the language, and its answer.
+
+ghost use Rattle.std.specs.Prelude.{◌≡◌, map, IfOk, IfErr, Err, Ok};
+ghost use Rattle.std.specs.String.{string_bytes};
+ghost use Rattle.polars_tables_lines.specs.declared.line.LineError.TheVariants.{Memory, Row as RowError};
+ghost use Rattle.polars_tables_lines.specs.declared.operation.Operation.TheVariants.{Compare};
+ghost use Rattle.polars_tables_lines.specs.declared.row_type.RowType.TheVariants.{I32};
+ghost use Rattle.polars_tables_lines.specs.Faults.{UnlessMemory, or_fault};
+ghost use Rattle.polars_tables_lines.specs.Line.{answer_of, rows_meaning, typed_meaning, words_meaning, line_meaning};
+ghost use Rattle.polars_tables_lines.specs.Word.{lists_of};
+
+use crate::answers::{answer_comparison, answer_sum};
+use crate::operation::{Comparison, Operand, Operation};
+use crate::row_array::RowArray;
+use crate::row_type::RowType;
+use crate::words::{parse_lists, split_words};
+use polars_arrays_bits::error::ComputeError;
+use polars_arrays_flat::boolean::BooleanArray;
+use polars_arrays_flat::primitive::PrimitiveArray;
+use std::alloc::{AllocError, AllocFailed, Global};
+use thiserror::Error;
+
+/// Why a line is refused. Where several reasons hold, it is the first of them in this order.
+#[derive(Debug, Drop, PartialEq, Eq, Error)]
+pub enum LineError {
+    /// There is no word, or the first one names no operation.
+    #[error("op")]
+    Op,
+    /// There is no second word, or it names no type that the operation has.
+    #[error("type")]
+    TypeName,
+    /// A later word is neither a bar nor a row of the type.
+    #[error("row")]
+    Row,
+    /// There are not as many lists as the operation takes, or they are not equally long.
+    #[error("length")]
+    Length,
+    /// A scalar is null.
+    #[error("range")]
+    Range,
+    /// A growth was refused. This may come before a later fault is known.
+    #[error("memory")]
+    Memory,
+}
+
+impl From<AllocError> for LineError {
+    ghost from_gives = { λ _ e. e ≡ Memory };
+
+    fn from(_error: AllocError) -> LineError {
+        LineError::Memory
+    }
+}
+
+impl<T: Drop> From<AllocFailed<T>> for LineError {
+    ghost from_gives = { λ _ e. e ≡ Memory };
+
+    fn from(_error: AllocFailed<T>) -> LineError {
+        LineError::Memory
+    }
+}
+
+// The kernels that are called fail only where a growth is refused.
+impl From<ComputeError> for LineError {
+    ghost from_gives = { λ _ e. e ≡ Memory };
+
+    fn from(_error: ComputeError) -> LineError {
+        LineError::Memory
+    }
+}
+
+/// What a comparison answers to rows of one kind of array and bars.
+fn compare_words<A: RowArray>(
+    alloc: Global,
+    comparison: Comparison,
+    operand: Operand,
+    words: &[&str],
+) -> Result<String, LineError>
+    ensures text { IfOk result (λ text. or_fault (lists_of A.kind (map (λ w. w.now) words.now)) RowError
+        (answer_of (Compare comparison operand)) ≡ Ok (string_bytes text)) }
+    ensures fault { IfErr result (λ e. UnlessMemory e (or_fault (lists_of A.kind (map (λ w. w.now) words.now)) RowError
+        (answer_of (Compare comparison operand)) ≡ Err e)) }
+{
+    let lists = parse_lists::<A>(alloc, words)?;
+    answer_comparison(alloc, comparison, operand, &lists)
+}
+
+/// What a comparison answers to rows of a type and bars.
+fn compare_typed(
+    alloc: Global,
+    comparison: Comparison,
+    operand: Operand,
+    row_type: RowType,
+    words: &[&str],
+) -> Result<String, LineError>
+    ensures text { IfOk result (λ text. rows_meaning (Compare comparison operand) row_type (map (λ w. w.now) words.now)
+        ≡ Ok (string_bytes text)) }
+    ensures fault { IfErr result (λ e. UnlessMemory e
+        (rows_meaning (Compare comparison operand) row_type (map (λ w. w.now) words.now) ≡ Err e)) }
+{
+    match row_type {
+        RowType::I8 => compare_words::<PrimitiveArray<i8>>(alloc, comparison, operand, words),
+        RowType::I16 => compare_words::<PrimitiveArray<i16>>(alloc, comparison, operand, words),
+        RowType::I32 => compare_words::<PrimitiveArray<i32>>(alloc, comparison, operand, words),
+        RowType::I64 => compare_words::<PrimitiveArray<i64>>(alloc, comparison, operand, words),
+        RowType::U8 => compare_words::<PrimitiveArray<u8>>(alloc, comparison, operand, words),
+        RowType::U16 => compare_words::<PrimitiveArray<u16>>(alloc, comparison, operand, words),
+        RowType::U32 => compare_words::<PrimitiveArray<u32>>(alloc, comparison, operand, words),
+        RowType::U64 => compare_words::<PrimitiveArray<u64>>(alloc, comparison, operand, words),
+        RowType::Boolean => compare_words::<BooleanArray>(alloc, comparison, operand, words),
+    }
+}
+
+/// What a sum answers to rows of a type and bars.
+fn sum_typed(alloc: Global, row_type: RowType, words: &[&str]) -> Result<String, LineError>
+    ensures text { IfOk result (λ text. rows_meaning Operation.Sum row_type (map (λ w. w.now) words.now) ≡ Ok (string_bytes text)) }
+    ensures fault { IfErr result (λ e. UnlessMemory e (rows_meaning Operation.Sum row_type (map (λ w. w.now) words.now) ≡ Err e)) }
+{
+    match row_type {
+        RowType::I32 => {
+            let lists = parse_lists::<PrimitiveArray<i32>>(alloc, words)?;
+            answer_sum(alloc, &lists)
+        }
+        _ => Err(LineError::TypeName),
+    }
+}
+
+/// What an operation answers to the words behind its name: its type, and then rows and bars.
+fn answer_typed(alloc: Global, operation: Operation, words: &[&str]) -> Result<String, LineError>
+    ensures text { IfOk result (λ text. typed_meaning operation (map (λ w. w.now) words.now) ≡ Ok (string_bytes text)) }
+    ensures fault { IfErr result (λ e. UnlessMemory e
+        (typed_meaning operation (map (λ w. w.now) words.now) ≡ Err e)) }
+{
+    let Some((name, words)) = words.split_first() else {
+        return Err(LineError::TypeName);
+    };
+    let Some(row_type) = RowType::from_name(name) else {
+        return Err(LineError::TypeName);
+    };
+    match operation {
+        Operation::Compare(comparison, operand) => {
+            compare_typed(alloc, comparison, operand, row_type, words)
+        }
+        Operation::Sum => sum_typed(alloc, row_type, words),
+    }
+}
+
+/// What the words of a line answer.
+fn answer_words(alloc: Global, words: &[&str]) -> Result<String, LineError>
+    ensures text { IfOk result (λ text. words_meaning (map (λ w. w.now) words.now) ≡ Ok (string_bytes text)) }
+    ensures fault { IfErr result (λ e. UnlessMemory e (words_meaning (map (λ w. w.now) words.now) ≡ Err e)) }
+{
+    let Some((name, words)) = words.split_first() else {
+        return Err(LineError::Op);
+    };
+    let Some(operation) = Operation::from_name(name) else {
+        return Err(LineError::Op);
+    };
+    answer_typed(alloc, operation, words)
+}
+
+/// Answers a line: the text of its answer, without a line feed, or the first fault that it has.
+/// `LineError::Memory` stands for a refused growth alone.
+pub fn answer_line(alloc: Global, line: &str) -> Result<String, LineError>
+    ensures text { IfOk result (λ text. line_meaning line.now ≡ Ok (string_bytes text)) }
+    ensures fault { IfErr result (λ e. UnlessMemory e (line_meaning line.now ≡ Err e)) }
+{
+    let words = split_words(alloc, line)?;
+    answer_words(alloc, &words)
+}

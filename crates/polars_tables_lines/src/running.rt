@@ -1,0 +1,250 @@
+//! The program's run: reads an input, answers each of its lines, and writes the answers.
+
+ghost use Rattle.std.specs.Prelude.{◌≡◌, ◌⊎◌, ◌++◌, ◌∷◌, [], length, vec_len, ◌<◌, ◌==◌, ◌+◌, ◌^◌, IfOk, IfErr, IfSome, OnOk, Ok, Err};
+ghost use Rattle.std.specs.List.{position};
+ghost use Rattle.std.specs.String.{string_bytes};
+ghost use Rattle.std.specs.Io.KnownBytes.{Appends, Keeps};
+ghost use Rattle.polars_tables_lines.specs.Faults.{UnlessMemory};
+ghost use Rattle.polars_tables_lines.specs.Output.{fault_word, meaning_of, refusal, lines_of, output_of, Reports};
+ghost use Rattle.polars_tables_lines.specs.Answers.{AddsLine};
+ghost use Rattle.polars_tables_lines.specs.Reading.{ReadsOn};
+ghost use Rattle.polars_tables_lines.specs.declared.running.RunError.TheVariants.{Memory};
+
+use crate::line::{LineError, answer_line};
+use std::alloc::{AllocError, AllocFailed, Global};
+use std::io::{ErrorKind, Read, Write};
+use thiserror::Error;
+
+/// How many lines an input had, and how many of them were refused.
+#[derive(Clone, Copy, Debug, PartialEq, Eq)]
+pub struct Report {
+    pub lines: u64,
+    pub refused: u64,
+}
+
+/// Why a run stopped.
+#[derive(Debug, Drop, PartialEq, Eq, Error)]
+pub enum RunError {
+    /// A read failed, or the input did not end within 2^32 reads. Nothing was written.
+    #[error("read failed")]
+    Read,
+    /// A write failed. A beginning of the answers may have been written.
+    #[error("write failed")]
+    Write,
+    /// A growth was refused. Nothing was written.
+    #[error("out of memory")]
+    Memory,
+}
+
+impl From<AllocError> for RunError {
+    ghost from_gives = { λ _ e. e ≡ Memory };
+
+    fn from(_error: AllocError) -> RunError {
+        RunError::Memory
+    }
+}
+
+/// How many reads a run makes at the most.
+const READS: u64 = 1 << 32;
+
+/// How many bytes a read asks for.
+const CHUNK: usize = 1 << 16;
+
+/// Room for the bytes of one read.
+fn make_chunk(alloc: Global) -> Result<Vec<u8>, AllocError>
+    ensures { IfOk result (λ chunk. 0 < vec_len chunk) }
+{
+    vec![in alloc; 0u8; CHUNK]
+}
+
+/// Reads once, and adds what came to the input. True where the reader was at its end.
+fn read_once<R: Read>(
+    reader: &mut R,
+    chunk: &mut Vec<u8>,
+    input: &mut Vec<u8>,
+) -> Result<bool, RunError>
+    requires { 0 < vec_len chunk.old }
+    ensures room { vec_len chunk.new ≡ vec_len chunk.old }
+    ensures bytes { IfOk result (λ ended. ReadsOn (R.remaining reader.old) (R.remaining reader.new) input.old.items input.new.items ended) }
+    ensures fault { IfErr result (λ e. (e ≡ RunError.Read) ⊎ (e ≡ RunError.Memory)) }
+{
+    match reader.read(chunk.as_mut_slice()) {
+        Ok(0) => Ok(true),
+        Ok(n) => {
+            input.extend_from_slice(&chunk[..n])?;
+            Ok(false)
+        }
+        Err(error) => {
+            if error.kind() == ErrorKind::Interrupted {
+                Ok(false)
+            } else {
+                Err(RunError::Read)
+            }
+        }
+    }
+}
+
+/// All bytes of a reader, up to its end.
+fn read_input<R: Read>(alloc: Global, reader: &mut R) -> Result<Vec<u8>, RunError>
+    ensures bytes { IfOk result (λ input. IfSome (R.remaining reader.old) (λ bytes. input.items ≡ bytes)) }
+    ensures fault { IfErr result (λ e. (e ≡ RunError.Read) ⊎ (e ≡ RunError.Memory)) }
+{
+    let mut input = Vec::new(alloc);
+    let mut chunk = make_chunk(alloc)?;
+    for _ in 0..READS {
+        if read_once(reader, &mut chunk, &mut input)? {
+            return Ok(input);
+        }
+    }
+    Err(RunError::Read)
+}
+
+/// The answers to the lines so far: their text, and the counts.
+#[derive(Drop)]
+struct Answers {
+    text: String,
+    report: Report,
+}
+
+/// The word that a fault is printed as.
+fn fault_word(fault: &LineError) -> &'static str
+    ensures { result.now ≡ fault_word fault.now }
+{
+    match fault {
+        LineError::Op => "op",
+        LineError::TypeName => "type",
+        LineError::Row => "row",
+        LineError::Length => "length",
+        LineError::Range => "range",
+        LineError::Memory => "memory",
+    }
+}
+
+/// Answers a line of bytes: one that is not UTF-8 names no operation.
+fn answer_bytes(alloc: Global, line: &[u8]) -> Result<String, LineError>
+    ensures text { IfOk result (λ text. meaning_of line.now ≡ Ok (string_bytes text)) }
+    ensures fault { IfErr result (λ e. UnlessMemory e (meaning_of line.now ≡ Err e)) }
+{
+    match str::from_utf8(line) {
+        Ok(line) => answer_line(alloc, line),
+        Err(_) => Err(LineError::Op),
+    }
+}
+
+/// Adds the refusal of a line to the text.
+fn push_refusal(
+    alloc: Global,
+    text: &mut String,
+    number: u64,
+    fault: &LineError,
+) -> Result<(), AllocError>
+    ensures { OnOk result (string_bytes text.new ≡ string_bytes text.old ++ refusal number fault.now) }
+{
+    let digits = number.to_string(alloc)?;
+    text.push_str("line ")?;
+    text.push_str(digits.as_str())?;
+    text.push_str(": refused: ")?;
+    text.push_str(fault_word(fault))?;
+    Ok(())
+}
+
+impl Answers {
+    /// No answers yet.
+    fn new(alloc: Global) -> Answers
+        ensures text { string_bytes result.text ≡ [] }
+        ensures report { result.report ≡ record { lines = 0; refused = 0 } }
+    {
+        let report = Report {
+            lines: 0,
+            refused: 0,
+        };
+        Answers {
+            text: String::new(alloc),
+            report,
+        }
+    }
+
+    /// Adds the answer to the next line, and counts it.
+    fn add(&mut self, alloc: Global, line: &[u8]) -> Result<(), RunError>
+        requires lines { self.old.report.lines + 1 < 2 ^ 64 }
+        requires refused { self.old.report.refused + 1 < 2 ^ 64 }
+        ensures added { OnOk result (AddsLine self.old self.new line.now) }
+        ensures fault { IfErr result (λ e. e ≡ RunError.Memory) }
+    {
+        let number = self.report.lines + 1;
+        match answer_bytes(alloc, line) {
+            Ok(text) => self.text.push_str(text.as_str())?,
+            Err(LineError::Memory) => return Err(RunError::Memory),
+            Err(fault) => {
+                push_refusal(alloc, &mut self.text, number, &fault)?;
+                self.report.refused += 1;
+            }
+        }
+        self.text.push_str("\n")?;
+        self.report.lines = number;
+        Ok(())
+    }
+}
+
+/// Where the first line feed is.
+fn line_end(text: &[u8]) -> Option<usize>
+    ensures { result ≡ position (λ c. c == 10) text.now }
+{
+    text.iter().position(|c| *c == b'\n')
+}
+
+/// The first line of a text that is not empty, and what follows its line feed.
+fn split_line(text: &[u8]) -> (&[u8], &[u8])
+    requires { 0 < length text.now }
+    ensures lines { lines_of text.now ≡ result.0.now ∷ lines_of result.1.now }
+    ensures shorter { length result.1.now < length text.now }
+{
+    match line_end(text) {
+        Some(end) => (&text[..end], &text[end + 1..]),
+        None => (text, &[]),
+    }
+}
+
+/// The answers to all lines of an input.
+fn answer_lines(alloc: Global, input: &[u8]) -> Result<Answers, RunError>
+    ensures text { IfOk result (λ answers. string_bytes answers.text ≡ output_of input.now) }
+    ensures report { IfOk result (λ answers. Reports input.now answers.report) }
+    ensures fault { IfErr result (λ e. e ≡ RunError.Memory) }
+{
+    let mut answers = Answers::new(alloc);
+    let mut rest = input;
+    while !rest.is_empty() {
+        let (line, more) = split_line(rest);
+        answers.add(alloc, line)?;
+        rest = more;
+    }
+    Ok(answers)
+}
+
+/// Reads the input to its end, answers each of its lines, and then writes all answers, each ended
+/// by a line feed. A refused line is answered by `line N: refused: WORD`, N counted from 1.
+/// It reads at most 2^32 times. A refused growth stops the run before anything is written.
+pub fn run<R: Read, W: Write>(
+    alloc: Global,
+    reader: &mut R,
+    writer: &mut W,
+) -> Result<Report, RunError>
+    // Exactly the answers to the bytes that the reader had were written.
+    ensures written { OnOk result (IfSome (R.remaining reader.old) (λ input.
+        Appends (W.contents writer.old) (W.contents writer.new) (output_of input))) }
+    ensures reported { IfOk result (λ report. IfSome (R.remaining reader.old) (λ input. Reports input report)) }
+
+    // Nothing was written, unless a write failed.
+    ensures unwritten { IfErr result (λ e. (e ≡ RunError.Write)
+        ⊎ Keeps (W.contents writer.old) (W.contents writer.new)) }
+{
+    let input = read_input(alloc, reader)?;
+    let answers = answer_lines(alloc, &input)?;
+    if writer.write_all(answers.text.as_bytes()).is_err() {
+        return Err(RunError::Write);
+    }
+    if writer.flush().is_err() {
+        return Err(RunError::Write);
+    }
+    Ok(answers.report)
+}
