@@ -12,6 +12,4 @@ mod row_number;
 mod row_type;
 pub mod running;
 mod sum;
-#[cfg(test)]
-mod tests;
 mod words;

@@ -23,6 +23,8 @@
 
 use crate::case::Case;
 use crate::fault::Fault;
+use crate::words::Words;
+use std::alloc::Global;
 use std::io;
 use std::process::ExitCode;
 
@@ -32,6 +34,7 @@ mod case;
 mod fault;
 mod flat;
 mod leaf_slots;
+mod lines;
 mod nested;
 mod parts;
 mod row_text;
@@ -43,11 +46,22 @@ fn answer_input(rt: &(impl Input + Print + AllocGlobal)) -> Result<(), Fault> {
     let mut case = Case::new();
     for line in rt.lines(alloc) {
         let line = line?;
-        if let Some(answer) = case.answer(alloc, &line)? {
+        if let Some(answer) = answer_lines(alloc, &line)? {
+            println!(rt; "{line} -> {answer}")?;
+        } else if line.starts_with('#') {
+            println!(rt; "{line}")?;
+        } else if let Some(answer) = case.answer(alloc, &line)? {
             println!(rt; "{answer}")?;
         }
     }
     Ok(())
+}
+
+/// The answer to a question of the line language.
+fn answer_lines(alloc: Global, line: &str) -> Result<Option<String>, Fault> {
+    let (call, text) = line.split_once(' ').unwrap_or((line, ""));
+    let words: Vec<&str> = text.split(' ').collect(alloc)?;
+    lines::answer(alloc, call, text, &mut Words::new(&words))
 }
 
 fn main(rt: HostRuntime) -> ExitCode {
