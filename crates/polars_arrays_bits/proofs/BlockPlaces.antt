@@ -1,20 +1,24 @@
--- Where blocks of one width stand, and their answers.
-use Rattle.std.proofs.Common.{◌≡◌, ℕ, suc, ◌+◌, ◌*◌, ◌<◌, ◌≤◌, Bool, List, length, get_or, take, drop, arith}
-use Rattle.std.proofs.Math.Nat.{mul-suc, mul-le-mul_left}
+-- Blocks of one width: how many answers they have, and those of a window.
+use Rattle.std.proofs.Common.{◌≡◌, ℕ, ◌+◌, ◌*◌, ◌≤◌, Bool, List, length, take, drop, arith, ap, ◌∙◌}
 use Rattle.std.specs.List.{list_all}
-use Rattle.polars_arrays_bits.specs.Blocks.{blocks_all}
-use Rattle.polars_arrays_bits.proofs.Firsts.{length-first, get_or-first}
+use Rattle.polars_arrays_words.specs.Blocks.{blocks_all, block_true}
+use Rattle.polars_arrays_words.proofs.Firsts.{length-first, first_same}
+use Rattle.polars_arrays_words.specs.Bits.{bit_of, first_of, window}
+use Rattle.polars_arrays_words.proofs.BlockPlaces.{block_end}
+use Rattle.polars_arrays_bits.proofs.Windows.{window-part}
 
 -- as many answers as blocks
 pub length-blocks : (width n : ℕ) (xs : List Bool) → length (blocks_all width n xs) ≡ n
 length-blocks width n xs = length-first (λ i. list_all (λ b. b) (take width (drop (width * i) xs))) n
 
--- the answer of a block
-pub get_or-blocks : (width n i : ℕ) (d : Bool) (xs : List Bool) → i < n → get_or (blocks_all width n xs) i d ≡ list_all (λ b. b) (take width (drop (width * i) xs))
-get_or-blocks width n i d xs lt = get_or-first (λ j. list_all (λ b. b) (take width (drop (width * j) xs))) n i d lt
-
--- block i ends within n blocks
-pub block_end : (width i n : ℕ) → i < n → width * i + width ≤ width * n
-block_end width i n lt =
-    let le : suc i ≤ n = omega arith in
-    omega (arith, mul-suc width i, mul-le-mul_left width le)
+-- the blocks of a window's bits are those of the window
+pub window-blocks :
+    (words : List ℕ) (at len width n : ℕ) (xs : List Bool) → window words at len ≡ xs → width * n ≤ length xs →
+    first_of (block_true width (λ p. bit_of words (at + p))) n ≡ blocks_all width n xs
+window-blocks words at len width n xs e le =
+    first_same (block_true width (λ p. bit_of words (at + p))) (λ i. list_all (λ b. b) (take width (drop (width * i) xs))) n
+    (λ i lt.
+    ap (list_all (λ b. b))
+    (first_same (λ j. bit_of words (at + (width * i + j))) (λ j. bit_of words (at + width * i + j)) width
+    (λ j below. let place : at + (width * i + j) ≡ at + width * i + j = omega arith in ap (bit_of words) place)
+    ∙ window-part words at len (width * i) width xs e (omega (arith, block_end width i n lt))))

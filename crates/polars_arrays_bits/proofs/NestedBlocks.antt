@@ -6,10 +6,10 @@ use Rattle.std.proofs.lemmas.List.{length-take, length-drop, get_or-take, get_or
 use Rattle.std.proofs.Math.Seq.{take-add}
 use Rattle.std.proofs.lemmas.List.Folds.{list_all-append}
 use Rattle.std.specs.List.{list_all}
-use Rattle.polars_arrays_bits.specs.Bits.{first_of}
-use Rattle.polars_arrays_bits.specs.Blocks.{blocks_all}
-use Rattle.polars_arrays_bits.proofs.BlockPlaces.{block_end}
-use Rattle.polars_arrays_bits.proofs.Firsts.{length-first, get_or-first, first_is, first_same, first-append}
+use Rattle.polars_arrays_words.specs.Bits.{first_of}
+use Rattle.polars_arrays_words.specs.Blocks.{blocks_all}
+use Rattle.polars_arrays_words.proofs.BlockPlaces.{block_end}
+use Rattle.polars_arrays_words.proofs.Firsts.{length-first, get_or-first, first_is, first_same, first-append}
 
 -- whether the values of a block are all true
 abbrev all_in : ℕ → ℕ → List Bool → Bool

@@ -5,8 +5,8 @@ use Rattle.std.proofs.lemmas.List.Sums.{sum_by-cons}
 use Rattle.std.proofs.lemmas.Option.{slice_get-get_or}
 use Rattle.std.proofs.lemmas.Simd.{length-zip2, get_or-zip2}
 use Rattle.std.specs.Simd.Lanes.{zip2}
-use Rattle.polars_arrays_bits.specs.Bits.{is_bit, bit_of, first_of, window, zip3}
-use Rattle.polars_arrays_bits.proofs.Firsts.{length-first, get_or-first, first_is, first_same}
+use Rattle.polars_arrays_words.specs.Bits.{is_bit, bit_of, first_of, window, zip3}
+use Rattle.polars_arrays_words.proofs.Firsts.{length-first, get_or-first, first_is, first_same}
 
 -- the length of a list that is known as first values
 pub length_is : (f : ℕ → Bool) (n : ℕ) (xs : List Bool) → first_of f n ≡ xs → length xs ≡ n
@@ -45,6 +45,18 @@ window-cut first count by at n k m words xs e le begin enough =
     let place : 64 * first + (by + i) ≡ at + (k + i) = omega arith in
     bit_of-cut first count (by + i) words within
     ∙ ap (bit_of words) place
+    ∙ sym (value_is (λ j. bit_of words (at + j)) n (k + i) xs d e (omega arith))
+    ∙ sym (get_or-drop k xs i d)
+    ∙ sym (get_or-take m (drop k xs) i d lt))
+
+-- a part of a window, in the same words
+pub window-part : (words : List ℕ) (at n k m : ℕ) (xs : List Bool) → window words at n ≡ xs → k + m ≤ length xs → window words (at + k) m ≡ take m (drop k xs)
+window-part words at n k m xs e le =
+    let long : length xs ≡ n = length_is (λ i. bit_of words (at + i)) n xs e in
+    first_is (λ i. bit_of words (at + k + i)) m (take m (drop k xs)) (omega (arith, length-take m (drop k xs), length-drop k xs))
+    (λ i d lt.
+    let place : at + k + i ≡ at + (k + i) = omega arith in
+    ap (bit_of words) place
     ∙ sym (value_is (λ j. bit_of words (at + j)) n (k + i) xs d e (omega arith))
     ∙ sym (get_or-drop k xs i d)
     ∙ sym (get_or-take m (drop k xs) i d lt))

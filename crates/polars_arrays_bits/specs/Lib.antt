@@ -1,10 +1,10 @@
-pub mod Bits
-pub mod Blocks
 pub mod Buffer
 pub mod BufferLends
+pub mod Costs
 pub mod Draft
 pub mod Errors
-pub mod Logic
 pub mod StoreLends
-pub mod Packing
-pub mod Costs
+pub use Rattle.polars_arrays_words.specs.Bits
+pub use Rattle.polars_arrays_words.specs.Blocks
+pub use Rattle.polars_arrays_words.specs.Logic
+pub use Rattle.polars_arrays_words.specs.Packing

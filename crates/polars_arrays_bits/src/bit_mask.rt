@@ -8,9 +8,9 @@ mod logic;
 mod merges;
 
 use crate::bitmap::Bitmap;
-use crate::runs::all_set;
-use crate::source::count_window;
-use crate::words::{bit_from, place_of};
+use polars_arrays_words::runs::all_set;
+use polars_arrays_words::source::count_window;
+use polars_arrays_words::words::{bit_from, place_of};
 use std::marker::Model;
 
 /// A window of a bitmap that is borrowed.
@@ -24,7 +24,7 @@ pub struct BitMask<'a> {
 
 impl<'a> Model for BitMask<'a> {
     ghost use Rattle.std.specs.Prelude.{◌+◌, ◌*◌, ◌<◌, ◌≤◌, Bool, List, length};
-    ghost use Rattle.polars_arrays_bits.specs.Bits.{window};
+    ghost use Rattle.polars_arrays_words.specs.Bits.{window};
 
     ghost Value = { List Bool };
 

@@ -1,7 +1,7 @@
 //! Packed truth values that are read.
 
 ghost use Rattle.std.specs.Prelude.{◌≡◌, ℕ, ◌+◌, ◌*◌, ◌/◌, ◌%◌, ◌<◌, ◌≤◌, Bool, false, List, length, take, drop, get_or, slice_get, vec_len, replicate, MatchResult};
-ghost use Rattle.polars_arrays_bits.specs.Bits.{is_bit, first_of, window};
+ghost use Rattle.polars_arrays_words.specs.Bits.{is_bit, first_of, window};
 ghost use Rattle.polars_arrays_bits.specs.Errors.{IsMemory};
 
 mod counts;
@@ -9,9 +9,9 @@ mod logic;
 
 use crate::buffer::Buffer;
 use crate::error::ComputeError;
-use crate::packing::{Bools, Packed, TruthValues};
-use crate::source::{BitSource, collect_words};
-use crate::words::{WORD_BITS, bit_from, filled_word, place_of};
+use polars_arrays_words::packing::{Bools, Packed, TruthValues};
+use polars_arrays_words::source::{BitSource, collect_words};
+use polars_arrays_words::words::{WORD_BITS, bit_from, filled_word, place_of};
 use std::alloc::Global;
 use std::marker::Model;
 
@@ -28,7 +28,7 @@ pub struct Bitmap {
 
 impl Model for Bitmap {
     ghost use Rattle.std.specs.Prelude.{◌+◌, ◌*◌, ◌<◌, ◌≤◌, Bool, List, length};
-    ghost use Rattle.polars_arrays_bits.specs.Bits.{window};
+    ghost use Rattle.polars_arrays_words.specs.Bits.{window};
 
     ghost Value = { List Bool };
 

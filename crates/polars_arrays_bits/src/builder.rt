@@ -5,9 +5,9 @@ ghost use Rattle.polars_arrays_bits.specs.Errors.{IsMemory};
 
 use crate::bitmap::Bitmap;
 use crate::error::ComputeError;
-use crate::packing::TruthValues;
-use crate::words::WORD_BITS;
-use crate::write::{append_values, fill_bits, write_bit};
+use polars_arrays_words::packing::TruthValues;
+use polars_arrays_words::words::WORD_BITS;
+use polars_arrays_words::write::{append_values, fill_bits, write_bit};
 use std::alloc::Global;
 use std::marker::Model;
 
@@ -22,7 +22,7 @@ pub struct BitmapBuilder {
 
 impl Model for BitmapBuilder {
     ghost use Rattle.std.specs.Prelude.{◌+◌, ◌*◌, ◌^◌, ◌<◌, ◌≤◌, length};
-    ghost use Rattle.polars_arrays_bits.specs.Bits.{window};
+    ghost use Rattle.polars_arrays_words.specs.Bits.{window};
     ghost use Rattle.polars_arrays_bits.specs.Draft.{Draft};
 
     ghost Value = { Draft };

@@ -6,8 +6,8 @@ ghost use Rattle.polars_arrays_bits.specs.Errors.{IsMemory};
 
 use crate::bitmap::Bitmap;
 use crate::error::ComputeError;
-use crate::packing::TruthValues;
 use polars_arrays_numbers::element_test::ElementTest;
+use polars_arrays_words::packing::TruthValues;
 use std::alloc::Global;
 
 // A test of two slices, place by place.

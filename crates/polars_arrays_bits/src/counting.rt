@@ -1,16 +1,16 @@
 //! Truth values that are asked for in order, where a counter rises with what each of them costs.
 
 ghost use Rattle.std.specs.Prelude.{◌≡◌, ℕ, ◌+◌, ◌*◌, ◌/◌, ◌^◌, ◌<◌, ◌≤◌, [], Bool, List, false, length, vec_capacity, get_or, slice_index_or, IfOk, MatchResult};
-ghost use Rattle.polars_arrays_bits.specs.Bits.{AreWords};
+ghost use Rattle.polars_arrays_words.specs.Bits.{AreWords};
 ghost use Rattle.polars_arrays_bits.specs.Costs.{cost_of};
 ghost use Rattle.polars_arrays_bits.specs.Errors.{IsMemory};
-ghost use Rattle.polars_arrays_bits.specs.Packing.{IsPacked};
+ghost use Rattle.polars_arrays_words.specs.Packing.{IsPacked};
 
 use crate::bitmap::Bitmap;
 use crate::error::ComputeError;
-use crate::packing::put;
-use crate::words::WORD_BITS;
 use polars_arrays_numbers::steps::Steps;
+use polars_arrays_words::packing::put;
+use polars_arrays_words::words::WORD_BITS;
 use std::alloc::Global;
 
 /// Truth values that can be asked for one by one, each at a cost that a counter tells.

@@ -2,15 +2,15 @@
 
 ghost use Rattle.std.specs.Prelude.{◌≡◌, ℕ, ◌*◌, ◌^◌, ◌<◌, ◌≤◌, Bool, false, true, ◌&&◌, ◌||◌, length, count_by, replicate, slice_get, slice_set, MatchResult};
 ghost use Rattle.std.specs.Simd.Lanes.{zip2};
-ghost use Rattle.polars_arrays_bits.specs.Bits.{first_of, IsMerged};
+ghost use Rattle.polars_arrays_words.specs.Bits.{first_of};
 ghost use Rattle.polars_arrays_bits.specs.Errors.{IsMemory};
 
 use crate::bitmap::Bitmap;
 use crate::error::ComputeError;
-use crate::operators::{And, BinaryOperator, Or};
-use crate::source::{Aligned, BitSource, Shifted, count_window};
-use crate::words::{WORD_BITS, bit_from, filled_word};
-use crate::write::write_bit;
+use polars_arrays_words::operators::{And, BinaryOperator, Or};
+use polars_arrays_words::source::{Aligned, BitSource, Shifted, count_window};
+use polars_arrays_words::words::{WORD_BITS, bit_from, filled_word};
+use polars_arrays_words::write::{merge_inner_words, merge_words, write_bit};
 use std::alloc::Global;
 use std::marker::Model;
 
@@ -24,50 +24,13 @@ pub struct MutableBitmap {
 
 impl Model for MutableBitmap {
     ghost use Rattle.std.specs.Prelude.{◌*◌, ◌≤◌, Bool, List, length};
-    ghost use Rattle.polars_arrays_bits.specs.Bits.{window};
+    ghost use Rattle.polars_arrays_words.specs.Bits.{window};
 
     ghost Value = { List Bool };
 
     ghost view = { λ b. window b.words.items 0 b.len };
 
     ghost invariant = { λ b. b.len ≤ 64 * length b.words.items };
-}
-
-// The first `to` words become the operator's results with the source's, which are read with no test
-// for an end.
-#[inline(always)]
-fn merge_inner_words<O: BinaryOperator, S: BitSource>(
-    words: &mut [u64],
-    operator: &O,
-    source: &S,
-    to: usize,
-)
-    requires within { to ≤ length words.old }
-    requires inner { to ≤ S.inner source.now }
-    ensures { IsMerged O.bit (S.bit source.now) words.old words.new 0 to }
-{
-    for k in 0..to {
-        words[k] = operator.apply(words[k], source.inner_word(k));
-    }
-}
-
-// The words from `from` to `to` become the operator's results with the source's.
-#[inline(always)]
-fn merge_words<O: BinaryOperator, S: BitSource>(
-    words: &mut [u64],
-    operator: &O,
-    source: &S,
-    from: usize,
-    to: usize,
-)
-    requires order { from ≤ to }
-    requires within { to ≤ length words.old }
-    requires few { to ≤ 2 ^ 58 }
-    ensures { IsMerged O.bit (S.bit source.now) words.old words.new from to }
-{
-    for k in from..to {
-        words[k] = operator.apply(words[k], source.word(k));
-    }
 }
 
 impl MutableBitmap {

@@ -1,46 +1,14 @@
 //! Blocks of bits, of which one bit each says whether they are all true.
 
 ghost use Rattle.std.specs.Prelude.{◌≡◌, ◌*◌, ◌^◌, ◌<◌, ◌≤◌, length, MatchResult};
-ghost use Rattle.polars_arrays_bits.specs.Blocks.{blocks_all};
+ghost use Rattle.polars_arrays_words.specs.Blocks.{blocks_all};
 ghost use Rattle.polars_arrays_bits.specs.Errors.{IsMemory};
 
 use super::BitMask;
 use crate::bitmap::Bitmap;
 use crate::error::ComputeError;
-use crate::folds::{Fours, Pairs};
-use crate::packing::TruthValues;
+use polars_arrays_words::folds::{Blocks, Fours, Pairs};
 use std::alloc::Global;
-
-// Whether the bits of each block are all true, which is asked block by block.
-#[derive(Drop)]
-struct Blocks<'m, 'a> {
-    bits: &'m BitMask<'a>,
-    width: usize,
-    count: usize,
-    ghost within: { width * count ≤ length bits.now },
-}
-
-impl TruthValues for Blocks<'_, '_> {
-    ghost values = { λ b. blocks_all b.width b.count b.bits.now };
-
-    #[inline(always)]
-    fn len(&self) -> usize {
-        self.count
-    }
-
-    #[inline(always)]
-    fn value(&self, i: usize) -> bool {
-        // No effect at run time. The proof reads from it that places are numbers of 64 bits.
-        let _len = self.bits.len();
-        self.bits.all_set(self.width * i, self.width)
-    }
-
-    // A block lies in two words.
-    #[inline(always)]
-    fn is_wide(&self) -> bool {
-        true
-    }
-}
 
 impl BitMask<'_> {
     // Whether the bits of each pair are both true.
@@ -85,6 +53,27 @@ impl BitMask<'_> {
         Ok(sixteens)
     }
 
+    // Whether the bits of each block are all true, block by block.
+    fn all_one_by_one(&self, alloc: Global, width: usize, n: usize) -> Result<Bitmap, ComputeError>
+        requires { width * n ≤ length self.now }
+        ensures { MatchResult result (λ bits. bits ≡ blocks_all width n self.now) IsMemory }
+    {
+        // No effect at run time. The proof reads from it that places are numbers of 64 bits.
+        let _len = self.len();
+        let words = self.words;
+        let by = self.at;
+        let count = n;
+        Bitmap::from_values(
+            alloc,
+            &Blocks {
+                words,
+                by,
+                width,
+                count,
+            },
+        )
+    }
+
     /// Whether the bits of each block are all true: of `n` blocks of `width` bits, the first of which begins
     /// at the first bit. The bits of an empty block are. Blocks of 2, 4, 8 and 16 bits are folded a word at
     /// a time. The error is `Memory`.
@@ -104,11 +93,7 @@ impl BitMask<'_> {
             4 => self.all_in_fours(alloc, n),
             8 => self.all_in_eights(alloc, n),
             16 => self.all_in_sixteens(alloc, n),
-            _ => {
-                let bits = self;
-                let count = n;
-                Bitmap::from_values(alloc, &Blocks { bits, width, count })
-            }
+            _ => self.all_one_by_one(alloc, width, n),
         }
     }
 }

@@ -2,15 +2,17 @@
 
 ghost use Rattle.std.specs.Prelude.{◌≡◌, Bool, not, ◌&&◌, ◌||◌, length, map, MatchResult};
 ghost use Rattle.std.specs.Simd.Lanes.{zip2};
-ghost use Rattle.polars_arrays_bits.specs.Bits.{first_of};
-ghost use Rattle.polars_arrays_bits.specs.Logic.{xor, xnor, and_not, or_not};
+ghost use Rattle.polars_arrays_words.specs.Bits.{first_of};
+ghost use Rattle.polars_arrays_words.specs.Logic.{xor, xnor, and_not, or_not};
 ghost use Rattle.polars_arrays_bits.specs.Errors.{IsMemory};
 
 use super::BitMask;
 use crate::bitmap::Bitmap;
 use crate::error::ComputeError;
-use crate::operators::{And, AndNot, BinaryOperator, Mapped, Not, Or, OrNot, Xnor, Xor, Zipped};
-use crate::source::{Aligned, BitSource, Shifted};
+use polars_arrays_words::operators::{
+    And, AndNot, BinaryOperator, Mapped, Not, Or, OrNot, Xnor, Xor, Zipped,
+};
+use polars_arrays_words::source::{Aligned, BitSource, Shifted};
 use std::alloc::Global;
 
 impl BitMask<'_> {

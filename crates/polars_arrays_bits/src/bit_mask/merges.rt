@@ -1,15 +1,15 @@
 //! Equality and inequality of rows that may be null, on windows that are borrowed, by words.
 
 ghost use Rattle.std.specs.Prelude.{◌≡◌, Bool, length, MatchResult};
-ghost use Rattle.polars_arrays_bits.specs.Bits.{first_of, zip3};
-ghost use Rattle.polars_arrays_bits.specs.Logic.{merged_eq, merged_ne};
+ghost use Rattle.polars_arrays_words.specs.Bits.{first_of, zip3};
+ghost use Rattle.polars_arrays_words.specs.Logic.{merged_eq, merged_ne};
 ghost use Rattle.polars_arrays_bits.specs.Errors.{IsMemory};
 
 use super::BitMask;
 use crate::bitmap::Bitmap;
 use crate::error::ComputeError;
-use crate::operators::{MergeEq, MergeNe, Merged, TernaryOperator};
-use crate::source::{Aligned, BitSource, Shifted};
+use polars_arrays_words::operators::{MergeEq, MergeNe, Merged, TernaryOperator};
+use polars_arrays_words::source::{Aligned, BitSource, Shifted};
 use std::alloc::Global;
 
 impl BitMask<'_> {

@@ -2,11 +2,11 @@
 
 ghost use Rattle.std.specs.Prelude.{◌≡◌, Bool, not, ◌&&◌, length, count_by};
 ghost use Rattle.std.specs.Simd.Lanes.{zip2};
-ghost use Rattle.polars_arrays_bits.specs.Bits.{first_of};
+ghost use Rattle.polars_arrays_words.specs.Bits.{first_of};
 
 use super::Bitmap;
-use crate::operators::{And, Zipped};
-use crate::source::{Aligned, BitSource, Shifted, count_bits, count_window};
+use polars_arrays_words::operators::{And, Zipped};
+use polars_arrays_words::source::{Aligned, BitSource, Shifted, count_bits, count_window};
 
 impl Bitmap {
     /// How many bits are true.

@@ -2,8 +2,8 @@
 
 ghost use Rattle.std.specs.Prelude.{◌≡◌, Bool, not, ◌&&◌, ◌||◌, length, map, MatchResult};
 ghost use Rattle.std.specs.Simd.Lanes.{zip2};
-ghost use Rattle.polars_arrays_bits.specs.Bits.{zip3};
-ghost use Rattle.polars_arrays_bits.specs.Logic.{xor, xnor, and_not, or_not, merged_eq, merged_ne};
+ghost use Rattle.polars_arrays_words.specs.Bits.{zip3};
+ghost use Rattle.polars_arrays_words.specs.Logic.{xor, xnor, and_not, or_not, merged_eq, merged_ne};
 ghost use Rattle.polars_arrays_bits.specs.Errors.{IsMemory};
 
 use super::Bitmap;

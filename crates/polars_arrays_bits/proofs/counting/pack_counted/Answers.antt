@@ -1,7 +1,7 @@
 use Rattle.std.proofs.Common.{◌+◌, sym, subst, arith}
-use Rattle.polars_arrays_bits.specs.Packing.{IsPacked}
+use Rattle.polars_arrays_words.specs.Packing.{IsPacked}
 use Rattle.polars_arrays_bits.proofs.CostSums.{cost-next}
-use Rattle.polars_arrays_bits.proofs.Puts.{packed-one, packed-put}
+use Rattle.polars_arrays_words.proofs.Puts.{packed-one, packed-put}
 use Rattle.polars_arrays_bits.proofs.counting.pack_counted.Goals as goal
 
 pub loop-i-preserved : goal.loop-i-preserved

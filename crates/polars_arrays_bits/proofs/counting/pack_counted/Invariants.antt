@@ -1,6 +1,6 @@
 use Rattle.std.proofs.Common.{◌≡◌, ◌+◌}
 use Rattle.polars_arrays_bits.specs.Costs.{cost_of}
-use Rattle.polars_arrays_bits.specs.Packing.{IsPacked}
+use Rattle.polars_arrays_words.specs.Packing.{IsPacked}
 use Rattle.polars_arrays_bits.proofs.counting.pack_counted.Given as goal
 
 abbrev pub invariant-loop-i : goal.invariant-loop-i

@@ -1,8 +1,7 @@
 use Rattle.std.proofs.Common.{◌≡◌, ◌+◌, ◌-◌, ◌*◌, ◌∙◌, ◌<◌, ℕ, List, Bool, min, length, ap, arith}
 use Rattle.polars_arrays_bits.specs.Costs.{cost_of}
 use Rattle.polars_arrays_bits.proofs.CostSums.{cost-word}
-use Rattle.polars_arrays_bits.proofs.Firsts.{are-words-more}
-use Rattle.polars_arrays_bits.proofs.Packs.{word-values}
+use Rattle.polars_arrays_bits.proofs.WordValues.{are-words-more, word-values}
 use Rattle.polars_arrays_bits.proofs.counting.push_counted.Goals as goal
 
 pub loop-k-preserved : goal.loop-k-preserved

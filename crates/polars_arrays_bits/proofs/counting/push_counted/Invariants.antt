@@ -1,5 +1,5 @@
 use Rattle.std.proofs.Common.{◌≡◌, ◌+◌, ◌*◌, min, false, length, get_or, vec_capacity}
-use Rattle.polars_arrays_bits.specs.Bits.{AreWords}
+use Rattle.polars_arrays_words.specs.Bits.{AreWords}
 use Rattle.polars_arrays_bits.specs.Costs.{cost_of}
 use Rattle.polars_arrays_bits.proofs.counting.push_counted.Given as goal
 

@@ -1,6 +1,6 @@
 use Rattle.std.proofs.Common.{◌≡◌, List, Bool, MatchResult, subst}
 use Rattle.polars_arrays_bits.specs.Errors.{IsMemory}
-use Rattle.polars_arrays_bits.proofs.Spreads.{window-blocks}
+use Rattle.polars_arrays_bits.proofs.BlockPlaces.{window-blocks}
 use Rattle.polars_arrays_bits.proofs.bit_mask.BitMask.all_in_fours.Goals as goal
 
 pub returns : goal.returns

@@ -1,5 +1,5 @@
 use Rattle.std.proofs.Common.{◌*◌, length, refl, ap, ◌∙◌, arith}
-use Rattle.polars_arrays_bits.specs.Blocks.{blocks_all}
+use Rattle.polars_arrays_words.specs.Blocks.{blocks_all}
 use Rattle.polars_arrays_bits.proofs.BlockPlaces.{length-blocks}
 use Rattle.polars_arrays_bits.proofs.NestedBlocks.{blocks-nested}
 use Rattle.polars_arrays_bits.proofs.bit_mask.BitMask.all_in_sixteens.Goals as goal

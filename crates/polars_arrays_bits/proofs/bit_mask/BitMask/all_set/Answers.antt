@@ -1,7 +1,6 @@
 use Rattle.std.proofs.Common.{ap, ◌∙◌, arith}
 use Rattle.std.specs.List.{list_all}
-use Rattle.polars_arrays_bits.proofs.TrueRuns.{window-part}
-use Rattle.polars_arrays_bits.proofs.Windows.{length_is}
+use Rattle.polars_arrays_bits.proofs.Windows.{window-part, length_is}
 use Rattle.polars_arrays_bits.proofs.bit_mask.BitMask.all_set.Goals as goal
 
 pub all_set-requires-clause-fits : goal.all_set-requires-clause-fits

@@ -1,5 +1,5 @@
 use Rattle.std.proofs.Common.{◌≡◌, List, Bool, MatchResult, ap, ap₂, subst, refl}
-use Rattle.polars_arrays_bits.specs.Bits.{first_of, zip3}
+use Rattle.polars_arrays_words.specs.Bits.{first_of, zip3}
 use Rattle.polars_arrays_bits.specs.Errors.{IsMemory}
 use Rattle.polars_arrays_bits.proofs.Windows.{aligned, shifted, first-as_long}
 use Rattle.polars_arrays_bits.proofs.bit_mask.BitMask.merge_last_two.Goals as goal

@@ -1,6 +1,6 @@
 use Rattle.std.proofs.Common.{◌≡◌, length, drop, ap, ◌∙◌, arith}
 use Rattle.std.proofs.lemmas.List.{length-take-le, length-drop}
-use Rattle.polars_arrays_bits.specs.Bits.{window}
+use Rattle.polars_arrays_words.specs.Bits.{window}
 use Rattle.polars_arrays_bits.proofs.Windows.{length_is, window-cut}
 use Rattle.polars_arrays_bits.proofs.bit_mask.BitMask.window.Goals as goal
 

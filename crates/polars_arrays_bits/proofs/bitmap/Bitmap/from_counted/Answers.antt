@@ -1,7 +1,6 @@
 use Rattle.std.proofs.Common.{◌∙◌, List, Bool, ℕ, false, get_or, ap, arith}
-use Rattle.polars_arrays_bits.specs.Bits.{first_of}
-use Rattle.polars_arrays_bits.proofs.Firsts.{window-words}
-use Rattle.polars_arrays_bits.proofs.Packs.{first-elements}
+use Rattle.polars_arrays_words.specs.Bits.{first_of}
+use Rattle.polars_arrays_bits.proofs.WordValues.{window-words, first-elements}
 use Rattle.polars_arrays_bits.proofs.bitmap.Bitmap.from_counted.Goals as goal
 
 pub returns-clause-told : goal.returns-clause-told

@@ -1,5 +1,5 @@
 use Rattle.std.proofs.Common.{◌∙◌, arith}
-use Rattle.polars_arrays_bits.proofs.Firsts.{window-words}
+use Rattle.polars_arrays_bits.proofs.WordValues.{window-words}
 use Rattle.polars_arrays_bits.proofs.bitmap.Bitmap.from_source.Goals as goal
 
 pub returns : goal.returns

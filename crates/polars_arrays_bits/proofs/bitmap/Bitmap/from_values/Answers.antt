@@ -1,7 +1,7 @@
 use Rattle.std.proofs.Common.{◌≡◌, ◌∙◌, List, Bool, ℕ, false, MatchResult, get_or, subst, ap}
-use Rattle.polars_arrays_bits.specs.Bits.{first_of}
+use Rattle.polars_arrays_words.specs.Bits.{first_of}
 use Rattle.polars_arrays_bits.specs.Errors.{IsMemory}
-use Rattle.polars_arrays_bits.proofs.Packs.{first-elements}
+use Rattle.polars_arrays_bits.proofs.WordValues.{first-elements}
 use Rattle.polars_arrays_bits.proofs.bitmap.Bitmap.from_values.Goals as goal
 
 pub returns : goal.returns

@@ -1,6 +1,6 @@
 use Rattle.std.proofs.Common.{◌≡◌, ◌<◌, ◌+◌, ◌*◌, arith, false, ap, ◌∙◌}
-use Rattle.polars_arrays_bits.specs.Bits.{bit_of}
-use Rattle.polars_arrays_bits.proofs.Firsts.{length-first, get_or-first}
+use Rattle.polars_arrays_words.specs.Bits.{bit_of}
+use Rattle.polars_arrays_words.proofs.Firsts.{length-first, get_or-first}
 use Rattle.polars_arrays_bits.proofs.Windows.{bit_of-cut}
 use Rattle.polars_arrays_bits.proofs.bitmap.Bitmap.from_words.Goals as goal
 

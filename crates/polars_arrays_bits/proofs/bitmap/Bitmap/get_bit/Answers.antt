@@ -1,5 +1,5 @@
 use Rattle.std.proofs.Common.{◌+◌, arith, length, ap, ◌∙◌}
-use Rattle.polars_arrays_bits.specs.Bits.{bit_of}
+use Rattle.polars_arrays_words.specs.Bits.{bit_of}
 use Rattle.polars_arrays_bits.proofs.Windows.{length_is, bit-read}
 use Rattle.polars_arrays_bits.proofs.bitmap.Bitmap.get_bit.Goals as goal
 

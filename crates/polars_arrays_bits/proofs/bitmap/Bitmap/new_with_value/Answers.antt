@@ -1,5 +1,5 @@
 use Rattle.std.proofs.Common.{ap, ◌∙◌, arith}
-use Rattle.polars_arrays_bits.specs.Bits.{window}
+use Rattle.polars_arrays_words.specs.Bits.{window}
 use Rattle.polars_arrays_bits.proofs.Windows.{window-replicate}
 use Rattle.polars_arrays_bits.proofs.bitmap.Bitmap.new_with_value.Goals as goal
 

@@ -1,5 +1,5 @@
 use Rattle.std.proofs.Common.{arith, length, ap, ap₂, ◌∙◌}
-use Rattle.polars_arrays_bits.specs.Bits.{window}
+use Rattle.polars_arrays_words.specs.Bits.{window}
 use Rattle.polars_arrays_bits.proofs.Windows.{length_is}
 use Rattle.polars_arrays_bits.proofs.bitmap.Bitmap.packed.Goals as goal
 

@@ -1,6 +1,6 @@
 use Rattle.std.proofs.Common.{◌+◌, ◌-◌, ℕ, List, arith, ap, ◌∙◌, subst}
 use Rattle.std.proofs.lemmas.List.{with_items_is}
-use Rattle.polars_arrays_bits.specs.Bits.{window, IsWritten}
+use Rattle.polars_arrays_words.specs.Bits.{window, IsWritten}
 use Rattle.polars_arrays_bits.proofs.Drafts.{draft_of, draft-extended}
 use Rattle.polars_arrays_bits.proofs.builder.BitmapBuilder.extend_constant.Goals as goal
 

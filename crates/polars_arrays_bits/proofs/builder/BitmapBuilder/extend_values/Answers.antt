@@ -1,9 +1,8 @@
 use Rattle.std.proofs.Common.{◌+◌, ◌-◌, ℕ, List, Bool, length, arith, ap, ◌∙◌, subst}
 use Rattle.std.proofs.lemmas.List.{with_items_is}
-use Rattle.polars_arrays_bits.specs.Bits.{window}
-use Rattle.polars_arrays_bits.specs.Packing.{AreAppended}
-use Rattle.polars_arrays_bits.proofs.Appends.{draft-appended}
-use Rattle.polars_arrays_bits.proofs.Drafts.{draft_of}
+use Rattle.polars_arrays_words.specs.Bits.{window}
+use Rattle.polars_arrays_words.specs.Packing.{AreAppended}
+use Rattle.polars_arrays_bits.proofs.Drafts.{draft-appended, draft_of}
 use Rattle.polars_arrays_bits.proofs.builder.BitmapBuilder.extend_values.Goals as goal
 
 pub returns : goal.returns

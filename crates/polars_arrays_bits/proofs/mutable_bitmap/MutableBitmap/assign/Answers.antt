@@ -1,7 +1,7 @@
 use Rattle.std.proofs.Common.{ap, ◌∙◌, arith}
 use Rattle.std.proofs.lemmas.List.{with_items_is}
-use Rattle.polars_arrays_bits.specs.Bits.{window}
-use Rattle.polars_arrays_bits.proofs.Merges.{window-merged}
+use Rattle.polars_arrays_words.specs.Bits.{window}
+use Rattle.polars_arrays_bits.proofs.WrittenWindows.{window-merged}
 use Rattle.polars_arrays_bits.proofs.mutable_bitmap.MutableBitmap.assign.Goals as goal
 
 pub returns : goal.returns

@@ -1,8 +1,8 @@
 use Rattle.std.proofs.Common.{◌+◌, ℕ, List, length, arith, ap, ◌∙◌, subst}
 use Rattle.std.proofs.lemmas.List.{with_items_is}
-use Rattle.polars_arrays_bits.specs.Bits.{window, IsWritten}
+use Rattle.polars_arrays_words.specs.Bits.{window, IsWritten}
 use Rattle.polars_arrays_bits.proofs.Windows.{length_is}
-use Rattle.polars_arrays_bits.proofs.WrittenBits.{window-set}
+use Rattle.polars_arrays_bits.proofs.WrittenWindows.{window-set}
 use Rattle.polars_arrays_bits.proofs.mutable_bitmap.MutableBitmap.set.Goals as goal
 
 pub write_bit-requires : goal.write_bit-requires

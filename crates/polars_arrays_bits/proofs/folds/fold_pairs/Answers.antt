@@ -1,7 +1,0 @@
-use Rattle.polars_arrays_bits.proofs.TwoFolds.{folded-twos}
-use Rattle.polars_arrays_bits.proofs.folds.fold_pairs.Goals as goal
-
-pub returns : goal.returns
-returns c =
-    folded-twos c.args.word c.gather-answers.result c.gather-answers-2.result c.gather-answers-3.result c.gather-answers-4.result c.gather.result
-    c.gather-answers.ensures c.gather-answers-2.ensures c.gather-answers-3.ensures c.gather-answers-4.ensures c.gather.ensures

@@ -1,5 +1,0 @@
-use Rattle.polars_arrays_bits.proofs.OperatorBits.{is_bit-merged_ne}
-use Rattle.polars_arrays_bits.proofs.operators.MergeNeTernaryOperator.apply.Goals as goal
-
-pub returns : goal.returns
-returns c = λ i lt. is_bit-merged_ne c.args.x c.args.y c.args.z i

@@ -1,5 +1,0 @@
-use Rattle.polars_arrays_bits.specs.Packing.{IsMarked}
-use Rattle.polars_arrays_bits.proofs.packing.mark_next.Given as goal
-
-abbrev pub invariant-loop-i : goal.invariant-loop-i
-invariant-loop-i g l = IsMarked l.flags (g.V.TruthValues.values l.values) l.at l.i

@@ -1,5 +1,0 @@
-use Rattle.polars_arrays_bits.specs.Packing.{IsPacked}
-use Rattle.polars_arrays_bits.proofs.packing.pack_bits.Given as goal
-
-abbrev pub invariant-loop-i : goal.invariant-loop-i
-invariant-loop-i g l = IsPacked l.word (g.V.TruthValues.values l.values) l.at l.i

@@ -1,6 +1,0 @@
-use Rattle.std.proofs.Common.{◌≡◌, ◌*◌}
-use Rattle.polars_arrays_bits.specs.Bits.{true_count}
-use Rattle.polars_arrays_bits.proofs.source.count_words.Given as goal
-
-abbrev pub invariant-loop-k : goal.invariant-loop-k
-invariant-loop-k g l = l.counted ≡ true_count (g.S.BitSource.bit l.source) (64 * l.k)

@@ -1,6 +1,0 @@
-use Rattle.std.proofs.Common.{◌*◌}
-use Rattle.polars_arrays_bits.specs.Packing.{AreAppended}
-use Rattle.polars_arrays_bits.proofs.write.append_values.Given as goal
-
-abbrev pub invariant-loop-k : goal.invariant-loop-k
-invariant-loop-k g l = AreAppended l.initial.words l.words l.from (g.V.TruthValues.values l.values) (64 * l.k)

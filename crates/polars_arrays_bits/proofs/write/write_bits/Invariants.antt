@@ -1,5 +1,0 @@
-use Rattle.polars_arrays_bits.specs.Bits.{IsWritten}
-use Rattle.polars_arrays_bits.proofs.write.write_bits.Given as goal
-
-abbrev pub invariant-loop-p : goal.invariant-loop-p
-invariant-loop-p l = IsWritten l.initial.words l.words l.from l.p l.value

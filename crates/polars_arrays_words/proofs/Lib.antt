@@ -1,0 +1,16 @@
+pub mod Appends
+pub mod BlockPlaces
+pub mod Counts
+pub mod Examples
+pub mod Firsts
+pub mod FourFolds
+pub mod Joins
+pub mod Merges
+pub mod OperatorBits
+pub mod Packs
+pub mod Puts
+pub mod SingleBits
+pub mod Spreads
+pub mod TrueRuns
+pub mod TwoFolds
+pub mod WrittenBits

@@ -1,0 +1,6 @@
+use Rattle.std.proofs.Common.{◌-◌, arith}
+use Rattle.polars_arrays_words.proofs.Joins.{is_bit-join}
+use Rattle.polars_arrays_words.proofs.words.join.Goals as goal
+
+pub returns : goal.returns
+returns c = λ i lt. is_bit-join (64 - c.args.by) c.args.by c.args.low c.args.high i (omega arith) (omega arith) c.ranges.low.fits lt

@@ -1,0 +1,4 @@
+pub mod Bits
+pub mod Blocks
+pub mod Logic
+pub mod Packing

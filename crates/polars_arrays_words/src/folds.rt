@@ -1,0 +1,202 @@
+//! Blocks of bits, of which one bit each says whether they are all true. Pairs and fours are folded a
+//! word at a time.
+
+ghost use Rattle.std.specs.Prelude.{◌≡◌, ℕ, ◌+◌, ◌*◌, ◌^◌, ◌<◌, ◌≤◌, [], ◌∷◌, ◌&&◌, ◌||◌, length};
+ghost use Rattle.polars_arrays_words.specs.Bits.{is_bit, bit_of, IsWord};
+ghost use Rattle.polars_arrays_words.specs.Blocks.{block_true, IsFolded};
+
+use crate::packing::{TruthValues, put};
+use crate::runs::all_set;
+use crate::source::BitSource;
+use crate::words::{join_from, word_or_zero};
+
+// Each bit joined with the one that stands `by` places above it, and kept where the mask has it.
+#[inline(always)]
+fn gather(word: u64, by: usize, mask: u64) -> u64
+    requires { by < 64 }
+    ensures { (i : ℕ) → i < 64 → is_bit result i ≡ ((is_bit word i || is_bit word (by + i)) && is_bit mask i) }
+{
+    (word | (word >> by)) & mask
+}
+
+// Whether the bits of each pair of a word are both true, as the lowest 32 bits. The answers first stand
+// in every second bit. In steps, each of which doubles the runs of bits that stand together, they move
+// to the end.
+#[inline(always)]
+fn fold_pairs(word: u64) -> u64
+    ensures { IsFolded 2 32 word result }
+{
+    let answers = word & (word >> 1) & 0x5555_5555_5555_5555;
+    let answers = gather(answers, 1, 0x3333_3333_3333_3333);
+    let answers = gather(answers, 2, 0x0F0F_0F0F_0F0F_0F0F);
+    let answers = gather(answers, 4, 0x00FF_00FF_00FF_00FF);
+    let answers = gather(answers, 8, 0x0000_FFFF_0000_FFFF);
+    gather(answers, 16, 0xFFFF_FFFF)
+}
+
+// The same of two words, as all bits of one.
+#[inline(always)]
+fn fold_two_words(first: u64, second: u64) -> u64
+    ensures { (i : ℕ) → i < 64 → is_bit result i ≡ block_true 2 (bit_of (first ∷ second ∷ [])) i }
+{
+    put(fold_pairs(first), fold_pairs(second), 32)
+}
+
+// Whether the bits of each four of a word are all true, as the lowest 16 bits, found in the same way.
+#[inline(always)]
+fn fold_fours(word: u64) -> u64
+    ensures { IsFolded 4 16 word result }
+{
+    let pairs = word & (word >> 1);
+    let answers = pairs & (pairs >> 2) & 0x1111_1111_1111_1111;
+    let answers = gather(answers, 3, 0x0303_0303_0303_0303);
+    let answers = gather(answers, 6, 0x000F_000F_000F_000F);
+    let answers = gather(answers, 12, 0x0000_00FF_0000_00FF);
+    gather(answers, 24, 0xFFFF)
+}
+
+// The same of four words, as all bits of one.
+#[inline(always)]
+fn fold_four_words(first: u64, second: u64, third: u64, fourth: u64) -> u64
+    ensures { (i : ℕ) → i < 64 → is_bit result i ≡ block_true 4 (bit_of (first ∷ second ∷ third ∷ fourth ∷ [])) i }
+{
+    let two = put(fold_fours(first), fold_fours(second), 16);
+    let three = put(two, fold_fours(third), 32);
+    put(three, fold_fours(fourth), 48)
+}
+
+// Word `k` of the bits from bit `by` of the first word on, with no test for an end.
+#[inline(always)]
+fn inner_word_at(words: &[u64], by: usize, k: usize) -> u64
+    requires by { by < 64 }
+    requires inner { k + 1 < length words.now }
+    ensures { IsWord (λ p. bit_of words.now (by + p)) k result }
+{
+    join_from(words[k], words[k + 1], by)
+}
+
+// The same with zeros past the end.
+#[inline(always)]
+fn word_at(words: &[u64], by: usize, k: usize) -> u64
+    requires by { by < 64 }
+    requires few { k < 2 ^ 60 }
+    ensures { IsWord (λ p. bit_of words.now (by + p)) k result }
+{
+    join_from(word_or_zero(words, k), word_or_zero(words, k + 1), by)
+}
+
+/// Whether the bits of each pair are both true, of those from bit `by` of the first word on, and false
+/// after them.
+#[derive(Drop)]
+pub struct Pairs<'a> {
+    pub words: &'a [u64],
+    pub by: usize,
+    pub ghost within_word: { by < 64 },
+}
+
+impl BitSource for Pairs<'_> {
+    ghost use Rattle.std.specs.Prelude.{◌+◌, ◌-◌, ◌/◌, length};
+    ghost use Rattle.polars_arrays_words.specs.Bits.{bit_of};
+    ghost use Rattle.polars_arrays_words.specs.Blocks.{block_true};
+
+    ghost bit = { λ s i. block_true 2 (λ p. bit_of s.words.now (s.by + p)) i };
+
+    ghost inner = { λ s. (length s.words.now - 1) / 2 };
+
+    #[inline]
+    fn inner_words(&self) -> usize {
+        self.words.len().saturating_sub(1) / 2
+    }
+
+    #[inline]
+    fn inner_word(&self, k: usize) -> u64 {
+        fold_two_words(
+            inner_word_at(self.words, self.by, 2 * k),
+            inner_word_at(self.words, self.by, 2 * k + 1),
+        )
+    }
+
+    #[inline]
+    fn word(&self, k: usize) -> u64 {
+        fold_two_words(
+            word_at(self.words, self.by, 2 * k),
+            word_at(self.words, self.by, 2 * k + 1),
+        )
+    }
+}
+
+/// The same of each four.
+#[derive(Drop)]
+pub struct Fours<'a> {
+    pub words: &'a [u64],
+    pub by: usize,
+    pub ghost within_word: { by < 64 },
+}
+
+impl BitSource for Fours<'_> {
+    ghost use Rattle.std.specs.Prelude.{◌+◌, ◌-◌, ◌/◌, length};
+    ghost use Rattle.polars_arrays_words.specs.Bits.{bit_of};
+    ghost use Rattle.polars_arrays_words.specs.Blocks.{block_true};
+
+    ghost bit = { λ s i. block_true 4 (λ p. bit_of s.words.now (s.by + p)) i };
+
+    ghost inner = { λ s. (length s.words.now - 1) / 4 };
+
+    #[inline]
+    fn inner_words(&self) -> usize {
+        self.words.len().saturating_sub(1) / 4
+    }
+
+    #[inline]
+    fn inner_word(&self, k: usize) -> u64 {
+        fold_four_words(
+            inner_word_at(self.words, self.by, 4 * k),
+            inner_word_at(self.words, self.by, 4 * k + 1),
+            inner_word_at(self.words, self.by, 4 * k + 2),
+            inner_word_at(self.words, self.by, 4 * k + 3),
+        )
+    }
+
+    #[inline]
+    fn word(&self, k: usize) -> u64 {
+        fold_four_words(
+            word_at(self.words, self.by, 4 * k),
+            word_at(self.words, self.by, 4 * k + 1),
+            word_at(self.words, self.by, 4 * k + 2),
+            word_at(self.words, self.by, 4 * k + 3),
+        )
+    }
+}
+
+/// The same of each of `count` blocks of `width` bits, block by block.
+#[derive(Drop)]
+pub struct Blocks<'a> {
+    pub words: &'a [u64],
+    pub by: usize,
+    pub width: usize,
+    pub count: usize,
+    pub ghost within_word: { by < 64 },
+    pub ghost fits: { width * count < 2 ^ 64 },
+}
+
+impl TruthValues for Blocks<'_> {
+    ghost use Rattle.polars_arrays_words.specs.Bits.{first_of};
+
+    ghost values = { λ b. first_of (block_true b.width (λ p. bit_of b.words.now (b.by + p))) b.count };
+
+    #[inline(always)]
+    fn len(&self) -> usize {
+        self.count
+    }
+
+    #[inline(always)]
+    fn value(&self, i: usize) -> bool {
+        all_set(self.words, self.by, self.width * i, self.width)
+    }
+
+    // A block lies in two words.
+    #[inline(always)]
+    fn is_wide(&self) -> bool {
+        true
+    }
+}

@@ -1,0 +1,11 @@
+//! Bits of words of 64 bits, in slices of words: read from any bit on, counted, joined by operators,
+//! packed from truth values, folded by blocks, and written.
+#![tactic(auto)]
+
+pub mod folds;
+pub mod operators;
+pub mod packing;
+pub mod runs;
+pub mod source;
+pub mod words;
+pub mod write;

@@ -1,0 +1,254 @@
+//! Operators on truth values, 64 at a time.
+
+ghost use Rattle.std.specs.Prelude.{◌≡◌, ℕ, ◌<◌, Bool, not, ◌&&◌, ◌||◌};
+ghost use Rattle.polars_arrays_words.specs.Bits.{is_bit};
+
+use crate::source::BitSource;
+
+/// An operator on one truth value, at each bit of a word.
+pub trait UnaryOperator: Drop {
+    ghost bit: { Bool → Bool };
+
+    fn apply(&self, x: u64) -> u64
+        ensures { (i : ℕ) → i < 64 → is_bit result i ≡ bit (is_bit x i) };
+}
+
+/// An operator on two truth values, at each bit of two words.
+pub trait BinaryOperator: Drop {
+    ghost bit: { Bool → Bool → Bool };
+
+    fn apply(&self, x: u64, y: u64) -> u64
+        ensures { (i : ℕ) → i < 64 → is_bit result i ≡ bit (is_bit x i) (is_bit y i) };
+}
+
+/// An operator on three truth values, at each bit of three words.
+pub trait TernaryOperator: Drop {
+    ghost bit: { Bool → Bool → Bool → Bool };
+
+    fn apply(&self, x: u64, y: u64, z: u64) -> u64
+        ensures { (i : ℕ) → i < 64 → is_bit result i ≡ bit (is_bit x i) (is_bit y i) (is_bit z i) };
+}
+
+#[derive(Drop)]
+pub struct Not;
+
+impl UnaryOperator for Not {
+    ghost bit = { not };
+
+    #[inline]
+    fn apply(&self, x: u64) -> u64 {
+        !x
+    }
+}
+
+#[derive(Drop)]
+pub struct And;
+
+impl BinaryOperator for And {
+    ghost bit = { ◌&&◌ };
+
+    #[inline]
+    fn apply(&self, x: u64, y: u64) -> u64 {
+        x & y
+    }
+}
+
+#[derive(Drop)]
+pub struct Or;
+
+impl BinaryOperator for Or {
+    ghost bit = { ◌||◌ };
+
+    #[inline]
+    fn apply(&self, x: u64, y: u64) -> u64 {
+        x | y
+    }
+}
+
+#[derive(Drop)]
+pub struct Xor;
+
+impl BinaryOperator for Xor {
+    ghost use Rattle.polars_arrays_words.specs.Logic.{xor};
+
+    ghost bit = { xor };
+
+    #[inline]
+    fn apply(&self, x: u64, y: u64) -> u64 {
+        x ^ y
+    }
+}
+
+#[derive(Drop)]
+pub struct Xnor;
+
+impl BinaryOperator for Xnor {
+    ghost use Rattle.polars_arrays_words.specs.Logic.{xnor};
+
+    ghost bit = { xnor };
+
+    #[inline]
+    fn apply(&self, x: u64, y: u64) -> u64 {
+        x ^ !y
+    }
+}
+
+#[derive(Drop)]
+pub struct AndNot;
+
+impl BinaryOperator for AndNot {
+    ghost use Rattle.polars_arrays_words.specs.Logic.{and_not};
+
+    ghost bit = { and_not };
+
+    #[inline]
+    fn apply(&self, x: u64, y: u64) -> u64 {
+        x & !y
+    }
+}
+
+#[derive(Drop)]
+pub struct OrNot;
+
+impl BinaryOperator for OrNot {
+    ghost use Rattle.polars_arrays_words.specs.Logic.{or_not};
+
+    ghost bit = { or_not };
+
+    #[inline]
+    fn apply(&self, x: u64, y: u64) -> u64 {
+        x | !y
+    }
+}
+
+/// Equality where null equals itself alone: the operands are the bits of plain equality and the two
+/// sides' validity. Rows are unequal where one side is present alone, and where both are and the
+/// values are unequal; this takes one step less than to say where they are equal.
+#[derive(Drop)]
+pub struct MergeEq;
+
+impl TernaryOperator for MergeEq {
+    ghost use Rattle.polars_arrays_words.specs.Logic.{merged_eq};
+
+    ghost bit = { merged_eq };
+
+    #[inline]
+    fn apply(&self, x: u64, y: u64, z: u64) -> u64 {
+        !((y & !x) | (y ^ z))
+    }
+}
+
+/// Inequality where null equals itself alone: the operands are the bits of plain inequality and the two
+/// sides' validity. Where one side is present alone the second part says so, and elsewhere one side's
+/// validity is that of both.
+#[derive(Drop)]
+pub struct MergeNe;
+
+impl TernaryOperator for MergeNe {
+    ghost use Rattle.polars_arrays_words.specs.Logic.{merged_ne};
+
+    ghost bit = { merged_ne };
+
+    #[inline]
+    fn apply(&self, x: u64, y: u64, z: u64) -> u64 {
+        (x & y) | (y ^ z)
+    }
+}
+
+/// An operator applied to one source.
+#[derive(Drop)]
+pub struct Mapped<O, A> {
+    pub operator: O,
+    pub source: A,
+}
+
+impl<O: UnaryOperator, A: BitSource> BitSource for Mapped<O, A> {
+    ghost bit = { λ s i. O.bit (A.bit s.source i) };
+
+    ghost inner = { λ s. A.inner s.source };
+
+    #[inline]
+    fn inner_words(&self) -> usize {
+        self.source.inner_words()
+    }
+
+    #[inline]
+    fn inner_word(&self, k: usize) -> u64 {
+        self.operator.apply(self.source.inner_word(k))
+    }
+
+    #[inline]
+    fn word(&self, k: usize) -> u64 {
+        self.operator.apply(self.source.word(k))
+    }
+}
+
+/// An operator applied to two sources.
+#[derive(Drop)]
+pub struct Zipped<O, A, B> {
+    pub operator: O,
+    pub left: A,
+    pub right: B,
+}
+
+impl<O: BinaryOperator, A: BitSource, B: BitSource> BitSource for Zipped<O, A, B> {
+    ghost use Rattle.std.specs.Prelude.{min};
+
+    ghost bit = { λ s i. O.bit (A.bit s.left i) (B.bit s.right i) };
+
+    ghost inner = { λ s. min (A.inner s.left) (B.inner s.right) };
+
+    #[inline]
+    fn inner_words(&self) -> usize {
+        self.left.inner_words().min(self.right.inner_words())
+    }
+
+    #[inline]
+    fn inner_word(&self, k: usize) -> u64 {
+        self.operator
+            .apply(self.left.inner_word(k), self.right.inner_word(k))
+    }
+
+    #[inline]
+    fn word(&self, k: usize) -> u64 {
+        self.operator.apply(self.left.word(k), self.right.word(k))
+    }
+}
+
+/// An operator applied to three sources.
+#[derive(Drop)]
+pub struct Merged<O, A, B, C> {
+    pub operator: O,
+    pub first: A,
+    pub second: B,
+    pub third: C,
+}
+
+impl<O: TernaryOperator, A: BitSource, B: BitSource, C: BitSource> BitSource
+    for Merged<O, A, B, C> {
+    ghost use Rattle.std.specs.Prelude.{min};
+
+    ghost bit = { λ s i. O.bit (A.bit s.first i) (B.bit s.second i) (C.bit s.third i) };
+
+    ghost inner = { λ s. min (A.inner s.first) (min (B.inner s.second) (C.inner s.third)) };
+
+    #[inline]
+    fn inner_words(&self) -> usize {
+        let others = self.second.inner_words().min(self.third.inner_words());
+        self.first.inner_words().min(others)
+    }
+
+    #[inline]
+    fn inner_word(&self, k: usize) -> u64 {
+        self.operator.apply(
+            self.first.inner_word(k),
+            self.second.inner_word(k),
+            self.third.inner_word(k),
+        )
+    }
+
+    #[inline]
+    fn word(&self, k: usize) -> u64 {
+        self.operator.apply(self.first.word(k), self.second.word(k), self.third.word(k))
+    }
+}

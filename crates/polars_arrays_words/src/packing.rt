@@ -1,0 +1,205 @@
+//! Truth values that are asked for one by one, packed into words.
+
+ghost use Rattle.std.specs.Prelude.{◌≡◌, ℕ, ◌+◌, ◌-◌, ◌^◌, ◌<◌, ◌≤◌, Bool, List, false, not, ◌||◌, eqb, length, get_or, slice_index_or};
+ghost use Rattle.polars_arrays_words.specs.Bits.{is_bit};
+ghost use Rattle.polars_arrays_words.specs.Packing.{IsMarked, IsPacked};
+
+use crate::source::BitSource;
+use crate::words::WORD_BITS;
+use std::simd::prelude::*;
+
+/// Truth values that can be asked for one by one.
+pub trait TruthValues {
+    // The truth values, the first one first.
+    ghost values: { Self → List Bool };
+
+    /// How many truth values there are.
+    fn len(&self) -> usize
+        ensures { result ≡ length (values self.now) };
+
+    /// The truth value at place `i`.
+    fn value(&self, i: usize) -> bool
+        requires { i < length (values self.now) }
+        ensures { result ≡ slice_index_or (values self.now) i false };
+
+    /// Whether a truth value is found from more than 64 bits. The way of packing is chosen by it, and
+    /// no answer depends on it.
+    #[inline(always)]
+    fn is_wide(&self) -> bool {
+        false
+    }
+}
+
+// The word whose bits say which flags are not 0.
+#[inline(always)]
+fn pack_flags(flags: &[u8; 64]) -> u64
+    ensures { (i : ℕ) → i < 64 → is_bit result i ≡ not (eqb (get_or flags.now i 0) 0) }
+{
+    u8x64::from_array(*flags)
+        .simd_ne(u8x64::splat(0))
+        .to_bitmask()
+}
+
+// Marks the next `count` truth values, which stand from place `at + done` on.
+#[inline(always)]
+fn mark_next<V: TruthValues>(flags: &mut [u8; 64], values: &V, at: usize, done: usize, count: usize)
+    requires marked { IsMarked flags.old (V.values values.now) at done }
+    requires few { done + count ≤ 64 }
+    requires within { at + (done + count) ≤ length (V.values values.now) }
+    requires fits { at + (done + count) < 2 ^ 64 }
+    ensures { IsMarked flags.new (V.values values.now) at (done + count) }
+{
+    for i in done..done + count {
+        flags[i] = u8::from(values.value(at + i));
+    }
+}
+
+// The word of the `count` truth values from place `at` on, with zeros behind them, by flags of a
+// byte each. They go by sixteens: a loop of that known length becomes code without branches.
+#[inline(always)]
+fn pack_by_flags<V: TruthValues>(values: &V, at: usize, count: usize) -> u64
+    requires few { count ≤ 64 }
+    requires within { at + count ≤ length (V.values values.now) }
+    requires fits { at + count < 2 ^ 64 }
+    ensures { IsPacked result (V.values values.now) at count }
+{
+    let mut flags = [0u8; 64];
+    for sixteen in 0..count / 16 {
+        mark_next(&mut flags, values, at, 16 * sixteen, 16);
+    }
+    let rest = count % 16;
+    mark_next(&mut flags, values, at, count - rest, rest);
+    pack_flags(&flags)
+}
+
+/// The word with the bits of `more` put in from bit `by` on.
+#[inline(always)]
+pub fn put(word: u64, more: u64, by: usize) -> u64
+    requires { by < 64 }
+    ensures below { (i : ℕ) → i < by → is_bit result i ≡ is_bit word i }
+    ensures above { (i : ℕ) → i < 64 - by → is_bit result (by + i) ≡ (is_bit word (by + i) || is_bit more i) }
+{
+    word | (more << by)
+}
+
+// The word of the `count` truth values from place `at` on, with zeros behind them, bit by bit.
+#[inline(always)]
+fn pack_bits<V: TruthValues>(values: &V, at: usize, count: usize) -> u64
+    requires few { count ≤ 64 }
+    requires within { at + count ≤ length (V.values values.now) }
+    requires fits { at + count < 2 ^ 64 }
+    ensures { IsPacked result (V.values values.now) at count }
+{
+    let mut word = 0;
+    for i in 0..count {
+        word = put(word, u64::from(values.value(at + i)), i);
+    }
+    word
+}
+
+// The same by eights: what is known of eight wide elements stays in registers until it is a byte.
+#[inline(always)]
+fn pack_by_bytes<V: TruthValues>(values: &V, at: usize, count: usize) -> u64
+    requires few { count ≤ 64 }
+    requires within { at + count ≤ length (V.values values.now) }
+    requires fits { at + count < 2 ^ 64 }
+    ensures { IsPacked result (V.values values.now) at count }
+{
+    let mut word = 0;
+    for eight in 0..count / 8 {
+        word = put(word, pack_bits(values, at + 8 * eight, 8), 8 * eight);
+    }
+    let rest = count % 8;
+    if rest > 0 {
+        word = put(
+            word,
+            pack_bits(values, at + (count - rest), rest),
+            count - rest,
+        );
+    }
+    word
+}
+
+// The word of the `count` truth values from place `at` on, with zeros behind them.
+#[inline(always)]
+pub(crate) fn pack_word<V: TruthValues>(values: &V, at: usize, count: usize) -> u64
+    requires few { count ≤ 64 }
+    requires within { at + count ≤ length (V.values values.now) }
+    requires fits { at + count < 2 ^ 64 }
+    ensures { IsPacked result (V.values values.now) at count }
+{
+    if values.is_wide() {
+        pack_by_bytes(values, at, count)
+    } else {
+        pack_by_flags(values, at, count)
+    }
+}
+
+// The same where `count` is found as the code runs: flags cost a few steps whatever their number, so
+// that they pay from sixteen on.
+#[inline(always)]
+pub(crate) fn pack_few<V: TruthValues>(values: &V, at: usize, count: usize) -> u64
+    requires few { count ≤ 64 }
+    requires within { at + count ≤ length (V.values values.now) }
+    requires fits { at + count < 2 ^ 64 }
+    ensures { IsPacked result (V.values values.now) at count }
+{
+    if count < 16 {
+        pack_bits(values, at, count)
+    } else {
+        pack_word(values, at, count)
+    }
+}
+
+/// Truth values as the bits of words, and false after them.
+#[derive(Drop)]
+pub struct Packed<'a, V> {
+    pub values: &'a V,
+}
+
+impl<'a, V: TruthValues> BitSource for Packed<'a, V> {
+    ghost use Rattle.std.specs.Prelude.{◌/◌, false, length, get_or};
+
+    ghost bit = { λ s i. get_or (V.values s.values.now) i false };
+
+    ghost inner = { λ s. length (V.values s.values.now) / 64 };
+
+    #[inline]
+    fn inner_words(&self) -> usize {
+        self.values.len() / WORD_BITS
+    }
+
+    #[inline]
+    fn inner_word(&self, k: usize) -> u64 {
+        // No effect at run time. The proof reads from it that places are numbers of 64 bits.
+        let _len = self.values.len();
+        pack_word(self.values, WORD_BITS * k, WORD_BITS)
+    }
+
+    #[inline]
+    fn word(&self, k: usize) -> u64 {
+        let len = self.values.len();
+        let at = (WORD_BITS * k).min(len);
+        pack_word(self.values, at, (len - at).min(WORD_BITS))
+    }
+}
+
+/// The truth values of a slice.
+#[derive(Drop)]
+pub struct Bools<'a> {
+    pub values: &'a [bool],
+}
+
+impl TruthValues for Bools<'_> {
+    ghost values = { λ b. b.values.now };
+
+    #[inline]
+    fn len(&self) -> usize {
+        self.values.len()
+    }
+
+    #[inline]
+    fn value(&self, i: usize) -> bool {
+        self.values[i]
+    }
+}

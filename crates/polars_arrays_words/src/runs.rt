@@ -1,0 +1,48 @@
+//! Whether runs of bits are true throughout.
+
+ghost use Rattle.std.specs.Prelude.{◌≡◌, ◌+◌, ◌^◌, ◌<◌, ◌≤◌};
+ghost use Rattle.std.specs.List.{list_all};
+ghost use Rattle.polars_arrays_words.specs.Bits.{window};
+
+use crate::words::{WORD_BITS, word_from};
+
+// Whether the `n` bits from bit `at` on, at most a word of them, of those that begin `by` bits into
+// the first word are all true.
+#[inline]
+fn few_set(words: &[u64], by: usize, at: usize, n: usize) -> bool
+    requires by { by < 64 }
+    requires few { n ≤ 64 }
+    ensures { result ≡ list_all (λ b. b) (window words.now (by + at) n) }
+{
+    n <= word_from(words, by, at).trailing_ones() as usize
+}
+
+// The same for any number of bits, up to the first word that has a false one.
+fn many_set(words: &[u64], by: usize, at: usize, n: usize) -> bool
+    requires by { by < 64 }
+    requires fits { at + n < 2 ^ 64 }
+    ensures { result ≡ list_all (λ b. b) (window words.now (by + at) n) }
+{
+    for k in 0..n / WORD_BITS {
+        if !few_set(words, by, at + WORD_BITS * k, WORD_BITS) {
+            return false;
+        }
+    }
+    let rest = n % WORD_BITS;
+    few_set(words, by, at + (n - rest), rest)
+}
+
+/// Whether the `n` bits from bit `at` on of those that begin `by` bits into the first word are all
+/// true.
+#[inline]
+pub fn all_set(words: &[u64], by: usize, at: usize, n: usize) -> bool
+    requires by { by < 64 }
+    requires fits { at + n < 2 ^ 64 }
+    ensures { result ≡ list_all (λ b. b) (window words.now (by + at) n) }
+{
+    if n <= WORD_BITS {
+        few_set(words, by, at, n)
+    } else {
+        many_set(words, by, at, n)
+    }
+}

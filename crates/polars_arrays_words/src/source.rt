@@ -1,0 +1,203 @@
+//! Bits that are read 64 at a time.
+
+ghost use Rattle.std.specs.Prelude.{◌≡◌, ℕ, ◌+◌, ◌-◌, ◌*◌, ◌^◌, ◌<◌, ◌≤◌, Bool, [], length, vec_capacity, count_by, IfOk};
+ghost use Rattle.polars_arrays_words.specs.Bits.{bit_of, window, true_count, IsWord, AreWords};
+
+use crate::words::{WORD_BITS, join, word_or_zero};
+use std::alloc::{AllocError, Global};
+
+/// Bits that are read 64 at a time, each 64 of them as the bits of a word, the lowest first.
+pub trait BitSource {
+    ghost bit: { Self → ℕ → Bool };
+
+    ghost inner: { Self → ℕ };
+
+    /// How many of the first words `inner_word` can read.
+    fn inner_words(&self) -> usize
+        ensures { result ≡ inner self.now };
+
+    /// Word `k`, with no test for an end.
+    fn inner_word(&self, k: usize) -> u64
+        requires { k < inner self.now }
+        ensures { IsWord (bit self.now) k result };
+
+    /// Word `k`.
+    fn word(&self, k: usize) -> u64
+        requires { k < 2 ^ 58 }
+        ensures { IsWord (bit self.now) k result };
+}
+
+/// The bits of words, from the first one's lowest on, and zeros after them.
+#[derive(Drop)]
+pub struct Aligned<'a> {
+    pub words: &'a [u64],
+}
+
+impl BitSource for Aligned<'_> {
+    ghost bit = { λ s i. bit_of s.words.now i };
+
+    ghost inner = { λ s. length s.words.now };
+
+    #[inline]
+    fn inner_words(&self) -> usize {
+        self.words.len()
+    }
+
+    #[inline]
+    fn inner_word(&self, k: usize) -> u64 {
+        self.words[k]
+    }
+
+    #[inline]
+    fn word(&self, k: usize) -> u64 {
+        word_or_zero(self.words, k)
+    }
+}
+
+/// The bits of words, from bit `by` of the first one on, which is not its lowest, and zeros after them.
+#[derive(Drop)]
+pub struct Shifted<'a> {
+    pub words: &'a [u64],
+    pub by: usize,
+    pub ghost some: { 0 < by },
+    pub ghost within_word: { by < 64 },
+}
+
+impl BitSource for Shifted<'_> {
+    ghost bit = { λ s i. bit_of s.words.now (s.by + i) };
+
+    ghost inner = { λ s. length s.words.now - 1 };
+
+    #[inline]
+    fn inner_words(&self) -> usize {
+        self.words.len().saturating_sub(1)
+    }
+
+    #[inline]
+    fn inner_word(&self, k: usize) -> u64 {
+        join(self.words[k], self.words[k + 1], self.by)
+    }
+
+    #[inline]
+    fn word(&self, k: usize) -> u64 {
+        join(
+            word_or_zero(self.words, k),
+            word_or_zero(self.words, k + 1),
+            self.by,
+        )
+    }
+}
+
+// The first `to` words, read with no test for an end, appended to none.
+#[inline(always)]
+fn push_inner_words<S: BitSource>(words: &mut Vec<u64>, source: &S, to: usize)
+    requires inner { to ≤ S.inner source.now }
+    requires room { to ≤ vec_capacity words.old }
+    requires none { words.old.items ≡ [] }
+    ensures words { AreWords (S.bit source.now) to words.new.items }
+    ensures room { vec_capacity words.new ≡ vec_capacity words.old }
+{
+    for k in 0..to {
+        words.push_reserved(source.inner_word(k));
+    }
+}
+
+// The words from `from` to `to`, appended to those before them.
+#[inline(always)]
+fn push_words<S: BitSource>(words: &mut Vec<u64>, source: &S, from: usize, to: usize)
+    requires order { from ≤ to }
+    requires few { to ≤ 2 ^ 58 }
+    requires room { to ≤ vec_capacity words.old }
+    requires before { AreWords (S.bit source.now) from words.old.items }
+    ensures { AreWords (S.bit source.now) to words.new.items }
+{
+    for k in from..to {
+        words.push_reserved(source.word(k));
+    }
+}
+
+/// The first `count` words of a source.
+#[inline(always)]
+pub fn collect_words<S: BitSource>(
+    alloc: Global,
+    source: &S,
+    count: usize,
+) -> Result<Vec<u64>, AllocError>
+    requires { count ≤ 2 ^ 58 }
+    ensures { IfOk result (λ words. AreWords (S.bit source.now) count words.items) }
+{
+    let mut words = Vec::with_capacity(alloc, count)?;
+    let inner = source.inner_words().min(count);
+    push_inner_words(&mut words, source, inner);
+    push_words(&mut words, source, inner, count);
+    Ok(words)
+}
+
+// How many bits of the four words from word `k` on are set, read with no test for an end.
+#[inline(always)]
+fn count_four_words<S: BitSource>(source: &S, k: usize) -> usize
+    requires inner { k + 4 ≤ S.inner source.now }
+    requires fits { k + 4 < 2 ^ 64 }
+    ensures { true_count (S.bit source.now) (64 * (k + 4)) ≡ true_count (S.bit source.now) (64 * k) + result }
+{
+    let first = source.inner_word(k).count_ones();
+    let second = source.inner_word(k + 1).count_ones();
+    let third = source.inner_word(k + 2).count_ones();
+    let fourth = source.inner_word(k + 3).count_ones();
+    (first + second + third + fourth) as usize
+}
+
+// How many bits of the first `fours` times four words are set, read with no test for an end. By
+// fours a loop has few steps of its own.
+#[inline(always)]
+fn count_inner_words<S: BitSource>(source: &S, fours: usize) -> usize
+    requires inner { 4 * fours ≤ S.inner source.now }
+    requires few { 64 * (4 * fours) < 2 ^ 64 }
+    ensures { result ≡ true_count (S.bit source.now) (64 * (4 * fours)) }
+{
+    let mut counted = 0;
+    for four in 0..fours {
+        counted += count_four_words(source, 4 * four);
+    }
+    counted
+}
+
+// How many bits of the first `to` words are set, where `before` bits of the first `from` are.
+#[inline(always)]
+fn count_words<S: BitSource>(source: &S, before: usize, from: usize, to: usize) -> usize
+    requires order { from ≤ to }
+    requires few { 64 * to < 2 ^ 64 }
+    requires before { before ≡ true_count (S.bit source.now) (64 * from) }
+    ensures { result ≡ true_count (S.bit source.now) (64 * to) }
+{
+    let mut counted = before;
+    for k in from..to {
+        counted += source.word(k).count_ones() as usize;
+    }
+    counted
+}
+
+/// How many of the first `len` bits are set.
+#[inline(always)]
+pub fn count_bits<S: BitSource>(source: &S, len: usize) -> usize
+    ensures { result ≡ true_count (S.bit source.now) len }
+{
+    let whole = len / WORD_BITS;
+    let fours = source.inner_words().min(whole) / 4;
+    let counted = count_inner_words(source, fours);
+    let counted = count_words(source, counted, 4 * fours, whole);
+    let last = source.word(whole) & ((1 << (len % WORD_BITS)) - 1);
+    counted + last.count_ones() as usize
+}
+
+/// How many of the `len` bits are set that begin `by` bits into the first word.
+pub fn count_window(words: &[u64], by: usize, len: usize) -> usize
+    requires { by < 64 }
+    ensures { result ≡ count_by (λ b. b) (window words.now by len) }
+{
+    if by == 0 {
+        count_bits(&Aligned { words }, len)
+    } else {
+        count_bits(&Shifted { words, by }, len)
+    }
+}

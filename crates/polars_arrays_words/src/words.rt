@@ -1,0 +1,109 @@
+//! Single bits and runs of bits of 64-bit words.
+
+ghost use Rattle.std.specs.Prelude.{◌≡◌, ℕ, ◌+◌, ◌-◌, ◌*◌, ◌/◌, ◌%◌, ◌^◌, ◌<◌, ◌≤◌, List, [], ◌∷◌, length, get_or, take, drop};
+ghost use Rattle.polars_arrays_words.specs.Bits.{is_bit, bit_of};
+
+/// How many bits a word has.
+pub const WORD_BITS: usize = 64;
+
+// A word, or 0 past the end.
+#[inline]
+pub(crate) fn word_or_zero(words: &[u64], k: usize) -> u64
+    ensures { result ≡ get_or words.now k 0 }
+{
+    if k < words.len() { words[k] } else { 0 }
+}
+
+// The 64 bits from bit `by` of `low` on, where `high` is the next word. Bit 0 would be a word as it
+// is, and one shift more.
+#[inline]
+pub(crate) fn join(low: u64, high: u64, by: usize) -> u64
+    requires some { 0 < by }
+    requires within_word { by < 64 }
+    ensures { (i : ℕ) → i < 64 → is_bit result i ≡ bit_of (low ∷ high ∷ []) (by + i) }
+{
+    (low >> by) | (high << (64 - by))
+}
+
+// The same from any bit on. This becomes one shift of two words, without a branch.
+#[inline]
+pub(crate) fn join_from(low: u64, high: u64, by: usize) -> u64
+    requires { by < 64 }
+    ensures { (i : ℕ) → i < 64 → is_bit result i ≡ bit_of (low ∷ high ∷ []) (by + i) }
+{
+    if by == 0 { low } else { join(low, high, by) }
+}
+
+// The 64 bits from bit `at` on of those that begin `by` bits into the first word, and zeros past the
+// end.
+#[inline]
+pub(crate) fn word_from(words: &[u64], by: usize, at: usize) -> u64
+    requires { by < 64 }
+    ensures { (i : ℕ) → i < 64 → is_bit result i ≡ bit_of words.now (by + at + i) }
+{
+    let begin = by + at % WORD_BITS;
+    let k = at / WORD_BITS + begin / WORD_BITS;
+    join_from(
+        word_or_zero(words, k),
+        word_or_zero(words, k + 1),
+        begin % WORD_BITS,
+    )
+}
+
+/// Bit `i` of those that begin `by` bits into the first word.
+#[inline]
+pub fn bit_from(words: &[u64], by: usize, i: usize) -> bool
+    requires by { by < 64 }
+    requires within { by + i < 64 * length words.now }
+    ensures { result ≡ bit_of words.now (by + i) }
+{
+    let place = by + i % WORD_BITS;
+    (words[i / WORD_BITS + place / WORD_BITS] >> (place % WORD_BITS)) & 1 == 1
+}
+
+/// The words in which a run of bits lies.
+#[derive(Drop)]
+pub struct Place {
+    /// The first of them.
+    pub first: usize,
+    /// How many there are.
+    pub count: usize,
+    /// How far into the first one the run begins.
+    pub by: usize,
+}
+
+impl Place {
+    /// These words.
+    pub fn words_of<'a>(&self, words: &'a [u64]) -> &'a [u64]
+        requires { self.now.first + self.now.count ≤ length words.now }
+        ensures { result.now ≡ take self.now.count (drop self.now.first words.now) }
+    {
+        &words[self.first..self.first + self.count]
+    }
+}
+
+/// Where `n` bits lie that begin `at` bits after bit `by` of the first word.
+pub fn place_of(by: usize, at: usize, n: usize) -> Place
+    requires { by < 64 }
+    ensures within_word { result.by < 64 }
+    ensures begin { 64 * result.first + result.by ≡ by + at }
+    ensures enough { result.by + n ≤ 64 * result.count }
+    ensures least { 64 * result.count < result.by + n + 64 }
+{
+    let begin = by + at % WORD_BITS;
+    let by = begin % WORD_BITS;
+    let end = by + n % WORD_BITS;
+    Place {
+        first: at / WORD_BITS + begin / WORD_BITS,
+        count: n / WORD_BITS + end.div_ceil(WORD_BITS),
+        by,
+    }
+}
+
+/// The word whose 64 bits are all `value`.
+#[inline]
+pub fn filled_word(value: bool) -> u64
+    ensures { (i : ℕ) → i < 64 → is_bit result i ≡ value }
+{
+    if value { u64::MAX } else { 0 }
+}

@@ -1,0 +1,141 @@
+//! Bits that are written into words.
+
+ghost use Rattle.std.specs.Prelude.{◌≡◌, ◌+◌, ◌*◌, ◌^◌, ◌<◌, ◌≤◌, Bool, length, slice_set};
+ghost use Rattle.polars_arrays_words.specs.Bits.{IsMerged, IsPut, IsWritten};
+ghost use Rattle.polars_arrays_words.specs.Packing.{AreAppended};
+
+use crate::operators::BinaryOperator;
+use crate::packing::{TruthValues, pack_few, pack_word, put};
+use crate::source::BitSource;
+use crate::words::{WORD_BITS, filled_word, word_or_zero};
+
+/// Bit `p` becomes `value`, and no other changes.
+#[inline]
+pub fn write_bit(words: &mut [u64], p: usize, value: bool)
+    requires { p < 64 * length words.old }
+    ensures { IsWritten words.old words.new p (p + 1) value }
+{
+    let word = words[p / WORD_BITS];
+    let mask = 1u64 << (p % WORD_BITS);
+    words[p / WORD_BITS] = if value { word | mask } else { word & !mask };
+}
+
+// The bits from `from` to `to` become `value`, and no others change.
+fn write_bits(words: &mut [u64], from: usize, to: usize, value: bool)
+    requires order { from ≤ to }
+    requires room { to ≤ 64 * length words.old }
+    ensures { IsWritten words.old words.new from to value }
+{
+    for p in from..to {
+        write_bit(words, p, value);
+    }
+}
+
+// All bits of the words from `from` to `to` become `value`, and no others change.
+fn write_words(words: &mut [u64], from: usize, to: usize, value: bool)
+    requires order { from ≤ to }
+    requires room { to ≤ length words.old }
+    ensures { IsWritten words.old words.new (64 * from) (64 * to) value }
+{
+    let word = filled_word(value);
+    for k in from..to {
+        words[k] = word;
+    }
+}
+
+/// The bits from `from` to `to` become `value`, whole words at a time, and no others change.
+pub fn fill_bits(words: &mut [u64], from: usize, to: usize, value: bool)
+    requires order { from ≤ to }
+    requires room { to ≤ 64 * length words.old }
+    ensures { IsWritten words.old words.new from to value }
+{
+    let first = from.div_ceil(WORD_BITS);
+    let last = to / WORD_BITS;
+    if first < last {
+        write_bits(words, from, WORD_BITS * first, value);
+        write_words(words, first, last, value);
+        write_bits(words, WORD_BITS * last, to, value);
+    } else {
+        write_bits(words, from, to, value);
+    }
+}
+
+// Word `k` becomes `word`, where there is one.
+#[inline]
+fn set_word(words: &mut [u64], k: usize, word: u64)
+    ensures { words.new ≡ slice_set words.old k word }
+{
+    if k < words.len() {
+        words[k] = word;
+    }
+}
+
+// The 64 bits from bit `p` on become those of `word`, as far as there are words, and no bit before
+// them changes. Bits behind them may.
+#[inline]
+fn put_word(words: &mut [u64], p: usize, word: u64)
+    ensures { IsPut words.old words.new p word }
+{
+    let k = p / WORD_BITS;
+    let by = p % WORD_BITS;
+    let before = word_or_zero(words, k) & ((1 << by) - 1);
+    set_word(words, k, put(before, word, by));
+    set_word(words, k + 1, (word >> 1) >> (WORD_BITS - 1 - by));
+}
+
+/// The bits from bit `from` on become the truth values, a word of them at a time, and no bit before
+/// them changes. Bits behind them may.
+pub fn append_values<V: TruthValues>(words: &mut [u64], from: usize, values: &V)
+    requires room { from + length (V.values values.now) ≤ 64 * length words.old }
+    requires fits { from + length (V.values values.now) < 2 ^ 64 }
+    ensures { AreAppended words.old words.new from (V.values values.now) (length (V.values values.now)) }
+{
+    let len = values.len();
+    for k in 0..len / WORD_BITS {
+        let at = WORD_BITS * k;
+        put_word(words, from + at, pack_word(values, at, WORD_BITS));
+    }
+    let rest = len % WORD_BITS;
+    put_word(
+        words,
+        from + (len - rest),
+        pack_few(values, len - rest, rest),
+    );
+}
+
+/// The first `to` words become the operator's results with the source's, which are read with no test
+/// for an end.
+#[inline(always)]
+pub fn merge_inner_words<O: BinaryOperator, S: BitSource>(
+    words: &mut [u64],
+    operator: &O,
+    source: &S,
+    to: usize,
+)
+    requires within { to ≤ length words.old }
+    requires inner { to ≤ S.inner source.now }
+    ensures { IsMerged O.bit (S.bit source.now) words.old words.new 0 to }
+{
+    for k in 0..to {
+        words[k] = operator.apply(words[k], source.inner_word(k));
+    }
+}
+
+/// The words from `from` to `to` become the operator's results with the source's.
+#[inline(always)]
+pub fn merge_words<O: BinaryOperator, S: BitSource>(
+    words: &mut [u64],
+    operator: &O,
+    source: &S,
+    from: usize,
+    to: usize,
+)
+    requires order { from ≤ to }
+    requires within { to ≤ length words.old }
+    requires few { to ≤ 2 ^ 58 }
+    ensures { IsMerged O.bit (S.bit source.now) words.old words.new from to }
+{
+    for k in from..to {
+        words[k] = operator.apply(words[k], source.word(k));
+    }
+}
