@@ -38,7 +38,7 @@ pub trait BytesEqKernel: ByteRows + Sized {
     }
 
     /// Where the rows are equal to the byte string; no null is.
-    fn tot_eq_missing_kernel_broadcast(
+    final fn tot_eq_missing_kernel_broadcast(
         &self,
         alloc: Global,
         other: &[u8],
@@ -53,7 +53,7 @@ pub trait BytesEqKernel: ByteRows + Sized {
     }
 
     /// Where the rows are unequal to the byte string; each null is.
-    fn tot_ne_missing_kernel_broadcast(
+    final fn tot_ne_missing_kernel_broadcast(
         &self,
         alloc: Global,
         other: &[u8],
@@ -89,7 +89,7 @@ pub trait TextEqKernel: ByteRows + Sized {
     }
 
     /// Where the rows are equal to the text; no null is.
-    fn tot_eq_missing_kernel_broadcast(
+    final fn tot_eq_missing_kernel_broadcast(
         &self,
         alloc: Global,
         other: &str,
@@ -104,7 +104,7 @@ pub trait TextEqKernel: ByteRows + Sized {
     }
 
     /// Where the rows are unequal to the text; each null is.
-    fn tot_ne_missing_kernel_broadcast(
+    final fn tot_ne_missing_kernel_broadcast(
         &self,
         alloc: Global,
         other: &str,

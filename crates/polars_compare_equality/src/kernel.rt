@@ -104,7 +104,11 @@ pub trait TotalEqKernel: Sized + Array {
             (RawEquality false ⊤ (Self.mask self.now) None (Self.slots self.now) (replicate (length (Self.slots self.now)) (scalar_row other.now))) };
 
     /// Where the rows are equal, null to null alone.
-    fn tot_eq_missing_kernel(&self, alloc: Global, other: &Self) -> Result<Bitmap, ComputeError>
+    final fn tot_eq_missing_kernel(
+        &self,
+        alloc: Global,
+        other: &Self,
+    ) -> Result<Bitmap, ComputeError>
         requires good { Self.good self.now }
         requires good_other { Self.good other.now }
         requires comparable { comparable self.now other.now }
@@ -123,7 +127,11 @@ pub trait TotalEqKernel: Sized + Array {
     }
 
     /// Where the rows are unequal, null to all but null.
-    fn tot_ne_missing_kernel(&self, alloc: Global, other: &Self) -> Result<Bitmap, ComputeError>
+    final fn tot_ne_missing_kernel(
+        &self,
+        alloc: Global,
+        other: &Self,
+    ) -> Result<Bitmap, ComputeError>
         requires good { Self.good self.now }
         requires good_other { Self.good other.now }
         requires comparable { comparable self.now other.now }
@@ -142,7 +150,7 @@ pub trait TotalEqKernel: Sized + Array {
     }
 
     /// Where the rows are equal to the scalar; no null is.
-    fn tot_eq_missing_kernel_broadcast(
+    final fn tot_eq_missing_kernel_broadcast(
         &self,
         alloc: Global,
         other: &Self::Scalar,
@@ -158,7 +166,7 @@ pub trait TotalEqKernel: Sized + Array {
     }
 
     /// Where the rows are unequal to the scalar; each null is.
-    fn tot_ne_missing_kernel_broadcast(
+    final fn tot_ne_missing_kernel_broadcast(
         &self,
         alloc: Global,
         other: &Self::Scalar,

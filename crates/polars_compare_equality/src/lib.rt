@@ -8,14 +8,8 @@ mod dictionaries;
 mod fixed_size_lists;
 pub mod kernel;
 mod lists;
-#[cfg(test)]
-mod nested_tests;
 mod null;
 mod numbers;
-#[cfg(test)]
-mod string_tests;
 mod structs;
-#[cfg(test)]
-mod tests;
 mod texts;
 mod views;

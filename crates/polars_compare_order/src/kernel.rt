@@ -36,7 +36,7 @@ pub trait TotalOrdKernel: Sized + Array {
             IsMemory };
 
     /// Where a row is greater than the other one.
-    fn tot_gt_kernel(&self, alloc: Global, other: &Self) -> Result<Bitmap, ComputeError>
+    final fn tot_gt_kernel(&self, alloc: Global, other: &Self) -> Result<Bitmap, ComputeError>
         requires { length (Self.slots other.now) ≡ length (Self.slots self.now) }
         ensures { MatchResult result
             (RawOrder row_greater (Self.mask self.now) (Self.mask other.now) (Self.slots self.now) (Self.slots other.now))
@@ -46,7 +46,7 @@ pub trait TotalOrdKernel: Sized + Array {
     }
 
     /// Where a row is greater than the other one or equal to it.
-    fn tot_ge_kernel(&self, alloc: Global, other: &Self) -> Result<Bitmap, ComputeError>
+    final fn tot_ge_kernel(&self, alloc: Global, other: &Self) -> Result<Bitmap, ComputeError>
         requires { length (Self.slots other.now) ≡ length (Self.slots self.now) }
         ensures { MatchResult result
             (RawOrder row_at_least (Self.mask self.now) (Self.mask other.now) (Self.slots self.now) (Self.slots other.now))
