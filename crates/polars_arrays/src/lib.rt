@@ -16,6 +16,3 @@ pub use polars_arrays_nested::{
 };
 pub use polars_arrays_numbers::{dictionary_key, element_test, native_type, offset, steps};
 pub use polars_arrays_views::{binary_view, text_view, view};
-
-#[cfg(test)]
-mod tests;

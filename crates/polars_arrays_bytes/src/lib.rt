@@ -6,6 +6,4 @@ pub mod fixed_size;
 pub mod of_size;
 pub mod offset_type;
 pub mod offsets;
-#[cfg(test)]
-mod tests;
 pub mod text;

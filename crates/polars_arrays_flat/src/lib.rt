@@ -11,6 +11,4 @@ pub mod data_type;
 mod fill;
 pub mod null;
 pub mod primitive;
-#[cfg(test)]
-mod tests;
 pub mod validity;

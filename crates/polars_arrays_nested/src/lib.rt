@@ -10,6 +10,4 @@ pub mod laws;
 pub mod list;
 pub mod list_offsets;
 pub mod struct_array;
-#[cfg(test)]
-mod tests;
 pub mod types;

@@ -6,5 +6,3 @@ pub mod element_test;
 pub mod native_type;
 pub mod offset;
 pub mod steps;
-#[cfg(test)]
-mod tests;

@@ -5,7 +5,5 @@
 pub mod binary_view;
 pub mod rows;
 pub mod scalar;
-#[cfg(test)]
-mod tests;
 pub mod text_view;
 pub mod view;

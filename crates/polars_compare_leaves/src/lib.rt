@@ -6,5 +6,3 @@ pub mod bytes;
 pub mod joining;
 pub mod numbers;
 pub mod row_test;
-#[cfg(test)]
-mod tests;

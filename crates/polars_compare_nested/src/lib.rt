@@ -4,8 +4,6 @@
 pub mod broadcasts;
 mod entries;
 mod items;
-#[cfg(test)]
-mod kernel_tests;
 pub mod kernels;
 pub mod laws;
 pub mod leaf_kernel;
@@ -16,8 +14,4 @@ mod runs;
 pub mod sized;
 mod spans;
 mod structs;
-#[cfg(test)]
-mod test_arrays;
-#[cfg(test)]
-mod tests;
 pub mod windows;

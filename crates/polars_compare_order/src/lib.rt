@@ -6,8 +6,4 @@ pub mod borrowed;
 mod bytes;
 pub mod kernel;
 mod numbers;
-#[cfg(test)]
-mod string_tests;
-#[cfg(test)]
-mod tests;
 mod views;

@@ -3,7 +3,5 @@
 #![tactic(auto)]
 
 pub mod followed;
-#[cfg(test)]
-mod tests;
 pub mod view_test;
 pub mod windows;
