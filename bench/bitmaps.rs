@@ -5,50 +5,69 @@ use crate::plain::{self, Window};
 use crate::timing::{Asked, Bench, Kernel, RUNS, bit_of, repeat};
 use std::hint::black_box;
 
-/// Entry points whose operands are three slices of words, the windows' shift and length in bits.
-macro_rules! logic {
-    ($($entry:ident)*) => {
-        #[allow(improper_ctypes)]
-        unsafe extern "C" {
-            $(safe fn $entry(
-                first: Rows<u64>,
-                second: Rows<u64>,
-                third: Rows<u64>,
-                shift: usize,
-                len: usize,
-                repeats: usize,
-            ) -> u64;)*
-        }
-    };
+/// The kernels on bitmaps, as the library numbers them.
+#[derive(Clone, Copy)]
+#[repr(u32)]
+enum BitmapKernel {
+    And,
+    Or,
+    Xor,
+    Not,
+    MergeEq,
+    MergeNe,
+    SetBits,
+    NumIntersectionsWith,
 }
 
-logic! {
-    polars_and
-    polars_or
-    polars_xor
-    polars_not
-    polars_merge_eq
-    polars_merge_ne
-    polars_set_bits
-    polars_num_intersections_with
-    polars_tot_eq_bool
-    polars_tot_lt_bool
+/// The kernels on arrays of truth values, as the library numbers them.
+#[derive(Clone, Copy)]
+#[repr(u32)]
+enum TruthKernel {
+    TotEq,
+    TotLt,
+}
+
+// After the words come the shift of the windows and their length in bits.
+#[allow(improper_ctypes)]
+unsafe extern "C" {
+    safe fn polars_time_bitmaps(
+        first: Rows<u64>,
+        second: Rows<u64>,
+        third: Rows<u64>,
+        kernel: BitmapKernel,
+        shift: usize,
+        len: usize,
+        repeats: usize,
+    ) -> u64;
+    safe fn polars_time_truths(
+        left: Rows<u64>,
+        right: Rows<u64>,
+        kernel: TruthKernel,
+        shift: usize,
+        len: usize,
+        repeats: usize,
+    ) -> u64;
+}
+
+/// What the library runs: on three bitmaps, or on two arrays of truth values in the first two.
+#[derive(Clone, Copy)]
+enum Ours {
+    Bitmaps(BitmapKernel),
+    Truths(TruthKernel),
 }
 
 /// How far apart the two windows of one operand begin, in bits.
 const STRIDE: usize = 64;
 
-/// A kernel of the bitmaps: its entry point, and its peer on three windows, which answers bit `i` or
+/// A kernel of the bitmaps, and its peer on three windows, which answers bit `i` or
 /// the count. Its windows begin `shift`, twice and three times `shift` bits into the words.
 struct Logic {
     name: &'static str,
     shift: usize,
     asked: Asked,
-    ours: LogicEntry,
+    ours: Ours,
     plain: fn(&[Window; 3], usize) -> u64,
 }
-
-type LogicEntry = extern "C" fn(Rows<u64>, Rows<u64>, Rows<u64>, usize, usize, usize) -> u64;
 
 /// Windows at differing places in words.
 const DIFFERING: usize = 13;
@@ -58,140 +77,140 @@ const LOGIC: [Logic; 20] = [
         name: "and",
         shift: DIFFERING,
         asked: Asked::Ratio([1.0, 1.0]),
-        ours: polars_and,
+        ours: Ours::Bitmaps(BitmapKernel::And),
         plain: |w, i| bit_of(plain::and(w[0], w[1]), w[0].len, i),
     },
     Logic {
         name: "or",
         shift: DIFFERING,
         asked: Asked::Ratio([1.0, 1.0]),
-        ours: polars_or,
+        ours: Ours::Bitmaps(BitmapKernel::Or),
         plain: |w, i| bit_of(plain::or(w[0], w[1]), w[0].len, i),
     },
     Logic {
         name: "xor",
         shift: DIFFERING,
         asked: Asked::Ratio([1.0, 1.0]),
-        ours: polars_xor,
+        ours: Ours::Bitmaps(BitmapKernel::Xor),
         plain: |w, i| bit_of(plain::xor(w[0], w[1]), w[0].len, i),
     },
     Logic {
         name: "not",
         shift: DIFFERING,
         asked: Asked::Ratio([1.0, 1.0]),
-        ours: polars_not,
+        ours: Ours::Bitmaps(BitmapKernel::Not),
         plain: |w, i| bit_of(plain::not(w[0]), w[0].len, i),
     },
     Logic {
         name: "merge_eq",
         shift: DIFFERING,
         asked: Asked::Ratio([1.0, 1.0]),
-        ours: polars_merge_eq,
+        ours: Ours::Bitmaps(BitmapKernel::MergeEq),
         plain: |w, i| bit_of(plain::merge_eq(w[0], w[1], w[2]), w[0].len, i),
     },
     Logic {
         name: "merge_ne",
         shift: DIFFERING,
         asked: Asked::Ratio([1.0, 1.0]),
-        ours: polars_merge_ne,
+        ours: Ours::Bitmaps(BitmapKernel::MergeNe),
         plain: |w, i| bit_of(plain::merge_ne(w[0], w[1], w[2]), w[0].len, i),
     },
     Logic {
         name: "set_bits",
         shift: DIFFERING,
         asked: Asked::Nothing,
-        ours: polars_set_bits,
+        ours: Ours::Bitmaps(BitmapKernel::SetBits),
         plain: |w, _| plain::set_bits(w[0]) as u64,
     },
     Logic {
         name: "num_intersections_with",
         shift: DIFFERING,
         asked: Asked::Nothing,
-        ours: polars_num_intersections_with,
+        ours: Ours::Bitmaps(BitmapKernel::NumIntersectionsWith),
         plain: |w, _| plain::num_intersections_with(w[0], w[1]) as u64,
     },
     Logic {
         name: "and, aligned",
         shift: 0,
         asked: Asked::Ratio([1.15, 1.15]),
-        ours: polars_and,
+        ours: Ours::Bitmaps(BitmapKernel::And),
         plain: |w, i| bit_of(plain::and_aligned(w[0], w[1]), w[0].len, i),
     },
     Logic {
         name: "or, aligned",
         shift: 0,
         asked: Asked::Ratio([1.15, 1.15]),
-        ours: polars_or,
+        ours: Ours::Bitmaps(BitmapKernel::Or),
         plain: |w, i| bit_of(plain::or_aligned(w[0], w[1]), w[0].len, i),
     },
     Logic {
         name: "xor, aligned",
         shift: 0,
         asked: Asked::Ratio([1.15, 1.15]),
-        ours: polars_xor,
+        ours: Ours::Bitmaps(BitmapKernel::Xor),
         plain: |w, i| bit_of(plain::xor_aligned(w[0], w[1]), w[0].len, i),
     },
     Logic {
         name: "not, aligned",
         shift: 0,
         asked: Asked::Ratio([1.15, 1.15]),
-        ours: polars_not,
+        ours: Ours::Bitmaps(BitmapKernel::Not),
         plain: |w, i| bit_of(plain::not_aligned(w[0]), w[0].len, i),
     },
     Logic {
         name: "merge_eq, aligned",
         shift: 0,
         asked: Asked::Ratio([1.15, 1.15]),
-        ours: polars_merge_eq,
+        ours: Ours::Bitmaps(BitmapKernel::MergeEq),
         plain: |w, i| bit_of(plain::merge_eq_aligned(w[0], w[1], w[2]), w[0].len, i),
     },
     Logic {
         name: "merge_ne, aligned",
         shift: 0,
         asked: Asked::Ratio([1.15, 1.15]),
-        ours: polars_merge_ne,
+        ours: Ours::Bitmaps(BitmapKernel::MergeNe),
         plain: |w, i| bit_of(plain::merge_ne_aligned(w[0], w[1], w[2]), w[0].len, i),
     },
     Logic {
         name: "set_bits, aligned",
         shift: 0,
         asked: Asked::Ratio([1.15, 1.15]),
-        ours: polars_set_bits,
+        ours: Ours::Bitmaps(BitmapKernel::SetBits),
         plain: |w, _| plain::set_bits_aligned(w[0]) as u64,
     },
     Logic {
         name: "num_intersections_with, aligned",
         shift: 0,
         asked: Asked::Ratio([1.15, 1.15]),
-        ours: polars_num_intersections_with,
+        ours: Ours::Bitmaps(BitmapKernel::NumIntersectionsWith),
         plain: |w, _| plain::num_intersections_with_aligned(w[0], w[1]) as u64,
     },
     Logic {
         name: "tot_eq bool",
         shift: DIFFERING,
         asked: Asked::Nanoseconds([0.1, 0.1]),
-        ours: polars_tot_eq_bool,
+        ours: Ours::Truths(TruthKernel::TotEq),
         plain: |w, i| bit_of(plain::xnor(w[0], w[1]), w[0].len, i),
     },
     Logic {
         name: "tot_eq bool, aligned",
         shift: 0,
         asked: Asked::Nanoseconds([0.1, 0.1]),
-        ours: polars_tot_eq_bool,
+        ours: Ours::Truths(TruthKernel::TotEq),
         plain: |w, i| bit_of(plain::xnor_aligned(w[0], w[1]), w[0].len, i),
     },
     Logic {
         name: "tot_lt bool",
         shift: DIFFERING,
         asked: Asked::Nanoseconds([0.1, 0.1]),
-        ours: polars_tot_lt_bool,
+        ours: Ours::Truths(TruthKernel::TotLt),
         plain: |w, i| bit_of(plain::not_and(w[0], w[1]), w[0].len, i),
     },
     Logic {
         name: "tot_lt bool, aligned",
         shift: 0,
         asked: Asked::Nanoseconds([0.1, 0.1]),
-        ours: polars_tot_lt_bool,
+        ours: Ours::Truths(TruthKernel::TotLt),
         plain: |w, i| bit_of(plain::not_and_aligned(w[0], w[1]), w[0].len, i),
     },
 ];
@@ -199,7 +218,12 @@ const LOGIC: [Logic; 20] = [
 impl Logic {
     fn ours(&self, words: &[Vec<u64>; 3], shift: usize, len: usize, repeats: usize) -> u64 {
         let [first, second, third] = words.each_ref().map(|slice| rows(slice));
-        (self.ours)(first, second, third, shift, len, repeats)
+        match self.ours {
+            Ours::Bitmaps(kernel) => {
+                polars_time_bitmaps(first, second, third, kernel, shift, len, repeats)
+            }
+            Ours::Truths(kernel) => polars_time_truths(first, second, kernel, shift, len, repeats),
+        }
     }
 
     /// As the library does it: on two windows in turn, in copies of the words.

@@ -6,53 +6,123 @@ use crate::plain_nested as plain;
 use crate::string_rows::Pair;
 use crate::timing::{Asked, Bench, Kernel, Run, plain_rows};
 
+/// The kernels, as the library numbers them.
+#[derive(Clone, Copy)]
+#[repr(u32)]
+enum NestedKernel {
+    TotEqMissing,
+}
+
+/// What an array holds, as the library numbers it.
+#[derive(Clone, Copy)]
+#[repr(u32)]
+enum NestedType {
+    Lists,
+    FixedLists,
+    Structs,
+    Dictionaries,
+    DeepLists,
+}
+
+/// The kernels on columns, as the library numbers them.
+#[derive(Clone, Copy)]
+#[repr(u32)]
+enum ColumnKernel {
+    TotEq,
+}
+
 #[allow(improper_ctypes)]
 unsafe extern "C" {
-    safe fn polars_tot_eq_missing_lists(
+    safe fn polars_time_nested(
         left_offsets: Rows<i32>,
         right_offsets: Rows<i32>,
-        left: Rows<i32>,
-        right: Rows<i32>,
+        left_items: Rows<i32>,
+        right_items: Rows<i32>,
         left_present: Rows<u64>,
         right_present: Rows<u64>,
-        repeats: usize,
-    ) -> u64;
-    safe fn polars_tot_eq_missing_fixed_lists(
-        width: usize,
-        left: Rows<i32>,
-        right: Rows<i32>,
-        repeats: usize,
-    ) -> u64;
-    safe fn polars_tot_eq_missing_structs(
-        rows: usize,
-        left: Rows<i32>,
-        right: Rows<i32>,
-        repeats: usize,
-    ) -> u64;
-    safe fn polars_tot_eq_columns(
-        rows: usize,
-        left: Rows<i32>,
-        right: Rows<i32>,
-        repeats: usize,
-    ) -> u64;
-    safe fn polars_tot_eq_missing_dictionaries(
-        left: Rows<u32>,
-        right: Rows<u32>,
-        left_offsets: Rows<i32>,
-        right_offsets: Rows<i32>,
         left_bytes: Rows<u8>,
         right_bytes: Rows<u8>,
+        kernel: NestedKernel,
+        nested_type: NestedType,
+        size: usize,
         repeats: usize,
     ) -> u64;
-    safe fn polars_tot_eq_missing_deep_lists(
-        levels: usize,
-        left: i32,
-        right: i32,
+    safe fn polars_time_columns(
+        left: Rows<i32>,
+        right: Rows<i32>,
+        kernel: ColumnKernel,
+        rows: usize,
         repeats: usize,
     ) -> u64;
 }
 
+/// What the library makes an array of. Each type reads some of it.
+#[derive(Clone, Copy, Default)]
+struct Parts<'a> {
+    offsets: &'a [i32],
+    items: &'a [i32],
+    present: &'a [u64],
+    bytes: &'a [u8],
+}
+
+impl Parts<'_> {
+    /// Those of an array that is made of items alone.
+    fn of_items(items: &[i32]) -> Parts<'_> {
+        Parts {
+            items,
+            ..Parts::default()
+        }
+    }
+}
+
+/// Two arrays that the library makes and runs its kernels on.
+struct Arrays<'a> {
+    nested_type: NestedType,
+    /// The width of lists, the rows of structs, or how many levels of lists there are.
+    size: usize,
+    left: Parts<'a>,
+    right: Parts<'a>,
+}
+
+impl Arrays<'_> {
+    fn run(&self, kernel: NestedKernel, repeats: usize) -> u64 {
+        polars_time_nested(
+            rows(self.left.offsets),
+            rows(self.right.offsets),
+            rows(self.left.items),
+            rows(self.right.items),
+            rows(self.left.present),
+            rows(self.right.present),
+            rows(self.left.bytes),
+            rows(self.right.bytes),
+            kernel,
+            self.nested_type,
+            self.size,
+            repeats,
+        )
+    }
+
+    /// Runs the test where rows are equal.
+    fn run_eq(&self, repeats: usize) -> u64 {
+        self.run(NestedKernel::TotEqMissing, repeats)
+    }
+}
+
+/// Runs the raw comparison of each two columns of so many rows, one after the other.
+fn run_columns(count: usize, left: &[i32], right: &[i32], repeats: usize) -> u64 {
+    polars_time_columns(rows(left), rows(right), ColumnKernel::TotEq, count, repeats)
+}
+
 type Peer<T> = fn(&T, &T) -> Vec<u64>;
+
+fn of_lists(lists: &Lists) -> Parts<'_> {
+    Parts {
+        offsets: &lists.offsets,
+        items: &lists.items,
+        present: &lists.present,
+        ..Parts::default()
+    }
+}
 
 /// Hands the kernel on lists between offsets to `each`.
 fn hand_lists(
@@ -62,20 +132,16 @@ fn hand_lists(
     peer: Peer<Lists>,
     each: &mut dyn FnMut(&Kernel),
 ) {
+    let arrays = Arrays {
+        nested_type: NestedType::Lists,
+        size: 0,
+        left: of_lists(left),
+        right: of_lists(right),
+    };
     each(&Kernel {
         name: &format!("tot_eq_missing lists of 4{name}"),
         asked: Asked::Ratio([asked, asked]),
-        ours: &|repeats| {
-            polars_tot_eq_missing_lists(
-                rows(&left.offsets),
-                rows(&right.offsets),
-                rows(&left.items),
-                rows(&right.items),
-                rows(&left.present),
-                rows(&right.present),
-                repeats,
-            )
-        },
+        ours: &|repeats| arrays.run_eq(repeats),
         plain: &|repeats| plain_rows(left.count(), repeats, || peer(left, right)),
         beside: None,
     });
@@ -83,37 +149,46 @@ fn hand_lists(
 
 /// Hands the kernel on lists of one width to `each`. It is timed beside the raw comparison of all items.
 fn hand_fixed_lists(left: &[i32], right: &[i32], each: &mut dyn FnMut(&Kernel)) {
+    let arrays = Arrays {
+        nested_type: NestedType::FixedLists,
+        size: WIDTH,
+        left: Parts::of_items(left),
+        right: Parts::of_items(right),
+    };
     each(&Kernel {
         name: "tot_eq_missing lists of width 4",
         asked: Asked::Ratio([1.3, 1.3]),
-        ours: &|repeats| polars_tot_eq_missing_fixed_lists(WIDTH, rows(left), rows(right), repeats),
+        ours: &|repeats| arrays.run_eq(repeats),
         plain: &|repeats| {
             plain_rows(left.len() / WIDTH, repeats, || {
                 plain::equal_fixed_lists(left, right)
             })
         },
-        beside: Some(&|repeats| {
-            polars_tot_eq_columns(left.len(), rows(left), rows(right), repeats)
-        }),
+        beside: Some(&|repeats| run_columns(left.len(), left, right, repeats)),
     });
+}
+
+fn of_keyed(keyed: &Keyed) -> Parts<'_> {
+    Parts {
+        offsets: &keyed.entries.offsets,
+        items: &keyed.crossing,
+        bytes: &keyed.entries.bytes,
+        ..Parts::default()
+    }
 }
 
 /// Hands the kernel on dictionaries to `each`.
 fn hand_dictionaries(Pair { left, right }: &Pair<Keyed>, each: &mut dyn FnMut(&Kernel)) {
+    let arrays = Arrays {
+        nested_type: NestedType::Dictionaries,
+        size: 0,
+        left: of_keyed(left),
+        right: of_keyed(right),
+    };
     each(&Kernel {
         name: "tot_eq_missing dictionary of texts",
         asked: Asked::Ratio([8.0, 8.0]),
-        ours: &|repeats| {
-            polars_tot_eq_missing_dictionaries(
-                rows(&left.keys),
-                rows(&right.keys),
-                rows(&left.entries.offsets),
-                rows(&right.entries.offsets),
-                rows(&left.entries.bytes),
-                rows(&right.entries.bytes),
-                repeats,
-            )
-        },
+        ours: &|repeats| arrays.run_eq(repeats),
         plain: &|repeats| {
             plain_rows(left.keys.len(), repeats, || {
                 plain::equal_dictionaries(left, right)
@@ -147,12 +222,18 @@ const STRUCTS: &str = "tot_eq_missing structs of 8";
 /// columns, one after the other.
 pub fn for_structs(count: usize, each: &mut dyn FnMut(&Kernel)) {
     let Pair { left, right } = &structs(count);
+    let arrays = Arrays {
+        nested_type: NestedType::Structs,
+        size: count,
+        left: Parts::of_items(left),
+        right: Parts::of_items(right),
+    };
     each(&Kernel {
         name: STRUCTS,
         asked: Asked::Ratio([1.2, 1.2]),
-        ours: &|repeats| polars_tot_eq_missing_structs(count, rows(left), rows(right), repeats),
+        ours: &|repeats| arrays.run_eq(repeats),
         plain: &|repeats| plain_rows(count, repeats, || plain::equal_structs(left, right)),
-        beside: Some(&|repeats| polars_tot_eq_columns(count, rows(left), rows(right), repeats)),
+        beside: Some(&|repeats| run_columns(count, left, right, repeats)),
     });
 }
 
@@ -162,13 +243,20 @@ const LEVELS: usize = 200;
 /// Hands the kernel on one row of many levels of lists to `each`.
 pub fn for_deep_lists(each: &mut dyn FnMut(&Kernel)) {
     for (name, right) in [("equal", 1), ("unequal", 2)] {
+        let right_items = [right];
+        let arrays = Arrays {
+            nested_type: NestedType::DeepLists,
+            size: LEVELS,
+            left: Parts::of_items(&[1]),
+            right: Parts::of_items(&right_items),
+        };
         each(&Kernel {
             name: &format!("tot_eq_missing 200 levels, {name}"),
             asked: Asked::Nanoseconds([1e6, 1e6]),
-            ours: &|repeats| polars_tot_eq_missing_deep_lists(LEVELS, 1, right, repeats),
+            ours: &|repeats| arrays.run_eq(repeats),
             plain: &|repeats| plain_rows(1, repeats, || vec![u64::from(right == 1)]),
             // The peer does next to nothing, and the library would be run as often.
-            beside: Some(&|repeats| polars_tot_eq_missing_deep_lists(LEVELS, 1, right, repeats)),
+            beside: Some(&|repeats| arrays.run_eq(repeats)),
         });
     }
 }

@@ -94,10 +94,20 @@ impl Lists {
 /// Rows that keys name among texts.
 pub struct Keyed {
     pub keys: Vec<u32>,
+    /// The same keys as they cross to the library.
+    pub crossing: Vec<i32>,
     pub entries: Texts,
 }
 
 impl Keyed {
+    fn new(keys: Vec<u32>, entries: Texts) -> Keyed {
+        Keyed {
+            crossing: keys.iter().map(|key| *key as i32).collect(),
+            keys,
+            entries,
+        }
+    }
+
     /// Two columns of so many rows, which have the same text in about half of them, at differing places
     /// among the entries.
     fn pair(numbers: &mut Numbers, count: usize) -> Pair<Keyed> {
@@ -115,14 +125,8 @@ impl Keyed {
             right.push((ENTRIES - 1 - other) as u32);
         }
         Pair {
-            left: Keyed {
-                keys: left,
-                entries: texts,
-            },
-            right: Keyed {
-                keys: right,
-                entries: turned,
-            },
+            left: Keyed::new(left, texts),
+            right: Keyed::new(right, turned),
         }
     }
 }

@@ -17,6 +17,16 @@ pub fn rows<T>(slice: &[T]) -> Rows<'_, T> {
     }
 }
 
+/// The types of numbers, as the library numbers them. It makes its rows of numbers of 64 bits.
+#[derive(Clone, Copy)]
+#[repr(u32)]
+pub enum NumberType {
+    I8,
+    I32,
+    I64,
+    I128,
+}
+
 /// Numbers that look random, the same in each run of the program.
 pub struct Numbers(u64);
 

@@ -1,16 +1,35 @@
 //! The kernels on slices.
 
-use crate::operands::{Data, Rows, rows};
+use crate::operands::{Data, NumberType, Rows, rows};
 use crate::plain;
 use crate::timing::{Asked, Kernel, plain_rows};
 
+/// The kernels on numbers, as the library numbers them.
+#[derive(Clone, Copy)]
+#[repr(u32)]
+enum SliceKernel {
+    Equal,
+    Less,
+    EqualConstant,
+}
+
+/// The kernels on truth values, as the library numbers them.
+#[derive(Clone, Copy)]
+#[repr(u32)]
+enum BoolKernel {
+    FromBools,
+}
+
 #[allow(improper_ctypes)]
 unsafe extern "C" {
-    safe fn polars_equal_i32(left: Rows<i32>, right: Rows<i32>, repeats: usize) -> u64;
-    safe fn polars_equal_i64(left: Rows<i64>, right: Rows<i64>, repeats: usize) -> u64;
-    safe fn polars_less_i64(left: Rows<i64>, right: Rows<i64>, repeats: usize) -> u64;
-    safe fn polars_equal_constant_i32(left: Rows<i32>, right: i32, repeats: usize) -> u64;
-    safe fn polars_from_bools(values: Rows<bool>, repeats: usize) -> u64;
+    safe fn polars_time_slices(
+        left: Rows<i64>,
+        right: Rows<i64>,
+        kernel: SliceKernel,
+        number_type: NumberType,
+        repeats: usize,
+    ) -> u64;
+    safe fn polars_time_bools(values: Rows<bool>, kernel: BoolKernel, repeats: usize) -> u64;
 }
 
 /// Hands each kernel to `each`.
@@ -24,40 +43,44 @@ pub fn for_each(data: &Data, each: &mut dyn FnMut(&Kernel)) {
         ..
     } = data;
     let count = bools.len();
-    let comparison = Asked::Ratio([0.5, 1.0]);
-    each(&Kernel {
-        name: "equal i32",
-        asked: comparison,
-        ours: &|repeats| polars_equal_i32(rows(left_i32), rows(right_i32), repeats),
-        plain: &|repeats| plain_rows(count, repeats, || plain::equal(left_i32, right_i32)),
-        beside: None,
+    let mut hand = |name: &str,
+                    (kernel, number_type): (SliceKernel, NumberType),
+                    plain: &dyn Fn() -> Vec<u64>| {
+        each(&Kernel {
+            name,
+            asked: Asked::Ratio([0.5, 1.0]),
+            ours: &|repeats| {
+                polars_time_slices(
+                    rows(left_i64),
+                    rows(right_i64),
+                    kernel,
+                    number_type,
+                    repeats,
+                )
+            },
+            plain: &|repeats| plain_rows(count, repeats, plain),
+            beside: None,
+        });
+    };
+    hand("equal i32", (SliceKernel::Equal, NumberType::I32), &|| {
+        plain::equal(left_i32, right_i32)
     });
-    each(&Kernel {
-        name: "equal i64",
-        asked: comparison,
-        ours: &|repeats| polars_equal_i64(rows(left_i64), rows(right_i64), repeats),
-        plain: &|repeats| plain_rows(count, repeats, || plain::equal(left_i64, right_i64)),
-        beside: None,
+    hand("equal i64", (SliceKernel::Equal, NumberType::I64), &|| {
+        plain::equal(left_i64, right_i64)
     });
-    each(&Kernel {
-        name: "less i64",
-        asked: comparison,
-        ours: &|repeats| polars_less_i64(rows(left_i64), rows(right_i64), repeats),
-        plain: &|repeats| plain_rows(count, repeats, || plain::less(left_i64, right_i64)),
-        beside: None,
+    hand("less i64", (SliceKernel::Less, NumberType::I64), &|| {
+        plain::less(left_i64, right_i64)
     });
-    let constant = right_i32.get(count / 2).copied().unwrap_or(7);
-    each(&Kernel {
-        name: "equal i32, constant",
-        asked: comparison,
-        ours: &|repeats| polars_equal_constant_i32(rows(left_i32), constant, repeats),
-        plain: &|repeats| plain_rows(count, repeats, || plain::equal_constant(left_i32, constant)),
-        beside: None,
-    });
+    let constant = right_i32.get(count / 2).copied().unwrap_or(0);
+    hand(
+        "equal i32, constant",
+        (SliceKernel::EqualConstant, NumberType::I32),
+        &|| plain::equal_constant(left_i32, constant),
+    );
     each(&Kernel {
         name: "from_bools",
         asked: Asked::Ratio([1.0, 1.0]),
-        ours: &|repeats| polars_from_bools(rows(bools), repeats),
+        ours: &|repeats| polars_time_bools(rows(bools), BoolKernel::FromBools, repeats),
         plain: &|repeats| plain_rows(count, repeats, || plain::from_bools(bools)),
         beside: None,
     });

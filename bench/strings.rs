@@ -5,41 +5,40 @@ use crate::plain_strings as plain;
 use crate::string_rows::{Pair, Strings, Texts, Views};
 use crate::timing::{Asked, Kernel, Side, plain_rows};
 
-/// Entry points whose operands are two columns, and the buffers or the bytes that each lies in.
-macro_rules! comparisons {
-    ($($entry:ident: $row:ty)*) => {
-        #[allow(improper_ctypes)]
-        unsafe extern "C" {
-            $(safe fn $entry(
-                left: Rows<$row>,
-                right: Rows<$row>,
-                left_bytes: Rows<u8>,
-                right_bytes: Rows<u8>,
-                repeats: usize,
-            ) -> u64;)*
-        }
-    };
+/// The kernels, as the library numbers them.
+#[derive(Clone, Copy)]
+#[repr(u32)]
+enum StringKernel {
+    TotEq,
+    TotLt,
+    TotEqBroadcast,
+    TotLtBroadcast,
 }
 
-// A view crosses as its sixteen bytes, and a text as its offset.
-comparisons! {
-    polars_tot_eq_views: u128
-    polars_tot_lt_views: u128
-    polars_tot_eq_broadcast_views: u128
-    polars_tot_lt_broadcast_views: u128
-    polars_tot_eq_texts: i32
-    polars_tot_lt_texts: i32
-    polars_tot_eq_broadcast_texts: i32
-    polars_tot_lt_broadcast_texts: i32
+/// How strings lie in an array, as the library numbers it.
+#[derive(Clone, Copy)]
+#[repr(u32)]
+enum StringType {
+    Views,
+    Texts,
+    Sized,
 }
 
+// A view crosses as its sixteen bytes.
 #[allow(improper_ctypes)]
 unsafe extern "C" {
-    safe fn polars_tot_eq_sized(left: Rows<u8>, right: Rows<u8>, repeats: usize) -> u64;
-    safe fn polars_tot_eq_broadcast_sized(left: Rows<u8>, right: Rows<u8>, repeats: usize) -> u64;
+    safe fn polars_time_strings(
+        left_views: Rows<u128>,
+        right_views: Rows<u128>,
+        left_offsets: Rows<i32>,
+        right_offsets: Rows<i32>,
+        left_bytes: Rows<u8>,
+        right_bytes: Rows<u8>,
+        kernel: StringKernel,
+        string_type: StringType,
+        repeats: usize,
+    ) -> u64;
 }
-
-type Entry<C> = extern "C" fn(Rows<C>, Rows<C>, Rows<u8>, Rows<u8>, usize) -> u64;
 
 /// The two sides of a kernel.
 #[derive(Clone, Copy)]
@@ -80,26 +79,47 @@ impl Comparison<'_> {
     }
 }
 
-/// Runs an entry point on views.
-fn run_views(entry: Entry<u128>, Pair { left, right }: &Pair<Views>, repeats: usize) -> u64 {
-    entry(
+/// Runs a kernel of the library on views.
+fn run_views(kernel: StringKernel, Pair { left, right }: &Pair<Views>, repeats: usize) -> u64 {
+    polars_time_strings(
         rows(&left.views),
         rows(&right.views),
+        rows(&[]),
+        rows(&[]),
         rows(&left.buffers[0]),
         rows(&right.buffers[0]),
+        kernel,
+        StringType::Views,
         repeats,
     )
 }
 
-/// Runs an entry point on texts.
-fn run_texts(entry: Entry<i32>, Pair { left, right }: &Pair<Texts>, repeats: usize) -> u64 {
-    entry(
+/// Runs a kernel of the library on strings that follow one another in their bytes.
+fn run_following(
+    kernel: StringKernel,
+    string_type: StringType,
+    Pair { left, right }: &Pair<Texts>,
+    repeats: usize,
+) -> u64 {
+    polars_time_strings(
+        rows(&[]),
+        rows(&[]),
         rows(&left.offsets),
         rows(&right.offsets),
         rows(&left.bytes),
         rows(&right.bytes),
+        kernel,
+        string_type,
         repeats,
     )
+}
+
+fn run_texts(kernel: StringKernel, pair: &Pair<Texts>, repeats: usize) -> u64 {
+    run_following(kernel, StringType::Texts, pair, repeats)
+}
+
+fn run_sized(kernel: StringKernel, pair: &Pair<Texts>, repeats: usize) -> u64 {
+    run_following(kernel, StringType::Sized, pair, repeats)
 }
 
 /// Hands each kernel on views that hold their strings to `each`.
@@ -110,7 +130,7 @@ fn for_each_short(pair: &Pair<Views>, each: &mut dyn FnMut(&Kernel)) {
         count: left.views.len(),
         asked: Asked::Ratio([1.5, 1.5]),
         arrays: Sides {
-            ours: &|repeats| run_views(polars_tot_eq_views, pair, repeats),
+            ours: &|repeats| run_views(StringKernel::TotEq, pair, repeats),
             plain: &|| plain::equal_short(left, right),
         },
     };
@@ -118,17 +138,17 @@ fn for_each_short(pair: &Pair<Views>, each: &mut dyn FnMut(&Kernel)) {
         name: "tot_lt",
         asked: Asked::Ratio([1.3, 1.3]),
         arrays: Sides {
-            ours: &|repeats| run_views(polars_tot_lt_views, pair, repeats),
+            ours: &|repeats| run_views(StringKernel::TotLt, pair, repeats),
             plain: &|| plain::less_short(left, right),
         },
         ..eq
     };
     let eq_broadcast = Sides {
-        ours: &|repeats| run_views(polars_tot_eq_broadcast_views, pair, repeats),
+        ours: &|repeats| run_views(StringKernel::TotEqBroadcast, pair, repeats),
         plain: &|| plain::equal_short_constant(left, &right.middle),
     };
     let lt_broadcast = Sides {
-        ours: &|repeats| run_views(polars_tot_lt_broadcast_views, pair, repeats),
+        ours: &|repeats| run_views(StringKernel::TotLtBroadcast, pair, repeats),
         plain: &|| plain::less_short_constant(left, &right.middle),
     };
     eq.hand("views 12", each);
@@ -145,14 +165,14 @@ fn for_each_long(pair: &Pair<Views>, each: &mut dyn FnMut(&Kernel)) {
         count: left.views.len(),
         asked: Asked::Ratio([1.2, 1.2]),
         arrays: Sides {
-            ours: &|repeats| run_views(polars_tot_eq_views, pair, repeats),
+            ours: &|repeats| run_views(StringKernel::TotEq, pair, repeats),
             plain: &|| plain::equal_long(left, right),
         },
     };
     let lt = Comparison {
         name: "tot_lt",
         arrays: Sides {
-            ours: &|repeats| run_views(polars_tot_lt_views, pair, repeats),
+            ours: &|repeats| run_views(StringKernel::TotLt, pair, repeats),
             plain: &|| plain::less_long(left, right),
         },
         ..eq
@@ -169,24 +189,24 @@ fn for_each_texts(pair: &Pair<Texts>, each: &mut dyn FnMut(&Kernel)) {
         count: left.count(),
         asked: Asked::Ratio([1.1, 1.1]),
         arrays: Sides {
-            ours: &|repeats| run_texts(polars_tot_eq_texts, pair, repeats),
+            ours: &|repeats| run_texts(StringKernel::TotEq, pair, repeats),
             plain: &|| plain::equal_texts(left, right),
         },
     };
     let lt = Comparison {
         name: "tot_lt",
         arrays: Sides {
-            ours: &|repeats| run_texts(polars_tot_lt_texts, pair, repeats),
+            ours: &|repeats| run_texts(StringKernel::TotLt, pair, repeats),
             plain: &|| plain::less_texts(left, right),
         },
         ..eq
     };
     let eq_broadcast = Sides {
-        ours: &|repeats| run_texts(polars_tot_eq_broadcast_texts, pair, repeats),
+        ours: &|repeats| run_texts(StringKernel::TotEqBroadcast, pair, repeats),
         plain: &|| plain::equal_texts_constant(left, right.middle()),
     };
     let lt_broadcast = Sides {
-        ours: &|repeats| run_texts(polars_tot_lt_broadcast_texts, pair, repeats),
+        ours: &|repeats| run_texts(StringKernel::TotLtBroadcast, pair, repeats),
         plain: &|| plain::less_texts_constant(left, right.middle()),
     };
     eq.hand("texts 6", each);
@@ -196,21 +216,20 @@ fn for_each_texts(pair: &Pair<Texts>, each: &mut dyn FnMut(&Kernel)) {
 }
 
 /// Hands each kernel on strings of one size to `each`.
-fn for_each_sized(Pair { left, right }: &Pair<Texts>, each: &mut dyn FnMut(&Kernel)) {
+fn for_each_sized(pair: &Pair<Texts>, each: &mut dyn FnMut(&Kernel)) {
+    let Pair { left, right } = pair;
     let (left_bytes, right_bytes) = (&left.bytes, &right.bytes);
     let eq = Comparison {
         name: "tot_eq",
         count: left.count(),
         asked: Asked::Ratio([1.1, 1.1]),
         arrays: Sides {
-            ours: &|repeats| polars_tot_eq_sized(rows(left_bytes), rows(right_bytes), repeats),
+            ours: &|repeats| run_sized(StringKernel::TotEq, pair, repeats),
             plain: &|| plain::equal_sized(left_bytes, right_bytes),
         },
     };
     let eq_broadcast = Sides {
-        ours: &|repeats| {
-            polars_tot_eq_broadcast_sized(rows(left_bytes), rows(right_bytes), repeats)
-        },
+        ours: &|repeats| run_sized(StringKernel::TotEqBroadcast, pair, repeats),
         plain: &|| plain::equal_texts_constant(left, right.middle()),
     };
     eq.hand("sized 16", each);

@@ -1,177 +1,67 @@
 //! Kernels on bitmaps.
-//!
-//! An entry point takes the words of three operands: the windows have `len` bits and begin `shift`,
-//! twice and three times `shift` bits into them.
 
 use crate::operands::{Bitmaps, in_two_places};
-use crate::{bit_of, repeat};
+use crate::{Timed, bit_of, repeat};
 use polars_arrays_bits::bitmap::Bitmap;
 use std::alloc::Global;
 
-/// Runs `and` on the first two bitmaps; 0 where the words have no such windows.
-#[unsafe(no_mangle)]
-pub extern "C" fn polars_and(
-    alloc: Global,
-    first: &[u64],
-    second: &[u64],
-    third: &[u64],
-    shift: usize,
-    len: usize,
-    repeats: usize,
-) -> u64 {
-    let Ok(operands) = in_two_places(alloc, first, second, third, shift, len) else {
-        return 0;
-    };
-    repeat(
-        &operands,
-        repeats,
-        |b: &Bitmaps, i| bit_of(b.first.and(alloc, &b.second), i),
+/// A kernel on up to three bitmaps.
+#[derive(Clone, Copy)]
+pub(crate) enum BitmapKernel {
+    And,
+    Or,
+    Xor,
+    Not,
+    MergeEq,
+    MergeNe,
+    SetBits,
+    NumIntersectionsWith,
+}
+
+impl Timed for Bitmaps {
+    type Kernel = BitmapKernel;
+
+    #[inline(always)]
+    fn run(&self, alloc: Global, kernel: BitmapKernel, i: usize) -> u64 {
+        let (first, second, third) = (&self.first, &self.second, &self.third);
+        match kernel {
+            BitmapKernel::And => bit_of(first.and(alloc, second), i),
+            BitmapKernel::Or => bit_of(first.or(alloc, second), i),
+            BitmapKernel::Xor => bit_of(first.xor(alloc, second), i),
+            BitmapKernel::Not => bit_of(first.not(alloc), i),
+            BitmapKernel::MergeEq => bit_of(Bitmap::merge_eq(alloc, first, second, third), i),
+            BitmapKernel::MergeNe => bit_of(Bitmap::merge_ne(alloc, first, second, third), i),
+            BitmapKernel::SetBits => first.set_bits() as u64,
+            BitmapKernel::NumIntersectionsWith => first.num_intersections_with(second) as u64,
+        }
+    }
+}
+
+// Runs a kernel on the one and the other bitmaps in turn.
+fn time_pair(alloc: Global, operands: (&Bitmaps, &Bitmaps), kernel: u32, repeats: usize) -> u64 {
+    by_number!(
+        kernel,
+        BitmapKernel: And Or Xor Not MergeEq MergeNe SetBits NumIntersectionsWith,
+        |chosen| repeat(alloc, chosen, operands, repeats),
+        0
     )
 }
 
-/// Runs `or` on the first two bitmaps; 0 where the words have no such windows.
+/// Runs a kernel on bitmaps of `len` bits, which begin `shift`, twice and three times `shift` bits into
+/// the words.
 #[unsafe(no_mangle)]
-pub extern "C" fn polars_or(
+pub extern "C" fn polars_time_bitmaps(
     alloc: Global,
     first: &[u64],
     second: &[u64],
     third: &[u64],
+    kernel: u32,
     shift: usize,
     len: usize,
     repeats: usize,
 ) -> u64 {
-    let Ok(operands) = in_two_places(alloc, first, second, third, shift, len) else {
+    let Ok((first, second)) = in_two_places(alloc, first, second, third, shift, len) else {
         return 0;
     };
-    repeat(
-        &operands,
-        repeats,
-        |b: &Bitmaps, i| bit_of(b.first.or(alloc, &b.second), i),
-    )
-}
-
-/// Runs `xor` on the first two bitmaps; 0 where the words have no such windows.
-#[unsafe(no_mangle)]
-pub extern "C" fn polars_xor(
-    alloc: Global,
-    first: &[u64],
-    second: &[u64],
-    third: &[u64],
-    shift: usize,
-    len: usize,
-    repeats: usize,
-) -> u64 {
-    let Ok(operands) = in_two_places(alloc, first, second, third, shift, len) else {
-        return 0;
-    };
-    repeat(
-        &operands,
-        repeats,
-        |b: &Bitmaps, i| bit_of(b.first.xor(alloc, &b.second), i),
-    )
-}
-
-/// Runs `not` on the first bitmap; 0 where the words have no such windows.
-#[unsafe(no_mangle)]
-pub extern "C" fn polars_not(
-    alloc: Global,
-    first: &[u64],
-    second: &[u64],
-    third: &[u64],
-    shift: usize,
-    len: usize,
-    repeats: usize,
-) -> u64 {
-    let Ok(operands) = in_two_places(alloc, first, second, third, shift, len) else {
-        return 0;
-    };
-    repeat(
-        &operands,
-        repeats,
-        |b: &Bitmaps, i| bit_of(b.first.not(alloc), i),
-    )
-}
-
-/// Runs `merge_eq` on the three bitmaps; 0 where the words have no such windows.
-#[unsafe(no_mangle)]
-pub extern "C" fn polars_merge_eq(
-    alloc: Global,
-    first: &[u64],
-    second: &[u64],
-    third: &[u64],
-    shift: usize,
-    len: usize,
-    repeats: usize,
-) -> u64 {
-    let Ok(operands) = in_two_places(alloc, first, second, third, shift, len) else {
-        return 0;
-    };
-    repeat(
-        &operands,
-        repeats,
-        |b: &Bitmaps, i| bit_of(Bitmap::merge_eq(alloc, &b.first, &b.second, &b.third), i),
-    )
-}
-
-/// Runs `merge_ne` on the three bitmaps; 0 where the words have no such windows.
-#[unsafe(no_mangle)]
-pub extern "C" fn polars_merge_ne(
-    alloc: Global,
-    first: &[u64],
-    second: &[u64],
-    third: &[u64],
-    shift: usize,
-    len: usize,
-    repeats: usize,
-) -> u64 {
-    let Ok(operands) = in_two_places(alloc, first, second, third, shift, len) else {
-        return 0;
-    };
-    repeat(
-        &operands,
-        repeats,
-        |b: &Bitmaps, i| bit_of(Bitmap::merge_ne(alloc, &b.first, &b.second, &b.third), i),
-    )
-}
-
-/// Runs `set_bits` on the first bitmap; 0 where the words have no such windows.
-#[unsafe(no_mangle)]
-pub extern "C" fn polars_set_bits(
-    alloc: Global,
-    first: &[u64],
-    second: &[u64],
-    third: &[u64],
-    shift: usize,
-    len: usize,
-    repeats: usize,
-) -> u64 {
-    let Ok(operands) = in_two_places(alloc, first, second, third, shift, len) else {
-        return 0;
-    };
-    repeat(
-        &operands,
-        repeats,
-        |b: &Bitmaps, _| b.first.set_bits() as u64,
-    )
-}
-
-/// Runs `num_intersections_with` on the first two bitmaps; 0 where the words have no such windows.
-#[unsafe(no_mangle)]
-pub extern "C" fn polars_num_intersections_with(
-    alloc: Global,
-    first: &[u64],
-    second: &[u64],
-    third: &[u64],
-    shift: usize,
-    len: usize,
-    repeats: usize,
-) -> u64 {
-    let Ok(operands) = in_two_places(alloc, first, second, third, shift, len) else {
-        return 0;
-    };
-    repeat(
-        &operands,
-        repeats,
-        |b: &Bitmaps, _| b.first.num_intersections_with(&b.second) as u64,
-    )
+    time_pair(alloc, (&first, &second), kernel, repeats)
 }

@@ -3,6 +3,7 @@
 ghost use Rattle.std.specs.Prelude.{IfOk};
 ghost use Rattle.polars_arrays_nested.specs.GoodParts.{IsGood};
 
+use crate::operands::number_array;
 use crate::string_operands::shared;
 use polars_arrays_bits::bitmap::Bitmap;
 use polars_arrays_bits::buffer::Buffer;
@@ -18,6 +19,31 @@ use polars_arrays_nested::list::ListArray;
 use polars_arrays_nested::list_offsets::ListOffsets;
 use polars_arrays_nested::struct_array::StructArray;
 use std::alloc::{AllocError, AllocFailed, Global};
+
+/// What an array holds.
+#[derive(Clone, Copy)]
+pub(crate) enum NestedType {
+    /// Lists of the items, between the offsets, of which those are null whose bit in the words is not set.
+    Lists,
+    /// Lists of `size` items each.
+    FixedLists,
+    /// Columns of `size` rows each, which follow one another in the items.
+    Structs,
+    /// Texts, which lie between the offsets in the bytes, and of which the items name one for each row.
+    Dictionaries,
+    /// The first item, in `size` levels of lists of one row.
+    DeepLists,
+}
+
+/// What an array is made of. Each type reads some of it.
+#[derive(Drop)]
+pub(crate) struct Parts<'a> {
+    pub(crate) size: usize,
+    pub(crate) offsets: &'a [i32],
+    pub(crate) items: &'a [i32],
+    pub(crate) present: &'a [u64],
+    pub(crate) bytes: &'a [u8],
+}
 
 /// Why there are no operands.
 #[derive(Debug, Drop)]
@@ -52,12 +78,6 @@ impl From<ArrayError> for NoOperands {
     }
 }
 
-// An array of a copy of the numbers.
-fn number_array(alloc: Global, values: &[i32]) -> Result<PrimitiveArray<i32>, NoOperands> {
-    let array = PrimitiveArray::try_new(shared(alloc, values)?, None)?;
-    Ok(array)
-}
-
 // A copy of the words as the bits of `rows` rows, or none where there are no words.
 fn validity(alloc: Global, words: &[u64], rows: usize) -> Result<Option<Bitmap>, NoOperands> {
     if words.is_empty() {
@@ -70,38 +90,41 @@ fn validity(alloc: Global, words: &[u64], rows: usize) -> Result<Option<Bitmap>,
     Ok(Some(Bitmap::from_words(words, 0, rows)))
 }
 
-/// Lists of numbers between offsets. Those rows are null whose bit in the words is not set, and none
-/// where there are no words.
-pub(crate) fn list_array(
-    alloc: Global,
-    offsets: &[i32],
-    items: &[i32],
-    present: &[u64],
-) -> Result<Box<AnyArray>, NoOperands>
+// The array in a box.
+fn boxed(alloc: Global, array: AnyArray) -> Result<Box<AnyArray>, NoOperands>
+    requires { IsGood array }
     ensures { IfOk result (λ a. IsGood a.value) }
 {
-    let validity = validity(alloc, present, offsets.len().saturating_sub(1))?;
-    let offsets = ListOffsets::Small(shared(alloc, offsets)?);
-    let items = Box::new(alloc, AnyArray::Int32(number_array(alloc, items)?))?;
-    let array = ListArray::try_new(offsets, items, validity)?;
-    let array = Box::new(alloc, AnyArray::List(array))?;
+    let array = Box::new(alloc, array)?;
     Ok(array)
 }
 
-/// Lists of one width of numbers. The items behind the last whole list are left out.
-pub(crate) fn fixed_list_array(
-    alloc: Global,
-    width: usize,
-    items: &[i32],
-) -> Result<Box<AnyArray>, NoOperands>
+// An array of the numbers.
+fn item_array(alloc: Global, items: &[i32]) -> Result<Box<AnyArray>, NoOperands>
+    ensures { IfOk result (λ a. IsGood a.value) }
+{
+    boxed(alloc, AnyArray::Int32(number_array(alloc, items, None)?))
+}
+
+// Lists of numbers between offsets. None is null where there are no words.
+fn list_array(alloc: Global, parts: &Parts) -> Result<Box<AnyArray>, NoOperands>
+    ensures { IfOk result (λ a. IsGood a.value) }
+{
+    let items = item_array(alloc, parts.items)?;
+    let validity = validity(alloc, parts.present, parts.offsets.len().saturating_sub(1))?;
+    let offsets = shared(alloc, parts.offsets)?;
+    let array = ListArray::try_new(ListOffsets::Small(offsets), items, validity)?;
+    boxed(alloc, AnyArray::List(array))
+}
+
+// Lists of one width of numbers. The items behind the last whole list are left out.
+fn fixed_list_array(alloc: Global, width: usize, items: &[i32]) -> Result<Box<AnyArray>, NoOperands>
     ensures { IfOk result (λ a. IsGood a.value) }
 {
     let rows = items.len().checked_div(width).unwrap_or(0);
     let items = items.get(..rows.saturating_mul(width)).unwrap_or(items);
-    let items = Box::new(alloc, AnyArray::Int32(number_array(alloc, items)?))?;
-    let array = FixedSizeListArray::try_new(width, rows, items, None)?;
-    let array = Box::new(alloc, AnyArray::FixedSizeList(array))?;
-    Ok(array)
+    let array = FixedSizeListArray::try_new(width, rows, item_array(alloc, items)?, None)?;
+    boxed(alloc, AnyArray::FixedSizeList(array))
 }
 
 // How many columns of `rows` rows follow one another in the numbers.
@@ -123,7 +146,7 @@ pub(crate) fn columns(
 ) -> Result<Vec<PrimitiveArray<i32>>, NoOperands> {
     let mut columns = Vec::new(alloc);
     for k in 0..column_count(rows, values) {
-        columns.push(number_array(alloc, column(rows, values, k))?)?;
+        columns.push(number_array(alloc, column(rows, values, k), None)?)?;
     }
     Ok(columns)
 }
@@ -137,16 +160,12 @@ fn column_array(
 ) -> Result<AnyArray, NoOperands>
     ensures { IfOk result (λ a. IsGood a) }
 {
-    let array = number_array(alloc, column(rows, values, k))?;
+    let array = number_array(alloc, column(rows, values, k), None)?;
     Ok(AnyArray::Int32(array))
 }
 
-/// Structs of those columns.
-pub(crate) fn struct_array(
-    alloc: Global,
-    rows: usize,
-    values: &[i32],
-) -> Result<Box<AnyArray>, NoOperands>
+// Structs of those columns.
+fn struct_array(alloc: Global, rows: usize, values: &[i32]) -> Result<Box<AnyArray>, NoOperands>
     ensures { IfOk result (λ a. IsGood a.value) }
 {
     let mut fields = Vec::new(alloc);
@@ -158,25 +177,26 @@ pub(crate) fn struct_array(
         columns.push(column_array(alloc, rows, values, k)?)?;
     }
     let array = StructArray::try_new(fields, rows, columns, None)?;
-    let array = Box::new(alloc, AnyArray::Struct(array))?;
-    Ok(array)
+    boxed(alloc, AnyArray::Struct(array))
 }
 
-/// Rows that keys name among texts between offsets.
-pub(crate) fn dictionary_array(
-    alloc: Global,
-    keys: &[u32],
-    offsets: &[i32],
-    bytes: &[u8],
-) -> Result<Box<AnyArray>, NoOperands>
+// Texts between offsets.
+fn text_entries(alloc: Global, parts: &Parts) -> Result<Box<AnyArray>, NoOperands>
     ensures { IfOk result (λ a. IsGood a.value) }
 {
-    let keys = PrimitiveArray::try_new(shared(alloc, keys)?, None)?;
-    let entries = Utf8Array::try_new(shared(alloc, offsets)?, shared(alloc, bytes)?, None)?;
-    let entries = Box::new(alloc, AnyArray::Utf8(entries))?;
+    let offsets = shared(alloc, parts.offsets)?;
+    let entries = Utf8Array::try_new(offsets, shared(alloc, parts.bytes)?, None)?;
+    boxed(alloc, AnyArray::Utf8(entries))
+}
+
+// Rows that keys name among texts between offsets.
+fn dictionary_array(alloc: Global, parts: &Parts) -> Result<Box<AnyArray>, NoOperands>
+    ensures { IfOk result (λ a. IsGood a.value) }
+{
+    let entries = text_entries(alloc, parts)?;
+    let keys = number_array(alloc, parts.items, None)?;
     let array = DictionaryArray::try_new(DictKeys::UInt32(keys), entries)?;
-    let array = Box::new(alloc, AnyArray::Dictionary(array))?;
-    Ok(array)
+    boxed(alloc, AnyArray::Dictionary(array))
 }
 
 // Lists of one row, which is all rows of an array.
@@ -184,23 +204,38 @@ fn listed(alloc: Global, items: Box<AnyArray>) -> Result<Box<AnyArray>, NoOperan
     requires { IsGood items.value }
     ensures { IfOk result (λ a. IsGood a.value) }
 {
-    let offsets = Vec::from_slice(alloc, &[0i32, 1])?;
-    let array = ListArray::try_new(ListOffsets::Small(Buffer::from_vec(offsets)), items, None)?;
-    let array = Box::new(alloc, AnyArray::List(array))?;
-    Ok(array)
+    let offsets = Buffer::from_vec(Vec::from_slice(alloc, &[0i32, 1])?);
+    let array = ListArray::try_new(ListOffsets::Small(offsets), items, None)?;
+    boxed(alloc, AnyArray::List(array))
 }
 
-/// That many levels of lists of one row around a number.
-pub(crate) fn deep_list_array(
-    alloc: Global,
-    levels: usize,
-    value: i32,
-) -> Result<Box<AnyArray>, NoOperands>
+// That many levels of lists of one row around a number.
+fn deep_list_array(alloc: Global, levels: usize, value: i32) -> Result<Box<AnyArray>, NoOperands>
     ensures { IfOk result (λ a. IsGood a.value) }
 {
-    let mut array = Box::new(alloc, AnyArray::Int32(number_array(alloc, &[value])?))?;
+    let mut array = item_array(alloc, &[value])?;
     for _level in 0..levels {
         array = listed(alloc, array)?;
     }
     Ok(array)
+}
+
+/// The array of a type that the parts make.
+pub(crate) fn nested_array(
+    alloc: Global,
+    nested_type: NestedType,
+    parts: &Parts,
+) -> Result<Box<AnyArray>, NoOperands>
+    ensures { IfOk result (λ a. IsGood a.value) }
+{
+    match nested_type {
+        NestedType::Lists => list_array(alloc, parts),
+        NestedType::FixedLists => fixed_list_array(alloc, parts.size, parts.items),
+        NestedType::Structs => struct_array(alloc, parts.size, parts.items),
+        NestedType::Dictionaries => dictionary_array(alloc, parts),
+        NestedType::DeepLists => {
+            let first = parts.items.first().copied().unwrap_or(0);
+            deep_list_array(alloc, parts.size, first)
+        }
+    }
 }

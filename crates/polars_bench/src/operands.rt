@@ -3,24 +3,34 @@
 ghost use Rattle.std.specs.Prelude.{◌≡◌, length, IfOk};
 ghost use Rattle.polars_arrays_flat.specs.StoredRows.{number_slots, truth_slots};
 
+use num_traits::AsPrimitive;
 use polars_arrays_bits::bitmap::Bitmap;
 use polars_arrays_bits::buffer::Buffer;
 use polars_arrays_bits::error::ComputeError;
 use polars_arrays_flat::array::Array;
 use polars_arrays_flat::boolean::BooleanArray;
 use polars_arrays_flat::primitive::PrimitiveArray;
-use polars_arrays_numbers::native_type::{NativeType, least_value};
+use polars_arrays_numbers::native_type::NativeType;
 use polars_compare_equality::kernel::TotalEqKernel;
 use std::alloc::{AllocError, Global};
 
 /// How far apart the two windows of one operand begin, in bits.
 const STRIDE: usize = 64;
 
-/// Two slices of one length.
+/// The types of numbers.
+pub(crate) enum NumberType {
+    I8,
+    I32,
+    I64,
+    I128,
+}
+
+/// Two slices of numbers of one length, and a number.
 #[derive(Drop)]
-pub(crate) struct Columns<'a, T> {
+pub(crate) struct Slices<'a, T: NativeType> {
     pub(crate) left: &'a [T],
     pub(crate) right: &'a [T],
+    pub(crate) scalar: &'a T,
     ghost one_length: { length right.now ≡ length left.now },
 }
 
@@ -34,13 +44,14 @@ pub(crate) struct Bitmaps {
     ghost third_long: { length third ≡ length first },
 }
 
-/// Two arrays of numbers of one length.
+/// Two arrays of numbers of one length, and a number.
 #[derive(Drop)]
-pub(crate) struct Numbers<T: NativeType> {
-    pub(crate) left: PrimitiveArray<T>,
-    pub(crate) right: PrimitiveArray<T>,
-    ghost comparable: { length left.values ≡ length right.values },
-    ghost as_long: { length (number_slots T.value right.values) ≡ length (number_slots T.value left.values) },
+pub(crate) struct Numbers<'a, T: NativeType> {
+    pub(crate) left: &'a PrimitiveArray<T>,
+    pub(crate) right: &'a PrimitiveArray<T>,
+    pub(crate) scalar: &'a T,
+    ghost comparable: { length left.now.values ≡ length right.now.values },
+    ghost as_long: { length (number_slots T.value right.now.values) ≡ length (number_slots T.value left.now.values) },
 }
 
 /// Two arrays of truth values of one length.
@@ -52,8 +63,8 @@ pub(crate) struct Truths {
     ghost as_long: { length (truth_slots right.values) ≡ length (truth_slots left.values) },
 }
 
-// Two windows of `len` bits of a copy of the words: one from bit `at` on, and one from a word later.
-fn windows(
+/// Two windows of `len` bits of a copy of the words: one from bit `at` on, and one from a word later.
+pub(crate) fn windows(
     alloc: Global,
     words: &[u64],
     at: usize,
@@ -81,11 +92,11 @@ pub(crate) fn in_two_places(
     third: &[u64],
     shift: usize,
     len: usize,
-) -> Result<[Bitmaps; 2], ComputeError> {
+) -> Result<(Bitmaps, Bitmaps), ComputeError> {
     let (first, later_first) = windows(alloc, first, shift, len)?;
     let (second, later_second) = windows(alloc, second, shift.saturating_mul(2), len)?;
     let (third, later_third) = windows(alloc, third, shift.saturating_mul(3), len)?;
-    Ok([
+    Ok((
         Bitmaps {
             first,
             second,
@@ -96,76 +107,62 @@ pub(crate) fn in_two_places(
             second: later_second,
             third: later_third,
         },
-    ])
+    ))
 }
 
-/// The number in the middle, or the least number of the type where there is none.
-pub(crate) fn middle_of<T: NativeType>(values: &[T]) -> T {
-    match values.get(values.len() / 2) {
-        Some(middle) => *middle,
-        None => least_value(),
-    }
-}
-
-/// The same numbers, in more bits.
-pub(crate) fn widened(alloc: Global, values: &[i64]) -> Result<Vec<i128>, AllocError> {
-    let mut wide = Vec::with_capacity(alloc, values.len())?;
-    for value in values {
-        wide.push(i128::from(*value))?;
-    }
-    Ok(wide)
-}
-
-// An array of a copy of the values, which its clones share.
-fn shared_array<T: NativeType>(
+/// The same numbers in another type, cut or widened to it.
+pub(crate) fn converted<C: AsPrimitive<T>, T: NativeType>(
     alloc: Global,
-    values: &[T],
-    validity: Bitmap,
+    values: &[C],
+) -> Result<Vec<T>, AllocError> {
+    let mut made = Vec::with_capacity(alloc, values.len())?;
+    for value in values {
+        made.push(value.as_())?;
+    }
+    Ok(made)
+}
+
+/// An array of the numbers in another type, which its clones share.
+pub(crate) fn number_array<C: AsPrimitive<T>, T: NativeType>(
+    alloc: Global,
+    values: &[C],
+    validity: Option<Bitmap>,
 ) -> Result<PrimitiveArray<T>, ComputeError> {
-    let values = Buffer::from_vec(Vec::from_slice(alloc, values)?).share(alloc)?;
-    match PrimitiveArray::try_new(values, Some(validity)) {
+    let values = Buffer::from_vec(converted(alloc, values)?).share(alloc)?;
+    match PrimitiveArray::try_new(values, validity) {
         Ok(array) => Ok(array),
         Err(_) => Err(ComputeError::Unsupported),
     }
 }
 
-// Two arrays that can be compared. The error is `Unsupported` where they cannot.
-fn comparable_numbers<T: NativeType>(
-    left: PrimitiveArray<T>,
-    right: PrimitiveArray<T>,
-) -> Result<Numbers<T>, ComputeError> {
-    if !left.can_compare(&right) || right.len() != left.len() {
+/// Two arrays that can be compared, and a number. The error is `Unsupported` where they cannot.
+pub(crate) fn comparable_numbers<'a, T: NativeType>(
+    left: &'a PrimitiveArray<T>,
+    right: &'a PrimitiveArray<T>,
+    scalar: &'a T,
+) -> Result<Numbers<'a, T>, ComputeError> {
+    if !left.can_compare(right) || right.len() != left.len() {
         return Err(ComputeError::Unsupported);
     }
-    Ok(Numbers { left, right })
+    Ok(Numbers {
+        left,
+        right,
+        scalar,
+    })
 }
 
-/// Twice two arrays of copies of the values, in the same values both times. The validities are windows
-/// of a copy of the words: the left one begins `shift` bits into them, and the right one a word later.
-pub(crate) fn numbers_twice<T: NativeType>(
-    alloc: Global,
-    left: &[T],
-    right: &[T],
-    validities: &[u64],
-    shift: usize,
-) -> Result<[Numbers<T>; 2], ComputeError> {
-    let (early, late) = windows(alloc, validities, shift, left.len())?;
-    let left = shared_array(alloc, left, early)?;
-    let right = shared_array(alloc, right, late)?;
-    let again = comparable_numbers(left.clone_array(alloc)?, right.clone_array(alloc)?)?;
-    let first = comparable_numbers(left, right)?;
-    Ok([first, again])
+// An array of truth values with no validity.
+fn truth_array(values: Bitmap) -> Result<BooleanArray, ComputeError> {
+    match BooleanArray::try_new(values, None) {
+        Ok(array) => Ok(array),
+        Err(_) => Err(ComputeError::Unsupported),
+    }
 }
 
-// Two arrays of truth values with no validity. The error is `Unsupported` where they cannot be
-// compared.
+// Two arrays of truth values that can be compared. The error is `Unsupported` where they cannot.
 fn comparable_truths(left: Bitmap, right: Bitmap) -> Result<Truths, ComputeError> {
-    let (Ok(left), Ok(right)) = (
-        BooleanArray::try_new(left, None),
-        BooleanArray::try_new(right, None),
-    ) else {
-        return Err(ComputeError::Unsupported);
-    };
+    let left = truth_array(left)?;
+    let right = truth_array(right)?;
     if !left.can_compare(&right) || right.len() != left.len() {
         return Err(ComputeError::Unsupported);
     }
@@ -180,10 +177,10 @@ pub(crate) fn truths_in_two_places(
     right: &[u64],
     shift: usize,
     len: usize,
-) -> Result<[Truths; 2], ComputeError> {
+) -> Result<(Truths, Truths), ComputeError> {
     let (left, later_left) = windows(alloc, left, shift, len)?;
     let (right, later_right) = windows(alloc, right, shift.saturating_mul(2), len)?;
     let later = comparable_truths(later_left, later_right)?;
     let early = comparable_truths(left, right)?;
-    Ok([early, later])
+    Ok((early, later))
 }

@@ -1,80 +1,126 @@
 //! Kernels on slices.
 
-use crate::operands::Columns;
-use crate::{bit_of, repeat};
+use crate::operands::{NumberType, Slices, converted};
+use crate::{Timed, bit_of, repeat};
+use num_traits::AsPrimitive;
 use polars_arrays_bits::bitmap::Bitmap;
 use polars_arrays_bits::comparison::{test_constant, test_pairs};
-use polars_arrays_numbers::element_test::{ElementTest, Equal, Less};
-use std::alloc::Global;
+use polars_arrays_numbers::element_test::{Equal, Less};
+use polars_arrays_numbers::native_type::NativeType;
+use std::alloc::{AllocError, Global};
 
-// Runs a test of two slices.
-#[inline(always)]
-fn repeat_pairs<T: Copy, E: ElementTest<T, T>>(
+/// A kernel on two slices of numbers, or on one and a scalar.
+#[derive(Clone, Copy)]
+pub(crate) enum SliceKernel {
+    Equal,
+    Less,
+    EqualConstant,
+}
+
+impl<T: NativeType> Timed for Slices<'_, T> {
+    type Kernel = SliceKernel;
+
+    #[inline(always)]
+    fn run(&self, alloc: Global, kernel: SliceKernel, i: usize) -> u64 {
+        let made = match kernel {
+            SliceKernel::Equal => test_pairs(alloc, &Equal, self.left, self.right),
+            SliceKernel::Less => test_pairs(alloc, &Less, self.left, self.right),
+            SliceKernel::EqualConstant => test_constant(alloc, &Equal, self.left, *self.scalar),
+        };
+        bit_of(made, i)
+    }
+}
+
+// Runs a kernel on two slices.
+fn time_pair<T: NativeType>(
     alloc: Global,
-    test: &E,
     left: &[T],
     right: &[T],
+    scalar: &T,
+    kernel: u32,
     repeats: usize,
 ) -> u64 {
     if left.len() != right.len() {
         return 0;
     }
-    let operands = [Columns { left, right }, Columns { left, right }];
-    repeat(&operands, repeats, |c: &Columns<T>, i| {
-        bit_of(test_pairs(alloc, test, c.left, c.right), i)
-    })
+    let operands = &Slices {
+        left,
+        right,
+        scalar,
+    };
+    by_number!(
+        kernel,
+        SliceKernel: Equal Less EqualConstant,
+        |chosen| repeat(alloc, chosen, (operands, operands), repeats),
+        0
+    )
 }
 
-/// Runs the test of which places of two slices are equal; 0 where the slices differ in length.
-#[unsafe(no_mangle)]
-pub extern "C" fn polars_equal_i32(
-    alloc: Global,
-    left: &[i32],
-    right: &[i32],
-    repeats: usize,
-) -> u64 {
-    repeat_pairs(alloc, &Equal, left, right, repeats)
-}
-
-/// The same for numbers of 64 bits.
-#[unsafe(no_mangle)]
-pub extern "C" fn polars_equal_i64(
+// Runs a kernel on slices of one type.
+fn time_slices<T: NativeType>(
     alloc: Global,
     left: &[i64],
     right: &[i64],
+    scalar: i64,
+    kernel: u32,
     repeats: usize,
-) -> u64 {
-    repeat_pairs(alloc, &Equal, left, right, repeats)
+) -> Result<u64, AllocError>
+where
+    i64: AsPrimitive<T>,
+{
+    let left = converted(alloc, left)?;
+    let right = converted(alloc, right)?;
+    Ok(time_pair::<T>(alloc, &left, &right, &scalar.as_(), kernel, repeats))
 }
 
-/// Runs the test at which places the left number is less; 0 where the slices differ in length.
+/// Runs a kernel on slices of these numbers, cut or widened to the type.
 #[unsafe(no_mangle)]
-pub extern "C" fn polars_less_i64(
+pub extern "C" fn polars_time_slices(
     alloc: Global,
     left: &[i64],
     right: &[i64],
+    scalar: i64,
+    kernel: u32,
+    number_type: u32,
     repeats: usize,
 ) -> u64 {
-    repeat_pairs(alloc, &Less, left, right, repeats)
+    let checksum = at_number_type!(
+        number_type,
+        time_slices(alloc, left, right, scalar, kernel, repeats)
+    );
+    checksum.unwrap_or(0)
 }
 
-/// Runs the test of which numbers are `right`.
+/// A kernel on a slice of truth values.
+#[derive(Clone, Copy)]
+pub(crate) enum BoolKernel {
+    FromBools,
+}
+
+impl Timed for &[bool] {
+    type Kernel = BoolKernel;
+
+    #[inline(always)]
+    fn run(&self, alloc: Global, kernel: BoolKernel, i: usize) -> u64 {
+        let made = match kernel {
+            BoolKernel::FromBools => Bitmap::from_bools(alloc, self),
+        };
+        bit_of(made, i)
+    }
+}
+
+/// Runs a kernel on a slice of truth values.
 #[unsafe(no_mangle)]
-pub extern "C" fn polars_equal_constant_i32(
+pub extern "C" fn polars_time_bools(
     alloc: Global,
-    left: &[i32],
-    right: i32,
+    values: &[bool],
+    kernel: u32,
     repeats: usize,
 ) -> u64 {
-    repeat(&[left, left], repeats, |left: &&[i32], i| {
-        bit_of(test_constant(alloc, &Equal, left, right), i)
-    })
-}
-
-/// Runs the packing of truth values.
-#[unsafe(no_mangle)]
-pub extern "C" fn polars_from_bools(alloc: Global, values: &[bool], repeats: usize) -> u64 {
-    repeat(&[values, values], repeats, |values: &&[bool], i| {
-        bit_of(Bitmap::from_bools(alloc, values), i)
-    })
+    by_number!(
+        kernel,
+        BoolKernel: FromBools,
+        |chosen| repeat(alloc, chosen, (&values, &values), repeats),
+        0
+    )
 }

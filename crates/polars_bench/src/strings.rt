@@ -1,11 +1,8 @@
 //! Comparisons of arrays of views, of texts between offsets, and of byte strings of one size.
-//!
-//! The entry points of views take the views of two arrays and the buffer that each one's long rows lie
-//! in, those of texts the offsets and the bytes, and those of one size the bytes of strings of 16 bytes.
-//! No row is null. A broadcast is set against the string in the middle of the right ones.
 
-use crate::string_operands::{Strings, middle_string, sized_twice, texts_twice, views_twice};
-use crate::{bit_of, repeat};
+use crate::string_operands::{Parts, StringArray, Strings, comparable_strings};
+use crate::{NO_BITMAP, Timed, bit_of, repeat};
+use polars_arrays_bits::error::ComputeError;
 use polars_arrays_bytes::fixed_size::FixedSizeBinaryArray;
 use polars_arrays_bytes::text::Utf8Array;
 use polars_arrays_views::binary_view::BinaryViewArray;
@@ -16,202 +13,159 @@ use polars_compare_order::kernel::TotalOrdKernel;
 use std::alloc::Global;
 use std::str::from_utf8;
 
-/// Runs the test where stored strings are equal, of views.
-#[unsafe(no_mangle)]
-pub extern "C" fn polars_tot_eq_views(
-    alloc: Global,
-    left: &[[u8; 16]],
-    right: &[[u8; 16]],
-    left_buffer: &[u8],
-    right_buffer: &[u8],
-    repeats: usize,
-) -> u64 {
-    let Ok(operands) = views_twice(alloc, left, right, left_buffer, right_buffer) else {
-        return 0;
-    };
-    repeat(&operands, repeats, |s: &Strings<BinaryViewArray>, i| {
-        bit_of(s.left.tot_eq_kernel(alloc, &s.right), i)
-    })
+/// A kernel on two arrays of strings, or on one and a string.
+#[derive(Clone, Copy)]
+pub(crate) enum StringKernel {
+    TotEq,
+    TotLt,
+    TotEqBroadcast,
+    TotLtBroadcast,
 }
 
-/// Runs the test where the left string is less, of views.
-#[unsafe(no_mangle)]
-pub extern "C" fn polars_tot_lt_views(
-    alloc: Global,
-    left: &[[u8; 16]],
-    right: &[[u8; 16]],
-    left_buffer: &[u8],
-    right_buffer: &[u8],
-    repeats: usize,
-) -> u64 {
-    let Ok(operands) = views_twice(alloc, left, right, left_buffer, right_buffer) else {
-        return 0;
-    };
-    repeat(&operands, repeats, |s: &Strings<BinaryViewArray>, i| {
-        bit_of(s.left.tot_lt_kernel(alloc, &s.right), i)
-    })
+/// How strings lie in an array.
+pub(crate) enum StringType {
+    Views,
+    Texts,
+    Sized,
 }
 
-/// Runs the test where strings are the scalar, of views.
-#[unsafe(no_mangle)]
-pub extern "C" fn polars_tot_eq_broadcast_views(
-    alloc: Global,
-    left: &[[u8; 16]],
-    right: &[[u8; 16]],
-    left_buffer: &[u8],
-    right_buffer: &[u8],
-    repeats: usize,
-) -> u64 {
-    let Ok(operands) = views_twice(alloc, left, right, left_buffer, right_buffer) else {
-        return 0;
-    };
-    let scalar = middle_string(&operands[0].right);
-    repeat(&operands, repeats, |s: &Strings<BinaryViewArray>, i| {
-        bit_of(
-            BytesEqKernel::tot_eq_kernel_broadcast(&s.left, alloc, scalar),
-            i,
-        )
-    })
+impl Timed for Strings<BinaryViewArray, &[u8]> {
+    type Kernel = StringKernel;
+
+    #[inline(always)]
+    fn run(&self, alloc: Global, kernel: StringKernel, i: usize) -> u64 {
+        let (left, right) = (&self.left, &self.right);
+        let made = match kernel {
+            StringKernel::TotEq => left.tot_eq_kernel(alloc, right),
+            StringKernel::TotLt => left.tot_lt_kernel(alloc, right),
+            StringKernel::TotEqBroadcast => {
+                BytesEqKernel::tot_eq_kernel_broadcast(left, alloc, self.scalar)
+            }
+            StringKernel::TotLtBroadcast => {
+                BytesOrdKernel::tot_lt_kernel_broadcast(left, alloc, self.scalar)
+            }
+        };
+        bit_of(made, i)
+    }
 }
 
-/// Runs the test where strings are less than the scalar, of views.
-#[unsafe(no_mangle)]
-pub extern "C" fn polars_tot_lt_broadcast_views(
-    alloc: Global,
-    left: &[[u8; 16]],
-    right: &[[u8; 16]],
-    left_buffer: &[u8],
-    right_buffer: &[u8],
-    repeats: usize,
-) -> u64 {
-    let Ok(operands) = views_twice(alloc, left, right, left_buffer, right_buffer) else {
-        return 0;
-    };
-    let scalar = middle_string(&operands[0].right);
-    repeat(&operands, repeats, |s: &Strings<BinaryViewArray>, i| {
-        bit_of(
-            BytesOrdKernel::tot_lt_kernel_broadcast(&s.left, alloc, scalar),
-            i,
-        )
-    })
+impl Timed for Strings<Utf8Array<i32>, &str> {
+    type Kernel = StringKernel;
+
+    #[inline(always)]
+    fn run(&self, alloc: Global, kernel: StringKernel, i: usize) -> u64 {
+        let (left, right) = (&self.left, &self.right);
+        let made = match kernel {
+            StringKernel::TotEq => left.tot_eq_kernel(alloc, right),
+            StringKernel::TotLt => left.tot_lt_kernel(alloc, right),
+            StringKernel::TotEqBroadcast => {
+                TextEqKernel::tot_eq_kernel_broadcast(left, alloc, self.scalar)
+            }
+            StringKernel::TotLtBroadcast => {
+                TextOrdKernel::tot_lt_kernel_broadcast(left, alloc, self.scalar)
+            }
+        };
+        bit_of(made, i)
+    }
 }
 
-/// Runs the test where stored strings are equal, of texts.
-#[unsafe(no_mangle)]
-pub extern "C" fn polars_tot_eq_texts(
+// Strings of one size have no order.
+impl Timed for Strings<FixedSizeBinaryArray, &[u8]> {
+    type Kernel = StringKernel;
+
+    #[inline(always)]
+    fn run(&self, alloc: Global, kernel: StringKernel, i: usize) -> u64 {
+        let (left, right) = (&self.left, &self.right);
+        let made = match kernel {
+            StringKernel::TotEq => left.tot_eq_kernel(alloc, right),
+            StringKernel::TotEqBroadcast => {
+                BytesEqKernel::tot_eq_kernel_broadcast(left, alloc, self.scalar)
+            }
+            StringKernel::TotLt | StringKernel::TotLtBroadcast => return NO_BITMAP,
+        };
+        bit_of(made, i)
+    }
+}
+
+// Runs a kernel on the one and the other arrays in turn.
+fn time_pair<A: StringArray, S: Copy>(
     alloc: Global,
-    left: &[i32],
-    right: &[i32],
+    operands: (&Strings<A, S>, &Strings<A, S>),
+    kernel: u32,
+    repeats: usize,
+) -> u64
+where
+    Strings<A, S>: Timed<Kernel = StringKernel>,
+{
+    by_number!(
+        kernel,
+        StringKernel: TotEq TotLt TotEqBroadcast TotLtBroadcast,
+        |chosen| repeat(alloc, chosen, operands, repeats),
+        0
+    )
+}
+
+// Runs a kernel on arrays of one type and on clones of them in turn.
+fn time_arrays<A: StringArray, S: Copy>(
+    alloc: Global,
+    left: &Parts,
+    right: &Parts,
+    scalar: S,
+    kernel: u32,
+    repeats: usize,
+) -> Result<u64, ComputeError>
+where
+    Strings<A, S>: Timed<Kernel = StringKernel>,
+{
+    let left = A::of_parts(alloc, left)?;
+    let right = A::of_parts(alloc, right)?;
+    let left_clone = left.clone_strings(alloc)?;
+    let right_clone = right.clone_strings(alloc)?;
+    let first = comparable_strings(left, right, scalar)?;
+    let second = comparable_strings(left_clone, right_clone, scalar)?;
+    Ok(time_pair(alloc, (&first, &second), kernel, repeats))
+}
+
+/// Runs a kernel on arrays of strings of a type. Views have their long strings in the bytes, texts lie
+/// between the offsets there, and strings of one size follow one another in them. No string is null. A
+/// broadcast is set against the string in the middle of the right ones.
+#[unsafe(no_mangle)]
+pub extern "C" fn polars_time_strings(
+    alloc: Global,
+    left_views: &[[u8; 16]],
+    right_views: &[[u8; 16]],
+    left_offsets: &[i32],
+    right_offsets: &[i32],
     left_bytes: &[u8],
     right_bytes: &[u8],
+    scalar: &[u8],
+    kernel: u32,
+    string_type: u32,
     repeats: usize,
 ) -> u64 {
-    let Ok(operands) = texts_twice(alloc, left, right, left_bytes, right_bytes) else {
-        return 0;
+    let left = Parts {
+        views: left_views,
+        offsets: left_offsets,
+        bytes: left_bytes,
     };
-    repeat(&operands, repeats, |s: &Strings<Utf8Array<i32>>, i| {
-        bit_of(s.left.tot_eq_kernel(alloc, &s.right), i)
-    })
-}
-
-/// Runs the test where the left string is less, of texts.
-#[unsafe(no_mangle)]
-pub extern "C" fn polars_tot_lt_texts(
-    alloc: Global,
-    left: &[i32],
-    right: &[i32],
-    left_bytes: &[u8],
-    right_bytes: &[u8],
-    repeats: usize,
-) -> u64 {
-    let Ok(operands) = texts_twice(alloc, left, right, left_bytes, right_bytes) else {
-        return 0;
+    let right = Parts {
+        views: right_views,
+        offsets: right_offsets,
+        bytes: right_bytes,
     };
-    repeat(&operands, repeats, |s: &Strings<Utf8Array<i32>>, i| {
-        bit_of(s.left.tot_lt_kernel(alloc, &s.right), i)
-    })
-}
-
-/// Runs the test where strings are the scalar, of texts.
-#[unsafe(no_mangle)]
-pub extern "C" fn polars_tot_eq_broadcast_texts(
-    alloc: Global,
-    left: &[i32],
-    right: &[i32],
-    left_bytes: &[u8],
-    right_bytes: &[u8],
-    repeats: usize,
-) -> u64 {
-    let Ok(operands) = texts_twice(alloc, left, right, left_bytes, right_bytes) else {
-        return 0;
-    };
-    let Ok(scalar) = from_utf8(middle_string(&operands[0].right)) else {
-        return 0;
-    };
-    repeat(&operands, repeats, |s: &Strings<Utf8Array<i32>>, i| {
-        bit_of(
-            TextEqKernel::tot_eq_kernel_broadcast(&s.left, alloc, scalar),
-            i,
-        )
-    })
-}
-
-/// Runs the test where strings are less than the scalar, of texts.
-#[unsafe(no_mangle)]
-pub extern "C" fn polars_tot_lt_broadcast_texts(
-    alloc: Global,
-    left: &[i32],
-    right: &[i32],
-    left_bytes: &[u8],
-    right_bytes: &[u8],
-    repeats: usize,
-) -> u64 {
-    let Ok(operands) = texts_twice(alloc, left, right, left_bytes, right_bytes) else {
-        return 0;
-    };
-    let Ok(scalar) = from_utf8(middle_string(&operands[0].right)) else {
-        return 0;
-    };
-    repeat(&operands, repeats, |s: &Strings<Utf8Array<i32>>, i| {
-        bit_of(
-            TextOrdKernel::tot_lt_kernel_broadcast(&s.left, alloc, scalar),
-            i,
-        )
-    })
-}
-
-/// Runs the test where stored strings are equal, of one size.
-#[unsafe(no_mangle)]
-pub extern "C" fn polars_tot_eq_sized(
-    alloc: Global,
-    left: &[u8],
-    right: &[u8],
-    repeats: usize,
-) -> u64 {
-    let Ok(operands) = sized_twice(alloc, left, right) else {
-        return 0;
-    };
-    repeat(&operands, repeats, |s: &Strings<FixedSizeBinaryArray>, i| {
-        bit_of(s.left.tot_eq_kernel(alloc, &s.right), i)
-    })
-}
-
-/// Runs the test where strings are the scalar, of one size.
-#[unsafe(no_mangle)]
-pub extern "C" fn polars_tot_eq_broadcast_sized(
-    alloc: Global,
-    left: &[u8],
-    right: &[u8],
-    repeats: usize,
-) -> u64 {
-    let Ok(operands) = sized_twice(alloc, left, right) else {
-        return 0;
-    };
-    let scalar = middle_string(&operands[0].right);
-    repeat(&operands, repeats, |s: &Strings<FixedSizeBinaryArray>, i| {
-        bit_of(
-            BytesEqKernel::tot_eq_kernel_broadcast(&s.left, alloc, scalar),
-            i,
-        )
-    })
+    let checksum =
+        match by_number!(string_type, StringType: Views Texts Sized, |it| Some(it), None) {
+            Some(StringType::Views) => {
+                time_arrays::<BinaryViewArray, &[u8]>(alloc, &left, &right, scalar, kernel, repeats)
+            }
+            Some(StringType::Texts) => {
+                let scalar = from_utf8(scalar).unwrap_or("");
+                time_arrays::<Utf8Array<i32>, &str>(alloc, &left, &right, scalar, kernel, repeats)
+            }
+            Some(StringType::Sized) => time_arrays::<FixedSizeBinaryArray, &[u8]>(
+                alloc, &left, &right, scalar, kernel, repeats,
+            ),
+            None => Ok(0),
+        };
+    checksum.unwrap_or(0)
 }
