@@ -1,0 +1,99 @@
+//! Structs that are made of fields and columns, which need not fit each other.
+
+ghost use Rattle.std.specs.Prelude.{IfOk};
+ghost use Rattle.std.specs.List.{All};
+ghost use Rattle.polars_arrays_nested.specs.GoodParts.{IsGood};
+ghost use Rattle.polars_arrays_nested.specs.declared.any_array.AnyArray.{Struct};
+ghost use Rattle.recorded_text.specs.Cases.{HasGoodArrays};
+
+use polars_arrays_bits::error::ArrayError;
+use polars_arrays_flat::data_type::Field;
+use polars_arrays_nested::any_array::AnyArray;
+use polars_arrays_nested::struct_array::StructArray;
+use recorded_text::fault::Fault;
+use recorded_text::parts::{Kept, read_validity};
+use recorded_text::row_text::write_rows;
+use recorded_text::store::Store;
+use recorded_text::words::Words;
+use std::alloc::Global;
+
+/// The answer to a call of this subject, or None for another one's: `struct_try_new` has the number of rows, the
+/// validity, how many fields there are, the name of each and an array of its type, how many columns there are,
+/// and an array of which each is a copy.
+pub fn answer(
+    alloc: Global,
+    call: &str,
+    store: &Store,
+    words: &mut Words,
+) -> Result<Option<String>, Fault>
+    requires { HasGoodArrays store.now }
+{
+    let answer = match call {
+        "struct_try_new" => try_new(alloc, store, words)?,
+        _ => return Ok(None),
+    };
+    Ok(Some(answer))
+}
+
+// The rows of the structs, or why there are none.
+fn try_new(alloc: Global, store: &Store, words: &mut Words) -> Result<String, Fault>
+    requires { HasGoodArrays store.now }
+{
+    let len = words.read_number()?;
+    let validity = read_validity(alloc, Kept::Owned, words)?;
+    let fields = read_fields(alloc, store, words)?;
+    let columns = read_columns(alloc, store, words)?;
+    match StructArray::try_new(fields, len, columns, validity) {
+        Ok(array) => rows(alloc, array),
+        Err(error) => refusal(alloc, &error),
+    }
+}
+
+// The rows of structs.
+fn rows(alloc: Global, array: StructArray) -> Result<String, Fault>
+    requires { IsGood (Struct array) }
+{
+    write_rows(alloc, &AnyArray::Struct(array))
+}
+
+// Why there are no structs.
+fn refusal(alloc: Global, error: &ArrayError) -> Result<String, Fault> {
+    Ok(format!(in alloc; "refused: {error}")?)
+}
+
+// As many fields as the next word says.
+fn read_fields(alloc: Global, store: &Store, words: &mut Words) -> Result<Vec<Field>, Fault>
+    requires { HasGoodArrays store.now }
+{
+    let count: usize = words.read_number()?;
+    let mut fields = Vec::new(alloc);
+    for _ in 0..count {
+        let name = words.read()?.to_string(alloc)?;
+        let dtype = store.read(words)?.dtype(alloc)?;
+        fields.push(Field { name, dtype })?;
+    }
+    Ok(fields)
+}
+
+// As many columns as the next word says.
+fn read_columns(alloc: Global, store: &Store, words: &mut Words) -> Result<Vec<AnyArray>, Fault>
+    requires { HasGoodArrays store.now }
+    ensures { IfOk result (λ columns. All IsGood columns.items) }
+{
+    let count: usize = words.read_number()?;
+    let mut columns = Vec::new(alloc);
+    for _ in 0..count {
+        let column = read_copy(alloc, store, words)?;
+        columns.push(column)?;
+    }
+    Ok(columns)
+}
+
+// A copy of the array that the next word names.
+fn read_copy(alloc: Global, store: &Store, words: &mut Words) -> Result<AnyArray, Fault>
+    requires { HasGoodArrays store.now }
+    ensures { IfOk result (λ copy. IsGood copy) }
+{
+    let copy = store.read(words)?.clone_array(alloc)?;
+    Ok(copy)
+}

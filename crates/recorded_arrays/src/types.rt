@@ -1,0 +1,148 @@
+//! Types of arrays: their names, and when they are the same.
+
+ghost use Rattle.recorded_text.specs.Cases.{HasGoodArrays};
+
+use crate::kinds::of_number_type;
+use polars_arrays_bytes::offset_type::OffsetType;
+use polars_arrays_flat::arrow_type::ArrowType;
+use polars_arrays_flat::data_type::{Field, is_struct_of, same_fields};
+use polars_arrays_nested::any_array::AnyArray;
+use polars_arrays_nested::data_types::clone_type;
+use recorded_text::fault::Fault;
+use recorded_text::store::Store;
+use recorded_text::type_text::write_type;
+use recorded_text::words::Words;
+use std::alloc::Global;
+
+/// The answer to a call of this subject, or None for another one's.
+pub fn answer(
+    alloc: Global,
+    call: &str,
+    store: &Store,
+    words: &mut Words,
+) -> Result<Option<String>, Fault>
+    requires { HasGoodArrays store.now }
+{
+    let answer = match call {
+        "dtype" => dtype(alloc, store.read(words)?)?,
+        "clone_type" => copied_type(alloc, store.read(words)?)?,
+        "arrow_data_type" => of_number_type!(words.read()?, arrow_data_type(alloc))?,
+        "binary_data_type" => binary_data_type(alloc, words.read()?)?,
+        "text_data_type" => text_data_type(alloc, words.read()?)?,
+        _ => return answer_test(alloc, call, store, words),
+    };
+    Ok(Some(answer))
+}
+
+// The answer to a test of two arrays, or None for another call.
+fn answer_test(
+    alloc: Global,
+    call: &str,
+    store: &Store,
+    words: &mut Words,
+) -> Result<Option<String>, Fault>
+    requires { HasGoodArrays store.now }
+{
+    let test = match Test::from_name(call) {
+        Some(test) => test,
+        None => return Ok(None),
+    };
+    let holds = is_told(alloc, store.read(words)?, store.read(words)?, test)?;
+    Ok(Some(holds.to_string(alloc)?))
+}
+
+// What is tested of the types of two arrays.
+#[derive(Clone, Copy)]
+enum Test {
+    SameType,
+    HasType,
+    SameKind,
+    Equal,
+    SameFields,
+    StructOf,
+    SameField,
+    EqualField,
+}
+
+impl Test {
+    // The test of that name.
+    fn from_name(name: &str) -> Option<Test> {
+        let test = match name {
+            "same_type" => Test::SameType,
+            "has_type" => Test::HasType,
+            "same_kind" => Test::SameKind,
+            "type_eq" => Test::Equal,
+            "same_fields" => Test::SameFields,
+            "is_struct_of" => Test::StructOf,
+            "same_field" => Test::SameField,
+            "field_eq" => Test::EqualField,
+            _ => return None,
+        };
+        Some(test)
+    }
+}
+
+// Whether the types of two arrays stand the test, where fields are tested the first fields of structs.
+fn is_told(alloc: Global, left: &AnyArray, right: &AnyArray, test: Test) -> Result<bool, Fault> {
+    let holds = match test {
+        Test::SameType => left.same_type(right),
+        Test::HasType => left.has_type(&right.dtype(alloc)?),
+        Test::SameKind => left.dtype(alloc)?.same_kind(&right.dtype(alloc)?),
+        Test::Equal => left.dtype(alloc)? == right.dtype(alloc)?,
+        Test::SameFields => same_fields(fields(left)?, fields(right)?),
+        Test::StructOf => is_struct_of(fields(left)?, &right.dtype(alloc)?),
+        Test::SameField => first_field(left)?.same_field(first_field(right)?),
+        Test::EqualField => first_field(left)? == first_field(right)?,
+    };
+    Ok(holds)
+}
+
+// The fields of structs.
+fn fields(array: &AnyArray) -> Result<&[Field], Fault> {
+    match array {
+        AnyArray::Struct(array) => Ok(array.fields()),
+        _ => Err(Fault::Case),
+    }
+}
+
+// The first field of structs.
+fn first_field(array: &AnyArray) -> Result<&Field, Fault> {
+    match fields(array)?.first() {
+        Some(field) => Ok(field),
+        None => Err(Fault::Case),
+    }
+}
+
+// The type of an array.
+fn dtype(alloc: Global, array: &AnyArray) -> Result<String, Fault> {
+    write_type(alloc, &array.dtype(alloc)?)
+}
+
+// A copy of the type of an array.
+fn copied_type(alloc: Global, array: &AnyArray) -> Result<String, Fault> {
+    let dtype = array.dtype(alloc)?;
+    write_type(alloc, &clone_type(alloc, &dtype)?)
+}
+
+// The type of an array of numbers.
+fn arrow_data_type<T: ArrowType>(alloc: Global) -> Result<String, Fault> {
+    write_type(alloc, &T::arrow_data_type())
+}
+
+// The type of an array of byte strings between offsets.
+fn binary_data_type(alloc: Global, offsets: &str) -> Result<String, Fault> {
+    match offsets {
+        "i32" => write_type(alloc, &<i32 as OffsetType>::binary_data_type()),
+        "i64" => write_type(alloc, &<i64 as OffsetType>::binary_data_type()),
+        _ => Err(Fault::Word),
+    }
+}
+
+// The type of an array of texts between offsets.
+fn text_data_type(alloc: Global, offsets: &str) -> Result<String, Fault> {
+    match offsets {
+        "i32" => write_type(alloc, &<i32 as OffsetType>::text_data_type()),
+        "i64" => write_type(alloc, &<i64 as OffsetType>::text_data_type()),
+        _ => Err(Fault::Word),
+    }
+}

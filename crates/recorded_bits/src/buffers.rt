@@ -1,0 +1,137 @@
+//! What is asked of buffers.
+//!
+//! The question is `buffer TYPE N NUMBER.. OPERATION..`, for a buffer that owns N numbers, up to the operation
+//! `end`. The answer is what the operations answer, one after the other.
+//!
+//! | Operation | Answer |
+//! |---|---|
+//! | `slice AT N` | none: N elements from place AT on are kept |
+//! | `share` | none: the elements lie from now on in a slice that clones share |
+//! | `clone` | none: the next operations go to a clone |
+//! | `get_mut I NUMBER` | `some` where the buffer may be written, and then element I becomes the number, or `none` |
+//! | `as_mut_slice I NUMBER` | none: element I becomes the number |
+//! | `is_owned` | whether the buffer may be written |
+//! | `len` | how many elements there are |
+//! | `list` | the elements |
+//! | `first` | the elements of the buffer that was cloned last |
+
+use crate::answer_text::{Told, write_numbers};
+use crate::bits::is_within;
+use crate::numbers::{at_number_type, at_type};
+use polars_arrays_bits::buffer::Buffer;
+use polars_arrays_numbers::native_type::NativeType;
+use recorded_text::fault::Fault;
+use recorded_text::parts::read_numbers;
+use recorded_text::words::Words;
+use std::alloc::Global;
+use std::fmt::Display;
+use std::str::FromStr;
+
+/// The answer to a call on buffers, or None for another one's.
+pub fn answer(alloc: Global, call: &str, words: &mut Words) -> Result<Option<String>, Fault> {
+    match call {
+        "buffer" => {
+            let answer = at_number_type!(words.read()?, operate(alloc, words))?;
+            Ok(Some(answer))
+        }
+        _ => Ok(None),
+    }
+}
+
+// What the operations of a line answer.
+fn operate<T: NativeType + Display + FromStr<Err: Drop>>(
+    alloc: Global,
+    words: &mut Words,
+) -> Result<String, Fault> {
+    let mut buffer = read_numbers::<T>(alloc, words)?;
+    let mut first = None;
+    let mut told = Told::new(alloc);
+    for _ in 0..u64::MAX {
+        match words.read()? {
+            "end" => break,
+            "share" => buffer = buffer.share(alloc)?,
+            "clone" => {
+                let copy = buffer.clone_buffer(alloc)?;
+                first = Some(buffer);
+                buffer = copy;
+            }
+            "first" => told.add(&list(alloc, &first)?)?,
+            operation => apply(alloc, &mut buffer, operation, words, &mut told)?,
+        }
+    }
+    Ok(told.into_text())
+}
+
+// The elements of the buffer that was cloned last.
+fn list<T: NativeType + Display>(
+    alloc: Global,
+    first: &Option<Buffer<T>>,
+) -> Result<String, Fault> {
+    match first {
+        Some(first) => write_numbers(alloc, first.as_slice()),
+        None => Err(Fault::Case),
+    }
+}
+
+// What an operation does to a buffer, and answers.
+fn apply<T: NativeType + Display + FromStr<Err: Drop>>(
+    alloc: Global,
+    buffer: &mut Buffer<T>,
+    operation: &str,
+    words: &mut Words,
+    told: &mut Told,
+) -> Result<(), Fault> {
+    match operation {
+        "slice" => slice(buffer, words.read_number()?, words.read_number()?),
+        "get_mut" => {
+            let written = write_if_owned(buffer, words.read_number()?, words.read_number()?)?;
+            told.add(if written { "some" } else { "none" })
+        }
+        "as_mut_slice" => write_owned(buffer, words.read_number()?, words.read_number()?),
+        "is_owned" => told.add(&buffer.is_owned().to_string(alloc)?),
+        "len" => told.add(&buffer.len().to_string(alloc)?),
+        "list" => told.add(&write_numbers(alloc, buffer.as_slice())?),
+        _ => Err(Fault::Word),
+    }
+}
+
+// Keeps elements of a buffer, where it has them.
+fn slice<T: NativeType>(buffer: &mut Buffer<T>, at: usize, n: usize) -> Result<(), Fault> {
+    if !is_within(at, n, buffer.len()) {
+        return Err(Fault::Case);
+    }
+    buffer.slice(at, n);
+    Ok(())
+}
+
+// Writes an element, where there is one.
+fn write_at<T: NativeType>(elements: &mut [T], i: usize, element: T) -> Result<(), Fault> {
+    if i >= elements.len() {
+        return Err(Fault::Case);
+    }
+    elements[i] = element;
+    Ok(())
+}
+
+// Writes an element of a buffer that owns its elements. Whether it does.
+fn write_if_owned<T: NativeType>(
+    buffer: &mut Buffer<T>,
+    i: usize,
+    element: T,
+) -> Result<bool, Fault> {
+    match buffer.get_mut() {
+        Some(elements) => {
+            write_at(elements, i, element)?;
+            Ok(true)
+        }
+        None => Ok(false),
+    }
+}
+
+// Writes an element of a buffer that has to own its elements.
+fn write_owned<T: NativeType>(buffer: &mut Buffer<T>, i: usize, element: T) -> Result<(), Fault> {
+    if !buffer.is_owned() {
+        return Err(Fault::Case);
+    }
+    write_at(buffer.as_mut_slice(), i, element)
+}

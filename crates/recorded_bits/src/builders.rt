@@ -1,0 +1,99 @@
+//! What is asked of bitmaps in the making.
+//!
+//! The question is `builder N OPERATION..`, for a builder with room for N bits, up to the operation `freeze`.
+//! The answer is what the operations answer, one after the other.
+//!
+//! | Operation | Answer |
+//! |---|---|
+//! | `push VALUE` | none, as of the next two |
+//! | `fill N VALUE` | N bits of one value |
+//! | `values X`, `wide_values X` | the bits of X, packed one by one |
+//! | `len` | how many bits there are |
+//! | `room N` | whether N bits more may be pushed |
+//! | `fallen` | by how much the room has fallen since the builder was made |
+//! | `freeze` | all bits |
+
+use crate::answer_text::Told;
+use crate::bits::{read_bitmap, read_truth};
+use crate::truth_values::SingleBits;
+use polars_arrays_bits::bitmap::Bitmap;
+use polars_arrays_bits::builder::BitmapBuilder;
+use recorded_text::bits_text::write_bits;
+use recorded_text::fault::Fault;
+use recorded_text::words::Words;
+use std::alloc::Global;
+
+/// The answer to a call on builders, or None for another one's.
+pub fn answer(alloc: Global, call: &str, words: &mut Words) -> Result<Option<String>, Fault> {
+    match call {
+        "builder" => Ok(Some(operate(alloc, words)?)),
+        _ => Ok(None),
+    }
+}
+
+// What the operations of a line answer.
+fn operate(alloc: Global, words: &mut Words) -> Result<String, Fault> {
+    let mut builder = BitmapBuilder::with_capacity(alloc, words.read_number()?)?;
+    let room = builder.room();
+    let mut told = Told::new(alloc);
+    for _ in 0..u64::MAX {
+        match words.read()? {
+            "freeze" => break,
+            "len" => told.add(&builder.len().to_string(alloc)?)?,
+            "room" => {
+                let n: usize = words.read_number()?;
+                told.add(&(n <= builder.room()).to_string(alloc)?)?;
+            }
+            "fallen" => {
+                let fallen = room.saturating_sub(builder.room());
+                told.add(&fallen.to_string(alloc)?)?;
+            }
+            operation => extend(alloc, &mut builder, operation, words)?,
+        }
+    }
+    told.add(&write_bits(alloc, &builder.freeze())?)?;
+    Ok(told.into_text())
+}
+
+// Pushes what an operation says, where there is room for it.
+fn extend(
+    alloc: Global,
+    builder: &mut BitmapBuilder,
+    operation: &str,
+    words: &mut Words,
+) -> Result<(), Fault> {
+    match operation {
+        "push" => push(builder, read_truth(words)?),
+        "fill" => fill(builder, words.read_number()?, read_truth(words)?),
+        "values" => push_all(builder, &read_bitmap(alloc, words)?, false),
+        "wide_values" => push_all(builder, &read_bitmap(alloc, words)?, true),
+        _ => Err(Fault::Word),
+    }
+}
+
+/// Pushes one bit, where there is room for it.
+pub fn push(builder: &mut BitmapBuilder, value: bool) -> Result<(), Fault> {
+    if builder.room() == 0 {
+        return Err(Fault::Case);
+    }
+    builder.push_reserved(value);
+    Ok(())
+}
+
+/// Pushes `n` times one bit, where there is room for them.
+pub fn fill(builder: &mut BitmapBuilder, n: usize, value: bool) -> Result<(), Fault> {
+    if builder.room() < n {
+        return Err(Fault::Case);
+    }
+    builder.extend_constant(n, value);
+    Ok(())
+}
+
+/// Pushes the bits of a bitmap, packed one by one, where there is room for them.
+pub fn push_all(builder: &mut BitmapBuilder, bits: &Bitmap, wide: bool) -> Result<(), Fault> {
+    if builder.room() < bits.len() {
+        return Err(Fault::Case);
+    }
+    builder.extend_values(&SingleBits { bits, wide });
+    Ok(())
+}

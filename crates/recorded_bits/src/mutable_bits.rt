@@ -1,0 +1,120 @@
+//! What is asked of bitmaps that are changed in place.
+//!
+//! The question is `mutable zeroed N OPERATION..` or `mutable set N OPERATION..`, for N bits that are all
+//! false or all true, up to the operation `freeze`. The answer is what the operations answer, one after the
+//! other.
+//!
+//! | Operation | Answer |
+//! |---|---|
+//! | `set I VALUE` | none, as of the next two |
+//! | `or X` | each bit becomes true where that of X is, which is made a bitmap of this kind |
+//! | `and X` | each bit stays true where that of X is |
+//! | `get I` | bit I |
+//! | `len`, `count` | how many bits there are, and are true |
+//! | `freeze` | all bits |
+
+use crate::answer_text::Told;
+use crate::bits::{read_bitmap, read_truth};
+use polars_arrays_bits::bitmap::Bitmap;
+use polars_arrays_bits::mutable_bitmap::MutableBitmap;
+use recorded_text::bits_text::write_bits;
+use recorded_text::fault::Fault;
+use recorded_text::words::Words;
+use std::alloc::Global;
+
+/// The answer to a call on bitmaps of this kind, or None for another one's.
+pub fn answer(alloc: Global, call: &str, words: &mut Words) -> Result<Option<String>, Fault> {
+    match call {
+        "mutable" => Ok(Some(operate(alloc, words)?)),
+        _ => Ok(None),
+    }
+}
+
+// The bits that the operations of a line begin with.
+fn begin(alloc: Global, words: &mut Words) -> Result<MutableBitmap, Fault> {
+    match words.read()? {
+        "zeroed" => Ok(MutableBitmap::from_len_zeroed(alloc, words.read_number()?)?),
+        "set" => Ok(MutableBitmap::from_len_set(alloc, words.read_number()?)?),
+        _ => Err(Fault::Word),
+    }
+}
+
+// What the operations of a line answer.
+fn operate(alloc: Global, words: &mut Words) -> Result<String, Fault> {
+    let mut bits = begin(alloc, words)?;
+    let mut told = Told::new(alloc);
+    for _ in 0..u64::MAX {
+        match words.read()? {
+            "freeze" => break,
+            "len" => told.add(&bits.len().to_string(alloc)?)?,
+            "count" => told.add(&bits.set_bits().to_string(alloc)?)?,
+            "get" => {
+                let bit = get(&bits, words.read_number()?)?;
+                told.add(&bit.to_string(alloc)?)?;
+            }
+            operation => change(alloc, &mut bits, operation, words)?,
+        }
+    }
+    told.add(&write_bits(alloc, &bits.freeze())?)?;
+    Ok(told.into_text())
+}
+
+// Changes the bits as an operation says.
+fn change(
+    alloc: Global,
+    bits: &mut MutableBitmap,
+    operation: &str,
+    words: &mut Words,
+) -> Result<(), Fault> {
+    match operation {
+        "set" => set(bits, words.read_number()?, read_truth(words)?),
+        "or" => or_assign(alloc, bits, &read_bitmap(alloc, words)?),
+        "and" => and_assign(bits, &read_bitmap(alloc, words)?),
+        _ => Err(Fault::Word),
+    }
+}
+
+// Bit `i`, where there is one.
+fn get(bits: &MutableBitmap, i: usize) -> Result<bool, Fault> {
+    if i >= bits.len() {
+        return Err(Fault::Case);
+    }
+    Ok(bits.get(i))
+}
+
+// Bit `i` becomes `value`, where there is one.
+fn set(bits: &mut MutableBitmap, i: usize, value: bool) -> Result<(), Fault> {
+    if i >= bits.len() {
+        return Err(Fault::Case);
+    }
+    bits.set(i, value);
+    Ok(())
+}
+
+// The bits of a bitmap, to be changed.
+fn to_mutable(alloc: Global, bits: &Bitmap) -> Result<MutableBitmap, Fault> {
+    let mut copy = MutableBitmap::from_len_zeroed(alloc, bits.len())?;
+    for i in 0..bits.len() {
+        set(&mut copy, i, bits.get_bit(i))?;
+    }
+    Ok(copy)
+}
+
+// Each bit becomes true where the other bitmap's is, where they are as long.
+fn or_assign(alloc: Global, bits: &mut MutableBitmap, other: &Bitmap) -> Result<(), Fault> {
+    let other = to_mutable(alloc, other)?;
+    if other.len() != bits.len() {
+        return Err(Fault::Case);
+    }
+    bits.or_assign(&other);
+    Ok(())
+}
+
+// Each bit stays true where the other bitmap's is, where they are as long.
+fn and_assign(bits: &mut MutableBitmap, other: &Bitmap) -> Result<(), Fault> {
+    if other.len() != bits.len() {
+        return Err(Fault::Case);
+    }
+    bits.and_assign(other);
+    Ok(())
+}

@@ -1,0 +1,109 @@
+//! What is asked of number types, of offsets and keys, and of the counter.
+//!
+//! | Question | Answer |
+//! |---|---|
+//! | `least_value TYPE`, `greatest_value TYPE` | the least and the greatest number of the type |
+//! | `number_width TYPE` | how many bits its numbers have |
+//! | `is_signed TYPE`, `has_wide_values TYPE` | whether it has numbers below 0, and more than 64 bits |
+//! | `to_place TYPE OFFSET`, `place TYPE OFFSET` | the offset as a place; by the first call also `none` |
+//! | `to_entry TYPE KEY` | the entry that the key names, or `none` |
+//! | `steps N NUMBER..`, `default_steps N NUMBER..` | what a counter shows to which the N numbers were added |
+
+use crate::answer_text::write_found;
+use polars_arrays_numbers::dictionary_key::DictionaryKey;
+use polars_arrays_numbers::native_type::{
+    NativeType, greatest_value, has_wide_values, least_value,
+};
+use polars_arrays_numbers::offset::Offset;
+use polars_arrays_numbers::steps::Steps;
+use recorded_text::fault::Fault;
+use recorded_text::parts::read_numbers;
+use recorded_text::words::Words;
+use std::alloc::Global;
+use std::fmt::Display;
+use std::str::FromStr;
+
+// What a function answers at that type of a list whose name a word is.
+macro_rules! at_type {
+    ($word:expr, $function:ident $arguments:tt, $($name:literal $type:ty),+) => {
+        match $word {
+            $($name => $function::<$type> $arguments,)+
+            _ => Err(Fault::Word),
+        }
+    };
+}
+
+// What a function answers at the number type whose name a word is.
+macro_rules! at_number_type {
+    ($word:expr, $function:ident $arguments:tt) => {
+        at_type!($word, $function $arguments, "i8" i8, "i16" i16, "i32" i32, "i64" i64,
+            "i128" i128, "u8" u8, "u16" u16, "u32" u32, "u64" u64, "u128" u128)
+    };
+}
+
+pub(crate) use at_number_type;
+pub(crate) use at_type;
+
+/// The answer to a call on numbers, or None for another one's.
+pub fn answer(alloc: Global, call: &str, words: &mut Words) -> Result<Option<String>, Fault> {
+    let answer = match call {
+        "least_value" | "greatest_value" | "number_width" | "is_signed" | "has_wide_values" => {
+            at_number_type!(words.read()?, ask_type(alloc, call))?
+        }
+        "to_place" | "place" => {
+            at_type!(words.read()?, ask_offset(alloc, call, words), "i32" i32, "i64" i64)?
+        }
+        "to_entry" => at_type!(words.read()?, entry(alloc, words), "i8" i8, "i16" i16, "i32" i32,
+            "i64" i64, "u8" u8, "u16" u16, "u32" u32, "u64" u64)?,
+        "steps" => count(alloc, Steps::new(), words)?,
+        "default_steps" => count(alloc, Steps::default(), words)?,
+        _ => return Ok(None),
+    };
+    Ok(Some(answer))
+}
+
+// What is asked of a number type.
+fn ask_type<T: NativeType + Display>(alloc: Global, call: &str) -> Result<String, Fault> {
+    let answer = match call {
+        "least_value" => least_value::<T>().to_string(alloc)?,
+        "greatest_value" => greatest_value::<T>().to_string(alloc)?,
+        "number_width" => T::width().to_string(alloc)?,
+        "is_signed" => T::is_signed().to_string(alloc)?,
+        "has_wide_values" => has_wide_values::<T>().to_string(alloc)?,
+        _ => return Err(Fault::Word),
+    };
+    Ok(answer)
+}
+
+// What is asked of an offset.
+fn ask_offset<O: Offset + FromStr<Err: Drop>>(
+    alloc: Global,
+    call: &str,
+    words: &mut Words,
+) -> Result<String, Fault> {
+    let offset: O = words.read_number()?;
+    if call == "to_place" {
+        return write_found(alloc, offset.to_place());
+    }
+    if offset.to_place().is_none() {
+        return Err(Fault::Case);
+    }
+    Ok(offset.place().to_string(alloc)?)
+}
+
+// The entry that a key names.
+fn entry<K: DictionaryKey + FromStr<Err: Drop>>(
+    alloc: Global,
+    words: &mut Words,
+) -> Result<String, Fault> {
+    let key: K = words.read_number()?;
+    write_found(alloc, key.to_entry())
+}
+
+// What a counter shows to which numbers are added.
+fn count(alloc: Global, mut steps: Steps, words: &mut Words) -> Result<String, Fault> {
+    for number in read_numbers::<u64>(alloc, words)?.as_slice() {
+        steps.add(*number as usize);
+    }
+    Ok(steps.seen().to_string(alloc)?)
+}

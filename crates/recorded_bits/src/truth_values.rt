@@ -1,0 +1,55 @@
+//! Truth values that are asked for one by one.
+
+ghost use Rattle.std.specs.Prelude.{◌≡◌, length, slice_index};
+
+use polars_arrays_bits::bitmap::Bitmap;
+use polars_arrays_bits::counting::CountedValues;
+use polars_arrays_bits::packing::TruthValues;
+use polars_arrays_numbers::steps::Steps;
+
+/// The bits of a bitmap, each asked for by itself. They are packed in the way for wide elements where
+/// `wide` says so.
+#[derive(Drop)]
+pub struct SingleBits<'a> {
+    pub bits: &'a Bitmap,
+    pub wide: bool,
+}
+
+impl TruthValues for SingleBits<'_> {
+    ghost values = { λ s. s.bits.now };
+
+    fn len(&self) -> usize {
+        self.bits.len()
+    }
+
+    fn value(&self, i: usize) -> bool {
+        self.bits.get_bit(i)
+    }
+
+    fn is_wide(&self) -> bool {
+        self.wide
+    }
+}
+
+/// The bits of a bitmap, and what each of them costs.
+#[derive(Drop)]
+pub struct CostlyBits<'a> {
+    pub bits: &'a Bitmap,
+    pub costs: &'a [usize],
+    ghost one_length: { length costs.now ≡ length bits.now },
+}
+
+impl CountedValues for CostlyBits<'_> {
+    ghost values = { λ c. c.bits.now };
+
+    ghost costs = { λ c i. slice_index c.costs.now i };
+
+    fn len(&self) -> usize {
+        self.bits.len()
+    }
+
+    fn value(&self, i: usize, steps: &mut Steps) -> bool {
+        steps.add(self.costs[i]);
+        self.bits.get_bit(i)
+    }
+}

@@ -1,0 +1,124 @@
+//! The line language: what a line is answered, what a run over an input writes, and how the program ends.
+//!
+//! | Question | Answer |
+//! |---|---|
+//! | `line TEXT` | the answer to the line that stands behind `line ` as it is, or why it is refused |
+//! | `line_bytes BYTES` | the same of the text that these bytes are, for a line that holds what can't be seen |
+//! | `run BYTES` | how many lines this input has, how many are refused, and the bytes that are written |
+//! | `command WORD..` | what these arguments ask for |
+//! | `exit_status lines N refused N`, `exit_status FAULT` | the status after such a run |
+//! | `fault_text FAULT` | what is printed where a run stopped: by `read`, `write` or `memory` |
+
+use polars_tables_lines::arguments::command;
+use polars_tables_lines::line::{LineError, answer_line};
+use polars_tables_lines::program::{Command, exit_status, fault_text};
+use polars_tables_lines::running::{Report, RunError, run};
+use recorded_text::fault::Fault;
+use recorded_text::parts::read_bytes;
+use recorded_text::words::Words;
+use std::alloc::{AllocError, Global};
+use std::str::from_utf8;
+
+/// The answer to a call of the line language, or None for another one's. `text` is what stands behind the call
+/// and a space, and `words` are its words.
+pub fn answer(
+    alloc: Global,
+    call: &str,
+    text: &str,
+    words: &mut Words,
+) -> Result<Option<String>, Fault> {
+    let answer = match call {
+        "line" => answer_text(alloc, text)?,
+        "line_bytes" => answer_bytes(alloc, words)?,
+        "run" => answer_run(alloc, words)?,
+        "command" => command_name(command(&split_arguments(alloc, text)?)).to_string(alloc)?,
+        "exit_status" => exit_status(&read_outcome(words)?).to_string(alloc)?,
+        "fault_text" => fault_text(&read_fault(words.read()?)?).to_string(alloc)?,
+        _ => return Ok(None),
+    };
+    Ok(Some(answer))
+}
+
+/// What a line is answered.
+fn answer_text(alloc: Global, line: &str) -> Result<String, Fault> {
+    match answer_line(alloc, line) {
+        Ok(answer) => Ok(answer),
+        Err(LineError::Memory) => Err(Fault::Memory),
+        Err(fault) => Ok(format!(in alloc; "refused: {fault}")?),
+    }
+}
+
+/// What the line is answered whose bytes the next word has.
+fn answer_bytes(alloc: Global, words: &mut Words) -> Result<String, Fault> {
+    let bytes = read_bytes(alloc, words.read()?)?;
+    match from_utf8(&bytes) {
+        Ok(line) => answer_text(alloc, line),
+        Err(_) => Err(Fault::Word),
+    }
+}
+
+/// What a run over the bytes of the next word reports and writes. Bytes can always be read, and writing them
+/// takes nothing but memory.
+fn answer_run(alloc: Global, words: &mut Words) -> Result<String, Fault> {
+    let input = read_bytes(alloc, words.read()?)?;
+    let mut written = Vec::new(alloc);
+    let Ok(report) = run(alloc, &mut input.as_slice(), &mut written) else {
+        return Err(Fault::Memory);
+    };
+    let written = hexadecimal(alloc, &written)?;
+    let Report { lines, refused } = report;
+    Ok(format!(in alloc; "lines {lines} refused {refused} x{written}")?)
+}
+
+/// Two hexadecimal digits for each byte.
+fn hexadecimal(alloc: Global, bytes: &[u8]) -> Result<String, AllocError> {
+    let mut text = String::new(alloc);
+    for byte in bytes {
+        write!(text, "{byte:02x}")?;
+    }
+    Ok(text)
+}
+
+/// The arguments that a text has, parted by one space.
+fn split_arguments(alloc: Global, text: &str) -> Result<Vec<String>, AllocError> {
+    let mut arguments = Vec::new(alloc);
+    for word in text.split(' ') {
+        if !word.is_empty() {
+            arguments.push(word.to_string(alloc)?)?;
+        }
+    }
+    Ok(arguments)
+}
+
+/// The name of what the program is asked to do.
+fn command_name(command: Command) -> &'static str {
+    match command {
+        Command::Lines => "lines",
+        Command::Demo => "demo",
+        Command::Usage => "usage",
+    }
+}
+
+/// The outcome of a run: `lines N refused N`, or its fault.
+fn read_outcome(words: &mut Words) -> Result<Result<Report, RunError>, Fault> {
+    let word = words.read()?;
+    if word != "lines" {
+        return Ok(Err(read_fault(word)?));
+    }
+    let lines = words.read_number()?;
+    if words.read()? != "refused" {
+        return Err(Fault::Word);
+    }
+    let refused = words.read_number()?;
+    Ok(Ok(Report { lines, refused }))
+}
+
+/// The fault of a run that a word names.
+fn read_fault(word: &str) -> Result<RunError, Fault> {
+    match word {
+        "read" => Ok(RunError::Read),
+        "write" => Ok(RunError::Write),
+        "memory" => Ok(RunError::Memory),
+        _ => Err(Fault::Word),
+    }
+}

@@ -1,0 +1,162 @@
+//! Kernels of two arrays of any kind.
+//!
+//! | Call | Answer |
+//! |---|---|
+//! | `array_tot_eq_missing_kernel A B`, `array_tot_ne_missing_kernel A B` | the bits |
+//! | `array_tot_eq_missing_kernel_counted A B [LEAVES]` and the same of `ne` | `BITS in N comparisons` |
+//! | `list_broadcast LISTS ITEMS`, `fixed_size_list_broadcast LISTS ITEMS` | the bits, masked rows among them |
+//! | `law_tally`, `law_steps` | `holds` |
+//!
+//! LEAVES is `always` or `never`, for leaves that are said to agree all, or none of them.
+
+ghost use Rattle.std.specs.Prelude.{◌≡◌, IsTrue};
+ghost use Rattle.polars_arrays_nested.specs.GoodParts.{IsGood};
+ghost use Rattle.polars_arrays_nested.specs.Lengths.{len_of};
+ghost use Rattle.polars_arrays_nested.specs.Types.{type_of};
+ghost use Rattle.recorded_text.specs.Cases.{HasGoodArrays};
+
+use crate::leaf_kernels::{Always, Never, SeenKernel};
+use polars_arrays_nested::any_array::AnyArray;
+use polars_arrays_numbers::steps::Steps;
+use polars_compare_leaves::joining::Relation;
+use polars_compare_nested::broadcasts::{fixed_size_list_broadcast, list_broadcast};
+use polars_compare_nested::kernels::{
+    array_tot_eq_missing_kernel, array_tot_eq_missing_kernel_counted, array_tot_ne_missing_kernel,
+    array_tot_ne_missing_kernel_counted,
+};
+use polars_compare_nested::laws::{law_steps, law_tally};
+use recorded_text::bits_text::write_bits;
+use recorded_text::fault::Fault;
+use recorded_text::store::Store;
+use recorded_text::words::Words;
+use std::alloc::Global;
+
+/// The answer to a call of this subject, or None for another one's.
+pub fn answer(
+    alloc: Global,
+    call: &str,
+    store: &Store,
+    words: &mut Words,
+) -> Result<Option<String>, Fault>
+    requires { HasGoodArrays store.now }
+{
+    let answer = match call {
+        "array_tot_eq_missing_kernel" => missing(alloc, store, words, Relation::Equal),
+        "array_tot_ne_missing_kernel" => missing(alloc, store, words, Relation::Unequal),
+        "array_tot_eq_missing_kernel_counted" => counted(alloc, store, words, Relation::Equal),
+        "array_tot_ne_missing_kernel_counted" => counted(alloc, store, words, Relation::Unequal),
+        "list_broadcast" => lists(alloc, store, words),
+        "fixed_size_list_broadcast" => fixed_size_lists(alloc, store, words),
+        "law_tally" => {
+            law_tally();
+            Ok("holds".to_string(alloc)?)
+        }
+        "law_steps" => {
+            law_steps();
+            Ok("holds".to_string(alloc)?)
+        }
+        _ => return Ok(None),
+    };
+    Ok(Some(answer?))
+}
+
+// Whether two arrays are of one type and length, as the kernels ask.
+fn can_compare(left: &AnyArray, right: &AnyArray) -> bool
+    ensures one_type { IsTrue result → type_of left.now ≡ type_of right.now }
+    ensures one_length { IsTrue result → len_of left.now ≡ len_of right.now }
+{
+    left.same_type(right) && left.len() == right.len()
+}
+
+// Where rows are equal or not, null to null alone.
+fn missing(
+    alloc: Global,
+    store: &Store,
+    words: &mut Words,
+    relation: Relation,
+) -> Result<String, Fault>
+    requires { HasGoodArrays store.now }
+{
+    let left = store.read(words)?;
+    let right = store.read(words)?;
+    if !can_compare(left, right) {
+        return Err(Fault::Case);
+    }
+    let bits = match relation {
+        Relation::Equal => array_tot_eq_missing_kernel(alloc, left, right)?,
+        Relation::Unequal => array_tot_ne_missing_kernel(alloc, left, right)?,
+    };
+    write_bits(alloc, &bits)
+}
+
+// The same, and how many comparisons the kernel of leaves made that a last word may name.
+fn counted(
+    alloc: Global,
+    store: &Store,
+    words: &mut Words,
+    relation: Relation,
+) -> Result<String, Fault>
+    requires { HasGoodArrays store.now }
+{
+    let left = store.read(words)?;
+    let right = store.read(words)?;
+    if words.take("always") {
+        counted_by::<Always>(alloc, left, right, relation)
+    } else if words.take("never") {
+        counted_by::<Never>(alloc, left, right, relation)
+    } else {
+        counted_by::<Steps>(alloc, left, right, relation)
+    }
+}
+
+// The same by one kernel of leaves.
+fn counted_by<K: SeenKernel + Drop>(
+    alloc: Global,
+    left: &AnyArray,
+    right: &AnyArray,
+    relation: Relation,
+) -> Result<String, Fault>
+    requires good_left { IsGood left.now }
+    requires good_right { IsGood right.now }
+{
+    if !can_compare(left, right) {
+        return Err(Fault::Case);
+    }
+    let mut kernel = K::new();
+    let bits = match relation {
+        Relation::Equal => { array_tot_eq_missing_kernel_counted(alloc, left, right, &mut kernel)? }
+        Relation::Unequal => {
+            array_tot_ne_missing_kernel_counted(alloc, left, right, &mut kernel)?
+        }
+    };
+    let bits = write_bits(alloc, &bits)?;
+    Ok(format!(in alloc; "{bits} in {} comparisons", kernel.seen())?)
+}
+
+// Where lists have for items all rows of an array, in order.
+fn lists(alloc: Global, store: &Store, words: &mut Words) -> Result<String, Fault>
+    requires { HasGoodArrays store.now }
+{
+    let lists = store.read(words)?;
+    let items = store.read(words)?;
+    match lists {
+        AnyArray::List(lists) if lists.values().same_type(items) => {
+            write_bits(alloc, &list_broadcast(alloc, lists, items)?)
+        }
+        _ => Err(Fault::Case),
+    }
+}
+
+// The same of lists of one width.
+fn fixed_size_lists(alloc: Global, store: &Store, words: &mut Words) -> Result<String, Fault>
+    requires { HasGoodArrays store.now }
+{
+    let lists = store.read(words)?;
+    let items = store.read(words)?;
+    match lists {
+        AnyArray::FixedSizeList(lists) if lists.values().same_type(items) => {
+            write_bits(alloc, &fixed_size_list_broadcast(alloc, lists, items)?)
+        }
+        _ => Err(Fault::Case),
+    }
+}

@@ -1,0 +1,73 @@
+//! The null combination: raw bits, joined with two validities.
+//!
+//! | Call | Answer |
+//! |---|---|
+//! | `join_nulls RELATION BITS VALIDITY VALIDITY` | the bits joined; RELATION is `equal` or `unequal` |
+//! | `join_masks RELATION BITS VALIDITY VALIDITY` | the same of windows of validities |
+
+ghost use Rattle.std.specs.Prelude.{◌≡◌};
+
+use polars_arrays_bits::bit_mask::BitMask;
+use polars_arrays_bits::bitmap::Bitmap;
+use polars_arrays_flat::validity::has_bits;
+use polars_compare_leaves::joining::{Relation, join_masks, join_nulls};
+use recorded_text::bits_text::write_bits;
+use recorded_text::fault::Fault;
+use recorded_text::parts::{Kept, read_bits, read_validity};
+use recorded_text::words::Words;
+use std::alloc::Global;
+
+/// The answer to a call of this subject, or None for another one's.
+pub fn answer(alloc: Global, call: &str, words: &mut Words) -> Result<Option<String>, Fault> {
+    let answer = match call {
+        "join_nulls" => nulls(alloc, words),
+        "join_masks" => masks(alloc, words),
+        _ => return Ok(None),
+    };
+    Ok(Some(answer?))
+}
+
+// What the next word says that bits tell.
+fn read_relation(words: &mut Words) -> Result<Relation, Fault> {
+    match words.read()? {
+        "equal" => Ok(Relation::Equal),
+        "unequal" => Ok(Relation::Unequal),
+        _ => Err(Fault::Word),
+    }
+}
+
+// A validity, lent.
+fn lent(validity: &Option<Bitmap>) -> Option<BitMask<'_>>
+    ensures { result ≡ validity.now }
+{
+    match validity {
+        Some(bits) => Some(BitMask::from_bitmap(bits)),
+        None => None,
+    }
+}
+
+// Raw bits joined with whole validities.
+fn nulls(alloc: Global, words: &mut Words) -> Result<String, Fault> {
+    let relation = read_relation(words)?;
+    let raw = read_bits(alloc, words.read()?)?;
+    let left = read_validity(alloc, Kept::Owned, words)?;
+    let right = read_validity(alloc, Kept::Owned, words)?;
+    if !has_bits(raw.len(), &left) || !has_bits(raw.len(), &right) {
+        return Err(Fault::Case);
+    }
+    let bits = join_nulls(alloc, relation, raw, left.as_ref(), right.as_ref())?;
+    write_bits(alloc, &bits)
+}
+
+// Raw bits joined with windows of validities.
+fn masks(alloc: Global, words: &mut Words) -> Result<String, Fault> {
+    let relation = read_relation(words)?;
+    let raw = read_bits(alloc, words.read()?)?;
+    let left = read_validity(alloc, Kept::Owned, words)?;
+    let right = read_validity(alloc, Kept::Owned, words)?;
+    if !has_bits(raw.len(), &left) || !has_bits(raw.len(), &right) {
+        return Err(Fault::Case);
+    }
+    let bits = join_masks(alloc, relation, raw, lent(&left), lent(&right))?;
+    write_bits(alloc, &bits)
+}

@@ -1,0 +1,25 @@
+//! The arrays inside arrays of any kind, where the kind is one of several.
+
+/// What is asked of the array inside one of any kind. It has an answer for the kinds that are named alone.
+macro_rules! of_kind {
+    ($any:expr, $array:ident => $each:expr, $($kind:ident)+) => {
+        match $any {
+            $(AnyArray::$kind($array) => $each,)+
+            _ => Err(Fault::Case),
+        }
+    };
+}
+
+pub(crate) use of_kind;
+
+/// What is asked of the arrays inside two of one kind. It has an answer for the kinds that are named alone.
+macro_rules! of_one_kind {
+    ($these:expr, $those:expr, $left:ident, $right:ident => $each:expr, $($kind:ident)+) => {
+        match ($these, $those) {
+            $((AnyArray::$kind($left), AnyArray::$kind($right)) => $each,)+
+            _ => Err(Fault::Case),
+        }
+    };
+}
+
+pub(crate) use of_one_kind;

@@ -1,0 +1,256 @@
+//! Tests of stored rows, whatever the validity says. A TEST is one of `named_tests`.
+//!
+//! | Call | Answer |
+//! |---|---|
+//! | `test_number_windows TEST A a B b n`, and so of `truth`, `byte` and `sized` | which pairs of rows pass |
+//! | `test_view_windows TEST A a B b n` | `BITS in N`, of which N pairs are looked up in buffers |
+//! | `test_number TEST A NUMBER`, `test_truth TEST A TRUTH` | which rows pass with a constant |
+//! | `test_bytes TEST A BYTES`, `test_view_bytes TEST A BYTES` | the same |
+//!
+//! A window is `n` rows from row `a` on of A, and as many from row `b` on of B.
+
+ghost use Rattle.recorded_text.specs.Cases.{HasGoodArrays};
+
+use crate::named_kinds::{of_kind, of_one_kind};
+use crate::named_tests::{Test, with_test};
+use crate::scalars::read_truth;
+use crate::view_rows::as_views;
+use crate::windows::{Windows, is_within, read_windows};
+use polars_arrays_flat::array::Array;
+use polars_arrays_flat::byte_rows::ByteRows;
+use polars_arrays_flat::primitive::PrimitiveArray;
+use polars_arrays_nested::any_array::AnyArray;
+use polars_arrays_numbers::element_test::{
+    Equal, Greater, GreaterOrEqual, Less, LessOrEqual, Unequal,
+};
+use polars_arrays_numbers::native_type::NativeType;
+use polars_arrays_numbers::steps::Steps;
+use polars_compare_leaves::booleans::{test_truth, test_truth_windows};
+use polars_compare_leaves::bytes::{test_byte_windows, test_bytes};
+use polars_compare_leaves::numbers::{test_number, test_number_windows};
+use polars_compare_nested::sized::test_sized_windows;
+use polars_compare_views::windows::{test_view_bytes, test_view_windows};
+use recorded_text::bits_text::write_bits;
+use recorded_text::fault::Fault;
+use recorded_text::parts::read_bytes;
+use recorded_text::store::Store;
+use recorded_text::words::Words;
+use std::alloc::Global;
+use std::str::FromStr;
+
+/// The answer to a call of this subject, or None for another one's.
+pub fn answer(
+    alloc: Global,
+    call: &str,
+    store: &Store,
+    words: &mut Words,
+) -> Result<Option<String>, Fault>
+    requires { HasGoodArrays store.now }
+{
+    let answer = match call {
+        "test_number_windows" => number_windows(alloc, store, words),
+        "test_truth_windows" => truth_windows(alloc, store, words),
+        "test_byte_windows" => byte_windows(alloc, store, words),
+        "test_sized_windows" => sized_windows(alloc, store, words),
+        "test_view_windows" => view_windows(alloc, store, words),
+        "test_number" => number(alloc, store, words),
+        "test_truth" => truth(alloc, store, words),
+        "test_bytes" => bytes(alloc, store, words),
+        "test_view_bytes" => view_bytes(alloc, store, words),
+        _ => return Ok(None),
+    };
+    Ok(Some(answer?))
+}
+
+// Which numbers of two windows pass.
+fn number_windows(alloc: Global, store: &Store, words: &mut Words) -> Result<String, Fault>
+    requires { HasGoodArrays store.now }
+{
+    let test = Test::read(words)?;
+    let windows = read_windows(store, words)?;
+    of_one_kind!(windows.left, windows.right, left, right => numbers(alloc, test, left, right, windows),
+        Int8 Int16 Int32 Int64 Int128 UInt8 UInt16 UInt32 UInt64 UInt128)
+}
+
+// Which numbers of one type pass.
+fn numbers<T: NativeType>(
+    alloc: Global,
+    test: Test,
+    left: &PrimitiveArray<T>,
+    right: &PrimitiveArray<T>,
+    windows: Windows,
+) -> Result<String, Fault> {
+    let Windows { a, b, n, .. } = windows;
+    if !is_within(a, n, left.len()) || !is_within(b, n, right.len()) {
+        return Err(Fault::Case);
+    }
+    let bits = with_test!(test, test => test_number_windows(alloc, test, left, a, right, b, n)?);
+    write_bits(alloc, &bits)
+}
+
+// Which truth values of two windows pass.
+fn truth_windows(alloc: Global, store: &Store, words: &mut Words) -> Result<String, Fault>
+    requires { HasGoodArrays store.now }
+{
+    let test = Test::read(words)?;
+    let Windows {
+        left,
+        a,
+        right,
+        b,
+        n,
+    } = read_windows(store, words)?;
+    let (AnyArray::Boolean(left), AnyArray::Boolean(right)) = (left, right) else {
+        return Err(Fault::Case);
+    };
+    let bits = with_test!(test, test => test_truth_windows(alloc, test, left, a, right, b, n)?);
+    write_bits(alloc, &bits)
+}
+
+// Which byte strings of two windows pass. Those of a binary array may be set against text views too.
+fn byte_windows(alloc: Global, store: &Store, words: &mut Words) -> Result<String, Fault>
+    requires { HasGoodArrays store.now }
+{
+    let test = Test::read(words)?;
+    let windows = read_windows(store, words)?;
+    match (windows.left, windows.right) {
+        (AnyArray::Binary(left), AnyArray::Utf8View(right)) => {
+            strings(alloc, test, left, right, windows)
+        }
+        (left, right) => {
+            of_one_kind!(left, right, left, right => strings(alloc, test, left, right, windows),
+                Binary LargeBinary Utf8 LargeUtf8 BinaryView Utf8View FixedSizeBinary)
+        }
+    }
+}
+
+// Which byte strings pass.
+fn strings<L: ByteRows, R: ByteRows>(
+    alloc: Global,
+    test: Test,
+    left: &L,
+    right: &R,
+    windows: Windows,
+) -> Result<String, Fault> {
+    let Windows { a, b, n, .. } = windows;
+    if !is_within(a, n, left.count()) || !is_within(b, n, right.count()) {
+        return Err(Fault::Case);
+    }
+    let bits = with_test!(test, test => test_byte_windows(alloc, test, left, a, right, b, n)?);
+    write_bits(alloc, &bits)
+}
+
+// Which byte strings of one size each pass, in two windows.
+fn sized_windows(alloc: Global, store: &Store, words: &mut Words) -> Result<String, Fault>
+    requires { HasGoodArrays store.now }
+{
+    let test = Test::read(words)?;
+    let Windows {
+        left,
+        a,
+        right,
+        b,
+        n,
+    } = read_windows(store, words)?;
+    let (AnyArray::FixedSizeBinary(left), AnyArray::FixedSizeBinary(right)) = (left, right) else {
+        return Err(Fault::Case);
+    };
+    if !is_within(a, n, left.count()) || !is_within(b, n, right.count()) {
+        return Err(Fault::Case);
+    }
+    let bits = with_test!(test, test => test_sized_windows(alloc, test, left, a, right, b, n)?);
+    write_bits(alloc, &bits)
+}
+
+// Which byte strings kept by views pass, in two windows, and how many pairs are looked up in buffers.
+fn view_windows(alloc: Global, store: &Store, words: &mut Words) -> Result<String, Fault>
+    requires { HasGoodArrays store.now }
+{
+    let test = Test::read(words)?;
+    let Windows {
+        left,
+        a,
+        right,
+        b,
+        n,
+    } = read_windows(store, words)?;
+    let (left, right) = (as_views(left)?, as_views(right)?);
+    if !is_within(a, n, left.len()) || !is_within(b, n, right.len()) {
+        return Err(Fault::Case);
+    }
+    let mut steps = Steps::new();
+    let followed = &mut steps;
+    let bits = with_test!(test, test => {
+        test_view_windows(alloc, test, left, a, right, b, n, followed)?
+    });
+    let bits = write_bits(alloc, &bits)?;
+    Ok(format!(in alloc; "{bits} in {}", steps.seen())?)
+}
+
+// Which numbers of an array pass with the one that words write.
+fn number(alloc: Global, store: &Store, words: &mut Words) -> Result<String, Fault>
+    requires { HasGoodArrays store.now }
+{
+    let test = Test::read(words)?;
+    let array = store.read(words)?;
+    of_kind!(array, numbers => numbers_beside(alloc, test, numbers, words),
+        Int8 Int16 Int32 Int64 Int128 UInt8 UInt16 UInt32 UInt64 UInt128)
+}
+
+// Which numbers of one type pass with the one that words write.
+fn numbers_beside<T: NativeType + FromStr<Err: Drop>>(
+    alloc: Global,
+    test: Test,
+    numbers: &PrimitiveArray<T>,
+    words: &mut Words,
+) -> Result<String, Fault> {
+    let number: T = words.read_number()?;
+    let bits = with_test!(test, test => test_number(alloc, test, numbers, number)?);
+    write_bits(alloc, &bits)
+}
+
+// Which truth values of an array pass with the one that words write.
+fn truth(alloc: Global, store: &Store, words: &mut Words) -> Result<String, Fault>
+    requires { HasGoodArrays store.now }
+{
+    let test = Test::read(words)?;
+    let AnyArray::Boolean(truths) = store.read(words)? else {
+        return Err(Fault::Case);
+    };
+    let truth = read_truth(words)?;
+    let bits = with_test!(test, test => test_truth(alloc, test, truths, truth)?);
+    write_bits(alloc, &bits)
+}
+
+// Which byte strings of an array pass with the one that words write.
+fn bytes(alloc: Global, store: &Store, words: &mut Words) -> Result<String, Fault>
+    requires { HasGoodArrays store.now }
+{
+    let test = Test::read(words)?;
+    let array = store.read(words)?;
+    let bytes = read_bytes(alloc, words.read()?)?;
+    of_kind!(array, strings => strings_beside(alloc, test, strings, &bytes),
+        Binary LargeBinary Utf8 LargeUtf8 BinaryView Utf8View FixedSizeBinary)
+}
+
+// Which byte strings pass with one.
+fn strings_beside<L: ByteRows>(
+    alloc: Global,
+    test: Test,
+    strings: &L,
+    bytes: &[u8],
+) -> Result<String, Fault> {
+    let bits = with_test!(test, test => test_bytes(alloc, test, strings, bytes)?);
+    write_bits(alloc, &bits)
+}
+
+// Which byte strings kept by views pass with the one that words write.
+fn view_bytes(alloc: Global, store: &Store, words: &mut Words) -> Result<String, Fault>
+    requires { HasGoodArrays store.now }
+{
+    let test = Test::read(words)?;
+    let views = as_views(store.read(words)?)?;
+    let bytes = read_bytes(alloc, words.read()?)?;
+    let bits = with_test!(test, test => test_view_bytes(alloc, test, views, &bytes)?);
+    write_bits(alloc, &bits)
+}

@@ -1,0 +1,256 @@
+//! Single rows that are kept by views, and the kernels that say how many pairs they look up in buffers.
+//!
+//! | Call | Answer |
+//! |---|---|
+//! | `rows_equal A i B j`, `row_less A i B j` | `TRUTH in N`, of which N pairs are looked up in buffers |
+//! | `row_equals_bytes A i BYTES`, `row_less_bytes A i BYTES`, `bytes_less_row BYTES A i` | a truth value |
+//! | `view_test TEST A i B j`, `view_test_bytes TEST A i BYTES` | the same by one of `named_tests` |
+//! | `tot_eq_kernel_followed A B`, `tot_lt_kernel_followed A B` | `BITS in N`, masked rows among them |
+//! | `followed A B` | the two counts alone |
+//! | `scalar_row_len BYTES`, `scalar_row_bytes BYTES`, `scalar_row_prefix BYTES` | of the byte string made ready |
+
+ghost use Rattle.std.specs.Prelude.{◌≡◌, ◌<◌, length, IfOk};
+ghost use Rattle.recorded_text.specs.Cases.{HasGoodArrays};
+
+use crate::named_kinds::of_one_kind;
+use crate::named_tests::{Test, with_test};
+use polars_arrays_nested::any_array::AnyArray;
+use polars_arrays_numbers::element_test::{
+    Equal, Greater, GreaterOrEqual, Less, LessOrEqual, Unequal,
+};
+use polars_arrays_numbers::steps::Steps;
+use polars_arrays_views::binary_view::BinaryViewArray;
+use polars_arrays_views::rows::{
+    bytes_less_row, row_equals_bytes, row_less, row_less_bytes, rows_equal,
+};
+use polars_arrays_views::scalar::ScalarRow;
+use polars_compare_views::followed::FollowedKernel;
+use polars_compare_views::view_test::ViewTest;
+use recorded_text::bits_text::write_bits;
+use recorded_text::fault::Fault;
+use recorded_text::parts::read_bytes;
+use recorded_text::store::Store;
+use recorded_text::words::Words;
+use std::alloc::Global;
+
+/// The answer to a call of this subject, or None for another one's.
+pub fn answer(
+    alloc: Global,
+    call: &str,
+    store: &Store,
+    words: &mut Words,
+) -> Result<Option<String>, Fault>
+    requires { HasGoodArrays store.now }
+{
+    let answer = match call {
+        "rows_equal" => are_equal(alloc, store, words),
+        "row_less" => is_less(alloc, store, words),
+        "row_equals_bytes" => equals_bytes(alloc, store, words),
+        "row_less_bytes" => is_less_than_bytes(alloc, store, words),
+        "bytes_less_row" => is_greater_than_bytes(alloc, store, words),
+        "view_test" => passes(alloc, store, words),
+        "view_test_bytes" => passes_with_bytes(alloc, store, words),
+        "tot_eq_kernel_followed" => equal_followed(alloc, store, words),
+        "tot_lt_kernel_followed" => less_followed(alloc, store, words),
+        "followed" => followed(alloc, store, words),
+        "scalar_row_len" => scalar_len(alloc, words),
+        "scalar_row_bytes" => scalar_bytes(alloc, words),
+        "scalar_row_prefix" => scalar_prefix(alloc, words),
+        _ => return Ok(None),
+    };
+    Ok(Some(answer?))
+}
+
+/// The views of an array that keeps its rows so.
+pub fn as_views(array: &AnyArray) -> Result<&BinaryViewArray, Fault> {
+    match array {
+        AnyArray::BinaryView(views) => Ok(views),
+        AnyArray::Utf8View(texts) => Ok(texts.as_binview()),
+        _ => Err(Fault::Case),
+    }
+}
+
+// The views of the array that words name, and the place of the row that they name.
+fn read_row<'a>(store: &'a Store, words: &mut Words) -> Result<(&'a BinaryViewArray, usize), Fault>
+    requires { HasGoodArrays store.now }
+    ensures { IfOk result (λ row. row.1 < length row.0.now.views) }
+{
+    let views = as_views(store.read(words)?)?;
+    let row = words.read_number()?;
+    if row < views.views().len() {
+        Ok((views, row))
+    } else {
+        Err(Fault::Case)
+    }
+}
+
+// A truth value, and how many pairs were looked up for it.
+fn write_counted(alloc: Global, truth: bool, steps: &Steps) -> Result<String, Fault> {
+    Ok(format!(in alloc; "{truth} in {}", steps.seen())?)
+}
+
+// Whether two rows are equal.
+fn are_equal(alloc: Global, store: &Store, words: &mut Words) -> Result<String, Fault>
+    requires { HasGoodArrays store.now }
+{
+    let (left, i) = read_row(store, words)?;
+    let (right, j) = read_row(store, words)?;
+    let mut steps = Steps::new();
+    let equal = rows_equal(left, i, right, j, &mut steps);
+    write_counted(alloc, equal, &steps)
+}
+
+// Whether a row is less than another.
+fn is_less(alloc: Global, store: &Store, words: &mut Words) -> Result<String, Fault>
+    requires { HasGoodArrays store.now }
+{
+    let (left, i) = read_row(store, words)?;
+    let (right, j) = read_row(store, words)?;
+    let mut steps = Steps::new();
+    let less = row_less(left, i, right, j, &mut steps);
+    write_counted(alloc, less, &steps)
+}
+
+// Whether two rows pass a test.
+fn passes(alloc: Global, store: &Store, words: &mut Words) -> Result<String, Fault>
+    requires { HasGoodArrays store.now }
+{
+    let test = Test::read(words)?;
+    let (left, i) = read_row(store, words)?;
+    let (right, j) = read_row(store, words)?;
+    let mut steps = Steps::new();
+    let followed = &mut steps;
+    let passes = with_test!(test, test => ViewTest::test(test, left, i, right, j, followed));
+    write_counted(alloc, passes, &steps)
+}
+
+// Whether a row has these bytes.
+fn equals_bytes(alloc: Global, store: &Store, words: &mut Words) -> Result<String, Fault>
+    requires { HasGoodArrays store.now }
+{
+    let (views, i) = read_row(store, words)?;
+    let bytes = read_bytes(alloc, words.read()?)?;
+    let equal = row_equals_bytes(views, i, &ScalarRow::new(&bytes));
+    Ok(equal.to_string(alloc)?)
+}
+
+// Whether a row is less than these bytes.
+fn is_less_than_bytes(alloc: Global, store: &Store, words: &mut Words) -> Result<String, Fault>
+    requires { HasGoodArrays store.now }
+{
+    let (views, i) = read_row(store, words)?;
+    let bytes = read_bytes(alloc, words.read()?)?;
+    let less = row_less_bytes(views, i, &ScalarRow::new(&bytes));
+    Ok(less.to_string(alloc)?)
+}
+
+// Whether these bytes are less than a row.
+fn is_greater_than_bytes(alloc: Global, store: &Store, words: &mut Words) -> Result<String, Fault>
+    requires { HasGoodArrays store.now }
+{
+    let bytes = read_bytes(alloc, words.read()?)?;
+    let (views, i) = read_row(store, words)?;
+    let less = bytes_less_row(&ScalarRow::new(&bytes), views, i);
+    Ok(less.to_string(alloc)?)
+}
+
+// Whether a row passes a test with these bytes.
+fn passes_with_bytes(alloc: Global, store: &Store, words: &mut Words) -> Result<String, Fault>
+    requires { HasGoodArrays store.now }
+{
+    let test = Test::read(words)?;
+    let (views, i) = read_row(store, words)?;
+    let bytes = read_bytes(alloc, words.read()?)?;
+    let scalar = ScalarRow::new(&bytes);
+    let passes = with_test!(test, test => ViewTest::test_bytes(test, views, i, &scalar));
+    Ok(passes.to_string(alloc)?)
+}
+
+// Where the stored rows of two arrays are equal.
+fn equal_followed(alloc: Global, store: &Store, words: &mut Words) -> Result<String, Fault>
+    requires { HasGoodArrays store.now }
+{
+    let these = store.read(words)?;
+    let those = store.read(words)?;
+    of_one_kind!(these, those, left, right => equal_rows(alloc, left, right), BinaryView Utf8View)
+}
+
+// Where stored rows are equal, and how many pairs are looked up.
+fn equal_rows<A: FollowedKernel>(alloc: Global, left: &A, right: &A) -> Result<String, Fault> {
+    if left.count() != right.count() {
+        return Err(Fault::Case);
+    }
+    let mut steps = Steps::new();
+    let bits = left.tot_eq_kernel_followed(alloc, right, &mut steps)?;
+    let bits = write_bits(alloc, &bits)?;
+    Ok(format!(in alloc; "{bits} in {}", steps.seen())?)
+}
+
+// Where the stored rows of an array are less than those of another.
+fn less_followed(alloc: Global, store: &Store, words: &mut Words) -> Result<String, Fault>
+    requires { HasGoodArrays store.now }
+{
+    let these = store.read(words)?;
+    let those = store.read(words)?;
+    of_one_kind!(these, those, left, right => less_rows(alloc, left, right), BinaryView Utf8View)
+}
+
+// Where stored rows are less, and how many pairs are looked up.
+fn less_rows<A: FollowedKernel>(alloc: Global, left: &A, right: &A) -> Result<String, Fault> {
+    if left.count() != right.count() {
+        return Err(Fault::Case);
+    }
+    let mut steps = Steps::new();
+    let bits = left.tot_lt_kernel_followed(alloc, right, &mut steps)?;
+    let bits = write_bits(alloc, &bits)?;
+    Ok(format!(in alloc; "{bits} in {}", steps.seen())?)
+}
+
+// How many pairs equality and order look up.
+fn followed(alloc: Global, store: &Store, words: &mut Words) -> Result<String, Fault>
+    requires { HasGoodArrays store.now }
+{
+    let these = store.read(words)?;
+    let those = store.read(words)?;
+    of_one_kind!(these, those, left, right => pairs_followed(alloc, left, right), BinaryView Utf8View)
+}
+
+// How many pairs of rows equality and order look up.
+fn pairs_followed<A: FollowedKernel>(alloc: Global, left: &A, right: &A) -> Result<String, Fault> {
+    if left.count() != right.count() {
+        return Err(Fault::Case);
+    }
+    let (mut equal, mut less) = (Steps::new(), Steps::new());
+    left.tot_eq_kernel_followed(alloc, right, &mut equal)?;
+    left.tot_lt_kernel_followed(alloc, right, &mut less)?;
+    Ok(format!(in alloc; "{} {}", equal.seen(), less.seen())?)
+}
+
+// How many bytes a byte string made ready has.
+fn scalar_len(alloc: Global, words: &mut Words) -> Result<String, Fault> {
+    let bytes = read_bytes(alloc, words.read()?)?;
+    Ok(ScalarRow::new(&bytes).len().to_string(alloc)?)
+}
+
+// The bytes of a byte string made ready.
+fn scalar_bytes(alloc: Global, words: &mut Words) -> Result<String, Fault> {
+    let bytes = read_bytes(alloc, words.read()?)?;
+    let scalar = ScalarRow::new(&bytes);
+    write_bytes(alloc, scalar.bytes())
+}
+
+// The text of bytes: `x` and two hexadecimal digits for each.
+fn write_bytes(alloc: Global, bytes: &[u8]) -> Result<String, Fault> {
+    let mut text = String::new(alloc);
+    text.push('x')?;
+    for byte in bytes {
+        write!(text, "{byte:02x}")?;
+    }
+    Ok(text)
+}
+
+// The first four bytes of a byte string made ready, as its view has them, the first one being the greatest.
+fn scalar_prefix(alloc: Global, words: &mut Words) -> Result<String, Fault> {
+    let bytes = read_bytes(alloc, words.read()?)?;
+    Ok(ScalarRow::new(&bytes).view().prefix().to_string(alloc)?)
+}

@@ -1,0 +1,200 @@
+//! Windows of two arrays of any kind: `n` rows from row `a` on of the left array, and as many from row `b` on
+//! of the right one.
+//!
+//! | Call | Answer |
+//! |---|---|
+//! | `equal_windows A a B b n [LEAVES]` | `BITS in N comparisons` |
+//! | `list_windows`, `fixed_size_list_windows`, `struct_windows`, `dictionary_windows`, `leaf_eq` | the same, with `x` where a row is masked |
+//!
+//! LEAVES is `always` or `never`, for leaves that are said to agree all, or none of them.
+
+ghost use Rattle.std.specs.Prelude.{◌≡◌, ◌+◌, ◌≤◌, IfOk, IsTrue};
+ghost use Rattle.polars_arrays_nested.specs.Types.{type_of};
+ghost use Rattle.polars_compare_nested.specs.Leaf.{is_leaf};
+ghost use Rattle.recorded_text.specs.Cases.{HasGoodArrays};
+ghost use Rattle.recorded_kernels.specs.Windows.{AreWindows};
+
+use crate::leaf_kernels::{Always, Never, SeenKernel};
+use polars_arrays_bits::bitmap::Bitmap;
+use polars_arrays_nested::any_array::AnyArray;
+use polars_arrays_numbers::steps::Steps;
+use polars_compare_nested::windows::{
+    dictionary_windows, equal_windows, fixed_size_list_windows, list_windows, struct_windows,
+};
+use recorded_text::bits_text::{is_null, write_bits};
+use recorded_text::fault::Fault;
+use recorded_text::store::Store;
+use recorded_text::words::Words;
+use std::alloc::Global;
+
+/// `n` rows from row `a` on of the left array, and as many from row `b` on of the right one.
+#[derive(Clone, Copy)]
+pub struct Windows<'a> {
+    pub left: &'a AnyArray,
+    pub a: usize,
+    pub right: &'a AnyArray,
+    pub b: usize,
+    pub n: usize,
+}
+
+/// The calls of this subject.
+#[derive(Clone, Copy)]
+enum Call {
+    Equal,
+    List,
+    FixedSizeList,
+    Struct,
+    Dictionary,
+    Leaf,
+}
+
+impl Call {
+    // The call of that name.
+    fn named(name: &str) -> Option<Call> {
+        match name {
+            "equal_windows" => Some(Call::Equal),
+            "list_windows" => Some(Call::List),
+            "fixed_size_list_windows" => Some(Call::FixedSizeList),
+            "struct_windows" => Some(Call::Struct),
+            "dictionary_windows" => Some(Call::Dictionary),
+            "leaf_eq" => Some(Call::Leaf),
+            _ => None,
+        }
+    }
+}
+
+/// The answer to a call of this subject, or None for another one's.
+pub fn answer(
+    alloc: Global,
+    call: &str,
+    store: &Store,
+    words: &mut Words,
+) -> Result<Option<String>, Fault>
+    requires { HasGoodArrays store.now }
+{
+    let Some(call) = Call::named(call) else {
+        return Ok(None);
+    };
+    let windows = read_windows(store, words)?;
+    let answer = if words.take("always") {
+        compare::<Always>(alloc, call, windows)?
+    } else if words.take("never") {
+        compare::<Never>(alloc, call, windows)?
+    } else {
+        compare::<Steps>(alloc, call, windows)?
+    };
+    Ok(Some(answer))
+}
+
+/// The windows that words write, which lie within the arrays that they name.
+pub fn read_windows<'a>(store: &'a Store, words: &mut Words) -> Result<Windows<'a>, Fault>
+    requires { HasGoodArrays store.now }
+    ensures { IfOk result (λ windows. AreWindows windows) }
+{
+    let left = store.read(words)?;
+    let a = words.read_number()?;
+    let right = store.read(words)?;
+    let b = words.read_number()?;
+    let n = words.read_number()?;
+    if is_within(a, n, left.len()) && is_within(b, n, right.len()) {
+        Ok(Windows {
+            left,
+            a,
+            right,
+            b,
+            n,
+        })
+    } else {
+        Err(Fault::Case)
+    }
+}
+
+/// Whether `n` places from place `at` on are among `len`.
+pub fn is_within(at: usize, n: usize, len: usize) -> bool
+    ensures { IsTrue result → at + n ≤ len }
+{
+    at <= len && n <= len - at
+}
+
+// What a call says of two windows by one kernel of leaves.
+fn compare<K: SeenKernel + Drop>(
+    alloc: Global,
+    call: Call,
+    windows: Windows,
+) -> Result<String, Fault>
+    requires { AreWindows windows }
+{
+    let Windows {
+        left,
+        a,
+        right,
+        b,
+        n,
+    } = windows;
+    if !left.same_type(right) {
+        return Err(Fault::Case);
+    }
+    let mut kernel = K::new();
+    let steps = &mut kernel;
+    let bits = match (call, left, right) {
+        (Call::Equal, _, _) => equal_windows(alloc, left, a, right, b, n, steps)?,
+        (Call::Leaf, _, _) if has_leaves(left) => steps.leaf_eq(alloc, left, a, right, b, n)?,
+        (Call::List, AnyArray::List(left), AnyArray::List(right)) => {
+            list_windows(alloc, left, a, right, b, n, steps)?
+        }
+        (Call::FixedSizeList, AnyArray::FixedSizeList(left), AnyArray::FixedSizeList(right)) => {
+            fixed_size_list_windows(alloc, left, a, right, b, n, steps)?
+        }
+        (Call::Struct, AnyArray::Struct(left), AnyArray::Struct(right)) => {
+            struct_windows(alloc, left, a, right, b, n, steps)?
+        }
+        (Call::Dictionary, AnyArray::Dictionary(left), AnyArray::Dictionary(right)) => {
+            dictionary_windows(alloc, left, a, right, b, n, steps)?
+        }
+        _ => return Err(Fault::Case),
+    };
+    let bits = match call {
+        Call::Equal => write_bits(alloc, &bits)?,
+        _ => write_raw(alloc, &bits, windows)?,
+    };
+    Ok(format!(in alloc; "{bits} in {} comparisons", kernel.seen())?)
+}
+
+// Whether an array has leaves for rows.
+fn has_leaves(array: &AnyArray) -> bool
+    ensures { IsTrue result → IsTrue (is_leaf (type_of array.now)) }
+{
+    match array {
+        AnyArray::Boolean(_) => true,
+        AnyArray::Int8(_) | AnyArray::Int16(_) | AnyArray::Int32(_) | AnyArray::Int64(_) => true,
+        AnyArray::UInt8(_) | AnyArray::UInt16(_) | AnyArray::UInt32(_) | AnyArray::UInt64(_) =>
+            true,
+        AnyArray::Int128(_) | AnyArray::UInt128(_) => true,
+        AnyArray::Binary(_) | AnyArray::LargeBinary(_) | AnyArray::FixedSizeBinary(_) => true,
+        AnyArray::Utf8(_) | AnyArray::LargeUtf8(_) => true,
+        AnyArray::BinaryView(_) | AnyArray::Utf8View(_) => true,
+        _ => false,
+    }
+}
+
+// The text of raw bits of two windows, which say something where both rows are present: `x` in place of
+// others.
+fn write_raw(alloc: Global, bits: &Bitmap, windows: Windows) -> Result<String, Fault>
+    requires { AreWindows windows }
+{
+    let left = windows.left.validity();
+    let right = windows.right.validity();
+    let mut text = String::new(alloc);
+    text.push_str("b0:")?;
+    for i in 0..bits.len() {
+        let here = windows.a.saturating_add(i);
+        let there = windows.b.saturating_add(i);
+        let digit = match bits.get_bit(i) {
+            _ if is_null(left, here) || is_null(right, there) => 'x',
+            true => '1',
+            false => '0',
+        };
+        text.push(digit)?;
+    }
+    Ok(text)
+}

@@ -1,0 +1,37 @@
+//! Byte strings as text: `x` and two hexadecimal digits for each byte.
+
+use crate::fault::Fault;
+use polars_arrays_flat::byte_rows::ByteRows;
+use std::alloc::Global;
+
+/// The digits of a byte.
+const DIGITS: [char; 16] = [
+    '0', '1', '2', '3', '4', '5', '6', '7', '8', '9', 'a', 'b', 'c', 'd', 'e', 'f',
+];
+
+/// Adds a byte string to a text.
+pub fn push_bytes(text: &mut String, bytes: &[u8]) -> Result<(), Fault> {
+    text.push('x')?;
+    for byte in bytes {
+        text.push(DIGITS[usize::from(*byte / 16)])?;
+        text.push(DIGITS[usize::from(*byte % 16)])?;
+    }
+    Ok(())
+}
+
+/// The text of a byte string.
+pub fn write_bytes(alloc: Global, bytes: &[u8]) -> Result<String, Fault> {
+    let mut text = String::new(alloc);
+    push_bytes(&mut text, bytes)?;
+    Ok(text)
+}
+
+/// The byte strings of an array, those of null rows too, with how many rows there are and how many are null.
+pub fn write_strings<R: ByteRows>(alloc: Global, rows: &R) -> Result<String, Fault> {
+    let mut text = String::new(alloc);
+    for i in 0..rows.count() {
+        push_bytes(&mut text, rows.bytes(i))?;
+        text.push(' ')?;
+    }
+    Ok(format!(in alloc; "{text}in {} rows, {} null", rows.len(), rows.null_count())?)
+}

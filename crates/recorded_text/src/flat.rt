@@ -1,0 +1,104 @@
+//! Arrays of one level, as words write them.
+
+use crate::fault::Fault;
+use crate::parts::{
+    Kept, read_bits, read_buffers, read_byte_buffer, read_numbers, read_validity, read_views,
+};
+use crate::words::Words;
+use polars_arrays_bytes::binary::BinaryArray;
+use polars_arrays_bytes::fixed_size::FixedSizeBinaryArray;
+use polars_arrays_bytes::text::Utf8Array;
+use polars_arrays_flat::boolean::BooleanArray;
+use polars_arrays_flat::primitive::PrimitiveArray;
+use polars_arrays_numbers::native_type::NativeType;
+use polars_arrays_numbers::offset::Offset;
+use polars_arrays_views::binary_view::BinaryViewArray;
+use polars_arrays_views::text_view::Utf8ViewArray;
+use std::alloc::Global;
+use std::str::FromStr;
+
+/// Truth values: their bits, and the validity.
+pub fn read_booleans(alloc: Global, kept: Kept, words: &mut Words) -> Result<BooleanArray, Fault> {
+    let values = kept.bits(alloc, read_bits(alloc, words.read()?)?)?;
+    let validity = read_validity(alloc, kept, words)?;
+    let array = BooleanArray::try_new(values, validity)?;
+    Ok(array)
+}
+
+/// Numbers: how many, each of them, and the validity.
+pub fn read_integers<T: NativeType + FromStr<Err: Drop>>(
+    alloc: Global,
+    kept: Kept,
+    words: &mut Words,
+) -> Result<PrimitiveArray<T>, Fault> {
+    let values = kept.buffer(alloc, read_numbers(alloc, words)?)?;
+    let validity = read_validity(alloc, kept, words)?;
+    let array = PrimitiveArray::try_new(values, validity)?;
+    Ok(array)
+}
+
+/// Byte strings between offsets: the offsets, the bytes, and the validity.
+pub fn read_binary<O: Offset + FromStr<Err: Drop>>(
+    alloc: Global,
+    kept: Kept,
+    words: &mut Words,
+) -> Result<BinaryArray<O>, Fault> {
+    let offsets = kept.buffer(alloc, read_numbers(alloc, words)?)?;
+    let values = read_byte_buffer(alloc, kept, words)?;
+    let validity = read_validity(alloc, kept, words)?;
+    let array = BinaryArray::try_new(offsets, values, validity)?;
+    Ok(array)
+}
+
+/// Texts between offsets, as byte strings.
+pub fn read_text<O: Offset + FromStr<Err: Drop>>(
+    alloc: Global,
+    kept: Kept,
+    words: &mut Words,
+) -> Result<Utf8Array<O>, Fault> {
+    let offsets = kept.buffer(alloc, read_numbers(alloc, words)?)?;
+    let values = read_byte_buffer(alloc, kept, words)?;
+    let validity = read_validity(alloc, kept, words)?;
+    let array = Utf8Array::try_new(offsets, values, validity)?;
+    Ok(array)
+}
+
+/// Byte strings by views: the views, the buffers, and the validity.
+pub fn read_binary_view(
+    alloc: Global,
+    kept: Kept,
+    words: &mut Words,
+) -> Result<BinaryViewArray, Fault> {
+    let views = kept.buffer(alloc, read_views(alloc, words)?)?;
+    let buffers = read_buffers(alloc, kept, words)?;
+    let validity = read_validity(alloc, kept, words)?;
+    let array = BinaryViewArray::try_new(views, buffers, validity)?;
+    Ok(array)
+}
+
+/// Texts by views, as byte strings.
+pub fn read_text_view(
+    alloc: Global,
+    kept: Kept,
+    words: &mut Words,
+) -> Result<Utf8ViewArray, Fault> {
+    let views = kept.buffer(alloc, read_views(alloc, words)?)?;
+    let buffers = read_buffers(alloc, kept, words)?;
+    let validity = read_validity(alloc, kept, words)?;
+    let array = Utf8ViewArray::try_new(views, buffers, validity)?;
+    Ok(array)
+}
+
+/// Byte strings of one size: the size, how many, the bytes, and the validity.
+pub fn read_sized(
+    alloc: Global,
+    kept: Kept,
+    words: &mut Words,
+) -> Result<FixedSizeBinaryArray, Fault> {
+    let size = words.read_number()?;
+    let len = words.read_number()?;
+    let values = read_byte_buffer(alloc, kept, words)?;
+    let validity = read_validity(alloc, kept, words)?;
+    let array = FixedSizeBinaryArray::try_new(size, len, values, validity)?;
+    Ok(array)
+}

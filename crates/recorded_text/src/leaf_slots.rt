@@ -1,0 +1,90 @@
+//! How many leaf slots arrays have, found by a walk over what they lend.
+//!
+//! They are the most comparisons that it may take to tell where rows are equal: a slot for each row of an
+//! array of one level, those of all items for lists, of all fields for structs, and of the entry for each
+//! present row of a dictionary.
+
+ghost use Rattle.polars_arrays_nested.specs.GoodParts.{IsGood};
+ghost use Rattle.polars_arrays_nested.specs.declared.any_array.AnyArray.{List, FixedSizeList, Struct, Dictionary};
+
+use crate::bits_text::is_null;
+use crate::fault::Fault;
+use polars_arrays_flat::array::Array;
+use polars_arrays_nested::any_array::AnyArray;
+use polars_arrays_nested::dictionary::DictionaryArray;
+use polars_arrays_nested::fixed_size_list::FixedSizeListArray;
+use polars_arrays_nested::list::ListArray;
+use polars_arrays_nested::struct_array::StructArray;
+
+/// How many leaf slots `n` rows from row `from` on have.
+#[cycle(slots)]
+pub fn leaf_slots(array: &AnyArray, from: usize, n: usize) -> Result<usize, Fault>
+    requires { IsGood array.now }
+{
+    match array {
+        AnyArray::Null(_) => Ok(0),
+        AnyArray::List(array) => list_slots(array, from, n),
+        AnyArray::FixedSizeList(array) => fixed_list_slots(array, from, n),
+        AnyArray::Struct(array) => struct_slots(array, from, n),
+        AnyArray::Dictionary(array) => dictionary_slots(array, from, n),
+        _ => Ok(n),
+    }
+}
+
+// Those of the items between the first and the last offset.
+#[cycle(slots)]
+fn list_slots(array: &ListArray, from: usize, n: usize) -> Result<usize, Fault>
+    requires { IsGood (List array.now) }
+{
+    let offsets = array.offsets();
+    if from > offsets.rows() || n > offsets.rows() - from {
+        return Err(Fault::Case);
+    }
+    let first = offsets.offset(from);
+    let last = offsets.offset(from + n);
+    leaf_slots(array.values(), first, last.saturating_sub(first))
+}
+
+// Those of the items of lists of one width.
+#[cycle(slots)]
+fn fixed_list_slots(array: &FixedSizeListArray, from: usize, n: usize) -> Result<usize, Fault>
+    requires { IsGood (FixedSizeList array.now) }
+{
+    let (Some(first), Some(count)) = (
+        array.width().checked_mul(from),
+        array.width().checked_mul(n),
+    ) else {
+        return Err(Fault::Case);
+    };
+    leaf_slots(array.values(), first, count)
+}
+
+// Those of all fields.
+#[cycle(slots)]
+fn struct_slots(array: &StructArray, from: usize, n: usize) -> Result<usize, Fault>
+    requires { IsGood (Struct array.now) }
+{
+    let mut slots: usize = 0;
+    for k in 0..array.values().len() {
+        slots = slots.saturating_add(leaf_slots(array.column(k), from, n)?);
+    }
+    Ok(slots)
+}
+
+// Those of the entry of each present row.
+#[cycle(slots)]
+fn dictionary_slots(array: &DictionaryArray, from: usize, n: usize) -> Result<usize, Fault>
+    requires { IsGood (Dictionary array.now) }
+{
+    let keys = array.keys();
+    if from > keys.len() || n > keys.len() - from {
+        return Err(Fault::Case);
+    }
+    let mut slots: usize = 0;
+    for i in from..from + n {
+        if !is_null(keys.validity(), i) {
+            slots = slots.saturating_add(leaf_slots(array.values(), keys.key(i), 1)?);
+        }
+    }
+    Ok(slots)
+}

@@ -1,0 +1,227 @@
+//! Arrays of any kind, as words write them.
+
+ghost use Rattle.std.specs.Prelude.{IfOk};
+ghost use Rattle.std.specs.List.{All};
+ghost use Rattle.polars_arrays_nested.specs.GoodParts.{IsGood};
+ghost use Rattle.polars_arrays_nested.specs.declared.any_array.AnyArray.{List, FixedSizeList, Struct, Dictionary};
+
+use crate::fault::Fault;
+use crate::flat::{
+    read_binary, read_binary_view, read_booleans, read_integers, read_sized, read_text,
+    read_text_view,
+};
+use crate::parts::{Kept, read_numbers, read_validity};
+use crate::words::Words;
+use polars_arrays_flat::data_type::Field;
+use polars_arrays_flat::null::NullArray;
+use polars_arrays_nested::any_array::AnyArray;
+use polars_arrays_nested::dict_keys::DictKeys;
+use polars_arrays_nested::dictionary::DictionaryArray;
+use polars_arrays_nested::fixed_size_list::FixedSizeListArray;
+use polars_arrays_nested::list::ListArray;
+use polars_arrays_nested::list_offsets::ListOffsets;
+use polars_arrays_nested::struct_array::StructArray;
+use std::alloc::Global;
+
+/// How deep arrays hold arrays at the most.
+const DEPTH: usize = 1000;
+
+/// The array that words write, in parts that are kept as the first of them says.
+pub fn read_any(alloc: Global, words: &mut Words) -> Result<AnyArray, Fault>
+    ensures { IfOk result (λ a. IsGood a) }
+{
+    let kept = Kept::read(words);
+    read_array(alloc, kept, words, DEPTH)
+}
+
+// The array that words write: its first row, how many rows, its kind, and the parts of the kind. It holds
+// arrays at most `depth` deep.
+#[cycle(read)]
+fn read_array(alloc: Global, kept: Kept, words: &mut Words, depth: usize) -> Result<AnyArray, Fault>
+    ensures { IfOk result (λ a. IsGood a) }
+{
+    let at: usize = words.read_number()?;
+    let n: usize = words.read_number()?;
+    let mut array = read_whole(alloc, kept, words, depth)?;
+    if at > array.len() || n > array.len() - at {
+        return Err(Fault::Word);
+    }
+    array.slice(at, n);
+    Ok(array)
+}
+
+// The array before it is sliced.
+#[cycle(read)]
+fn read_whole(alloc: Global, kept: Kept, words: &mut Words, depth: usize) -> Result<AnyArray, Fault>
+    ensures { IfOk result (λ a. IsGood a) }
+{
+    let kind = words.read()?;
+    match kind {
+        "null" => Ok(AnyArray::Null(NullArray::new(words.read_number()?))),
+        "bool" => Ok(AnyArray::Boolean(read_booleans(alloc, kept, words)?)),
+        "binary" => Ok(AnyArray::Binary(read_binary(alloc, kept, words)?)),
+        "largebinary" => Ok(AnyArray::LargeBinary(read_binary(alloc, kept, words)?)),
+        "utf8" => Ok(AnyArray::Utf8(read_text(alloc, kept, words)?)),
+        "largeutf8" => Ok(AnyArray::LargeUtf8(read_text(alloc, kept, words)?)),
+        "binaryview" => Ok(AnyArray::BinaryView(read_binary_view(alloc, kept, words)?)),
+        "utf8view" => Ok(AnyArray::Utf8View(read_text_view(alloc, kept, words)?)),
+        "fixedbinary" => Ok(AnyArray::FixedSizeBinary(read_sized(alloc, kept, words)?)),
+        "list" | "largelist" | "fixedlist" | "struct" | "dict" => {
+            if depth == 0 {
+                return Err(Fault::Word);
+            }
+            read_holder(alloc, kept, words, kind, depth - 1)
+        }
+        _ => read_number_array(alloc, kept, words, kind),
+    }
+}
+
+// An array of numbers.
+fn read_number_array(
+    alloc: Global,
+    kept: Kept,
+    words: &mut Words,
+    kind: &str,
+) -> Result<AnyArray, Fault>
+    ensures { IfOk result (λ a. IsGood a) }
+{
+    match kind {
+        "i8" => Ok(AnyArray::Int8(read_integers(alloc, kept, words)?)),
+        "i16" => Ok(AnyArray::Int16(read_integers(alloc, kept, words)?)),
+        "i32" => Ok(AnyArray::Int32(read_integers(alloc, kept, words)?)),
+        "i64" => Ok(AnyArray::Int64(read_integers(alloc, kept, words)?)),
+        "i128" => Ok(AnyArray::Int128(read_integers(alloc, kept, words)?)),
+        "u8" => Ok(AnyArray::UInt8(read_integers(alloc, kept, words)?)),
+        "u16" => Ok(AnyArray::UInt16(read_integers(alloc, kept, words)?)),
+        "u32" => Ok(AnyArray::UInt32(read_integers(alloc, kept, words)?)),
+        "u64" => Ok(AnyArray::UInt64(read_integers(alloc, kept, words)?)),
+        "u128" => Ok(AnyArray::UInt128(read_integers(alloc, kept, words)?)),
+        _ => Err(Fault::Word),
+    }
+}
+
+// An array that holds arrays, these at most `depth` deep.
+#[cycle(read)]
+fn read_holder(
+    alloc: Global,
+    kept: Kept,
+    words: &mut Words,
+    kind: &str,
+    depth: usize,
+) -> Result<AnyArray, Fault>
+    ensures { IfOk result (λ a. IsGood a) }
+{
+    match kind {
+        "fixedlist" => Ok(AnyArray::FixedSizeList(read_fixed_list(alloc, kept, words, depth)?)),
+        "struct" => Ok(AnyArray::Struct(read_struct(alloc, kept, words, depth)?)),
+        "dict" => Ok(AnyArray::Dictionary(read_dictionary(alloc, kept, words, depth)?)),
+        _ => Ok(AnyArray::List(read_list(alloc, kept, words, kind, depth)?)),
+    }
+}
+
+// Lists: the offsets, the validity, and the items.
+#[cycle(read)]
+fn read_list(
+    alloc: Global,
+    kept: Kept,
+    words: &mut Words,
+    kind: &str,
+    depth: usize,
+) -> Result<ListArray, Fault>
+    ensures { IfOk result (λ a. IsGood (List a)) }
+{
+    let offsets = read_offsets(alloc, kept, words, kind)?;
+    let validity = read_validity(alloc, kept, words)?;
+    let values = Box::new(alloc, read_array(alloc, kept, words, depth)?)?;
+    let array = ListArray::try_new(offsets, values, validity)?;
+    Ok(array)
+}
+
+// The offsets of lists.
+fn read_offsets(
+    alloc: Global,
+    kept: Kept,
+    words: &mut Words,
+    kind: &str,
+) -> Result<ListOffsets, Fault> {
+    if kind == "largelist" {
+        Ok(ListOffsets::Large(kept.buffer(alloc, read_numbers(alloc, words)?)?))
+    } else {
+        Ok(ListOffsets::Small(kept.buffer(alloc, read_numbers(alloc, words)?)?))
+    }
+}
+
+// Lists of one width: the width, how many, the validity, and the items.
+#[cycle(read)]
+fn read_fixed_list(
+    alloc: Global,
+    kept: Kept,
+    words: &mut Words,
+    depth: usize,
+) -> Result<FixedSizeListArray, Fault>
+    ensures { IfOk result (λ a. IsGood (FixedSizeList a)) }
+{
+    let width = words.read_number()?;
+    let len = words.read_number()?;
+    let validity = read_validity(alloc, kept, words)?;
+    let values = Box::new(alloc, read_array(alloc, kept, words, depth)?)?;
+    let array = FixedSizeListArray::try_new(width, len, values, validity)?;
+    Ok(array)
+}
+
+// Structs: how many, how many fields, the validity, and a name and an array for each field.
+#[cycle(read)]
+fn read_struct(
+    alloc: Global,
+    kept: Kept,
+    words: &mut Words,
+    depth: usize,
+) -> Result<StructArray, Fault>
+    ensures { IfOk result (λ a. IsGood (Struct a)) }
+{
+    let len = words.read_number()?;
+    let count: usize = words.read_number()?;
+    let validity = read_validity(alloc, kept, words)?;
+    let mut fields = Vec::new(alloc);
+    let mut values = Vec::new(alloc);
+    for _ in 0..count {
+        let name = words.read()?.to_string(alloc)?;
+        let column = read_array(alloc, kept, words, depth)?;
+        let dtype = column.dtype(alloc)?;
+        fields.push(Field { name, dtype })?;
+        values.push(column)?;
+    }
+    let array = StructArray::try_new(fields, len, values, validity)?;
+    Ok(array)
+}
+
+// A dictionary array: the type of its keys, the keys, their validity, and the entries.
+#[cycle(read)]
+fn read_dictionary(
+    alloc: Global,
+    kept: Kept,
+    words: &mut Words,
+    depth: usize,
+) -> Result<DictionaryArray, Fault>
+    ensures { IfOk result (λ a. IsGood (Dictionary a)) }
+{
+    let keys = read_keys(alloc, kept, words)?;
+    let values = Box::new(alloc, read_array(alloc, kept, words, depth)?)?;
+    let array = DictionaryArray::try_new(keys, values)?;
+    Ok(array)
+}
+
+// The keys of a dictionary array, of the type that the next word names.
+fn read_keys(alloc: Global, kept: Kept, words: &mut Words) -> Result<DictKeys, Fault> {
+    match words.read()? {
+        "i8" => Ok(DictKeys::Int8(read_integers(alloc, kept, words)?)),
+        "i16" => Ok(DictKeys::Int16(read_integers(alloc, kept, words)?)),
+        "i32" => Ok(DictKeys::Int32(read_integers(alloc, kept, words)?)),
+        "i64" => Ok(DictKeys::Int64(read_integers(alloc, kept, words)?)),
+        "u8" => Ok(DictKeys::UInt8(read_integers(alloc, kept, words)?)),
+        "u16" => Ok(DictKeys::UInt16(read_integers(alloc, kept, words)?)),
+        "u32" => Ok(DictKeys::UInt32(read_integers(alloc, kept, words)?)),
+        "u64" => Ok(DictKeys::UInt64(read_integers(alloc, kept, words)?)),
+        _ => Err(Fault::Word),
+    }
+}

@@ -1,0 +1,202 @@
+//! The parts of arrays, as words write them.
+
+ghost use Rattle.std.specs.Prelude.{◌≡◌, ◌<◌, IfOk, IfSome};
+
+use crate::fault::Fault;
+use crate::words::Words;
+use polars_arrays_bits::bitmap::Bitmap;
+use polars_arrays_bits::buffer::Buffer;
+use polars_arrays_numbers::native_type::NativeType;
+use polars_arrays_views::view::View;
+use std::alloc::Global;
+use std::str::FromStr;
+
+/// How the parts of an array are kept.
+#[derive(Clone, Copy, PartialEq, Eq, Debug)]
+pub enum Kept {
+    /// Each part has its elements for itself.
+    Owned,
+    /// The parts share their elements with those of clones.
+    Shared,
+}
+
+impl Kept {
+    /// How the parts of the array that follows are kept: shared after the word `shared`.
+    pub fn read(words: &mut Words) -> Kept {
+        if words.take("shared") {
+            Kept::Shared
+        } else {
+            Kept::Owned
+        }
+    }
+
+    /// The buffer, kept so.
+    pub fn buffer<T: Copy>(self, alloc: Global, buffer: Buffer<T>) -> Result<Buffer<T>, Fault>
+        ensures { IfOk result (λ kept. kept.items ≡ buffer.items) }
+    {
+        match self {
+            Kept::Owned => Ok(buffer),
+            Kept::Shared => Ok(buffer.share(alloc)?),
+        }
+    }
+
+    /// The bits, kept so.
+    pub fn bits(self, alloc: Global, bits: Bitmap) -> Result<Bitmap, Fault>
+        ensures { IfOk result (λ kept. kept ≡ bits) }
+    {
+        match self {
+            Kept::Owned => Ok(bits),
+            Kept::Shared => Ok(bits.share(alloc)?),
+        }
+    }
+}
+
+/// The bits that a word `b<at>:<0 and 1..>` writes: those from place `at` on.
+pub fn read_bits(alloc: Global, word: &str) -> Result<Bitmap, Fault> {
+    let Some((at, digits)) = word.split_once(':') else {
+        return Err(Fault::Word);
+    };
+    let at: usize = match at.strip_prefix('b') {
+        Some(at) => read_place(at)?,
+        None => return Err(Fault::Word),
+    };
+    let mut bools = Vec::new(alloc);
+    for digit in digits.as_bytes() {
+        bools.push(read_bit(*digit)?)?;
+    }
+    let mut bits = Bitmap::from_bools(alloc, &bools)?;
+    if at > bits.len() {
+        return Err(Fault::Word);
+    }
+    let n = bits.len() - at;
+    bits.slice(at, n);
+    Ok(bits)
+}
+
+/// The bit that a digit writes.
+fn read_bit(digit: u8) -> Result<bool, Fault> {
+    match digit {
+        b'0' => Ok(false),
+        b'1' => Ok(true),
+        _ => Err(Fault::Word),
+    }
+}
+
+/// The number that a word writes.
+fn read_place(word: &str) -> Result<usize, Fault> {
+    match word.parse() {
+        Ok(place) => Ok(place),
+        Err(_) => Err(Fault::Word),
+    }
+}
+
+/// A validity: none where the next word is `-`, or else its bits.
+pub fn read_validity(
+    alloc: Global,
+    kept: Kept,
+    words: &mut Words,
+) -> Result<Option<Bitmap>, Fault> {
+    let word = words.read()?;
+    if word == "-" {
+        return Ok(None);
+    }
+    let bits = kept.bits(alloc, read_bits(alloc, word)?)?;
+    Ok(Some(bits))
+}
+
+/// What a hexadecimal digit is worth.
+fn digit_value(digit: u8) -> Option<u8>
+    ensures { IfSome result (λ value. value < 16) }
+{
+    match digit {
+        b'0'..=b'9' => Some(digit - b'0'),
+        b'a'..=b'f' => Some(digit - b'a' + 10),
+        _ => None,
+    }
+}
+
+/// The byte that two hexadecimal digits write.
+fn byte_of(high: u8, low: u8) -> Result<u8, Fault> {
+    let (Some(high), Some(low)) = (digit_value(high), digit_value(low)) else {
+        return Err(Fault::Word);
+    };
+    Ok(high * 16 + low)
+}
+
+/// The bytes that a word `x<two digits for each byte>` writes.
+pub fn read_bytes(alloc: Global, word: &str) -> Result<Vec<u8>, Fault> {
+    let Some(digits) = word.strip_prefix('x') else {
+        return Err(Fault::Word);
+    };
+    let digits = digits.as_bytes();
+    if digits.len() % 2 != 0 {
+        return Err(Fault::Word);
+    }
+    let mut bytes = Vec::new(alloc);
+    for i in 0..digits.len() / 2 {
+        bytes.push(byte_of(digits[2 * i], digits[2 * i + 1])?)?;
+    }
+    Ok(bytes)
+}
+
+/// As many numbers as the next word says.
+pub fn read_number_list<N: NativeType + FromStr<Err: Drop>>(
+    alloc: Global,
+    words: &mut Words,
+) -> Result<Vec<N>, Fault> {
+    let count: usize = words.read_number()?;
+    let mut numbers = Vec::new(alloc);
+    for _ in 0..count {
+        numbers.push(words.read_number()?)?;
+    }
+    Ok(numbers)
+}
+
+/// As many numbers as the next word says, as a buffer.
+pub fn read_numbers<N: NativeType + FromStr<Err: Drop>>(
+    alloc: Global,
+    words: &mut Words,
+) -> Result<Buffer<N>, Fault> {
+    let numbers = read_number_list(alloc, words)?;
+    Ok(Buffer::from_vec(numbers))
+}
+
+/// The view that a word's sixteen bytes are.
+pub fn read_view(alloc: Global, word: &str) -> Result<View, Fault> {
+    let bytes = read_bytes(alloc, word)?;
+    match <[u8; 16]>::try_from(bytes.as_slice()) {
+        Ok(bytes) => Ok(View::new(bytes)),
+        Err(_) => Err(Fault::Word),
+    }
+}
+
+/// As many views as the next word says.
+pub fn read_views(alloc: Global, words: &mut Words) -> Result<Buffer<View>, Fault> {
+    let count: usize = words.read_number()?;
+    let mut views = Vec::new(alloc);
+    for _ in 0..count {
+        views.push(read_view(alloc, words.read()?)?)?;
+    }
+    Ok(Buffer::from_vec(views))
+}
+
+/// The bytes that the next word writes, as a buffer.
+pub fn read_byte_buffer(alloc: Global, kept: Kept, words: &mut Words) -> Result<Buffer<u8>, Fault> {
+    let bytes = read_bytes(alloc, words.read()?)?;
+    kept.buffer(alloc, Buffer::from_vec(bytes))
+}
+
+/// As many buffers as the next word says.
+pub fn read_buffers(
+    alloc: Global,
+    kept: Kept,
+    words: &mut Words,
+) -> Result<Vec<Buffer<u8>>, Fault> {
+    let count: usize = words.read_number()?;
+    let mut buffers = Vec::new(alloc);
+    for _ in 0..count {
+        let bytes = read_byte_buffer(alloc, kept, words)?;
+        buffers.push(bytes)?;
+    }
+    Ok(buffers)
+}

@@ -1,0 +1,220 @@
+//! Rows as text, found by a walk over what arrays lend.
+//!
+//! A row is `null`, a number, `true` or `false`, `x` and the hexadecimal digits of its bytes, the items of a
+//! list between brackets, the fields of a struct between braces, or the entry of a dictionary between `<`
+//! and `>`.
+
+ghost use Rattle.polars_arrays_nested.specs.GoodParts.{IsGood};
+ghost use Rattle.polars_arrays_nested.specs.declared.any_array.AnyArray.{List, FixedSizeList, Struct, Dictionary};
+
+use crate::bits_text::is_null;
+use crate::bytes_text::push_bytes;
+use crate::fault::Fault;
+use polars_arrays_flat::array::Array;
+use polars_arrays_flat::boolean::BooleanArray;
+use polars_arrays_flat::byte_rows::ByteRows;
+use polars_arrays_flat::primitive::PrimitiveArray;
+use polars_arrays_nested::any_array::AnyArray;
+use polars_arrays_nested::dictionary::DictionaryArray;
+use polars_arrays_nested::fixed_size_list::FixedSizeListArray;
+use polars_arrays_nested::list::ListArray;
+use polars_arrays_nested::struct_array::StructArray;
+use polars_arrays_numbers::native_type::NativeType;
+use std::alloc::Global;
+use std::fmt::Display;
+
+fn push_truth(text: &mut String, array: &BooleanArray, i: usize) -> Result<(), Fault> {
+    match array.values().get(i) {
+        Some(true) => text.push_str("true")?,
+        Some(false) => text.push_str("false")?,
+        None => return Err(Fault::Case),
+    }
+    Ok(())
+}
+
+fn push_number<T: NativeType + Display>(
+    alloc: Global,
+    text: &mut String,
+    array: &PrimitiveArray<T>,
+    i: usize,
+) -> Result<(), Fault> {
+    match array.values().get(i) {
+        Some(value) => text.push_str(&value.to_string(alloc)?)?,
+        None => return Err(Fault::Case),
+    }
+    Ok(())
+}
+
+fn push_string<A: ByteRows>(text: &mut String, array: &A, i: usize) -> Result<(), Fault> {
+    if i >= array.count() {
+        return Err(Fault::Case);
+    }
+    push_bytes(text, array.bytes(i))
+}
+
+// The stored value at place `i` of an array of one level.
+fn push_stored(alloc: Global, text: &mut String, array: &AnyArray, i: usize) -> Result<(), Fault> {
+    match array {
+        AnyArray::Boolean(array) => push_truth(text, array, i),
+        AnyArray::Int8(array) => push_number(alloc, text, array, i),
+        AnyArray::Int16(array) => push_number(alloc, text, array, i),
+        AnyArray::Int32(array) => push_number(alloc, text, array, i),
+        AnyArray::Int64(array) => push_number(alloc, text, array, i),
+        AnyArray::Int128(array) => push_number(alloc, text, array, i),
+        AnyArray::UInt8(array) => push_number(alloc, text, array, i),
+        AnyArray::UInt16(array) => push_number(alloc, text, array, i),
+        AnyArray::UInt32(array) => push_number(alloc, text, array, i),
+        AnyArray::UInt64(array) => push_number(alloc, text, array, i),
+        AnyArray::UInt128(array) => push_number(alloc, text, array, i),
+        AnyArray::Binary(array) => push_string(text, array, i),
+        AnyArray::LargeBinary(array) => push_string(text, array, i),
+        AnyArray::Utf8(array) => push_string(text, array, i),
+        AnyArray::LargeUtf8(array) => push_string(text, array, i),
+        AnyArray::BinaryView(array) => push_string(text, array, i),
+        AnyArray::Utf8View(array) => push_string(text, array, i),
+        AnyArray::FixedSizeBinary(array) => push_string(text, array, i),
+        _ => Err(Fault::Case),
+    }
+}
+
+// Whether row `i` of an array is null, by its validity; each row of a null array is.
+fn is_null_row(array: &AnyArray, i: usize) -> bool
+    requires { IsGood array.now }
+{
+    match array {
+        AnyArray::Null(_) => true,
+        AnyArray::Boolean(array) => is_null(array.validity(), i),
+        AnyArray::Int8(array) => is_null(array.validity(), i),
+        AnyArray::Int16(array) => is_null(array.validity(), i),
+        AnyArray::Int32(array) => is_null(array.validity(), i),
+        AnyArray::Int64(array) => is_null(array.validity(), i),
+        AnyArray::Int128(array) => is_null(array.validity(), i),
+        AnyArray::UInt8(array) => is_null(array.validity(), i),
+        AnyArray::UInt16(array) => is_null(array.validity(), i),
+        AnyArray::UInt32(array) => is_null(array.validity(), i),
+        AnyArray::UInt64(array) => is_null(array.validity(), i),
+        AnyArray::UInt128(array) => is_null(array.validity(), i),
+        AnyArray::Binary(array) => is_null(array.validity(), i),
+        AnyArray::LargeBinary(array) => is_null(array.validity(), i),
+        AnyArray::Utf8(array) => is_null(array.validity(), i),
+        AnyArray::LargeUtf8(array) => is_null(array.validity(), i),
+        AnyArray::BinaryView(array) => is_null(array.validity(), i),
+        AnyArray::Utf8View(array) => is_null(array.validity(), i),
+        AnyArray::FixedSizeBinary(array) => is_null(array.validity(), i),
+        AnyArray::List(array) => is_null(array.validity(), i),
+        AnyArray::FixedSizeList(array) => is_null(array.validity(), i),
+        AnyArray::Struct(array) => is_null(array.validity(), i),
+        AnyArray::Dictionary(array) => is_null(array.validity(), i),
+    }
+}
+
+/// Adds row `i` of an array to a text.
+#[cycle(walk)]
+pub fn push_row(alloc: Global, text: &mut String, array: &AnyArray, i: usize) -> Result<(), Fault>
+    requires { IsGood array.now }
+{
+    if is_null_row(array, i) {
+        text.push_str("null")?;
+        return Ok(());
+    }
+    match array {
+        AnyArray::List(array) => push_list(alloc, text, array, i),
+        AnyArray::FixedSizeList(array) => push_fixed_list(alloc, text, array, i),
+        AnyArray::Struct(array) => push_struct(alloc, text, array, i),
+        AnyArray::Dictionary(array) => push_entry(alloc, text, array, i),
+        _ => push_stored(alloc, text, array, i),
+    }
+}
+
+// Adds list `i`.
+#[cycle(walk)]
+fn push_list(alloc: Global, text: &mut String, array: &ListArray, i: usize) -> Result<(), Fault>
+    requires { IsGood (List array.now) }
+{
+    let offsets = array.offsets();
+    if i >= offsets.rows() {
+        return Err(Fault::Case);
+    }
+    text.push('[')?;
+    for k in offsets.offset(i)..offsets.offset(i + 1) {
+        if k > offsets.offset(i) {
+            text.push(',')?;
+        }
+        push_row(alloc, text, array.values(), k)?;
+    }
+    text.push(']')?;
+    Ok(())
+}
+
+// Adds list `i` of one width.
+#[cycle(walk)]
+fn push_fixed_list(
+    alloc: Global,
+    text: &mut String,
+    array: &FixedSizeListArray,
+    i: usize,
+) -> Result<(), Fault>
+    requires { IsGood (FixedSizeList array.now) }
+{
+    let Some(from) = array.width().checked_mul(i) else {
+        return Err(Fault::Case);
+    };
+    text.push('[')?;
+    for k in from..from.saturating_add(array.width()) {
+        if k > from {
+            text.push(',')?;
+        }
+        push_row(alloc, text, array.values(), k)?;
+    }
+    text.push(']')?;
+    Ok(())
+}
+
+// Adds struct `i`.
+#[cycle(walk)]
+fn push_struct(alloc: Global, text: &mut String, array: &StructArray, i: usize) -> Result<(), Fault>
+    requires { IsGood (Struct array.now) }
+{
+    text.push('{')?;
+    for k in 0..array.values().len() {
+        if k > 0 {
+            text.push(',')?;
+        }
+        push_row(alloc, text, array.column(k), i)?;
+    }
+    text.push('}')?;
+    Ok(())
+}
+
+// Adds the entry that key `i` names.
+#[cycle(walk)]
+fn push_entry(
+    alloc: Global,
+    text: &mut String,
+    array: &DictionaryArray,
+    i: usize,
+) -> Result<(), Fault>
+    requires { IsGood (Dictionary array.now) }
+{
+    if i >= array.keys().len() {
+        return Err(Fault::Case);
+    }
+    text.push('<')?;
+    push_row(alloc, text, array.values(), array.keys().key(i))?;
+    text.push('>')?;
+    Ok(())
+}
+
+/// The rows of an array, parted by spaces.
+pub fn write_rows(alloc: Global, array: &AnyArray) -> Result<String, Fault>
+    requires { IsGood array.now }
+{
+    let mut text = String::new(alloc);
+    for i in 0..array.len() {
+        if i > 0 {
+            text.push(' ')?;
+        }
+        push_row(alloc, &mut text, array, i)?;
+    }
+    Ok(text)
+}

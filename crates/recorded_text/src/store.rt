@@ -1,0 +1,76 @@
+//! The arrays of a case, by their names.
+
+ghost use Rattle.std.specs.Prelude.{IfOk};
+ghost use Rattle.polars_arrays_nested.specs.GoodParts.{IsGood};
+ghost use Rattle.recorded_text.specs.Cases.{HasGoodArrays};
+
+use crate::fault::Fault;
+use crate::words::Words;
+use polars_arrays_nested::any_array::AnyArray;
+use std::alloc::Global;
+
+/// An array and its name.
+#[derive(Drop)]
+struct NamedArray {
+    name: String,
+    array: AnyArray,
+}
+
+/// The arrays of a case, each with a name of its own.
+#[derive(Drop)]
+pub struct Store {
+    arrays: Vec<NamedArray>,
+}
+
+impl Store {
+    /// A store without arrays.
+    pub fn new(alloc: Global) -> Store
+        ensures { HasGoodArrays result }
+    {
+        Store {
+            arrays: Vec::new(alloc),
+        }
+    }
+
+    /// Forgets all arrays.
+    pub fn clear(&mut self)
+        ensures { HasGoodArrays self.new }
+    {
+        self.arrays.clear();
+    }
+
+    /// Names an array. The error is `Case`, where an array has the name, or else `Memory`.
+    pub fn add(&mut self, alloc: Global, name: &str, array: AnyArray) -> Result<(), Fault>
+        requires arrays { HasGoodArrays self.old }
+        requires array { IsGood array }
+        ensures { HasGoodArrays self.new }
+    {
+        if self.array(name).is_ok() {
+            return Err(Fault::Case);
+        }
+        let name = name.to_string(alloc)?;
+        self.arrays.push(NamedArray { name, array })?;
+        Ok(())
+    }
+
+    /// The array of that name. The error is `Case`, where there is none.
+    pub fn array(&self, name: &str) -> Result<&AnyArray, Fault>
+        requires { HasGoodArrays self.now }
+        ensures { IfOk result (λ array. IsGood array.now) }
+    {
+        for named in &self.arrays {
+            if named.name.as_str() == name {
+                return Ok(&named.array);
+            }
+        }
+        Err(Fault::Case)
+    }
+
+    /// The array that the next word names.
+    pub fn read(&self, words: &mut Words) -> Result<&AnyArray, Fault>
+        requires { HasGoodArrays self.now }
+        ensures { IfOk result (λ array. IsGood array.now) }
+    {
+        self.array(words.read()?)
+    }
+}

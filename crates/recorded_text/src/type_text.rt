@@ -1,0 +1,131 @@
+//! Types of arrays as text.
+//!
+//! A type is named as the words of a line name an array's kind; the types that it holds stand between
+//! parentheses: `list(i32)`, `fixedlist(3 i32)`, `struct(a list(i32), b dict(i8 utf8))`, `fixedbinary(2)`.
+
+use crate::fault::Fault;
+use polars_arrays_flat::data_type::{ArrowDataType, Field, IntegerType};
+use std::alloc::Global;
+
+/// The text of a type.
+pub fn write_type(alloc: Global, dtype: &ArrowDataType) -> Result<String, Fault> {
+    let mut text = String::new(alloc);
+    push_type(alloc, &mut text, dtype)?;
+    Ok(text)
+}
+
+/// The name of a type of keys.
+pub fn key_name(keys: IntegerType) -> &'static str {
+    match keys {
+        IntegerType::Int8 => "i8",
+        IntegerType::Int16 => "i16",
+        IntegerType::Int32 => "i32",
+        IntegerType::Int64 => "i64",
+        IntegerType::UInt8 => "u8",
+        IntegerType::UInt16 => "u16",
+        IntegerType::UInt32 => "u32",
+        IntegerType::UInt64 => "u64",
+    }
+}
+
+// The name of a type that holds no other one and no size, or None.
+fn plain_name(dtype: &ArrowDataType) -> Option<&'static str> {
+    let name = match dtype {
+        ArrowDataType::Null => "null",
+        ArrowDataType::Boolean => "bool",
+        ArrowDataType::Int8 => "i8",
+        ArrowDataType::Int16 => "i16",
+        ArrowDataType::Int32 => "i32",
+        ArrowDataType::Int64 => "i64",
+        ArrowDataType::Int128 => "i128",
+        ArrowDataType::UInt8 => "u8",
+        ArrowDataType::UInt16 => "u16",
+        ArrowDataType::UInt32 => "u32",
+        ArrowDataType::UInt64 => "u64",
+        ArrowDataType::UInt128 => "u128",
+        ArrowDataType::Binary => "binary",
+        ArrowDataType::LargeBinary => "largebinary",
+        ArrowDataType::Utf8 => "utf8",
+        ArrowDataType::LargeUtf8 => "largeutf8",
+        ArrowDataType::BinaryView => "binaryview",
+        ArrowDataType::Utf8View => "utf8view",
+        _ => return None,
+    };
+    Some(name)
+}
+
+// Adds a type to a text.
+#[cycle(types)]
+fn push_type(alloc: Global, text: &mut String, dtype: &ArrowDataType) -> Result<(), Fault> {
+    match dtype {
+        ArrowDataType::FixedSizeBinary(size) => {
+            let size = size.to_string(alloc)?;
+            push_sized(text, "fixedbinary(", &size)
+        }
+        ArrowDataType::List(item) => push_holder(alloc, text, "list(", item),
+        ArrowDataType::LargeList(item) => push_holder(alloc, text, "largelist(", item),
+        ArrowDataType::FixedSizeList(item, width) => {
+            let name = format!(in alloc; "fixedlist({width} ")?;
+            push_holder(alloc, text, &name, item)
+        }
+        ArrowDataType::Struct(fields) => push_fields(alloc, text, fields),
+        ArrowDataType::Dictionary(keys, entry) => {
+            let name = format!(in alloc; "dict({} ", key_name(*keys))?;
+            push_holder(alloc, text, &name, entry)
+        }
+        _ => push_plain(text, dtype),
+    }
+}
+
+// Adds a type that holds no other one and no size.
+fn push_plain(text: &mut String, dtype: &ArrowDataType) -> Result<(), Fault> {
+    match plain_name(dtype) {
+        Some(name) => text.push_str(name)?,
+        None => return Err(Fault::Case),
+    }
+    Ok(())
+}
+
+// Adds the name of a type and a number.
+fn push_sized(text: &mut String, name: &str, size: &str) -> Result<(), Fault> {
+    text.push_str(name)?;
+    text.push_str(size)?;
+    text.push(')')?;
+    Ok(())
+}
+
+// Adds the name of a type and the type that it holds.
+#[cycle(types)]
+fn push_holder(
+    alloc: Global,
+    text: &mut String,
+    name: &str,
+    held: &ArrowDataType,
+) -> Result<(), Fault> {
+    text.push_str(name)?;
+    push_type(alloc, text, held)?;
+    text.push(')')?;
+    Ok(())
+}
+
+// Adds a struct of fields.
+#[cycle(types)]
+fn push_fields(alloc: Global, text: &mut String, fields: &[Field]) -> Result<(), Fault> {
+    text.push_str("struct(")?;
+    for (i, field) in fields.iter().enumerate() {
+        if i > 0 {
+            text.push_str(", ")?;
+        }
+        push_field(alloc, text, field)?;
+    }
+    text.push(')')?;
+    Ok(())
+}
+
+// Adds the name and the type of a field.
+#[cycle(types)]
+fn push_field(alloc: Global, text: &mut String, field: &Field) -> Result<(), Fault> {
+    text.push_str(&field.name)?;
+    text.push(' ')?;
+    push_type(alloc, text, &field.dtype)
+}

@@ -1,0 +1,52 @@
+//! The words of a line, one after the other.
+
+use crate::fault::Fault;
+use std::str::FromStr;
+
+/// The words of a line, and which is read next.
+#[derive(Drop)]
+pub struct Words<'a> {
+    words: &'a [&'a str],
+    next: usize,
+}
+
+impl<'a> Words<'a> {
+    pub fn new(words: &'a [&'a str]) -> Words<'a> {
+        Words { words, next: 0 }
+    }
+
+    /// The next word.
+    pub fn read(&mut self) -> Result<&'a str, Fault> {
+        match self.words.get(self.next) {
+            Some(word) => {
+                self.next += 1;
+                Ok(*word)
+            }
+            None => Err(Fault::Word),
+        }
+    }
+
+    /// The number that the next word writes.
+    pub fn read_number<N: FromStr<Err: Drop>>(&mut self) -> Result<N, Fault> {
+        match self.read()?.parse() {
+            Ok(number) => Ok(number),
+            Err(_) => Err(Fault::Word),
+        }
+    }
+
+    /// Reads the next word exactly where it is this one, and says whether it was.
+    pub fn take(&mut self, word: &str) -> bool {
+        match self.words.get(self.next) {
+            Some(next) if *next == word => {
+                self.next += 1;
+                true
+            }
+            _ => false,
+        }
+    }
+
+    /// Whether each word was read.
+    pub fn are_read(&self) -> bool {
+        self.next >= self.words.len()
+    }
+}
