@@ -91,4 +91,10 @@ impl Data {
             right_i64,
         }
     }
+
+    /// The number in the middle of the right rows, or 0 where there is none.
+    pub fn middle(&self) -> i64 {
+        let right = &self.right_i64;
+        right.get(right.len() / 2).copied().unwrap_or(0)
+    }
 }

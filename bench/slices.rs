@@ -25,6 +25,7 @@ unsafe extern "C" {
     safe fn polars_time_slices(
         left: Rows<i64>,
         right: Rows<i64>,
+        scalar: i64,
         kernel: SliceKernel,
         number_type: NumberType,
         repeats: usize,
@@ -53,6 +54,7 @@ pub fn for_each(data: &Data, each: &mut dyn FnMut(&Kernel)) {
                 polars_time_slices(
                     rows(left_i64),
                     rows(right_i64),
+                    data.middle(),
                     kernel,
                     number_type,
                     repeats,
@@ -71,7 +73,7 @@ pub fn for_each(data: &Data, each: &mut dyn FnMut(&Kernel)) {
     hand("less i64", (SliceKernel::Less, NumberType::I64), &|| {
         plain::less(left_i64, right_i64)
     });
-    let constant = right_i32.get(count / 2).copied().unwrap_or(0);
+    let constant = data.middle() as i32;
     hand(
         "equal i32, constant",
         (SliceKernel::EqualConstant, NumberType::I32),
