@@ -2,7 +2,7 @@
 //! prints a line for each: nanoseconds a row (a bit, where the rows are bits) on either side, their
 //! ratio, and what is asked for. Arguments: words of the names of the kernels to run.
 //!
-//! To add a kernel: an entry point in `crates/polars_bench`, its line in an `extern` block, its peer
+//! To add a kernel: its entry and its arm in `crates/polars_bench`, the same entry of the enum here, its peer
 //! in `plain.rs`, `plain_strings.rs` or `plain_nested.rs`, and a line where its group hands out its kernels.
 
 mod arrays;
