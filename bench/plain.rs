@@ -13,7 +13,7 @@ pub fn word_of(answers: impl Iterator<Item = bool>) -> u64 {
 
 /// Where the elements of two slices of one length pass a test.
 #[inline]
-pub fn test_pairs<T: Copy>(left: &[T], right: &[T], test: impl Fn(T, T) -> bool) -> Vec<u64> {
+pub fn compare_pairs<T: Copy>(left: &[T], right: &[T], test: impl Fn(T, T) -> bool) -> Vec<u64> {
     let (left_words, left_rest) = left.as_chunks::<64>();
     let (right_words, right_rest) = right.as_chunks::<64>();
     let mut words = Vec::with_capacity(left.len().div_ceil(64));
@@ -48,12 +48,12 @@ pub fn test_each<T: Copy>(values: &[T], test: impl Fn(T) -> bool) -> Vec<u64> {
 
 #[inline(never)]
 pub fn equal<T: Copy + PartialEq>(left: &[T], right: &[T]) -> Vec<u64> {
-    test_pairs(left, right, |l, r| l == r)
+    compare_pairs(left, right, |l, r| l == r)
 }
 
 #[inline(never)]
 pub fn less<T: Copy + PartialOrd>(left: &[T], right: &[T]) -> Vec<u64> {
-    test_pairs(left, right, |l, r| l < r)
+    compare_pairs(left, right, |l, r| l < r)
 }
 
 #[inline(never)]

@@ -1,7 +1,7 @@
 //! The kernels on arrays that hold arrays in plain Rust, 64 results a word.
 
 use crate::nested_rows::{COLUMNS, Keyed, Lists, WIDTH};
-use crate::plain::{equal, test_pairs};
+use crate::plain::{equal, compare_pairs};
 use crate::plain_strings::test_rows;
 use crate::string_rows::Texts;
 
@@ -63,7 +63,7 @@ pub fn equal_lists(left: &Lists, right: &Lists) -> Vec<u64> {
 pub fn equal_fixed_lists(left: &[i32], right: &[i32]) -> Vec<u64> {
     let (left, _) = left.as_chunks::<WIDTH>();
     let (right, _) = right.as_chunks::<WIDTH>();
-    test_pairs(left, right, |l, r| l == r)
+    compare_pairs(left, right, |l, r| l == r)
 }
 
 /// Of structs of columns that stand one behind the other.
@@ -92,7 +92,7 @@ fn entry(texts: &Texts, key: u32) -> &[u8] {
 #[inline(never)]
 pub fn equal_dictionaries(left: &Keyed, right: &Keyed) -> Vec<u64> {
     let (l, r) = (&left.entries, &right.entries);
-    test_pairs(&left.keys, &right.keys, move |a, b| {
+    compare_pairs(&left.keys, &right.keys, move |a, b| {
         entry(l, a) == entry(r, b)
     })
 }

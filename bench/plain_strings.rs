@@ -1,6 +1,6 @@
 //! The kernels on strings in plain Rust, 64 results a word.
 
-use crate::plain::{test_each, test_pairs, word_of};
+use crate::plain::{test_each, compare_pairs, word_of};
 use crate::string_rows::{Texts, Views};
 
 /// The answers for the rows from the first one on.
@@ -45,12 +45,12 @@ fn long_row(view: u128, buffers: &[Vec<u8>]) -> &[u8] {
 
 #[inline(never)]
 pub fn equal_short(left: &Views, right: &Views) -> Vec<u64> {
-    test_pairs(&left.views, &right.views, |l, r| l == r)
+    compare_pairs(&left.views, &right.views, |l, r| l == r)
 }
 
 #[inline(never)]
 pub fn less_short(left: &Views, right: &Views) -> Vec<u64> {
-    test_pairs(&left.views, &right.views, short_less)
+    compare_pairs(&left.views, &right.views, short_less)
 }
 
 #[inline(never)]
@@ -66,7 +66,7 @@ pub fn less_short_constant(left: &Views, right: &[u8]) -> Vec<u64> {
 #[inline(never)]
 pub fn equal_long(left: &Views, right: &Views) -> Vec<u64> {
     let (left_buffers, right_buffers) = (&left.buffers[..], &right.buffers[..]);
-    test_pairs(&left.views, &right.views, move |l, r| {
+    compare_pairs(&left.views, &right.views, move |l, r| {
         long_row(l, left_buffers) == long_row(r, right_buffers)
     })
 }
@@ -74,7 +74,7 @@ pub fn equal_long(left: &Views, right: &Views) -> Vec<u64> {
 #[inline(never)]
 pub fn less_long(left: &Views, right: &Views) -> Vec<u64> {
     let (left_buffers, right_buffers) = (&left.buffers[..], &right.buffers[..]);
-    test_pairs(&left.views, &right.views, move |l, r| {
+    compare_pairs(&left.views, &right.views, move |l, r| {
         long_row(l, left_buffers) < long_row(r, right_buffers)
     })
 }
@@ -124,5 +124,5 @@ const SIZE: usize = 16;
 pub fn equal_sized(left: &[u8], right: &[u8]) -> Vec<u64> {
     let (left, _) = left.as_chunks::<SIZE>();
     let (right, _) = right.as_chunks::<SIZE>();
-    test_pairs(left, right, |l, r| l[..] == r[..])
+    compare_pairs(left, right, |l, r| l[..] == r[..])
 }

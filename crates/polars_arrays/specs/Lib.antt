@@ -17,7 +17,7 @@ pub use Rattle.polars_arrays_numbers.specs.Count
 pub use Rattle.polars_arrays_numbers.specs.Naturals
 pub use Rattle.polars_arrays_numbers.specs.Ranges
 pub use Rattle.polars_arrays_flat.specs.ArrayRows
-pub use Rattle.polars_arrays_flat.specs.KindTest
+pub use Rattle.polars_arrays_flat.specs.KindEquality
 pub use Rattle.polars_arrays_nested.specs.AnyRows
 pub use Rattle.polars_arrays_nested.specs.Clones
 pub use Rattle.polars_arrays_nested.specs.Columns

@@ -1,4 +1,4 @@
-//! Arrays of columns, under one roof. The number types, the tests of two numbers and the counter are
+//! Arrays of columns, under one roof. The number types, the comparisons of two numbers and the counter are
 //! those of `polars_arrays_numbers`; packed bits, buffers and errors those of `polars_arrays_bits`; the
 //! arrays of numbers and of truth values and all types those of `polars_arrays_flat`; byte strings and texts
 //! those of `polars_arrays_bytes` and, by views, of `polars_arrays_views`; arrays that hold arrays those of
@@ -14,5 +14,5 @@ pub use polars_arrays_flat::{array, arrow_type, boolean, byte_rows, data_type, n
 pub use polars_arrays_nested::{
     any_array, dict_keys, dictionary, fixed_size_list, laws, list, list_offsets, struct_array,
 };
-pub use polars_arrays_numbers::{dictionary_key, element_test, native_type, offset, steps};
+pub use polars_arrays_numbers::{dictionary_key, comparison, native_type, offset, steps};
 pub use polars_arrays_views::{binary_view, text_view, view};

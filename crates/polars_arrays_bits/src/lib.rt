@@ -3,14 +3,14 @@
 //! `polars_arrays_words`.
 #![tactic(auto)]
 
-pub use polars_arrays_numbers::{dictionary_key, element_test, native_type, offset, steps};
+pub use polars_arrays_numbers::{dictionary_key, comparison, native_type, offset, steps};
 pub use polars_arrays_words::packing;
 
 pub mod bit_mask;
 pub mod bitmap;
 pub mod buffer;
 pub mod builder;
-pub mod comparison;
 pub mod counting;
 pub mod error;
 pub mod mutable_bitmap;
+pub mod slices;

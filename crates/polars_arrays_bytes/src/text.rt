@@ -58,7 +58,7 @@ impl<O: Offset> Utf8Array<O> {
         ensures rows { IfOk result (λ a. offset_rows O.value a ≡ rows_under validity (byte_slots (strings_between (places O.value offsets.items) values.items))) }
     {
         let binary = BinaryArray::try_new(offsets, values, validity)?;
-        match first_other(&binary) {
+        match first_bad_text(&binary) {
             Some(row) => Err(ArrayError::NotUtf8 { row }),
             None => Ok(Utf8Array { binary }),
         }
@@ -158,7 +158,7 @@ impl<O: Offset> ByteRows for Utf8Array<O> {
 }
 
 // The first byte string that is not UTF-8.
-fn first_other<R: ByteRows>(rows: &R) -> Option<usize>
+fn first_bad_text<R: ByteRows>(rows: &R) -> Option<usize>
     ensures { MatchOption result (AreTexts (R.strings rows.now)) (IsFirstOther (R.strings rows.now)) }
 {
     for row in 0..rows.count() {

@@ -4,7 +4,7 @@ use Rattle.polars_arrays_flat.specs.ArrayRows.{number_rows, truth_rows, is_null,
 use Rattle.polars_arrays_flat.specs.ByteOrder.{bytes_lt, few_number}
 use Rattle.polars_arrays_flat.specs.DataType.{key_kind, kind_of, kinds_of, IsSameField}
 use Rattle.polars_arrays_flat.specs.Kind.{UInt64Kind, FixedSizeBinaryKind, Utf8ViewKind, ListKind, LargeListKind, no_kinds, more_kinds}
-use Rattle.polars_arrays_flat.specs.KindTest.{kind_eq, named_eq, dtype_eq, field_eq}
+use Rattle.polars_arrays_flat.specs.KindEquality.{kind_eq, named_eq, dtype_eq, field_eq}
 use Rattle.polars_arrays_flat.specs.Row.{Null, Int, Truth, Rows, no_rows, more_rows, row_list}
 use Rattle.polars_arrays_flat.specs.StoredRows.{row, kept, rows_under, number_slots, truth_slots}
 use Rattle.polars_arrays_flat.specs.Validity.{is_present, masked_count, window, validity_window}

@@ -4,8 +4,8 @@ pub mod ByteOrderLaws
 pub mod DataType
 pub mod Flat
 pub mod Kind
-pub mod KindTest
-pub mod KindTestLaws
+pub mod KindEquality
+pub mod KindEqualityLaws
 pub mod Numbers
 pub mod NumbersLends
 pub mod Row

@@ -99,8 +99,8 @@ impl ArrowDataType {
 }
 
 impl PartialEq for ArrowDataType {
-    ghost use Rattle.polars_arrays_flat.specs.KindTest.{dtype_eq};
-    ghost use Rattle.polars_arrays_flat.specs.KindTestLaws.{dtype_eq-laws};
+    ghost use Rattle.polars_arrays_flat.specs.KindEquality.{dtype_eq};
+    ghost use Rattle.polars_arrays_flat.specs.KindEqualityLaws.{dtype_eq-laws};
 
     ghost eq = { dtype_eq };
 
@@ -125,8 +125,8 @@ impl Field {
 }
 
 impl PartialEq for Field {
-    ghost use Rattle.polars_arrays_flat.specs.KindTest.{field_eq};
-    ghost use Rattle.polars_arrays_flat.specs.KindTestLaws.{field_eq-laws};
+    ghost use Rattle.polars_arrays_flat.specs.KindEquality.{field_eq};
+    ghost use Rattle.polars_arrays_flat.specs.KindEqualityLaws.{field_eq-laws};
 
     ghost eq = { field_eq };
 

@@ -81,9 +81,9 @@ impl AnyArray {
             AnyArray::BinaryView(array) => array.len(),
             AnyArray::Utf8View(array) => array.len(),
             AnyArray::FixedSizeBinary(array) => array.len(),
-            AnyArray::List(array) => array.offsets().rows(),
-            AnyArray::FixedSizeList(array) => array.count(),
-            AnyArray::Struct(array) => array.count(),
+            AnyArray::List(array) => array.offsets().len(),
+            AnyArray::FixedSizeList(array) => array.len(),
+            AnyArray::Struct(array) => array.len(),
             AnyArray::Dictionary(array) => array.keys().len(),
         }
     }

@@ -64,7 +64,7 @@ impl FixedSizeListArray {
     }
 
     /// How many lists there are.
-    pub fn count(&self) -> usize
+    pub fn len(&self) -> usize
         ensures { result ≡ len_of (FixedSizeList self.now) }
     {
         self.len

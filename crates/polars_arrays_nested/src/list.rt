@@ -57,7 +57,7 @@ impl ListArray {
         ensures good { IfOk result (λ a. IsGood (List a)) }
         ensures rows { IfOk result (λ a. (i : ℕ) → row (List a) i ≡ kept (is_present validity i) (Rows (rows_from (row values.value) (offset_at offsets i) (span offsets i)))) }
     {
-        if !has_bits(offsets.rows(), &validity) {
+        if !has_bits(offsets.len(), &validity) {
             return Err(ArrayError::Length);
         }
         match offsets.first_bad_row(values.len()) {
@@ -127,7 +127,7 @@ impl Array for ListArray {
 
     #[tactic(auto, using(crate::proofs::Lengths::lengths))]
     fn len(&self) -> usize {
-        self.offsets.rows()
+        self.offsets.len()
     }
 
     #[tactic(auto, using(crate::proofs::Lengths::lengths))]

@@ -25,7 +25,7 @@ pub enum ListOffsets {
 impl ListOffsets {
     /// How many lists there are: one fewer than offsets, and none without an offset.
     #[tactic(auto, using(crate::proofs::Places::places_of))]
-    pub fn rows(&self) -> usize
+    pub fn len(&self) -> usize
         ensures { result ≡ list_count self.now }
     {
         match self {

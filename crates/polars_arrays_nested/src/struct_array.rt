@@ -74,7 +74,7 @@ impl StructArray {
     }
 
     /// How many rows there are.
-    pub fn count(&self) -> usize
+    pub fn len(&self) -> usize
         ensures { result ≡ len_of (Struct self.now) }
     {
         self.len

@@ -1,8 +1,8 @@
-//! The numbers that arrays hold, tests of two of them, and an exact counter.
+//! The numbers that arrays hold, comparisons of two of them, and an exact counter.
 #![tactic(auto)]
 
 pub mod dictionary_key;
-pub mod element_test;
+pub mod comparison;
 pub mod native_type;
 pub mod offset;
 pub mod steps;

@@ -196,7 +196,7 @@ impl TruthValues for Blocks<'_> {
 
     // A block lies in two words.
     #[inline(always)]
-    fn is_wide(&self) -> bool {
+    fn packs_by_bit(&self) -> bool {
         true
     }
 }

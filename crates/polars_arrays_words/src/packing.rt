@@ -22,10 +22,10 @@ pub trait TruthValues {
         requires { i < length (values self.now) }
         ensures { result ≡ slice_index_or (values self.now) i false };
 
-    /// Whether a truth value is found from more than 64 bits. The way of packing is chosen by it, and
-    /// no answer depends on it.
+    /// Whether truth values are packed one by one, which is faster where each is found from more than 64 bits,
+    /// and not by 64 flags and one vector operation. No answer depends on it.
     #[inline(always)]
-    fn is_wide(&self) -> bool {
+    fn packs_by_bit(&self) -> bool {
         false
     }
 }
@@ -128,7 +128,7 @@ pub(crate) fn pack_word<V: TruthValues>(values: &V, at: usize, count: usize) -> 
     requires fits { at + count < 2 ^ 64 }
     ensures { IsPacked result (V.values values.now) at count }
 {
-    if values.is_wide() {
+    if values.packs_by_bit() {
         pack_by_bytes(values, at, count)
     } else {
         pack_by_flags(values, at, count)

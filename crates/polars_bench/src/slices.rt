@@ -4,8 +4,8 @@ use crate::operands::{NumberType, Slices, converted};
 use crate::{Timed, bit_of, repeat};
 use num_traits::AsPrimitive;
 use polars_arrays_bits::bitmap::Bitmap;
-use polars_arrays_bits::comparison::{test_constant, test_pairs};
-use polars_arrays_numbers::element_test::{Equal, Less};
+use polars_arrays_bits::slices::{compare_constant, compare_pairs};
+use polars_arrays_numbers::comparison::{Equal, Less};
 use polars_arrays_numbers::native_type::NativeType;
 use std::alloc::{AllocError, Global};
 
@@ -23,9 +23,9 @@ impl<T: NativeType> Timed for Slices<'_, T> {
     #[inline(always)]
     fn run(&self, alloc: Global, kernel: SliceKernel, i: usize) -> u64 {
         let made = match kernel {
-            SliceKernel::Equal => test_pairs(alloc, &Equal, self.left, self.right),
-            SliceKernel::Less => test_pairs(alloc, &Less, self.left, self.right),
-            SliceKernel::EqualConstant => test_constant(alloc, &Equal, self.left, *self.scalar),
+            SliceKernel::Equal => compare_pairs(alloc, &Equal, self.left, self.right),
+            SliceKernel::Less => compare_pairs(alloc, &Less, self.left, self.right),
+            SliceKernel::EqualConstant => compare_constant(alloc, &Equal, self.left, *self.scalar),
         };
         bit_of(made, i)
     }

@@ -6,7 +6,7 @@ use Rattle.polars_arrays_flat.specs.Row.{Row, Null, Bytes}
 use Rattle.polars_arrays_flat.specs.StoredRows.{row, byte_slots}
 use Rattle.polars_compare_leaves.specs.Equality.{RawEquality}
 use Rattle.polars_compare_leaves.specs.Sameness.{same_row, other_row}
-use Rattle.polars_compare_views.specs.Pairs.{TestsPairs}
+use Rattle.polars_compare_views.specs.Pairs.{ComparesPairs}
 use Rattle.polars_compare_equality.proofs.Raw.{same-told, other-told}
 
 from-zero : (i : ℕ) → 0 + i ≡ i
@@ -19,7 +19,7 @@ slot-at xs i lt = get_or-map Bytes xs i [] Null lt
 module _ (told : Bool) (test : Row → Row → Bool) (law : (x y : Row) → (test x y ≡ told) ↔ (x ≡ y)) where
   from-pairs :
       (l r : Option (List Bool)) (xs ys : List (List ℕ)) (n : ℕ) (bits : List Bool) → n ≡ length xs → length xs ≡ length ys
-      → TestsPairs test xs ys 0 0 n bits → RawEquality told ⊤ l r (byte_slots xs) (byte_slots ys) bits
+      → ComparesPairs test xs ys 0 0 n bits → RawEquality told ⊤ l r (byte_slots xs) (byte_slots ys) bits
   from-pairs l r xs ys n bits all e pairs = record {
     size = pairs.size ∙ all ∙ sym (length-map xs Bytes);
     at_present = λ i h p q.
@@ -33,10 +33,10 @@ module _ (told : Bool) (test : Row → Row → Bool) (law : (x y : Row) → (tes
 
 pub equal-pairs :
     (l r : Option (List Bool)) (xs ys : List (List ℕ)) (n : ℕ) (bits : List Bool) → n ≡ length xs → length xs ≡ length ys
-    → TestsPairs same_row xs ys 0 0 n bits → RawEquality true ⊤ l r (byte_slots xs) (byte_slots ys) bits
+    → ComparesPairs same_row xs ys 0 0 n bits → RawEquality true ⊤ l r (byte_slots xs) (byte_slots ys) bits
 equal-pairs = from-pairs true same_row same-told
 
 pub unequal-pairs :
     (l r : Option (List Bool)) (xs ys : List (List ℕ)) (n : ℕ) (bits : List Bool) → n ≡ length xs → length xs ≡ length ys
-    → TestsPairs other_row xs ys 0 0 n bits → RawEquality false ⊤ l r (byte_slots xs) (byte_slots ys) bits
+    → ComparesPairs other_row xs ys 0 0 n bits → RawEquality false ⊤ l r (byte_slots xs) (byte_slots ys) bits
 unequal-pairs = from-pairs false other_row other-told

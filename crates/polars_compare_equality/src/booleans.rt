@@ -9,8 +9,8 @@ use polars_arrays_bits::bitmap::Bitmap;
 use polars_arrays_bits::error::ComputeError;
 use polars_arrays_flat::array::Array;
 use polars_arrays_flat::boolean::BooleanArray;
-use polars_arrays_numbers::element_test::{Equal, Unequal};
-use polars_compare_leaves::booleans::{test_truth, test_truth_windows};
+use polars_arrays_numbers::comparison::{Equal, Unequal};
+use polars_compare_leaves::booleans::{compare_truth, compare_truth_windows};
 use std::alloc::Global;
 
 impl TotalEqKernel for BooleanArray {
@@ -35,19 +35,19 @@ impl TotalEqKernel for BooleanArray {
     }
 
     fn tot_eq_kernel(&self, alloc: Global, other: &Self) -> Result<Bitmap, ComputeError> {
-        test_truth_windows(alloc, &Equal, self, 0, other, 0, self.len())
+        compare_truth_windows(alloc, &Equal, self, 0, other, 0, self.len())
     }
 
     fn tot_ne_kernel(&self, alloc: Global, other: &Self) -> Result<Bitmap, ComputeError> {
-        test_truth_windows(alloc, &Unequal, self, 0, other, 0, self.len())
+        compare_truth_windows(alloc, &Unequal, self, 0, other, 0, self.len())
     }
 
     fn tot_eq_kernel_broadcast(&self, alloc: Global, other: &bool) -> Result<Bitmap, ComputeError> {
-        test_truth(alloc, &Equal, self, *other)
+        compare_truth(alloc, &Equal, self, *other)
     }
 
     fn tot_ne_kernel_broadcast(&self, alloc: Global, other: &bool) -> Result<Bitmap, ComputeError> {
-        test_truth(alloc, &Unequal, self, *other)
+        compare_truth(alloc, &Unequal, self, *other)
     }
 
     ghost comparable_law = { λ a b e. truth_slots-as_long a.values b.values e };

@@ -10,8 +10,8 @@ use crate::kernel::missing_mask;
 use polars_arrays_bits::bitmap::Bitmap;
 use polars_arrays_bits::error::ComputeError;
 use polars_arrays_flat::byte_rows::ByteRows;
-use polars_arrays_numbers::element_test::{Equal, Unequal};
-use polars_compare_leaves::bytes::test_bytes;
+use polars_arrays_numbers::comparison::{Equal, Unequal};
+use polars_compare_leaves::bytes::compare_bytes;
 use polars_compare_leaves::joining::{Relation, join_nulls};
 use std::alloc::Global;
 
@@ -25,7 +25,7 @@ pub trait BytesEqKernel: ByteRows + Sized {
             (RawEquality true ⊤ (Self.mask self.now) None (Self.slots self.now) (replicate (length (Self.slots self.now)) (Bytes other.now)))
             IsMemory }
     {
-        test_bytes(alloc, &Equal, self, other)
+        compare_bytes(alloc, &Equal, self, other)
     }
 
     /// Where the stored rows are unequal to the byte string.
@@ -34,7 +34,7 @@ pub trait BytesEqKernel: ByteRows + Sized {
             (RawEquality false ⊤ (Self.mask self.now) None (Self.slots self.now) (replicate (length (Self.slots self.now)) (Bytes other.now)))
             IsMemory }
     {
-        test_bytes(alloc, &Unequal, self, other)
+        compare_bytes(alloc, &Unequal, self, other)
     }
 
     /// Where the rows are equal to the byte string; no null is.
@@ -76,7 +76,7 @@ pub trait TextEqKernel: ByteRows + Sized {
             (RawEquality true ⊤ (Self.mask self.now) None (Self.slots self.now) (replicate (length (Self.slots self.now)) (Bytes other.now)))
             IsMemory }
     {
-        test_bytes(alloc, &Equal, self, other.as_bytes())
+        compare_bytes(alloc, &Equal, self, other.as_bytes())
     }
 
     /// Where the stored rows are unequal to the text.
@@ -85,7 +85,7 @@ pub trait TextEqKernel: ByteRows + Sized {
             (RawEquality false ⊤ (Self.mask self.now) None (Self.slots self.now) (replicate (length (Self.slots self.now)) (Bytes other.now)))
             IsMemory }
     {
-        test_bytes(alloc, &Unequal, self, other.as_bytes())
+        compare_bytes(alloc, &Unequal, self, other.as_bytes())
     }
 
     /// Where the rows are equal to the text; no null is.

@@ -13,10 +13,10 @@ use polars_arrays_bits::error::ComputeError;
 use polars_arrays_bytes::binary::BinaryArray;
 use polars_arrays_bytes::fixed_size::FixedSizeBinaryArray;
 use polars_arrays_flat::byte_rows::ByteRows;
-use polars_arrays_numbers::element_test::{Equal, Unequal};
+use polars_arrays_numbers::comparison::{Equal, Unequal};
 use polars_arrays_numbers::offset::Offset;
-use polars_compare_leaves::bytes::test_byte_windows;
-use polars_compare_nested::sized::test_sized_windows;
+use polars_compare_leaves::bytes::compare_byte_windows;
+use polars_compare_nested::sized::compare_sized_windows;
 use std::alloc::Global;
 
 impl<O: Offset + 'static> TotalEqKernel for BinaryArray<O> {
@@ -41,11 +41,11 @@ impl<O: Offset + 'static> TotalEqKernel for BinaryArray<O> {
     }
 
     fn tot_eq_kernel(&self, alloc: Global, other: &Self) -> Result<Bitmap, ComputeError> {
-        test_byte_windows(alloc, &Equal, self, 0, other, 0, self.count())
+        compare_byte_windows(alloc, &Equal, self, 0, other, 0, self.count())
     }
 
     fn tot_ne_kernel(&self, alloc: Global, other: &Self) -> Result<Bitmap, ComputeError> {
-        test_byte_windows(alloc, &Unequal, self, 0, other, 0, self.count())
+        compare_byte_windows(alloc, &Unequal, self, 0, other, 0, self.count())
     }
 
     fn tot_eq_kernel_broadcast(
@@ -94,12 +94,12 @@ impl TotalEqKernel for FixedSizeBinaryArray {
 
     fn tot_eq_kernel(&self, alloc: Global, other: &Self) -> Result<Bitmap, ComputeError> {
         read_sizes(self, other);
-        test_sized_windows(alloc, &Equal, self, 0, other, 0, self.count())
+        compare_sized_windows(alloc, &Equal, self, 0, other, 0, self.count())
     }
 
     fn tot_ne_kernel(&self, alloc: Global, other: &Self) -> Result<Bitmap, ComputeError> {
         read_sizes(self, other);
-        test_sized_windows(alloc, &Unequal, self, 0, other, 0, self.count())
+        compare_sized_windows(alloc, &Unequal, self, 0, other, 0, self.count())
     }
 
     fn tot_eq_kernel_broadcast(

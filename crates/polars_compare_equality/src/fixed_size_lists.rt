@@ -34,7 +34,7 @@ impl TotalEqKernel for FixedSizeListArray {
     ghost scalar_row = { all_rows };
 
     fn can_compare(&self, other: &Self) -> bool {
-        self.count() == other.count() && self.values().same_type(other.values())
+        self.len() == other.len() && self.values().same_type(other.values())
     }
 
     fn can_broadcast(&self, other: &AnyArray) -> bool {
@@ -42,7 +42,7 @@ impl TotalEqKernel for FixedSizeListArray {
     }
 
     fn tot_eq_kernel(&self, alloc: Global, other: &Self) -> Result<Bitmap, ComputeError> {
-        let n = self.count();
+        let n = self.len();
         // rows of different types are nowhere equal
         if self.width() != other.width() {
             return Bitmap::new_zeroed(alloc, n);

@@ -28,7 +28,7 @@ pub(crate) fn missing_mask<A: Array>(array: &A) -> Option<&Bitmap>
 ///
 /// The raw kernels ask no validity, and their bits are right where both rows are present. The missing
 /// kernels take null as equal to itself alone, and their bits are right everywhere. A broadcast sets each
-/// row against one scalar, which is never null. All but the tests take memory: the error is `Memory`, and
+/// row against one scalar, which is never null. All but `can_compare` take memory: the error is `Memory`, and
 /// `Unsupported` for the broadcasts of a kind that has none.
 pub trait TotalEqKernel: Sized + Array {
     /// What the rows are set against in a broadcast.

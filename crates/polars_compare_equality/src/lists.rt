@@ -34,7 +34,7 @@ impl TotalEqKernel for ListArray {
     ghost scalar_row = { all_rows };
 
     fn can_compare(&self, other: &Self) -> bool {
-        self.offsets().rows() == other.offsets().rows()
+        self.offsets().len() == other.offsets().len()
             && self.offsets().is_large() == other.offsets().is_large()
             && self.values().same_type(other.values())
     }
@@ -44,7 +44,7 @@ impl TotalEqKernel for ListArray {
     }
 
     fn tot_eq_kernel(&self, alloc: Global, other: &Self) -> Result<Bitmap, ComputeError> {
-        let n = self.offsets().rows();
+        let n = self.offsets().len();
         list_windows(alloc, self, 0, other, 0, n, &mut Steps::new())
     }
 

@@ -9,9 +9,9 @@ use polars_arrays_bits::bitmap::Bitmap;
 use polars_arrays_bits::error::ComputeError;
 use polars_arrays_flat::array::Array;
 use polars_arrays_flat::primitive::PrimitiveArray;
-use polars_arrays_numbers::element_test::{Equal, Unequal};
+use polars_arrays_numbers::comparison::{Equal, Unequal};
 use polars_arrays_numbers::native_type::NativeType;
-use polars_compare_leaves::numbers::{test_number, test_number_windows};
+use polars_compare_leaves::numbers::{compare_number, compare_number_windows};
 use std::alloc::Global;
 
 impl<T: NativeType + 'static> TotalEqKernel for PrimitiveArray<T> {
@@ -36,19 +36,19 @@ impl<T: NativeType + 'static> TotalEqKernel for PrimitiveArray<T> {
     }
 
     fn tot_eq_kernel(&self, alloc: Global, other: &Self) -> Result<Bitmap, ComputeError> {
-        test_number_windows(alloc, &Equal, self, 0, other, 0, self.len())
+        compare_number_windows(alloc, &Equal, self, 0, other, 0, self.len())
     }
 
     fn tot_ne_kernel(&self, alloc: Global, other: &Self) -> Result<Bitmap, ComputeError> {
-        test_number_windows(alloc, &Unequal, self, 0, other, 0, self.len())
+        compare_number_windows(alloc, &Unequal, self, 0, other, 0, self.len())
     }
 
     fn tot_eq_kernel_broadcast(&self, alloc: Global, other: &T) -> Result<Bitmap, ComputeError> {
-        test_number(alloc, &Equal, self, *other)
+        compare_number(alloc, &Equal, self, *other)
     }
 
     fn tot_ne_kernel_broadcast(&self, alloc: Global, other: &T) -> Result<Bitmap, ComputeError> {
-        test_number(alloc, &Unequal, self, *other)
+        compare_number(alloc, &Unequal, self, *other)
     }
 
     ghost comparable_law = { λ a b e. number_slots-as_long T.value a.values b.values e };

@@ -31,7 +31,7 @@ impl TotalEqKernel for StructArray {
     ghost scalar_row = { all_rows };
 
     fn can_compare(&self, other: &Self) -> bool {
-        self.count() == other.count()
+        self.len() == other.len()
     }
 
     fn can_broadcast(&self, _other: &AnyArray) -> bool {
@@ -39,7 +39,7 @@ impl TotalEqKernel for StructArray {
     }
 
     fn tot_eq_kernel(&self, alloc: Global, other: &Self) -> Result<Bitmap, ComputeError> {
-        let n = self.count();
+        let n = self.len();
         // rows of different types are nowhere equal
         if !same_fields(self.fields(), other.fields()) {
             return Bitmap::new_zeroed(alloc, n);

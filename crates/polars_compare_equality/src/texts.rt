@@ -11,9 +11,9 @@ use polars_arrays_bits::bitmap::Bitmap;
 use polars_arrays_bits::error::ComputeError;
 use polars_arrays_bytes::text::Utf8Array;
 use polars_arrays_flat::byte_rows::ByteRows;
-use polars_arrays_numbers::element_test::{Equal, Unequal};
+use polars_arrays_numbers::comparison::{Equal, Unequal};
 use polars_arrays_numbers::offset::Offset;
-use polars_compare_leaves::bytes::test_byte_windows;
+use polars_compare_leaves::bytes::compare_byte_windows;
 use std::alloc::Global;
 
 impl<O: Offset + 'static> TotalEqKernel for Utf8Array<O> {
@@ -38,11 +38,11 @@ impl<O: Offset + 'static> TotalEqKernel for Utf8Array<O> {
     }
 
     fn tot_eq_kernel(&self, alloc: Global, other: &Self) -> Result<Bitmap, ComputeError> {
-        test_byte_windows(alloc, &Equal, self, 0, other, 0, self.count())
+        compare_byte_windows(alloc, &Equal, self, 0, other, 0, self.count())
     }
 
     fn tot_ne_kernel(&self, alloc: Global, other: &Self) -> Result<Bitmap, ComputeError> {
-        test_byte_windows(alloc, &Unequal, self, 0, other, 0, self.count())
+        compare_byte_windows(alloc, &Unequal, self, 0, other, 0, self.count())
     }
 
     fn tot_eq_kernel_broadcast(

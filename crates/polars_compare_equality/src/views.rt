@@ -10,12 +10,12 @@ use crate::kernel::TotalEqKernel;
 use polars_arrays_bits::bitmap::Bitmap;
 use polars_arrays_bits::error::ComputeError;
 use polars_arrays_flat::byte_rows::ByteRows;
-use polars_arrays_numbers::element_test::{Equal, Unequal};
+use polars_arrays_numbers::comparison::{Equal, Unequal};
 use polars_arrays_numbers::steps::Steps;
 use polars_arrays_views::binary_view::BinaryViewArray;
 use polars_arrays_views::text_view::Utf8ViewArray;
 use polars_compare_views::followed::FollowedKernel;
-use polars_compare_views::windows::{test_view_bytes, test_view_windows};
+use polars_compare_views::windows::{compare_view_bytes, compare_view_windows};
 use std::alloc::Global;
 
 impl TotalEqKernel for BinaryViewArray {
@@ -44,7 +44,7 @@ impl TotalEqKernel for BinaryViewArray {
     }
 
     fn tot_ne_kernel(&self, alloc: Global, other: &Self) -> Result<Bitmap, ComputeError> {
-        test_view_windows(
+        compare_view_windows(
             alloc,
             &Unequal,
             self,
@@ -79,11 +79,11 @@ impl TotalEqKernel for BinaryViewArray {
 
 impl BytesEqKernel for BinaryViewArray {
     fn tot_eq_kernel_broadcast(&self, alloc: Global, other: &[u8]) -> Result<Bitmap, ComputeError> {
-        test_view_bytes(alloc, &Equal, self, other)
+        compare_view_bytes(alloc, &Equal, self, other)
     }
 
     fn tot_ne_kernel_broadcast(&self, alloc: Global, other: &[u8]) -> Result<Bitmap, ComputeError> {
-        test_view_bytes(alloc, &Unequal, self, other)
+        compare_view_bytes(alloc, &Unequal, self, other)
     }
 }
 
@@ -139,10 +139,10 @@ impl TotalEqKernel for Utf8ViewArray {
 
 impl TextEqKernel for Utf8ViewArray {
     fn tot_eq_kernel_broadcast(&self, alloc: Global, other: &str) -> Result<Bitmap, ComputeError> {
-        test_view_bytes(alloc, &Equal, self.as_binview(), other.as_bytes())
+        compare_view_bytes(alloc, &Equal, self.as_binview(), other.as_bytes())
     }
 
     fn tot_ne_kernel_broadcast(&self, alloc: Global, other: &str) -> Result<Bitmap, ComputeError> {
-        test_view_bytes(alloc, &Unequal, self.as_binview(), other.as_bytes())
+        compare_view_bytes(alloc, &Unequal, self.as_binview(), other.as_bytes())
     }
 }

@@ -1,4 +1,4 @@
-//! Tests of stored truth values, 64 at a time, whatever the validity says.
+//! Comparisons of stored truth values, 64 at a time, whatever the validity says.
 
 ghost use Rattle.std.specs.Prelude.{◌≡◌, ◌+◌, ◌≤◌, Bool, length, map, MatchResult};
 ghost use Rattle.std.specs.Simd.Lanes.{zip2};
@@ -14,22 +14,22 @@ use polars_arrays_bits::bitmap::Bitmap;
 use polars_arrays_bits::error::ComputeError;
 use polars_arrays_flat::array::Array;
 use polars_arrays_flat::boolean::BooleanArray;
-use polars_arrays_numbers::element_test::{
+use polars_arrays_numbers::comparison::{
     Equal, Greater, GreaterOrEqual, Less, LessOrEqual, Unequal,
 };
 use std::alloc::Global;
 
-/// A test of two truth values that is a test of their rows.
-pub trait TruthTest {
-    // Which rows pass.
+/// A comparison of two truth values that is one of their rows.
+pub trait TruthComparison {
+    // Of which rows it holds.
     ghost rows: { Row → Row → Bool };
 
-    /// Whether two truth values pass.
-    fn test(&self, left: bool, right: bool) -> bool
+    /// Whether it holds of two truth values.
+    fn compare(&self, left: bool, right: bool) -> bool
         ensures { result ≡ rows (Truth left) (Truth right) };
 
-    /// Whether the bits of two windows of one length pass, place by place. The error is `Memory`.
-    fn test_masks(
+    /// Of which bits of two windows of one length it holds, place by place. The error is `Memory`.
+    fn compare_masks(
         &self,
         alloc: Global,
         left: &BitMask<'_>,
@@ -39,14 +39,14 @@ pub trait TruthTest {
         ensures { MatchResult result (λ bits. bits ≡ zip2 (λ l r. rows (Truth l) (Truth r)) left.now right.now) IsMemory };
 }
 
-impl TruthTest for Equal {
+impl TruthComparison for Equal {
     ghost rows = { same_row };
 
-    fn test(&self, left: bool, right: bool) -> bool {
+    fn compare(&self, left: bool, right: bool) -> bool {
         left == right
     }
 
-    fn test_masks(
+    fn compare_masks(
         &self,
         alloc: Global,
         left: &BitMask<'_>,
@@ -56,14 +56,14 @@ impl TruthTest for Equal {
     }
 }
 
-impl TruthTest for Unequal {
+impl TruthComparison for Unequal {
     ghost rows = { other_row };
 
-    fn test(&self, left: bool, right: bool) -> bool {
+    fn compare(&self, left: bool, right: bool) -> bool {
         left != right
     }
 
-    fn test_masks(
+    fn compare_masks(
         &self,
         alloc: Global,
         left: &BitMask<'_>,
@@ -73,14 +73,14 @@ impl TruthTest for Unequal {
     }
 }
 
-impl TruthTest for Less {
+impl TruthComparison for Less {
     ghost rows = { row_less };
 
-    fn test(&self, left: bool, right: bool) -> bool {
+    fn compare(&self, left: bool, right: bool) -> bool {
         !left && right
     }
 
-    fn test_masks(
+    fn compare_masks(
         &self,
         alloc: Global,
         left: &BitMask<'_>,
@@ -90,14 +90,14 @@ impl TruthTest for Less {
     }
 }
 
-impl TruthTest for LessOrEqual {
+impl TruthComparison for LessOrEqual {
     ghost rows = { row_at_most };
 
-    fn test(&self, left: bool, right: bool) -> bool {
+    fn compare(&self, left: bool, right: bool) -> bool {
         !left || right
     }
 
-    fn test_masks(
+    fn compare_masks(
         &self,
         alloc: Global,
         left: &BitMask<'_>,
@@ -107,14 +107,14 @@ impl TruthTest for LessOrEqual {
     }
 }
 
-impl TruthTest for Greater {
+impl TruthComparison for Greater {
     ghost rows = { row_greater };
 
-    fn test(&self, left: bool, right: bool) -> bool {
+    fn compare(&self, left: bool, right: bool) -> bool {
         left && !right
     }
 
-    fn test_masks(
+    fn compare_masks(
         &self,
         alloc: Global,
         left: &BitMask<'_>,
@@ -124,14 +124,14 @@ impl TruthTest for Greater {
     }
 }
 
-impl TruthTest for GreaterOrEqual {
+impl TruthComparison for GreaterOrEqual {
     ghost rows = { row_at_least };
 
-    fn test(&self, left: bool, right: bool) -> bool {
+    fn compare(&self, left: bool, right: bool) -> bool {
         left || !right
     }
 
-    fn test_masks(
+    fn compare_masks(
         &self,
         alloc: Global,
         left: &BitMask<'_>,
@@ -141,11 +141,11 @@ impl TruthTest for GreaterOrEqual {
     }
 }
 
-/// Whether the stored rows of two windows pass a test, place by place: `n` rows from row `a` on of the
+/// Of which stored rows of two windows a comparison holds, place by place: `n` rows from row `a` on of the
 /// left array, and as many from row `b` on of the right one. The error is `Memory`.
-pub fn test_truth_windows<E: TruthTest>(
+pub fn compare_truth_windows<E: TruthComparison>(
     alloc: Global,
-    test: &E,
+    comparison: &E,
     left: &BooleanArray,
     a: usize,
     right: &BooleanArray,
@@ -160,20 +160,20 @@ pub fn test_truth_windows<E: TruthTest>(
 {
     let left = BitMask::from_bitmap(left.values()).window(a, n);
     let right = BitMask::from_bitmap(right.values()).window(b, n);
-    test.test_masks(alloc, &left, &right)
+    comparison.compare_masks(alloc, &left, &right)
 }
 
-/// Whether the stored rows of an array pass a test with a truth value. The error is `Memory`.
-pub fn test_truth<E: TruthTest>(
+/// Of which stored rows and one truth value a comparison holds. The error is `Memory`.
+pub fn compare_truth<E: TruthComparison>(
     alloc: Global,
-    test: &E,
+    comparison: &E,
     left: &BooleanArray,
     right: bool,
 ) -> Result<Bitmap, ComputeError>
     ensures { MatchResult result (λ bits. bits ≡ map (λ row. E.rows row (Truth right))
         (truth_slots left.now.values)) IsMemory }
 {
-    match (test.test(true, right), test.test(false, right)) {
+    match (comparison.compare(true, right), comparison.compare(false, right)) {
         (true, true) => Bitmap::new_with_value(alloc, true, left.len()),
         (true, false) => left.values().clone_bitmap(alloc),
         (false, true) => left.values().not(alloc),

@@ -1,4 +1,4 @@
-//! Tests of stored byte strings, place by place, whatever the validity says.
+//! Comparisons of stored byte strings, place by place, whatever the validity says.
 
 ghost use Rattle.std.specs.Prelude.{◌≡◌, ◌+◌, ◌^◌, ◌<◌, ◌≤◌, Bool, length, map, MatchResult};
 ghost use Rattle.std.specs.Simd.Lanes.{zip2};
@@ -15,97 +15,97 @@ use polars_arrays_bits::packing::TruthValues;
 use polars_arrays_flat::byte_equality::bytes_equal;
 use polars_arrays_flat::byte_order::bytes_less;
 use polars_arrays_flat::byte_rows::ByteRows;
-use polars_arrays_numbers::element_test::{
+use polars_arrays_numbers::comparison::{
     Equal, Greater, GreaterOrEqual, Less, LessOrEqual, Unequal,
 };
 use std::alloc::Global;
 
-/// A test of two byte strings that is a test of their rows.
-pub trait ByteTest {
-    // Which rows pass.
+/// A comparison of two byte strings that is one of their rows.
+pub trait ByteComparison {
+    // Of which rows it holds.
     ghost rows: { Row → Row → Bool };
 
-    /// Whether two byte strings pass.
-    fn test(&self, left: &[u8], right: &[u8]) -> bool
+    /// Whether it holds of two byte strings.
+    fn compare(&self, left: &[u8], right: &[u8]) -> bool
         ensures { result ≡ rows (Bytes left.now) (Bytes right.now) };
 
-    /// The same, made for a right string that many left ones are tested against.
+    /// The same, made for a right string that many left ones are compared with.
     #[inline(always)]
-    fn test_constant(&self, left: &[u8], right: &[u8]) -> bool
+    fn compare_constant(&self, left: &[u8], right: &[u8]) -> bool
         ensures { result ≡ rows (Bytes left.now) (Bytes right.now) }
     {
-        self.test(left, right)
+        self.compare(left, right)
     }
 }
 
-impl ByteTest for Equal {
+impl ByteComparison for Equal {
     ghost rows = { same_row };
 
     #[inline(always)]
-    fn test(&self, left: &[u8], right: &[u8]) -> bool {
+    fn compare(&self, left: &[u8], right: &[u8]) -> bool {
         bytes_equal(left, right)
     }
 
     #[inline(always)]
-    fn test_constant(&self, left: &[u8], right: &[u8]) -> bool {
+    fn compare_constant(&self, left: &[u8], right: &[u8]) -> bool {
         left == right
     }
 }
 
-impl ByteTest for Unequal {
+impl ByteComparison for Unequal {
     ghost rows = { other_row };
 
     #[inline(always)]
-    fn test(&self, left: &[u8], right: &[u8]) -> bool {
+    fn compare(&self, left: &[u8], right: &[u8]) -> bool {
         !bytes_equal(left, right)
     }
 
     #[inline(always)]
-    fn test_constant(&self, left: &[u8], right: &[u8]) -> bool {
+    fn compare_constant(&self, left: &[u8], right: &[u8]) -> bool {
         left != right
     }
 }
 
-impl ByteTest for Less {
+impl ByteComparison for Less {
     ghost rows = { row_less };
 
     #[inline(always)]
-    fn test(&self, left: &[u8], right: &[u8]) -> bool {
+    fn compare(&self, left: &[u8], right: &[u8]) -> bool {
         bytes_less(left, right)
     }
 }
 
-impl ByteTest for LessOrEqual {
+impl ByteComparison for LessOrEqual {
     ghost rows = { row_at_most };
 
     #[inline(always)]
-    fn test(&self, left: &[u8], right: &[u8]) -> bool {
+    fn compare(&self, left: &[u8], right: &[u8]) -> bool {
         !bytes_less(right, left)
     }
 }
 
-impl ByteTest for Greater {
+impl ByteComparison for Greater {
     ghost rows = { row_greater };
 
     #[inline(always)]
-    fn test(&self, left: &[u8], right: &[u8]) -> bool {
+    fn compare(&self, left: &[u8], right: &[u8]) -> bool {
         bytes_less(right, left)
     }
 }
 
-impl ByteTest for GreaterOrEqual {
+impl ByteComparison for GreaterOrEqual {
     ghost rows = { row_at_least };
 
     #[inline(always)]
-    fn test(&self, left: &[u8], right: &[u8]) -> bool {
+    fn compare(&self, left: &[u8], right: &[u8]) -> bool {
         !bytes_less(left, right)
     }
 }
 
-// A test of `n` byte strings from place `a` on and of as many from place `b` on, place by place.
+// A comparison of `n` byte strings from place `a` on with as many from place `b` on, place by place.
 #[derive(Drop)]
 struct StringPairs<'a, L: ByteRows, R: ByteRows, E> {
-    test: &'a E,
+    comparison: &'a E,
     left: &'a L,
     a: usize,
     right: &'a R,
@@ -117,7 +117,7 @@ struct StringPairs<'a, L: ByteRows, R: ByteRows, E> {
     ghost right_fits: { b + n < 2 ^ 64 },
 }
 
-impl<'a, L: ByteRows, R: ByteRows, E: ByteTest> TruthValues for StringPairs<'a, L, R, E> {
+impl<'a, L: ByteRows, R: ByteRows, E: ByteComparison> TruthValues for StringPairs<'a, L, R, E> {
     ghost values = { λ p. zip2 E.rows (window p.a p.n (byte_slots (L.strings p.left.now))) (window p.b p.n (byte_slots (R.strings p.right.now))) };
 
     #[inline(always)]
@@ -128,21 +128,21 @@ impl<'a, L: ByteRows, R: ByteRows, E: ByteTest> TruthValues for StringPairs<'a, 
     #[inline(always)]
     fn value(&self, i: usize) -> bool {
         let left = self.left.bytes(self.a + i);
-        self.test.test(left, self.right.bytes(self.b + i))
+        self.comparison.compare(left, self.right.bytes(self.b + i))
     }
 
     #[inline(always)]
-    fn is_wide(&self) -> bool {
+    fn packs_by_bit(&self) -> bool {
         true
     }
 }
 
-/// Whether the stored rows of two windows pass a test, place by place: `n` byte strings from place `a` on
+/// Of which stored rows of two windows a comparison holds, place by place: `n` byte strings from place `a` on
 /// of the left ones, and as many from place `b` on of the right ones. The error is `Memory`.
 #[inline]
-pub fn test_byte_windows<L: ByteRows, R: ByteRows, E: ByteTest>(
+pub fn compare_byte_windows<L: ByteRows, R: ByteRows, E: ByteComparison>(
     alloc: Global,
-    test: &E,
+    comparison: &E,
     left: &L,
     a: usize,
     right: &R,
@@ -159,7 +159,7 @@ pub fn test_byte_windows<L: ByteRows, R: ByteRows, E: ByteTest>(
     let _left_count = left.count();
     let _right_count = right.count();
     let pairs = StringPairs {
-        test,
+        comparison,
         left,
         a,
         right,
@@ -169,15 +169,15 @@ pub fn test_byte_windows<L: ByteRows, R: ByteRows, E: ByteTest>(
     Bitmap::from_values(alloc, &pairs)
 }
 
-// A test of byte strings against one.
+// A comparison of byte strings with one.
 #[derive(Drop)]
 struct StringsAgainst<'a, L, E> {
-    test: &'a E,
+    comparison: &'a E,
     left: &'a L,
     right: &'a [u8],
 }
 
-impl<'a, L: ByteRows, E: ByteTest> TruthValues for StringsAgainst<'a, L, E> {
+impl<'a, L: ByteRows, E: ByteComparison> TruthValues for StringsAgainst<'a, L, E> {
     ghost values = { λ a. map (λ row. E.rows row (Bytes a.right.now)) (byte_slots (L.strings a.left.now)) };
 
     #[inline(always)]
@@ -187,24 +187,24 @@ impl<'a, L: ByteRows, E: ByteTest> TruthValues for StringsAgainst<'a, L, E> {
 
     #[inline(always)]
     fn value(&self, i: usize) -> bool {
-        self.test.test_constant(self.left.bytes(i), self.right)
+        self.comparison.compare_constant(self.left.bytes(i), self.right)
     }
 
     #[inline(always)]
-    fn is_wide(&self) -> bool {
+    fn packs_by_bit(&self) -> bool {
         true
     }
 }
 
-/// Whether the stored rows pass a test with a byte string. The error is `Memory`.
-pub fn test_bytes<L: ByteRows, E: ByteTest>(
+/// Of which stored rows and one byte string a comparison holds. The error is `Memory`.
+pub fn compare_bytes<L: ByteRows, E: ByteComparison>(
     alloc: Global,
-    test: &E,
+    comparison: &E,
     left: &L,
     right: &[u8],
 ) -> Result<Bitmap, ComputeError>
     ensures { MatchResult result (λ bits. bits ≡ map (λ row. E.rows row (Bytes right.now))
         (byte_slots (L.strings left.now))) IsMemory }
 {
-    Bitmap::from_values(alloc, &StringsAgainst { test, left, right })
+    Bitmap::from_values(alloc, &StringsAgainst { comparison, left, right })
 }

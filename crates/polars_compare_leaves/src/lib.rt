@@ -5,4 +5,4 @@ pub mod booleans;
 pub mod bytes;
 pub mod joining;
 pub mod numbers;
-pub mod row_test;
+pub mod row_comparison;

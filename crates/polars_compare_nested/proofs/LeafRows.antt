@@ -12,7 +12,7 @@ use Rattle.polars_arrays_flat.specs.StoredRows.{row as row_at}
 use Rattle.polars_arrays_flat.specs.Validity.{is_present, window}
 use Rattle.polars_compare_leaves.specs.Sameness.{same_leaf, same_row}
 use Rattle.polars_compare_nested.specs.Bits.{PresentBits}
-use Rattle.polars_compare_views.specs.Pairs.{TestsPairs}
+use Rattle.polars_compare_views.specs.Pairs.{ComparesPairs}
 
 present-masked : (bits : List Bool) (xs : List Row) (i : ℕ) → IsTrue (slice_index_or bits i false) → row_at (masked bits xs) i ≡ row_at xs i
 present-masked [] xs i h = cc
@@ -125,7 +125,7 @@ byte-row v xs i here lt = present-row v (byte_slots xs) i here ∙ get_or-map By
 -- a test of pairs of byte strings
 pub pair-bits :
     (l r : Option (List Bool)) (xs ys : List (List ℕ)) (a b n : ℕ) (bits : List Bool) → a + n ≤ length xs → b + n ≤ length ys
-    → TestsPairs same_row xs ys a b n bits
+    → ComparesPairs same_row xs ys a b n bits
     → PresentBits same_leaf (row_at (rows_under l (byte_slots xs))) l a (row_at (rows_under r (byte_slots ys))) r b n bits
 pair-bits l r xs ys a b n bits left_in right_in pairs = record {
   size = pairs.size;

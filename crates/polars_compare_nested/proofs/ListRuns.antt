@@ -102,15 +102,15 @@ window_cost child o o' v v' items items' a b (suc n) add h k low low' e costs =
     rw (same, before, cost, there) (sym (rw (here, all) at adds))
 
 -- the lists of a run are compared as one window of their items
-pub run_tally : (l r : ListArray) (a b n : ℕ) (run : ItemRun) → IsGood (Lists l) → IsGood (Lists r) → a + n ≤ len_of (Lists l) → b + n ≤ len_of (Lists r) → IsRun l a r b n run → tally (Lists l) (Lists r) a b run.rows ≡ tally (list_values l) (list_values r) run.left run.right run.count
+pub run_tally : (l r : ListArray) (a b n : ℕ) (run : ItemRun) → IsGood (Lists l) → IsGood (Lists r) → a + n ≤ len_of (Lists l) → b + n ≤ len_of (Lists r) → IsRun l a r b n run → tally (Lists l) (Lists r) a b run.len ≡ tally (list_values l) (list_values r) run.left_start run.right_start run.count
 run_tally l r a b n run h k low low' is =
     let child : ℕ → ℕ → ℕ → ℕ = λ i j m. tally (list_values l) (list_values r) i j m in
     let add : AddsUp child = λ i j m n. tally-adds (list_values l) (list_values r) i j m n in
-    let costs : Costs child (list_offsets l) (list_validity l) a (list_offsets r) (list_validity r) b run.rows =
+    let costs : Costs child (list_offsets l) (list_validity l) a (list_offsets r) (list_validity r) b run.len =
     λ i within.
     row_cost child add (is_present (list_validity l) (a + i)) (is_present (list_validity r) (b + i)) _ _ (span (list_offsets l) (a + i)) (span (list_offsets r) (b + i)) (is.matching i within) in
     rw (is.left_is, is.right_is, is.count_is)
-    (window_cost child (list_offsets l) (list_offsets r) (list_validity l) (list_validity r) _ _ a b run.rows add h.0.good k.0.good (omega (arith, is.within, low)) (omega (arith, is.within, low')) (match_spans l r a b run.rows is.matching) costs)
+    (window_cost child (list_offsets l) (list_offsets r) (list_validity l) (list_validity r) _ _ a b run.len add h.0.good k.0.good (omega (arith, is.within, low)) (omega (arith, is.within, low')) (match_spans l r a b run.len is.matching) costs)
 
 -- two lists that are both present are the same where their items are
 both_kept : (agree : Row → Row → Bool) (p q : Bool) (xs ys : RowList) → IsTrue p → IsTrue q → same agree (kept p (Rows xs)) (kept q (Rows ys)) ≡ same_rows agree xs ys
@@ -139,16 +139,16 @@ run_row agree x y o o' a b n i items h k low low' e bits within =
     ∙ ap (λ (k : ℕ). same_rows agree (rows_from (row x) mid (span o (a + i))) (rows_from (row y) (offset_at o' (b + i)) k)) (e i within)
 
 -- the bits that a run adds are those of its lists
-pub run_bits : (agree : Row → Row → Bool) (l r : ListArray) (a b n : ℕ) (run : ItemRun) (items old new : List Bool) → IsGood (Lists l) → IsGood (Lists r) → a + n ≤ len_of (Lists l) → b + n ≤ len_of (Lists r) → IsRun l a r b n run → SameBits agree (list_values l) run.left (list_values r) run.right run.count items → AddsRun items (list_places (list_offsets l)) a run.rows old new → AddsRawBits agree (Lists l) a (Lists r) b run.rows old new
+pub run_bits : (agree : Row → Row → Bool) (l r : ListArray) (a b n : ℕ) (run : ItemRun) (items old new : List Bool) → IsGood (Lists l) → IsGood (Lists r) → a + n ≤ len_of (Lists l) → b + n ≤ len_of (Lists r) → IsRun l a r b n run → SameBits agree (list_values l) run.left_start (list_values r) run.right_start run.count items → AddsRun items (list_places (list_offsets l)) a run.len old new → AddsRawBits agree (Lists l) a (Lists r) b run.len old new
 run_bits agree l r a b n run items old new h k low low' is bits adds =
-    let bits' : SameBits agree (list_values l) (offset_at (list_offsets l) a) (list_values r) (offset_at (list_offsets r) b) (offset_at (list_offsets l) (a + run.rows) - offset_at (list_offsets l) a) items =
+    let bits' : SameBits agree (list_values l) (offset_at (list_offsets l) a) (list_values r) (offset_at (list_offsets r) b) (offset_at (list_offsets l) (a + run.len) - offset_at (list_offsets l) a) items =
     rw (is.left_is, is.right_is, is.count_is) at bits in
     record {
       size = adds.size;
       kept = adds.kept;
       at_present = λ i within both.
           adds.added i within
-          ∙ run_row agree (list_values l) (list_values r) (list_offsets l) (list_offsets r) a b run.rows i items h.0.good k.0.good (omega (arith, is.within, low)) (omega (arith, is.within, low')) (match_spans l r a b run.rows is.matching) bits' within
+          ∙ run_row agree (list_values l) (list_values r) (list_offsets l) (list_offsets r) a b run.len i items h.0.good k.0.good (omega (arith, is.within, low)) (omega (arith, is.within, low')) (match_spans l r a b run.len is.matching) bits' within
           ∙ sym (both_kept agree (is_present (list_validity l) (a + i)) (is_present (list_validity r) (b + i)) _ _ both.0 both.1);
     }
 

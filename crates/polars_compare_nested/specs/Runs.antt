@@ -40,14 +40,14 @@ Match l a r b n = (k : ℕ) → k < n → IsTrue (is_match l (a + k) r (b + k))
 
 -- a run is the first of at most n lists: they match, and its windows are those of all their items
 pub record IsRun (l : ListArray) (a : ℕ) (r : ListArray) (b n : ℕ) (run : ItemRun) : Type 0 where
-  pub some : 1 ≤ run.rows
-  pub within : run.rows ≤ n
-  pub matching : Match l a r b run.rows
-  pub left_is : run.left ≡ offset_at (list_offsets l) a
-  pub right_is : run.right ≡ offset_at (list_offsets r) b
-  pub count_is : run.count ≡ offset_at (list_offsets l) (a + run.rows) - offset_at (list_offsets l) a
-  pub left_in : run.left + run.count ≤ len_of (list_values l)
-  pub right_in : run.right + run.count ≤ len_of (list_values r)
+  pub some : 1 ≤ run.len
+  pub within : run.len ≤ n
+  pub matching : Match l a r b run.len
+  pub left_is : run.left_start ≡ offset_at (list_offsets l) a
+  pub right_is : run.right_start ≡ offset_at (list_offsets r) b
+  pub count_is : run.count ≡ offset_at (list_offsets l) (a + run.len) - offset_at (list_offsets l) a
+  pub left_in : run.left_start + run.count ≤ len_of (list_values l)
+  pub right_in : run.right_start + run.count ≤ len_of (list_values r)
 
 -- the first lists either do not match, or begin a run
 abbrev pub AreNext : ListArray → ℕ → ListArray → ℕ → ℕ → NextRows → Type 0

@@ -59,7 +59,7 @@ pub fn list_broadcast(
     requires one_type { type_of (list_values lists.now) ≡ type_of rows.now }
     ensures { MatchResult result (SameAsAll (stored_list lists.now) rows.now (list_count (list_offsets lists.now))) IsMemory }
 {
-    let n = lists.offsets().rows();
+    let n = lists.offsets().len();
     let mut bits = BitmapBuilder::with_capacity(alloc, n)?;
     for i in 0..n {
         let from = lists.offsets().offset(i);
@@ -82,7 +82,7 @@ pub fn fixed_size_list_broadcast(
     requires one_type { type_of (fixed_values lists.now) ≡ type_of rows.now }
     ensures { MatchResult result (SameAsAll (stored_fixed_list lists.now) rows.now (len_of (FixedSizeList lists.now))) IsMemory }
 {
-    let n = lists.count();
+    let n = lists.len();
     let mut bits = BitmapBuilder::with_capacity(alloc, n)?;
     for i in 0..n {
         let (from, _) = item_window(lists, i, 1);

@@ -18,7 +18,7 @@ use crate::opened::{
     as_int64, as_int128, as_large_binary, as_large_utf8, as_uint8, as_uint16, as_uint32, as_uint64,
     as_uint128, as_utf8, as_utf8_view,
 };
-use crate::sized::test_sized_windows;
+use crate::sized::compare_sized_windows;
 use polars_arrays_bits::bitmap::Bitmap;
 use polars_arrays_bits::error::ComputeError;
 use polars_arrays_bytes::fixed_size::FixedSizeBinaryArray;
@@ -26,14 +26,14 @@ use polars_arrays_flat::boolean::BooleanArray;
 use polars_arrays_flat::byte_rows::ByteRows;
 use polars_arrays_flat::primitive::PrimitiveArray;
 use polars_arrays_nested::any_array::AnyArray;
-use polars_arrays_numbers::element_test::Equal;
+use polars_arrays_numbers::comparison::Equal;
 use polars_arrays_numbers::native_type::NativeType;
 use polars_arrays_numbers::steps::Steps;
 use polars_arrays_views::binary_view::BinaryViewArray;
-use polars_compare_leaves::booleans::test_truth_windows;
-use polars_compare_leaves::bytes::test_byte_windows;
-use polars_compare_leaves::numbers::test_number_windows;
-use polars_compare_views::windows::test_view_windows;
+use polars_compare_leaves::booleans::compare_truth_windows;
+use polars_compare_leaves::bytes::compare_byte_windows;
+use polars_compare_leaves::numbers::compare_number_windows;
+use polars_compare_views::windows::compare_view_windows;
 use std::alloc::Global;
 
 /// Whether the leaves of two windows are equal, place by place: `n` rows from row `a` on of the left array,
@@ -97,7 +97,7 @@ fn truth_windows(
     requires right_in { b + n ≤ length right.now.values }
     ensures { MatchResult result (PresentBits same_leaf (row_at (truth_rows left.now)) left.now.validity a (row_at (truth_rows right.now)) right.now.validity b n) IsMemory }
 {
-    test_truth_windows(alloc, &Equal, left, a, right, b, n)
+    compare_truth_windows(alloc, &Equal, left, a, right, b, n)
 }
 
 // The same of numbers.
@@ -114,7 +114,7 @@ fn number_windows<T: NativeType>(
     requires right_in { b + n ≤ length right.now.values }
     ensures { MatchResult result (PresentBits same_leaf (row_at (number_rows T.value left.now)) left.now.validity a (row_at (number_rows T.value right.now)) right.now.validity b n) IsMemory }
 {
-    test_number_windows(alloc, &Equal, left, a, right, b, n)
+    compare_number_windows(alloc, &Equal, left, a, right, b, n)
 }
 
 // The same of byte strings and texts between offsets.
@@ -131,7 +131,7 @@ fn byte_windows<R: ByteRows>(
     requires right_in { b + n ≤ length (R.strings right.now) }
     ensures { MatchResult result (PresentBits same_leaf (row_at (rows_under (R.mask left.now) (byte_slots (R.strings left.now)))) (R.mask left.now) a (row_at (rows_under (R.mask right.now) (byte_slots (R.strings right.now)))) (R.mask right.now) b n) IsMemory }
 {
-    test_byte_windows(alloc, &Equal, left, a, right, b, n)
+    compare_byte_windows(alloc, &Equal, left, a, right, b, n)
 }
 
 // The same of byte strings of one size.
@@ -148,7 +148,7 @@ fn sized_windows(
     requires right_in { b + n ≤ right.now.count }
     ensures { MatchResult result (PresentBits same_leaf (row_at (sized_rows left.now)) left.now.validity a (row_at (sized_rows right.now)) right.now.validity b n) IsMemory }
 {
-    test_sized_windows(alloc, &Equal, left, a, right, b, n)
+    compare_sized_windows(alloc, &Equal, left, a, right, b, n)
 }
 
 // The same of byte strings and texts kept by views; how many rows are looked up in buffers is not asked.
@@ -165,5 +165,5 @@ fn view_windows(
     requires right_in { b + n ≤ length right.now.views }
     ensures { MatchResult result (PresentBits same_leaf (row_at (view_rows left.now)) left.now.validity a (row_at (view_rows right.now)) right.now.validity b n) IsMemory }
 {
-    test_view_windows(alloc, &Equal, left, a, right, b, n, &mut Steps::new())
+    compare_view_windows(alloc, &Equal, left, a, right, b, n, &mut Steps::new())
 }

@@ -18,13 +18,13 @@ use polars_arrays_nested::list_offsets::ListOffsets;
 #[derive(Drop)]
 pub(crate) struct ItemRun {
     /// The first item of the left lists.
-    pub(crate) left: usize,
+    pub(crate) left_start: usize,
     /// The first item of the right lists.
-    pub(crate) right: usize,
+    pub(crate) right_start: usize,
     /// How many items all lists of one side have.
     pub(crate) count: usize,
     /// How many lists there are on each side.
-    pub(crate) rows: usize,
+    pub(crate) len: usize,
 }
 
 /// What the first lists of two windows are.
@@ -43,7 +43,7 @@ pub(crate) fn item_count(array: &ListArray, i: usize) -> usize
     ensures { result ≡ span (list_offsets array.now) i }
 {
     // No effect at run time. The proof reads from it that `i + 1` is a number of 64 bits.
-    let _lists = array.offsets().rows();
+    let _lists = array.offsets().len();
     array.offsets().offset(i + 1) - array.offsets().offset(i)
 }
 
@@ -58,17 +58,17 @@ fn run_length(left: &ListArray, a: usize, right: &ListArray, b: usize, n: usize)
     ensures longest { result < n → is_match left.now (a + result) right.now (b + result) ≡ false }
 {
     match (left.offsets(), right.offsets()) {
-        (ListOffsets::Small(these), ListOffsets::Small(those)) => {
-            matching_rows(left, these.as_slice(), a, right, those.as_slice(), b, n)
+        (ListOffsets::Small(left_offsets), ListOffsets::Small(right_offsets)) => {
+            matching_rows(left, left_offsets.as_slice(), a, right, right_offsets.as_slice(), b, n)
         }
-        (ListOffsets::Large(these), ListOffsets::Large(those)) => {
-            matching_rows(left, these.as_slice(), a, right, those.as_slice(), b, n)
+        (ListOffsets::Large(left_offsets), ListOffsets::Large(right_offsets)) => {
+            matching_rows(left, left_offsets.as_slice(), a, right, right_offsets.as_slice(), b, n)
         }
-        (ListOffsets::Small(these), ListOffsets::Large(those)) => {
-            matching_rows(left, these.as_slice(), a, right, those.as_slice(), b, n)
+        (ListOffsets::Small(left_offsets), ListOffsets::Large(right_offsets)) => {
+            matching_rows(left, left_offsets.as_slice(), a, right, right_offsets.as_slice(), b, n)
         }
-        (ListOffsets::Large(these), ListOffsets::Small(those)) => {
-            matching_rows(left, these.as_slice(), a, right, those.as_slice(), b, n)
+        (ListOffsets::Large(left_offsets), ListOffsets::Small(right_offsets)) => {
+            matching_rows(left, left_offsets.as_slice(), a, right, right_offsets.as_slice(), b, n)
         }
     }
 }
@@ -93,13 +93,13 @@ pub(crate) fn next_rows(
         return NextRows::Apart;
     }
     // No effect at run time. The proof reads from it that `a + rows` is a number of 64 bits.
-    let _lists = left.offsets().rows();
+    let _lists = left.offsets().len();
     let first = left.offsets().offset(a);
     NextRows::Run(ItemRun {
-        left: first,
-        right: right.offsets().offset(b),
+        left_start: first,
+        right_start: right.offsets().offset(b),
         count: left.offsets().offset(a + rows) - first,
-        rows,
+        len: rows,
     })
 }
 

@@ -1,4 +1,4 @@
-//! Tests of stored byte strings of one size, place by place, whatever the validity says.
+//! Comparisons of stored byte strings of one size, place by place, whatever the validity says.
 
 ghost use Rattle.std.specs.Prelude.{◌≡◌, ◌+◌, ◌≤◌, length, MatchResult};
 ghost use Rattle.std.specs.Simd.Lanes.{zip2};
@@ -11,19 +11,19 @@ use polars_arrays_bits::bitmap::Bitmap;
 use polars_arrays_bits::error::ComputeError;
 use polars_arrays_bytes::fixed_size::FixedSizeBinaryArray;
 use polars_arrays_bytes::of_size::OfSize;
-use polars_compare_leaves::bytes::{ByteTest, test_byte_windows};
+use polars_compare_leaves::bytes::{ByteComparison, compare_byte_windows};
 use std::alloc::Global;
 
 // How many bytes a string has where the loop is compiled for that size: those of UUIDs, and of numbers
 // of 128 bits.
 const UUID_SIZE: usize = 16;
 
-/// Whether the stored rows of two windows pass a test, place by place: `n` byte strings from place `a` on
+/// Of which stored rows of two windows a comparison holds, place by place: `n` byte strings from place `a` on
 /// of the left array, and as many from place `b` on of the right one, whose strings may have another size.
 /// The error is `Memory`.
-pub fn test_sized_windows<E: ByteTest>(
+pub fn compare_sized_windows<E: ByteComparison>(
     alloc: Global,
-    test: &E,
+    comparison: &E,
     left: &FixedSizeBinaryArray,
     a: usize,
     right: &FixedSizeBinaryArray,
@@ -39,8 +39,8 @@ pub fn test_sized_windows<E: ByteTest>(
     if left.size() == UUID_SIZE && right.size() == UUID_SIZE {
         let left = OfSize::<UUID_SIZE>::new(left);
         let right = OfSize::<UUID_SIZE>::new(right);
-        test_byte_windows(alloc, test, &left, a, &right, b, n)
+        compare_byte_windows(alloc, comparison, &left, a, &right, b, n)
     } else {
-        test_byte_windows(alloc, test, left, a, right, b, n)
+        compare_byte_windows(alloc, comparison, left, a, right, b, n)
     }
 }

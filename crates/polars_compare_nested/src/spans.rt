@@ -47,39 +47,39 @@ fn list_at<O: Offset>(offsets: &[O], i: usize) -> (usize, usize)
 #[inline(always)]
 fn rows_match<L: Offset, R: Offset>(
     left: &ListArray,
-    these: &[L],
+    left_offsets: &[L],
     i: usize,
     right: &ListArray,
-    those: &[R],
+    right_offsets: &[R],
     j: usize,
 ) -> bool
     requires left_good { IsGood (List left.now) }
     requires right_good { IsGood (List right.now) }
-    requires left_offsets { places L.value these.now ≡ list_places (list_offsets left.now) }
-    requires right_offsets { places R.value those.now ≡ list_places (list_offsets right.now) }
+    requires left_offsets { places L.value left_offsets.now ≡ list_places (list_offsets left.now) }
+    requires right_offsets { places R.value right_offsets.now ≡ list_places (list_offsets right.now) }
     requires left_in { i < len_of (List left.now) }
     requires right_in { j < len_of (List right.now) }
     ensures { result ≡ is_match left.now i right.now j }
 {
-    let (_, count) = list_at(these, i);
-    let (_, other) = list_at(those, j);
+    let (_, count) = list_at(left_offsets, i);
+    let (_, other) = list_at(right_offsets, j);
     count == other && (count == 0 || has_row(left.validity(), i) && has_row(right.validity(), j))
 }
 
 /// How many of the first `n` lists match, one after another, where the offsets of both arrays are lent.
 pub(crate) fn matching_rows<L: Offset, R: Offset>(
     left: &ListArray,
-    these: &[L],
+    left_offsets: &[L],
     a: usize,
     right: &ListArray,
-    those: &[R],
+    right_offsets: &[R],
     b: usize,
     n: usize,
 ) -> usize
     requires left_good { IsGood (List left.now) }
     requires right_good { IsGood (List right.now) }
-    requires left_offsets { places L.value these.now ≡ list_places (list_offsets left.now) }
-    requires right_offsets { places R.value those.now ≡ list_places (list_offsets right.now) }
+    requires left_offsets { places L.value left_offsets.now ≡ list_places (list_offsets left.now) }
+    requires right_offsets { places R.value right_offsets.now ≡ list_places (list_offsets right.now) }
     requires left_in { a + n ≤ len_of (List left.now) }
     requires right_in { b + n ≤ len_of (List right.now) }
     ensures within { result ≤ n }
@@ -87,9 +87,9 @@ pub(crate) fn matching_rows<L: Offset, R: Offset>(
     ensures longest { result < n → is_match left.now (a + result) right.now (b + result) ≡ false }
 {
     // No effect at run time. The proof reads from it that the sums are numbers of 64 bits.
-    let (_lists, _others) = (left.offsets().rows(), right.offsets().rows());
+    let (_lists, _others) = (left.offsets().len(), right.offsets().len());
     for k in 0..n {
-        if !rows_match(left, these, a + k, right, those, b + k) {
+        if !rows_match(left, left_offsets, a + k, right, right_offsets, b + k) {
             return k;
         }
     }
@@ -127,7 +127,7 @@ impl<O: Offset> TruthValues for ListBits<'_, '_, O> {
 
     // A list lies in two words.
     #[inline(always)]
-    fn is_wide(&self) -> bool {
+    fn packs_by_bit(&self) -> bool {
         true
     }
 }
@@ -151,7 +151,7 @@ pub(crate) fn push_lists<O: Offset>(
     ensures room { bits.new.room ≡ bits.old.room - rows }
 {
     // No effect at run time. The proof reads from it that the sums are numbers of 64 bits.
-    let _lists = array.offsets().rows();
+    let _lists = array.offsets().len();
     let first = place_of(offsets, a);
     let items = &BitMask::from_bitmap(items);
     bits.extend_values(&ListBits {

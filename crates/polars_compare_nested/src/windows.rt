@@ -115,7 +115,7 @@ pub fn list_windows<K: LeafKernel>(
     ensures kept { K.count steps.old ≤ K.count steps.new }
 {
     // No effect at run time. The proof reads from them that the places of all rows are numbers of 64 bits.
-    let (_rows, _others) = (left.offsets().rows(), right.offsets().rows());
+    let (_rows, _others) = (left.offsets().len(), right.offsets().len());
     let mut bits = BitmapBuilder::with_capacity(alloc, n)?;
     let mut done = 0;
     while done < n {
@@ -165,11 +165,18 @@ fn push_next<K: LeafKernel>(
             Ok(1)
         }
         NextRows::Run(run) => {
-            let (from, at) = (run.left, run.right);
-            let (these, those) = (left.values(), right.values());
-            let items = equal_windows(alloc, these, from, those, at, run.count, steps)?;
-            push_rows(bits, &items, left, a, run.rows);
-            Ok(run.rows)
+            let (left_items, right_items) = (left.values(), right.values());
+            let items = equal_windows(
+                alloc,
+                left_items,
+                run.left_start,
+                right_items,
+                run.right_start,
+                run.count,
+                steps,
+            )?;
+            push_rows(bits, &items, left, a, run.len);
+            Ok(run.len)
         }
     }
 }
@@ -195,9 +202,18 @@ pub fn fixed_size_list_windows<K: LeafKernel>(
     ensures counted { IfOk result (λ _. K.count steps.new ≡ K.count steps.old + tally (FixedSizeList left.now) (FixedSizeList right.now) a b n) }
     ensures kept { K.count steps.old ≤ K.count steps.new }
 {
-    let (from, count) = item_window(left, a, n);
-    let (at, _) = item_window(right, b, n);
-    let items = equal_windows(alloc, left.values(), from, right.values(), at, count, steps)?;
+    let (left_start, count) = item_window(left, a, n);
+    let (right_start, _) = item_window(right, b, n);
+    let (left_items, right_items) = (left.values(), right.values());
+    let items = equal_windows(
+        alloc,
+        left_items,
+        left_start,
+        right_items,
+        right_start,
+        count,
+        steps,
+    )?;
     BitMask::from_bitmap(&items).all_in_blocks(alloc, left.width(), n)
 }
 
@@ -284,8 +300,8 @@ fn equal_entries<K: LeafKernel>(
 {
     match row_entries(left, a, right, b) {
         Some(pair) => {
-            let (these, those) = (left.values(), right.values());
-            let same = equal_windows(alloc, these, pair.left, those, pair.right, 1, steps)?;
+            let (entries, others) = (left.values(), right.values());
+            let same = equal_windows(alloc, entries, pair.left, others, pair.right, 1, steps)?;
             Ok(same.get_bit(0))
         }
         None => Ok(false),

@@ -4,7 +4,7 @@ use Rattle.std.proofs.lemmas.List.{get_or-map, length-map}
 use Rattle.polars_arrays_flat.specs.Row.{Row, Null, Bytes}
 use Rattle.polars_arrays_flat.specs.StoredRows.{row, byte_slots}
 use Rattle.polars_compare_leaves.specs.Order.{RawOrder}
-use Rattle.polars_compare_views.specs.Pairs.{TestsPairs}
+use Rattle.polars_compare_views.specs.Pairs.{ComparesPairs}
 
 from-zero : (i : ℕ) → 0 + i ≡ i
 from-zero i = omega arith
@@ -15,7 +15,7 @@ slot-at xs i lt = get_or-map Bytes xs i [] Null lt
 
 pub ordered-pairs :
     (test : Row → Row → Bool) (l r : Option (List Bool)) (xs ys : List (List ℕ)) (n : ℕ) (bits : List Bool) → n ≡ length xs
-    → length (byte_slots ys) ≡ length (byte_slots xs) → TestsPairs test xs ys 0 0 n bits → RawOrder test l r (byte_slots xs) (byte_slots ys) bits
+    → length (byte_slots ys) ≡ length (byte_slots xs) → ComparesPairs test xs ys 0 0 n bits → RawOrder test l r (byte_slots xs) (byte_slots ys) bits
 ordered-pairs test l r xs ys n bits all e pairs = record {
   size = pairs.size ∙ all ∙ sym (length-map xs Bytes);
   at_present = λ i h p q.

@@ -8,8 +8,8 @@ ghost use Rattle.polars_compare_leaves.specs.Order.{RawOrder, row_at_least, row_
 use polars_arrays_bits::bitmap::Bitmap;
 use polars_arrays_bits::error::ComputeError;
 use polars_arrays_flat::byte_rows::ByteRows;
-use polars_arrays_numbers::element_test::{Greater, GreaterOrEqual, Less, LessOrEqual};
-use polars_compare_leaves::bytes::test_bytes;
+use polars_arrays_numbers::comparison::{Greater, GreaterOrEqual, Less, LessOrEqual};
+use polars_compare_leaves::bytes::compare_bytes;
 use std::alloc::Global;
 
 /// Order of the rows of an array of byte strings beside one that is borrowed, called by path beside
@@ -21,7 +21,7 @@ pub trait BytesOrdKernel: ByteRows + Sized {
             (RawOrder row_less (Self.mask self.now) None (Self.slots self.now) (replicate (length (Self.slots self.now)) (Bytes other.now)))
             IsMemory }
     {
-        test_bytes(alloc, &Less, self, other)
+        compare_bytes(alloc, &Less, self, other)
     }
 
     /// Where a row is less than the byte string or equal to it.
@@ -30,7 +30,7 @@ pub trait BytesOrdKernel: ByteRows + Sized {
             (RawOrder row_at_most (Self.mask self.now) None (Self.slots self.now) (replicate (length (Self.slots self.now)) (Bytes other.now)))
             IsMemory }
     {
-        test_bytes(alloc, &LessOrEqual, self, other)
+        compare_bytes(alloc, &LessOrEqual, self, other)
     }
 
     /// Where a row is greater than the byte string.
@@ -39,7 +39,7 @@ pub trait BytesOrdKernel: ByteRows + Sized {
             (RawOrder row_greater (Self.mask self.now) None (Self.slots self.now) (replicate (length (Self.slots self.now)) (Bytes other.now)))
             IsMemory }
     {
-        test_bytes(alloc, &Greater, self, other)
+        compare_bytes(alloc, &Greater, self, other)
     }
 
     /// Where a row is greater than the byte string or equal to it.
@@ -48,7 +48,7 @@ pub trait BytesOrdKernel: ByteRows + Sized {
             (RawOrder row_at_least (Self.mask self.now) None (Self.slots self.now) (replicate (length (Self.slots self.now)) (Bytes other.now)))
             IsMemory }
     {
-        test_bytes(alloc, &GreaterOrEqual, self, other)
+        compare_bytes(alloc, &GreaterOrEqual, self, other)
     }
 }
 
@@ -60,7 +60,7 @@ pub trait TextOrdKernel: ByteRows + Sized {
             (RawOrder row_less (Self.mask self.now) None (Self.slots self.now) (replicate (length (Self.slots self.now)) (Bytes other.now)))
             IsMemory }
     {
-        test_bytes(alloc, &Less, self, other.as_bytes())
+        compare_bytes(alloc, &Less, self, other.as_bytes())
     }
 
     /// Where a row is less than the text or equal to it.
@@ -69,7 +69,7 @@ pub trait TextOrdKernel: ByteRows + Sized {
             (RawOrder row_at_most (Self.mask self.now) None (Self.slots self.now) (replicate (length (Self.slots self.now)) (Bytes other.now)))
             IsMemory }
     {
-        test_bytes(alloc, &LessOrEqual, self, other.as_bytes())
+        compare_bytes(alloc, &LessOrEqual, self, other.as_bytes())
     }
 
     /// Where a row is greater than the text.
@@ -78,7 +78,7 @@ pub trait TextOrdKernel: ByteRows + Sized {
             (RawOrder row_greater (Self.mask self.now) None (Self.slots self.now) (replicate (length (Self.slots self.now)) (Bytes other.now)))
             IsMemory }
     {
-        test_bytes(alloc, &Greater, self, other.as_bytes())
+        compare_bytes(alloc, &Greater, self, other.as_bytes())
     }
 
     /// Where a row is greater than the text or equal to it.
@@ -87,6 +87,6 @@ pub trait TextOrdKernel: ByteRows + Sized {
             (RawOrder row_at_least (Self.mask self.now) None (Self.slots self.now) (replicate (length (Self.slots self.now)) (Bytes other.now)))
             IsMemory }
     {
-        test_bytes(alloc, &GreaterOrEqual, self, other.as_bytes())
+        compare_bytes(alloc, &GreaterOrEqual, self, other.as_bytes())
     }
 }

@@ -10,9 +10,9 @@ use polars_arrays_bits::error::ComputeError;
 use polars_arrays_bytes::binary::BinaryArray;
 use polars_arrays_bytes::text::Utf8Array;
 use polars_arrays_flat::byte_rows::ByteRows;
-use polars_arrays_numbers::element_test::{Less, LessOrEqual};
+use polars_arrays_numbers::comparison::{Less, LessOrEqual};
 use polars_arrays_numbers::offset::Offset;
-use polars_compare_leaves::bytes::test_byte_windows;
+use polars_compare_leaves::bytes::compare_byte_windows;
 use std::alloc::Global;
 
 impl<O: Offset + 'static> TotalOrdKernel for BinaryArray<O> {
@@ -21,11 +21,11 @@ impl<O: Offset + 'static> TotalOrdKernel for BinaryArray<O> {
     ghost scalar_row = { λ s. Bytes s.items };
 
     fn tot_lt_kernel(&self, alloc: Global, other: &Self) -> Result<Bitmap, ComputeError> {
-        test_byte_windows(alloc, &Less, self, 0, other, 0, self.count())
+        compare_byte_windows(alloc, &Less, self, 0, other, 0, self.count())
     }
 
     fn tot_le_kernel(&self, alloc: Global, other: &Self) -> Result<Bitmap, ComputeError> {
-        test_byte_windows(alloc, &LessOrEqual, self, 0, other, 0, self.count())
+        compare_byte_windows(alloc, &LessOrEqual, self, 0, other, 0, self.count())
     }
 
     fn tot_lt_kernel_broadcast(
@@ -69,11 +69,11 @@ impl<O: Offset + 'static> TotalOrdKernel for Utf8Array<O> {
     ghost scalar_row = { λ s. Bytes (string_bytes s) };
 
     fn tot_lt_kernel(&self, alloc: Global, other: &Self) -> Result<Bitmap, ComputeError> {
-        test_byte_windows(alloc, &Less, self, 0, other, 0, self.count())
+        compare_byte_windows(alloc, &Less, self, 0, other, 0, self.count())
     }
 
     fn tot_le_kernel(&self, alloc: Global, other: &Self) -> Result<Bitmap, ComputeError> {
-        test_byte_windows(alloc, &LessOrEqual, self, 0, other, 0, self.count())
+        compare_byte_windows(alloc, &LessOrEqual, self, 0, other, 0, self.count())
     }
 
     fn tot_lt_kernel_broadcast(

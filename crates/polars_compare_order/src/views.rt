@@ -8,12 +8,12 @@ use crate::kernel::TotalOrdKernel;
 use polars_arrays_bits::bitmap::Bitmap;
 use polars_arrays_bits::error::ComputeError;
 use polars_arrays_flat::byte_rows::ByteRows;
-use polars_arrays_numbers::element_test::{Greater, GreaterOrEqual, Less, LessOrEqual};
+use polars_arrays_numbers::comparison::{Greater, GreaterOrEqual, Less, LessOrEqual};
 use polars_arrays_numbers::steps::Steps;
 use polars_arrays_views::binary_view::BinaryViewArray;
 use polars_arrays_views::text_view::Utf8ViewArray;
 use polars_compare_views::followed::FollowedKernel;
-use polars_compare_views::windows::{test_view_bytes, test_view_windows};
+use polars_compare_views::windows::{compare_view_bytes, compare_view_windows};
 use std::alloc::Global;
 
 impl TotalOrdKernel for BinaryViewArray {
@@ -26,7 +26,7 @@ impl TotalOrdKernel for BinaryViewArray {
     }
 
     fn tot_le_kernel(&self, alloc: Global, other: &Self) -> Result<Bitmap, ComputeError> {
-        test_view_windows(
+        compare_view_windows(
             alloc,
             &LessOrEqual,
             self,
@@ -73,19 +73,19 @@ impl TotalOrdKernel for BinaryViewArray {
 
 impl BytesOrdKernel for BinaryViewArray {
     fn tot_lt_kernel_broadcast(&self, alloc: Global, other: &[u8]) -> Result<Bitmap, ComputeError> {
-        test_view_bytes(alloc, &Less, self, other)
+        compare_view_bytes(alloc, &Less, self, other)
     }
 
     fn tot_le_kernel_broadcast(&self, alloc: Global, other: &[u8]) -> Result<Bitmap, ComputeError> {
-        test_view_bytes(alloc, &LessOrEqual, self, other)
+        compare_view_bytes(alloc, &LessOrEqual, self, other)
     }
 
     fn tot_gt_kernel_broadcast(&self, alloc: Global, other: &[u8]) -> Result<Bitmap, ComputeError> {
-        test_view_bytes(alloc, &Greater, self, other)
+        compare_view_bytes(alloc, &Greater, self, other)
     }
 
     fn tot_ge_kernel_broadcast(&self, alloc: Global, other: &[u8]) -> Result<Bitmap, ComputeError> {
-        test_view_bytes(alloc, &GreaterOrEqual, self, other)
+        compare_view_bytes(alloc, &GreaterOrEqual, self, other)
     }
 }
 
@@ -137,18 +137,18 @@ impl TotalOrdKernel for Utf8ViewArray {
 
 impl TextOrdKernel for Utf8ViewArray {
     fn tot_lt_kernel_broadcast(&self, alloc: Global, other: &str) -> Result<Bitmap, ComputeError> {
-        test_view_bytes(alloc, &Less, self.as_binview(), other.as_bytes())
+        compare_view_bytes(alloc, &Less, self.as_binview(), other.as_bytes())
     }
 
     fn tot_le_kernel_broadcast(&self, alloc: Global, other: &str) -> Result<Bitmap, ComputeError> {
-        test_view_bytes(alloc, &LessOrEqual, self.as_binview(), other.as_bytes())
+        compare_view_bytes(alloc, &LessOrEqual, self.as_binview(), other.as_bytes())
     }
 
     fn tot_gt_kernel_broadcast(&self, alloc: Global, other: &str) -> Result<Bitmap, ComputeError> {
-        test_view_bytes(alloc, &Greater, self.as_binview(), other.as_bytes())
+        compare_view_bytes(alloc, &Greater, self.as_binview(), other.as_bytes())
     }
 
     fn tot_ge_kernel_broadcast(&self, alloc: Global, other: &str) -> Result<Bitmap, ComputeError> {
-        test_view_bytes(alloc, &GreaterOrEqual, self.as_binview(), other.as_bytes())
+        compare_view_bytes(alloc, &GreaterOrEqual, self.as_binview(), other.as_bytes())
     }
 }

@@ -4,7 +4,7 @@ use Rattle.std.proofs.lemmas.List.FromFn.{length-map-range_with_len, get_or-map-
 use Rattle.polars_arrays_bits.specs.Bits.{first_of}
 use Rattle.polars_arrays_flat.specs.Row.{Row, Bytes}
 use Rattle.polars_arrays_flat.specs.StoredRows.{byte_slots}
-use Rattle.polars_compare_views.specs.Pairs.{TestsPairs, pair_test}
+use Rattle.polars_compare_views.specs.Pairs.{ComparesPairs, compared_pair}
 
 pub length-pairs : (f : ℕ → Bool) (n : ℕ) → length (first_of f n) ≡ n
 length-pairs f n = length-map-range_with_len f 0 n
@@ -17,10 +17,10 @@ pub pair-at : (f : ℕ → Bool) (n k : ℕ) → k < n → slice_index_or (first
 pair-at f n k lt = get_or-map-range_with_len f 0 n k k false lt (omega arith)
 
 -- the bits of all pairs
-pub tests-all : (test : Row → Row → Bool) (xs ys : List (List ℕ)) (a b n : ℕ) (bits : List Bool) → bits ≡ first_of (pair_test test xs ys a b) n → TestsPairs test xs ys a b n bits
+pub tests-all : (test : Row → Row → Bool) (xs ys : List (List ℕ)) (a b n : ℕ) (bits : List Bool) → bits ≡ first_of (compared_pair test xs ys a b) n → ComparesPairs test xs ys a b n bits
 tests-all test xs ys a b n bits e = record {
-  size = rw e (length-pairs (pair_test test xs ys a b) n);
-  at_each = λ k lt. rw e (pair-at (pair_test test xs ys a b) n k lt);
+  size = rw e (length-pairs (compared_pair test xs ys a b) n);
+  at_each = λ k lt. rw e (pair-at (compared_pair test xs ys a b) n k lt);
 }
 
 -- the test of the row at one place

@@ -6,13 +6,13 @@ ghost use Rattle.polars_arrays_views.specs.Views.{followed_eq, followed_lt};
 ghost use Rattle.polars_compare_leaves.specs.Order.{row_less};
 ghost use Rattle.polars_compare_leaves.specs.Sameness.{same_row};
 ghost use Rattle.polars_compare_views.specs.Followed.{followed};
-ghost use Rattle.polars_compare_views.specs.Pairs.{TestsPairs};
+ghost use Rattle.polars_compare_views.specs.Pairs.{ComparesPairs};
 
-use crate::windows::test_view_windows;
+use crate::windows::compare_view_windows;
 use polars_arrays_bits::bitmap::Bitmap;
 use polars_arrays_bits::error::ComputeError;
 use polars_arrays_flat::byte_rows::ByteRows;
-use polars_arrays_numbers::element_test::{Equal, Less};
+use polars_arrays_numbers::comparison::{Equal, Less};
 use polars_arrays_numbers::steps::Steps;
 use polars_arrays_views::binary_view::BinaryViewArray;
 use polars_arrays_views::text_view::Utf8ViewArray;
@@ -31,7 +31,7 @@ pub trait FollowedKernel: ByteRows + Sized {
         steps: &mut Steps,
     ) -> Result<Bitmap, ComputeError>
         requires { length (Self.strings other.now) ≡ length (Self.strings self.now) }
-        ensures told { MatchResult result (TestsPairs same_row (Self.strings self.now) (Self.strings other.now) 0 0 (length (Self.strings self.now))) IsMemory }
+        ensures told { MatchResult result (ComparesPairs same_row (Self.strings self.now) (Self.strings other.now) 0 0 (length (Self.strings self.now))) IsMemory }
         ensures counted { IfOk result (λ _. steps.new ≡ steps.old + followed followed_eq (Self.strings self.now) (Self.strings other.now) 0 0 (length (Self.strings self.now))) }
         ensures kept { steps.old ≤ steps.new };
 
@@ -43,7 +43,7 @@ pub trait FollowedKernel: ByteRows + Sized {
         steps: &mut Steps,
     ) -> Result<Bitmap, ComputeError>
         requires { length (Self.strings other.now) ≡ length (Self.strings self.now) }
-        ensures told { MatchResult result (TestsPairs row_less (Self.strings self.now) (Self.strings other.now) 0 0 (length (Self.strings self.now))) IsMemory }
+        ensures told { MatchResult result (ComparesPairs row_less (Self.strings self.now) (Self.strings other.now) 0 0 (length (Self.strings self.now))) IsMemory }
         ensures counted { IfOk result (λ _. steps.new ≡ steps.old + followed followed_lt (Self.strings self.now) (Self.strings other.now) 0 0 (length (Self.strings self.now))) }
         ensures kept { steps.old ≤ steps.new };
 }
@@ -55,7 +55,7 @@ impl FollowedKernel for BinaryViewArray {
         other: &Self,
         steps: &mut Steps,
     ) -> Result<Bitmap, ComputeError> {
-        test_view_windows(alloc, &Equal, self, 0, other, 0, self.count(), steps)
+        compare_view_windows(alloc, &Equal, self, 0, other, 0, self.count(), steps)
     }
 
     fn tot_lt_kernel_followed(
@@ -64,7 +64,7 @@ impl FollowedKernel for BinaryViewArray {
         other: &Self,
         steps: &mut Steps,
     ) -> Result<Bitmap, ComputeError> {
-        test_view_windows(alloc, &Less, self, 0, other, 0, self.count(), steps)
+        compare_view_windows(alloc, &Less, self, 0, other, 0, self.count(), steps)
     }
 }
 

@@ -1,4 +1,4 @@
-//! Tests of stored rows of arrays of views, place by place, whatever the validity says.
+//! Comparisons of stored rows of arrays of views, place by place, whatever the validity says.
 
 ghost use Rattle.std.specs.Prelude.{◌≡◌, ◌+◌, ◌^◌, ◌<◌, ◌≤◌, length, map, IfOk, MatchResult};
 ghost use Rattle.polars_arrays_bits.specs.Bits.{first_of};
@@ -7,9 +7,9 @@ ghost use Rattle.polars_arrays_flat.specs.Row.{Bytes};
 ghost use Rattle.polars_arrays_flat.specs.StoredRows.{byte_slots};
 ghost use Rattle.polars_arrays_views.specs.Parts.{view_strings};
 ghost use Rattle.polars_compare_views.specs.Followed.{followed, pair_cost};
-ghost use Rattle.polars_compare_views.specs.Pairs.{TestsPairs, pair_test};
+ghost use Rattle.polars_compare_views.specs.Pairs.{ComparesPairs, compared_pair};
 
-use crate::view_test::ViewTest;
+use crate::view_comparison::ViewComparison;
 use polars_arrays_bits::bitmap::Bitmap;
 use polars_arrays_bits::counting::CountedValues;
 use polars_arrays_bits::error::ComputeError;
@@ -20,10 +20,10 @@ use polars_arrays_views::binary_view::BinaryViewArray;
 use polars_arrays_views::scalar::ScalarRow;
 use std::alloc::Global;
 
-// A test of `n` rows from row `a` on and of as many from row `b` on, place by place.
+// A comparison of `n` rows from row `a` on with as many from row `b` on, place by place.
 #[derive(Drop)]
 struct ViewPairs<'a, E> {
-    test: &'a E,
+    comparison: &'a E,
     left: &'a BinaryViewArray,
     a: usize,
     right: &'a BinaryViewArray,
@@ -35,8 +35,8 @@ struct ViewPairs<'a, E> {
     ghost right_fits: { b + n < 2 ^ 64 },
 }
 
-impl<'a, E: ViewTest> CountedValues for ViewPairs<'a, E> {
-    ghost values = { λ p. first_of (pair_test E.rows (view_strings p.left.now) (view_strings p.right.now) p.a p.b) p.n };
+impl<'a, E: ViewComparison> CountedValues for ViewPairs<'a, E> {
+    ghost values = { λ p. first_of (compared_pair E.rows (view_strings p.left.now) (view_strings p.right.now) p.a p.b) p.n };
 
     ghost costs = { λ p. pair_cost E.follows (view_strings p.left.now) (view_strings p.right.now) p.a p.b };
 
@@ -48,16 +48,16 @@ impl<'a, E: ViewTest> CountedValues for ViewPairs<'a, E> {
     #[inline(always)]
     fn value(&self, i: usize, steps: &mut Steps) -> bool {
         let (left, right) = (self.left, self.right);
-        self.test.test(left, self.a + i, right, self.b + i, steps)
+        self.comparison.compare(left, self.a + i, right, self.b + i, steps)
     }
 }
 
-/// What a test tells of the stored rows of two windows, place by place: `n` rows from row `a` on of the left
+/// What a comparison tells of the stored rows of two windows, place by place: `n` rows from row `a` on of the left
 /// array, and as many from row `b` on of the right one. The counter rises by one for each pair that is
 /// looked up in buffers. The error is `Memory`.
-pub fn test_view_windows<E: ViewTest>(
+pub fn compare_view_windows<E: ViewComparison>(
     alloc: Global,
-    test: &E,
+    comparison: &E,
     left: &BinaryViewArray,
     a: usize,
     right: &BinaryViewArray,
@@ -67,7 +67,7 @@ pub fn test_view_windows<E: ViewTest>(
 ) -> Result<Bitmap, ComputeError>
     requires left_in { a + n ≤ length left.now.views }
     requires right_in { b + n ≤ length right.now.views }
-    ensures told { MatchResult result (TestsPairs E.rows (view_strings left.now) (view_strings right.now) a b n) IsMemory }
+    ensures told { MatchResult result (ComparesPairs E.rows (view_strings left.now) (view_strings right.now) a b n) IsMemory }
     ensures counted { IfOk result (λ _. steps.new ≡ steps.old + followed E.follows (view_strings left.now) (view_strings right.now) a b n) }
     ensures kept { steps.old ≤ steps.new }
 {
@@ -75,7 +75,7 @@ pub fn test_view_windows<E: ViewTest>(
     let _left_len = left.len();
     let _right_len = right.len();
     let pairs = ViewPairs {
-        test,
+        comparison,
         left,
         a,
         right,
@@ -85,15 +85,15 @@ pub fn test_view_windows<E: ViewTest>(
     Bitmap::from_counted(alloc, &pairs, steps)
 }
 
-// A test of the rows of an array against one byte string.
+// A comparison of the rows of an array with one byte string.
 #[derive(Drop)]
 struct ViewsAgainst<'a, E> {
-    test: &'a E,
+    comparison: &'a E,
     left: &'a BinaryViewArray,
     right: ScalarRow<'a>,
 }
 
-impl<'a, E: ViewTest> TruthValues for ViewsAgainst<'a, E> {
+impl<'a, E: ViewComparison> TruthValues for ViewsAgainst<'a, E> {
     ghost values = { λ a. map (λ row. E.rows row (Bytes a.right)) (byte_slots (view_strings a.left.now)) };
 
     #[inline(always)]
@@ -103,19 +103,19 @@ impl<'a, E: ViewTest> TruthValues for ViewsAgainst<'a, E> {
 
     #[inline(always)]
     fn value(&self, i: usize) -> bool {
-        self.test.test_bytes(self.left, i, &self.right)
+        self.comparison.compare_bytes(self.left, i, &self.right)
     }
 
     #[inline(always)]
-    fn is_wide(&self) -> bool {
+    fn packs_by_bit(&self) -> bool {
         true
     }
 }
 
-/// Whether the stored rows pass a test with a byte string. The error is `Memory`.
-pub fn test_view_bytes<E: ViewTest>(
+/// Of which stored rows and one byte string a comparison holds. The error is `Memory`.
+pub fn compare_view_bytes<E: ViewComparison>(
     alloc: Global,
-    test: &E,
+    comparison: &E,
     left: &BinaryViewArray,
     right: &[u8],
 ) -> Result<Bitmap, ComputeError>
@@ -123,5 +123,5 @@ pub fn test_view_bytes<E: ViewTest>(
         (byte_slots (view_strings left.now))) IsMemory }
 {
     let right = ScalarRow::new(right);
-    Bitmap::from_values(alloc, &ViewsAgainst { test, left, right })
+    Bitmap::from_values(alloc, &ViewsAgainst { comparison, left, right })
 }

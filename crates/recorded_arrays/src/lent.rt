@@ -157,11 +157,11 @@ fn list_offsets(alloc: Global, array: &ListArray) -> Result<String, Fault>
 {
     let offsets = array.offsets();
     let mut text = String::new(alloc);
-    for i in 0..offsets.rows() {
+    for i in 0..offsets.len() {
         text.push_str(&offsets.offset(i).to_string(alloc)?)?;
         text.push(' ')?;
     }
-    let last = offsets.offset(offsets.rows());
+    let last = offsets.offset(offsets.len());
     let width = if offsets.is_large() { "large" } else { "small" };
     Ok(format!(in alloc; "{text}{last} {width}")?)
 }
@@ -255,8 +255,8 @@ fn has_row(validity: Option<&Bitmap>, i: usize) -> bool
 // How many lists of one width or structs there are.
 fn count(alloc: Global, array: &AnyArray) -> Result<String, Fault> {
     match array {
-        AnyArray::FixedSizeList(array) => Ok(array.count().to_string(alloc)?),
-        AnyArray::Struct(array) => Ok(array.count().to_string(alloc)?),
+        AnyArray::FixedSizeList(array) => Ok(array.len().to_string(alloc)?),
+        AnyArray::Struct(array) => Ok(array.len().to_string(alloc)?),
         _ => Err(Fault::Case),
     }
 }

@@ -43,17 +43,17 @@ fn answer_test(
 ) -> Result<Option<String>, Fault>
     requires { HasGoodArrays store.now }
 {
-    let test = match Test::from_name(call) {
-        Some(test) => test,
+    let comparison = match NamedComparison::from_name(call) {
+        Some(comparison) => comparison,
         None => return Ok(None),
     };
-    let holds = is_told(alloc, store.read(words)?, store.read(words)?, test)?;
+    let holds = is_told(alloc, store.read(words)?, store.read(words)?, comparison)?;
     Ok(Some(holds.to_string(alloc)?))
 }
 
 // What is tested of the types of two arrays.
 #[derive(Clone, Copy)]
-enum Test {
+enum NamedComparison {
     SameType,
     HasType,
     SameKind,
@@ -64,35 +64,35 @@ enum Test {
     EqualField,
 }
 
-impl Test {
+impl NamedComparison {
     // The test of that name.
-    fn from_name(name: &str) -> Option<Test> {
-        let test = match name {
-            "same_type" => Test::SameType,
-            "has_type" => Test::HasType,
-            "same_kind" => Test::SameKind,
-            "type_eq" => Test::Equal,
-            "same_fields" => Test::SameFields,
-            "is_struct_of" => Test::StructOf,
-            "same_field" => Test::SameField,
-            "field_eq" => Test::EqualField,
+    fn from_name(name: &str) -> Option<NamedComparison> {
+        let comparison = match name {
+            "same_type" => NamedComparison::SameType,
+            "has_type" => NamedComparison::HasType,
+            "same_kind" => NamedComparison::SameKind,
+            "type_eq" => NamedComparison::Equal,
+            "same_fields" => NamedComparison::SameFields,
+            "is_struct_of" => NamedComparison::StructOf,
+            "same_field" => NamedComparison::SameField,
+            "field_eq" => NamedComparison::EqualField,
             _ => return None,
         };
-        Some(test)
+        Some(comparison)
     }
 }
 
 // Whether the types of two arrays stand the test, where fields are tested the first fields of structs.
-fn is_told(alloc: Global, left: &AnyArray, right: &AnyArray, test: Test) -> Result<bool, Fault> {
-    let holds = match test {
-        Test::SameType => left.same_type(right),
-        Test::HasType => left.has_type(&right.dtype(alloc)?),
-        Test::SameKind => left.dtype(alloc)?.same_kind(&right.dtype(alloc)?),
-        Test::Equal => left.dtype(alloc)? == right.dtype(alloc)?,
-        Test::SameFields => same_fields(fields(left)?, fields(right)?),
-        Test::StructOf => is_struct_of(fields(left)?, &right.dtype(alloc)?),
-        Test::SameField => first_field(left)?.same_field(first_field(right)?),
-        Test::EqualField => first_field(left)? == first_field(right)?,
+fn is_told(alloc: Global, left: &AnyArray, right: &AnyArray, comparison: NamedComparison) -> Result<bool, Fault> {
+    let holds = match comparison {
+        NamedComparison::SameType => left.same_type(right),
+        NamedComparison::HasType => left.has_type(&right.dtype(alloc)?),
+        NamedComparison::SameKind => left.dtype(alloc)?.same_kind(&right.dtype(alloc)?),
+        NamedComparison::Equal => left.dtype(alloc)? == right.dtype(alloc)?,
+        NamedComparison::SameFields => same_fields(fields(left)?, fields(right)?),
+        NamedComparison::StructOf => is_struct_of(fields(left)?, &right.dtype(alloc)?),
+        NamedComparison::SameField => first_field(left)?.same_field(first_field(right)?),
+        NamedComparison::EqualField => first_field(left)? == first_field(right)?,
     };
     Ok(holds)
 }

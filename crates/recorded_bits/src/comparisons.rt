@@ -1,19 +1,19 @@
-//! What is asked of tests of numbers. A TEST is `equal`, `unequal`, `less`, `less_or_equal`, `greater` or
+//! What is asked of comparisons of numbers. A COMPARISON is `equal`, `unequal`, `less`, `less_or_equal`, `greater` or
 //! `greater_or_equal`, and LIST is how many numbers there are and each of them.
 //!
 //! | Question | Answer |
 //! |---|---|
-//! | `test TEST TYPE LEFT RIGHT` | whether two numbers pass |
-//! | `is_wide TEST TYPE` | whether the numbers have more than 64 bits |
-//! | `test_pairs TEST TYPE LIST LIST` | which pairs of two lists of one length pass |
-//! | `test_windows TEST TYPE LIST AT LIST AT N` | the same of N numbers each from a place on |
-//! | `test_constant TEST TYPE LIST NUMBER` | which numbers pass with the last one |
+//! | `compare COMPARISON TYPE LEFT RIGHT` | whether two numbers pass |
+//! | `packs_by_bit COMPARISON TYPE` | whether the numbers have more than 64 bits |
+//! | `compare_pairs COMPARISON TYPE LIST LIST` | which pairs of two lists of one length pass |
+//! | `compare_windows COMPARISON TYPE LIST AT LIST AT N` | the same of N numbers each from a place on |
+//! | `compare_constant COMPARISON TYPE LIST NUMBER` | which numbers pass with the last one |
 
 use crate::bits::is_within;
 use crate::numbers::{at_number_type, at_type};
-use polars_arrays_bits::comparison::{test_constant, test_pairs, test_windows};
-use polars_arrays_numbers::element_test::{
-    ElementTest, Equal, Greater, GreaterOrEqual, Less, LessOrEqual, Unequal,
+use polars_arrays_bits::slices::{compare_constant, compare_pairs, compare_windows};
+use polars_arrays_numbers::comparison::{
+    Comparison, Equal, Greater, GreaterOrEqual, Less, LessOrEqual, Unequal,
 };
 use polars_arrays_numbers::native_type::NativeType;
 use recorded_text::bits_text::write_bits;
@@ -23,26 +23,26 @@ use recorded_text::words::Words;
 use std::alloc::Global;
 use std::str::FromStr;
 
-/// The answer to a call on tests, or None for another one's.
+/// The answer to a call on comparisons, or None for another one's.
 pub fn answer(alloc: Global, call: &str, words: &mut Words) -> Result<Option<String>, Fault> {
     match call {
-        "test" | "is_wide" | "test_pairs" | "test_windows" | "test_constant" => {
-            let test = words.read()?;
-            let answer = at_number_type!(words.read()?, by_test(alloc, call, test, words))?;
+        "compare" | "packs_by_bit" | "compare_pairs" | "compare_windows" | "compare_constant" => {
+            let comparison = words.read()?;
+            let answer = at_number_type!(words.read()?, by_test(alloc, call, comparison, words))?;
             Ok(Some(answer))
         }
         _ => Ok(None),
     }
 }
 
-// The answer to a call with the test of a name.
+// The answer to a call with the comparison of a name.
 fn by_test<T: NativeType + FromStr<Err: Drop>>(
     alloc: Global,
     call: &str,
-    test: &str,
+    comparison: &str,
     words: &mut Words,
 ) -> Result<String, Fault> {
-    match test {
+    match comparison {
         "equal" => ask::<T, Equal>(alloc, call, &Equal, words),
         "unequal" => ask::<T, Unequal>(alloc, call, &Unequal, words),
         "less" => ask::<T, Less>(alloc, call, &Less, words),
@@ -53,28 +53,28 @@ fn by_test<T: NativeType + FromStr<Err: Drop>>(
     }
 }
 
-fn ask<T: NativeType + FromStr<Err: Drop>, E: ElementTest<T, T>>(
+fn ask<T: NativeType + FromStr<Err: Drop>, E: Comparison<T, T>>(
     alloc: Global,
     call: &str,
-    test: &E,
+    comparison: &E,
     words: &mut Words,
 ) -> Result<String, Fault> {
     match call {
-        "test" => {
+        "compare" => {
             let (left, right) = (words.read_number()?, words.read_number()?);
-            Ok(test.test(left, right).to_string(alloc)?)
+            Ok(comparison.compare(left, right).to_string(alloc)?)
         }
-        "is_wide" => Ok(test.is_wide().to_string(alloc)?),
-        "test_pairs" => pairs::<T, E>(alloc, test, words),
-        "test_windows" => windows::<T, E>(alloc, test, words),
-        "test_constant" => constant::<T, E>(alloc, test, words),
+        "packs_by_bit" => Ok(comparison.packs_by_bit().to_string(alloc)?),
+        "compare_pairs" => pairs::<T, E>(alloc, comparison, words),
+        "compare_windows" => windows::<T, E>(alloc, comparison, words),
+        "compare_constant" => constant::<T, E>(alloc, comparison, words),
         _ => Err(Fault::Word),
     }
 }
 
-fn pairs<T: NativeType + FromStr<Err: Drop>, E: ElementTest<T, T>>(
+fn pairs<T: NativeType + FromStr<Err: Drop>, E: Comparison<T, T>>(
     alloc: Global,
-    test: &E,
+    comparison: &E,
     words: &mut Words,
 ) -> Result<String, Fault> {
     let left = read_numbers::<T>(alloc, words)?;
@@ -82,13 +82,13 @@ fn pairs<T: NativeType + FromStr<Err: Drop>, E: ElementTest<T, T>>(
     if left.len() != right.len() {
         return Err(Fault::Case);
     }
-    let bits = test_pairs(alloc, test, left.as_slice(), right.as_slice())?;
+    let bits = compare_pairs(alloc, comparison, left.as_slice(), right.as_slice())?;
     write_bits(alloc, &bits)
 }
 
-fn windows<T: NativeType + FromStr<Err: Drop>, E: ElementTest<T, T>>(
+fn windows<T: NativeType + FromStr<Err: Drop>, E: Comparison<T, T>>(
     alloc: Global,
-    test: &E,
+    comparison: &E,
     words: &mut Words,
 ) -> Result<String, Fault> {
     let left = read_numbers::<T>(alloc, words)?;
@@ -100,17 +100,17 @@ fn windows<T: NativeType + FromStr<Err: Drop>, E: ElementTest<T, T>>(
         return Err(Fault::Case);
     }
     let (left, right) = (left.as_slice(), right.as_slice());
-    let bits = test_windows(alloc, test, left, left_at, right, right_at, count)?;
+    let bits = compare_windows(alloc, comparison, left, left_at, right, right_at, count)?;
     write_bits(alloc, &bits)
 }
 
-fn constant<T: NativeType + FromStr<Err: Drop>, E: ElementTest<T, T>>(
+fn constant<T: NativeType + FromStr<Err: Drop>, E: Comparison<T, T>>(
     alloc: Global,
-    test: &E,
+    comparison: &E,
     words: &mut Words,
 ) -> Result<String, Fault> {
     let left = read_numbers::<T>(alloc, words)?;
     let right = words.read_number()?;
-    let bits = test_constant(alloc, test, left.as_slice(), right)?;
+    let bits = compare_constant(alloc, comparison, left.as_slice(), right)?;
     write_bits(alloc, &bits)
 }

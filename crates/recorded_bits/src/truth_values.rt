@@ -26,7 +26,7 @@ impl TruthValues for SingleBits<'_> {
         self.bits.get_bit(i)
     }
 
-    fn is_wide(&self) -> bool {
+    fn packs_by_bit(&self) -> bool {
         self.wide
     }
 }

@@ -186,7 +186,7 @@ def buffer(words):
             return tuple(told)
 
 
-def test(words, ask):
+def compare(words, ask):
     passes, kind = TESTS[words.word()], words.word()
     return ask(passes, kind)
 
@@ -263,11 +263,11 @@ CALLS = {
     "to_entry": lambda w: (w.word(), place(w.number()))[1],
     "steps": saturated,
     "default_steps": saturated,
-    "test": lambda w: test(w, lambda passes, kind: passes(w.number(), w.number())),
-    "is_wide": lambda w: test(w, lambda passes, kind: TYPES[kind][1] > 64),
-    "test_pairs": lambda w: test(w, lambda passes, kind: each(passes, w.numbers(), w.numbers())),
-    "test_windows": lambda w: test(w, lambda passes, kind: windows(w, passes)),
-    "test_constant": lambda w: test(w, lambda passes, kind: constant(w, passes)),
+    "compare": lambda w: compare(w, lambda passes, kind: passes(w.number(), w.number())),
+    "packs_by_bit": lambda w: compare(w, lambda passes, kind: TYPES[kind][1] > 64),
+    "compare_pairs": lambda w: compare(w, lambda passes, kind: each(passes, w.numbers(), w.numbers())),
+    "compare_windows": lambda w: compare(w, lambda passes, kind: windows(w, passes)),
+    "compare_constant": lambda w: compare(w, lambda passes, kind: constant(w, passes)),
     "not": lambda w: each(lambda a: not a, w.bits()),
     "mask_not": lambda w: each(lambda a: not a, w.mask()),
     "set_bits": lambda w: sum(w.bits()),

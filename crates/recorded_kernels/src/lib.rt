@@ -11,7 +11,7 @@ mod kernel_names;
 mod kernels;
 mod leaf_kernels;
 mod named_kinds;
-mod named_tests;
+mod named_comparisons;
 mod scalars;
 mod stored_rows;
 mod view_rows;
@@ -48,7 +48,7 @@ pub fn answer(
         windows::answer(alloc, call, store, words),
         stored_rows::answer(alloc, call, store, words),
         view_rows::answer(alloc, call, store, words),
-        named_tests::answer(alloc, call, words),
+        named_comparisons::answer(alloc, call, words),
     );
     joining::answer(alloc, call, words)
 }

@@ -1,18 +1,18 @@
-//! Tests of stored rows, whatever the validity says. A TEST is one of `named_tests`.
+//! Comparisons of stored rows, whatever the validity says. A COMPARISON is one of `named_comparisons`.
 //!
 //! | Call | Answer |
 //! |---|---|
-//! | `test_number_windows TEST A a B b n`, and so of `truth`, `byte` and `sized` | which pairs of rows pass |
-//! | `test_view_windows TEST A a B b n` | `BITS in N`, of which N pairs are looked up in buffers |
-//! | `test_number TEST A NUMBER`, `test_truth TEST A TRUTH` | which rows pass with a constant |
-//! | `test_bytes TEST A BYTES`, `test_view_bytes TEST A BYTES` | the same |
+//! | `compare_number_windows COMPARISON A a B b n`, and so of `truth`, `byte` and `sized` | which pairs of rows pass |
+//! | `compare_view_windows COMPARISON A a B b n` | `BITS in N`, of which N pairs are looked up in buffers |
+//! | `compare_number COMPARISON A NUMBER`, `compare_truth COMPARISON A TRUTH` | which rows pass with a constant |
+//! | `compare_bytes COMPARISON A BYTES`, `compare_view_bytes COMPARISON A BYTES` | the same |
 //!
 //! A window is `n` rows from row `a` on of A, and as many from row `b` on of B.
 
 ghost use Rattle.recorded_text.specs.Cases.{HasGoodArrays};
 
 use crate::named_kinds::{of_kind, of_one_kind};
-use crate::named_tests::{Test, with_test};
+use crate::named_comparisons::{NamedComparison, with_comparison};
 use crate::scalars::read_truth;
 use crate::view_rows::as_views;
 use crate::windows::{Windows, is_within, read_windows};
@@ -20,16 +20,16 @@ use polars_arrays_flat::array::Array;
 use polars_arrays_flat::byte_rows::ByteRows;
 use polars_arrays_flat::primitive::PrimitiveArray;
 use polars_arrays_nested::any_array::AnyArray;
-use polars_arrays_numbers::element_test::{
+use polars_arrays_numbers::comparison::{
     Equal, Greater, GreaterOrEqual, Less, LessOrEqual, Unequal,
 };
 use polars_arrays_numbers::native_type::NativeType;
 use polars_arrays_numbers::steps::Steps;
-use polars_compare_leaves::booleans::{test_truth, test_truth_windows};
-use polars_compare_leaves::bytes::{test_byte_windows, test_bytes};
-use polars_compare_leaves::numbers::{test_number, test_number_windows};
-use polars_compare_nested::sized::test_sized_windows;
-use polars_compare_views::windows::{test_view_bytes, test_view_windows};
+use polars_compare_leaves::booleans::{compare_truth, compare_truth_windows};
+use polars_compare_leaves::bytes::{compare_byte_windows, compare_bytes};
+use polars_compare_leaves::numbers::{compare_number, compare_number_windows};
+use polars_compare_nested::sized::compare_sized_windows;
+use polars_compare_views::windows::{compare_view_bytes, compare_view_windows};
 use recorded_text::bits_text::write_bits;
 use recorded_text::fault::Fault;
 use recorded_text::parts::read_bytes;
@@ -48,15 +48,15 @@ pub fn answer(
     requires { HasGoodArrays store.now }
 {
     let answer = match call {
-        "test_number_windows" => number_windows(alloc, store, words),
-        "test_truth_windows" => truth_windows(alloc, store, words),
-        "test_byte_windows" => byte_windows(alloc, store, words),
-        "test_sized_windows" => sized_windows(alloc, store, words),
-        "test_view_windows" => view_windows(alloc, store, words),
-        "test_number" => number(alloc, store, words),
-        "test_truth" => truth(alloc, store, words),
-        "test_bytes" => bytes(alloc, store, words),
-        "test_view_bytes" => view_bytes(alloc, store, words),
+        "compare_number_windows" => number_windows(alloc, store, words),
+        "compare_truth_windows" => truth_windows(alloc, store, words),
+        "compare_byte_windows" => byte_windows(alloc, store, words),
+        "compare_sized_windows" => sized_windows(alloc, store, words),
+        "compare_view_windows" => view_windows(alloc, store, words),
+        "compare_number" => number(alloc, store, words),
+        "compare_truth" => truth(alloc, store, words),
+        "compare_bytes" => bytes(alloc, store, words),
+        "compare_view_bytes" => view_bytes(alloc, store, words),
         _ => return Ok(None),
     };
     Ok(Some(answer?))
@@ -66,16 +66,16 @@ pub fn answer(
 fn number_windows(alloc: Global, store: &Store, words: &mut Words) -> Result<String, Fault>
     requires { HasGoodArrays store.now }
 {
-    let test = Test::read(words)?;
+    let comparison = NamedComparison::read(words)?;
     let windows = read_windows(store, words)?;
-    of_one_kind!(windows.left, windows.right, left, right => numbers(alloc, test, left, right, windows),
+    of_one_kind!(windows.left, windows.right, left, right => numbers(alloc, comparison, left, right, windows),
         Int8 Int16 Int32 Int64 Int128 UInt8 UInt16 UInt32 UInt64 UInt128)
 }
 
 // Which numbers of one type pass.
 fn numbers<T: NativeType>(
     alloc: Global,
-    test: Test,
+    comparison: NamedComparison,
     left: &PrimitiveArray<T>,
     right: &PrimitiveArray<T>,
     windows: Windows,
@@ -84,7 +84,7 @@ fn numbers<T: NativeType>(
     if !is_within(a, n, left.len()) || !is_within(b, n, right.len()) {
         return Err(Fault::Case);
     }
-    let bits = with_test!(test, test => test_number_windows(alloc, test, left, a, right, b, n)?);
+    let bits = with_comparison!(comparison, comparison => compare_number_windows(alloc, comparison, left, a, right, b, n)?);
     write_bits(alloc, &bits)
 }
 
@@ -92,7 +92,7 @@ fn numbers<T: NativeType>(
 fn truth_windows(alloc: Global, store: &Store, words: &mut Words) -> Result<String, Fault>
     requires { HasGoodArrays store.now }
 {
-    let test = Test::read(words)?;
+    let comparison = NamedComparison::read(words)?;
     let Windows {
         left,
         a,
@@ -103,7 +103,7 @@ fn truth_windows(alloc: Global, store: &Store, words: &mut Words) -> Result<Stri
     let (AnyArray::Boolean(left), AnyArray::Boolean(right)) = (left, right) else {
         return Err(Fault::Case);
     };
-    let bits = with_test!(test, test => test_truth_windows(alloc, test, left, a, right, b, n)?);
+    let bits = with_comparison!(comparison, comparison => compare_truth_windows(alloc, comparison, left, a, right, b, n)?);
     write_bits(alloc, &bits)
 }
 
@@ -111,14 +111,14 @@ fn truth_windows(alloc: Global, store: &Store, words: &mut Words) -> Result<Stri
 fn byte_windows(alloc: Global, store: &Store, words: &mut Words) -> Result<String, Fault>
     requires { HasGoodArrays store.now }
 {
-    let test = Test::read(words)?;
+    let comparison = NamedComparison::read(words)?;
     let windows = read_windows(store, words)?;
     match (windows.left, windows.right) {
         (AnyArray::Binary(left), AnyArray::Utf8View(right)) => {
-            strings(alloc, test, left, right, windows)
+            strings(alloc, comparison, left, right, windows)
         }
         (left, right) => {
-            of_one_kind!(left, right, left, right => strings(alloc, test, left, right, windows),
+            of_one_kind!(left, right, left, right => strings(alloc, comparison, left, right, windows),
                 Binary LargeBinary Utf8 LargeUtf8 BinaryView Utf8View FixedSizeBinary)
         }
     }
@@ -127,7 +127,7 @@ fn byte_windows(alloc: Global, store: &Store, words: &mut Words) -> Result<Strin
 // Which byte strings pass.
 fn strings<L: ByteRows, R: ByteRows>(
     alloc: Global,
-    test: Test,
+    comparison: NamedComparison,
     left: &L,
     right: &R,
     windows: Windows,
@@ -136,7 +136,7 @@ fn strings<L: ByteRows, R: ByteRows>(
     if !is_within(a, n, left.count()) || !is_within(b, n, right.count()) {
         return Err(Fault::Case);
     }
-    let bits = with_test!(test, test => test_byte_windows(alloc, test, left, a, right, b, n)?);
+    let bits = with_comparison!(comparison, comparison => compare_byte_windows(alloc, comparison, left, a, right, b, n)?);
     write_bits(alloc, &bits)
 }
 
@@ -144,7 +144,7 @@ fn strings<L: ByteRows, R: ByteRows>(
 fn sized_windows(alloc: Global, store: &Store, words: &mut Words) -> Result<String, Fault>
     requires { HasGoodArrays store.now }
 {
-    let test = Test::read(words)?;
+    let comparison = NamedComparison::read(words)?;
     let Windows {
         left,
         a,
@@ -158,7 +158,7 @@ fn sized_windows(alloc: Global, store: &Store, words: &mut Words) -> Result<Stri
     if !is_within(a, n, left.count()) || !is_within(b, n, right.count()) {
         return Err(Fault::Case);
     }
-    let bits = with_test!(test, test => test_sized_windows(alloc, test, left, a, right, b, n)?);
+    let bits = with_comparison!(comparison, comparison => compare_sized_windows(alloc, comparison, left, a, right, b, n)?);
     write_bits(alloc, &bits)
 }
 
@@ -166,7 +166,7 @@ fn sized_windows(alloc: Global, store: &Store, words: &mut Words) -> Result<Stri
 fn view_windows(alloc: Global, store: &Store, words: &mut Words) -> Result<String, Fault>
     requires { HasGoodArrays store.now }
 {
-    let test = Test::read(words)?;
+    let comparison = NamedComparison::read(words)?;
     let Windows {
         left,
         a,
@@ -180,8 +180,8 @@ fn view_windows(alloc: Global, store: &Store, words: &mut Words) -> Result<Strin
     }
     let mut steps = Steps::new();
     let followed = &mut steps;
-    let bits = with_test!(test, test => {
-        test_view_windows(alloc, test, left, a, right, b, n, followed)?
+    let bits = with_comparison!(comparison, comparison => {
+        compare_view_windows(alloc, comparison, left, a, right, b, n, followed)?
     });
     let bits = write_bits(alloc, &bits)?;
     Ok(format!(in alloc; "{bits} in {}", steps.seen())?)
@@ -191,21 +191,21 @@ fn view_windows(alloc: Global, store: &Store, words: &mut Words) -> Result<Strin
 fn number(alloc: Global, store: &Store, words: &mut Words) -> Result<String, Fault>
     requires { HasGoodArrays store.now }
 {
-    let test = Test::read(words)?;
+    let comparison = NamedComparison::read(words)?;
     let array = store.read(words)?;
-    of_kind!(array, numbers => numbers_beside(alloc, test, numbers, words),
+    of_kind!(array, numbers => numbers_beside(alloc, comparison, numbers, words),
         Int8 Int16 Int32 Int64 Int128 UInt8 UInt16 UInt32 UInt64 UInt128)
 }
 
 // Which numbers of one type pass with the one that words write.
 fn numbers_beside<T: NativeType + FromStr<Err: Drop>>(
     alloc: Global,
-    test: Test,
+    comparison: NamedComparison,
     numbers: &PrimitiveArray<T>,
     words: &mut Words,
 ) -> Result<String, Fault> {
     let number: T = words.read_number()?;
-    let bits = with_test!(test, test => test_number(alloc, test, numbers, number)?);
+    let bits = with_comparison!(comparison, comparison => compare_number(alloc, comparison, numbers, number)?);
     write_bits(alloc, &bits)
 }
 
@@ -213,12 +213,12 @@ fn numbers_beside<T: NativeType + FromStr<Err: Drop>>(
 fn truth(alloc: Global, store: &Store, words: &mut Words) -> Result<String, Fault>
     requires { HasGoodArrays store.now }
 {
-    let test = Test::read(words)?;
+    let comparison = NamedComparison::read(words)?;
     let AnyArray::Boolean(truths) = store.read(words)? else {
         return Err(Fault::Case);
     };
     let truth = read_truth(words)?;
-    let bits = with_test!(test, test => test_truth(alloc, test, truths, truth)?);
+    let bits = with_comparison!(comparison, comparison => compare_truth(alloc, comparison, truths, truth)?);
     write_bits(alloc, &bits)
 }
 
@@ -226,21 +226,21 @@ fn truth(alloc: Global, store: &Store, words: &mut Words) -> Result<String, Faul
 fn bytes(alloc: Global, store: &Store, words: &mut Words) -> Result<String, Fault>
     requires { HasGoodArrays store.now }
 {
-    let test = Test::read(words)?;
+    let comparison = NamedComparison::read(words)?;
     let array = store.read(words)?;
     let bytes = read_bytes(alloc, words.read()?)?;
-    of_kind!(array, strings => strings_beside(alloc, test, strings, &bytes),
+    of_kind!(array, strings => strings_beside(alloc, comparison, strings, &bytes),
         Binary LargeBinary Utf8 LargeUtf8 BinaryView Utf8View FixedSizeBinary)
 }
 
 // Which byte strings pass with one.
 fn strings_beside<L: ByteRows>(
     alloc: Global,
-    test: Test,
+    comparison: NamedComparison,
     strings: &L,
     bytes: &[u8],
 ) -> Result<String, Fault> {
-    let bits = with_test!(test, test => test_bytes(alloc, test, strings, bytes)?);
+    let bits = with_comparison!(comparison, comparison => compare_bytes(alloc, comparison, strings, bytes)?);
     write_bits(alloc, &bits)
 }
 
@@ -248,9 +248,9 @@ fn strings_beside<L: ByteRows>(
 fn view_bytes(alloc: Global, store: &Store, words: &mut Words) -> Result<String, Fault>
     requires { HasGoodArrays store.now }
 {
-    let test = Test::read(words)?;
+    let comparison = NamedComparison::read(words)?;
     let views = as_views(store.read(words)?)?;
     let bytes = read_bytes(alloc, words.read()?)?;
-    let bits = with_test!(test, test => test_view_bytes(alloc, test, views, &bytes)?);
+    let bits = with_comparison!(comparison, comparison => compare_view_bytes(alloc, comparison, views, &bytes)?);
     write_bits(alloc, &bits)
 }

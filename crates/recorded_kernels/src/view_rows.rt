@@ -4,7 +4,7 @@
 //! |---|---|
 //! | `rows_equal A i B j`, `row_less A i B j` | `TRUTH in N`, of which N pairs are looked up in buffers |
 //! | `row_equals_bytes A i BYTES`, `row_less_bytes A i BYTES`, `bytes_less_row BYTES A i` | a truth value |
-//! | `view_test TEST A i B j`, `view_test_bytes TEST A i BYTES` | the same by one of `named_tests` |
+//! | `view_comparison COMPARISON A i B j`, `view_comparison_bytes COMPARISON A i BYTES` | the same by one of `named_comparisons` |
 //! | `tot_eq_kernel_followed A B`, `tot_lt_kernel_followed A B` | `BITS in N`, masked rows among them |
 //! | `followed A B` | the two counts alone |
 //! | `scalar_row_len BYTES`, `scalar_row_bytes BYTES`, `scalar_row_prefix BYTES` | of the byte string made ready |
@@ -13,9 +13,9 @@ ghost use Rattle.std.specs.Prelude.{◌≡◌, ◌<◌, length, IfOk};
 ghost use Rattle.recorded_text.specs.Cases.{HasGoodArrays};
 
 use crate::named_kinds::of_one_kind;
-use crate::named_tests::{Test, with_test};
+use crate::named_comparisons::{NamedComparison, with_comparison};
 use polars_arrays_nested::any_array::AnyArray;
-use polars_arrays_numbers::element_test::{
+use polars_arrays_numbers::comparison::{
     Equal, Greater, GreaterOrEqual, Less, LessOrEqual, Unequal,
 };
 use polars_arrays_numbers::steps::Steps;
@@ -25,7 +25,7 @@ use polars_arrays_views::rows::{
 };
 use polars_arrays_views::scalar::ScalarRow;
 use polars_compare_views::followed::FollowedKernel;
-use polars_compare_views::view_test::ViewTest;
+use polars_compare_views::view_comparison::ViewComparison;
 use recorded_text::bits_text::write_bits;
 use recorded_text::fault::Fault;
 use recorded_text::parts::read_bytes;
@@ -48,8 +48,8 @@ pub fn answer(
         "row_equals_bytes" => equals_bytes(alloc, store, words),
         "row_less_bytes" => is_less_than_bytes(alloc, store, words),
         "bytes_less_row" => is_greater_than_bytes(alloc, store, words),
-        "view_test" => passes(alloc, store, words),
-        "view_test_bytes" => passes_with_bytes(alloc, store, words),
+        "view_comparison" => passes(alloc, store, words),
+        "view_comparison_bytes" => passes_with_bytes(alloc, store, words),
         "tot_eq_kernel_followed" => equal_followed(alloc, store, words),
         "tot_lt_kernel_followed" => less_followed(alloc, store, words),
         "followed" => followed(alloc, store, words),
@@ -111,16 +111,16 @@ fn is_less(alloc: Global, store: &Store, words: &mut Words) -> Result<String, Fa
     write_counted(alloc, less, &steps)
 }
 
-// Whether two rows pass a test.
+// Whether a comparison holds of two rows.
 fn passes(alloc: Global, store: &Store, words: &mut Words) -> Result<String, Fault>
     requires { HasGoodArrays store.now }
 {
-    let test = Test::read(words)?;
+    let comparison = NamedComparison::read(words)?;
     let (left, i) = read_row(store, words)?;
     let (right, j) = read_row(store, words)?;
     let mut steps = Steps::new();
     let followed = &mut steps;
-    let passes = with_test!(test, test => ViewTest::test(test, left, i, right, j, followed));
+    let passes = with_comparison!(comparison, comparison => ViewComparison::compare(comparison, left, i, right, j, followed));
     write_counted(alloc, passes, &steps)
 }
 
@@ -154,15 +154,15 @@ fn is_greater_than_bytes(alloc: Global, store: &Store, words: &mut Words) -> Res
     Ok(less.to_string(alloc)?)
 }
 
-// Whether a row passes a test with these bytes.
+// Whether a comparison holds of a row and these bytes.
 fn passes_with_bytes(alloc: Global, store: &Store, words: &mut Words) -> Result<String, Fault>
     requires { HasGoodArrays store.now }
 {
-    let test = Test::read(words)?;
+    let comparison = NamedComparison::read(words)?;
     let (views, i) = read_row(store, words)?;
     let bytes = read_bytes(alloc, words.read()?)?;
     let scalar = ScalarRow::new(&bytes);
-    let passes = with_test!(test, test => ViewTest::test_bytes(test, views, i, &scalar));
+    let passes = with_comparison!(comparison, comparison => ViewComparison::compare_bytes(comparison, views, i, &scalar));
     Ok(passes.to_string(alloc)?)
 }
 

@@ -37,7 +37,7 @@ fn list_slots(array: &ListArray, from: usize, n: usize) -> Result<usize, Fault>
     requires { IsGood (List array.now) }
 {
     let offsets = array.offsets();
-    if from > offsets.rows() || n > offsets.rows() - from {
+    if from > offsets.len() || n > offsets.len() - from {
         return Err(Fault::Case);
     }
     let first = offsets.offset(from);

@@ -132,7 +132,7 @@ fn push_list(alloc: Global, text: &mut String, array: &ListArray, i: usize) -> R
     requires { IsGood (List array.now) }
 {
     let offsets = array.offsets();
-    if i >= offsets.rows() {
+    if i >= offsets.len() {
         return Err(Fault::Case);
     }
     text.push('[')?;

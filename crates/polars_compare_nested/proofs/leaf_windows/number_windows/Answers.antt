@@ -4,6 +4,6 @@ use Rattle.polars_compare_nested.proofs.leaf_windows.number_windows.Goals as goa
 
 pub returns : goal.returns
 returns g c =
-    MatchResult-weaker c.test_number_windows.result c.test_number_windows.ensures
+    MatchResult-weaker c.compare_number_windows.result c.compare_number_windows.ensures
     (λ bits e. number-bits g.T.Number.value c.args.left.now c.args.right.now c.args.a c.args.b c.args.n bits c.requires.left_in c.requires.right_in e)
     (λ error m. m)

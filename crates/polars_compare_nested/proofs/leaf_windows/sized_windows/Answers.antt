@@ -9,6 +9,6 @@ pub returns : goal.returns
 returns c =
     let l = c.args.left.now in
     let r = c.args.right.now in
-    MatchResult-weaker c.test_sized_windows.result c.test_sized_windows.ensures
+    MatchResult-weaker c.compare_sized_windows.result c.compare_sized_windows.ensures
     (λ bits e. byte-bits l.validity r.validity (sized_strings l.size l.count l.values) (sized_strings r.size r.count r.values) c.args.a c.args.b c.args.n bits (omega (arith, c.requires.left_in, length-sized l.size l.count l.values)) (omega (arith, c.requires.right_in, length-sized r.size r.count r.values)) e)
     (λ error m. m)

@@ -10,6 +10,6 @@ pub returns : goal.returns
 returns c =
     let l = c.args.left.now in
     let r = c.args.right.now in
-    MatchResult-weaker c.test_view_windows.result c.test_view_windows.ensures.told
+    MatchResult-weaker c.compare_view_windows.result c.compare_view_windows.ensures.told
     (λ bits pairs. pair-bits l.validity r.validity (view_strings l) (view_strings r) c.args.a c.args.b c.args.n bits (omega (arith, c.requires.left_in, length-map l.views (row_bytes l.buffers))) (omega (arith, c.requires.right_in, length-map r.views (row_bytes r.buffers))) pairs)
     (λ error m. m)

@@ -69,7 +69,7 @@ pub push_next-returns-in_ok-items-in-Run-clause-told :
     goal.push_next-returns-in_ok-items-in-Run-clause-told
 push_next-returns-in_ok-items-in-Run-clause-told g t c =
     let run = rw c.in-Run.is at c.next_rows.ensures in
-    let items = rw (c.values-these.ensures.values, c.values-those.ensures.values) at c.in_ok-items-in-Run.ensures.told in
+    let items = rw (c.values-left_items.ensures.values, c.values-right_items.ensures.values) at c.in_ok-items-in-Run.ensures.told in
     run_bits _ c.args.left.now c.args.right.now c.args.a c.args.b c.args.n c.in-Run.run' c.in_ok-items-in-Run.items _ _ c.requires.left_good c.requires.right_good c.requires.left_in c.requires.right_in run items c.push_rows.ensures.bits
 
 pub push_next-returns-in_ok-items-in-Run-clause-counted :
@@ -77,14 +77,14 @@ pub push_next-returns-in_ok-items-in-Run-clause-counted :
 push_next-returns-in_ok-items-in-Run-clause-counted g t c =
     let run = rw c.in-Run.is at c.next_rows.ensures in
     let cost = run_tally c.args.left.now c.args.right.now c.args.a c.args.b c.args.n c.in-Run.run' c.requires.left_good c.requires.right_good c.requires.left_in c.requires.right_in run in
-    let counted = rw (c.values-these.ensures.values, c.values-those.ensures.values) at c.in_ok-items-in-Run.ensures.counted in
+    let counted = rw (c.values-left_items.ensures.values, c.values-right_items.ensures.values) at c.in_ok-items-in-Run.ensures.counted in
     counted ∙ ap (λ (k : ℕ). g.K.LeafKernel.count c.args.steps.now + k) (sym cost)
 
 pub fixed_size_list_windows-returns-clause-told : goal.fixed_size_list_windows-returns-clause-told
 fixed_size_list_windows-returns-clause-told g t c =
     MatchResult-weaker c.all_in_blocks.result (rw c.from_bitmap.ensures at c.all_in_blocks.ensures)
     (λ bits blocks.
-    fixed_bits _ c.args.left.now c.args.right.now c.args.a c.args.b c.args.n _ _ _ _ _ _ c.in_ok-items.items bits c.values.ensures.values c.values-2.ensures.values c.item_window-from.ensures.first c.item_window-at.ensures.first c.item_window-from.ensures.count c.width.ensures c.requires.one_type c.in_ok-items.ensures.told blocks)
+    fixed_bits _ c.args.left.now c.args.right.now c.args.a c.args.b c.args.n _ _ _ _ _ _ c.in_ok-items.items bits c.values-left_items.ensures.values c.values-right_items.ensures.values c.item_window-left_start.ensures.first c.item_window-right_start.ensures.first c.item_window-left_start.ensures.count c.width.ensures c.requires.one_type c.in_ok-items.ensures.told blocks)
     (λ e memory. memory)
 
 pub struct_windows-loop-i-init : goal.struct_windows-loop-i-init
@@ -151,11 +151,11 @@ pub equal_entries-returns-in_ok-same-in-Some-clause-told :
     goal.equal_entries-returns-in_ok-same-in-Some-clause-told
 equal_entries-returns-in_ok-same-in-Some-clause-told g t c =
     let entries = rw c.in-Some.is at c.row_entries.ensures in
-    entry_bit _ c.args.left.now c.args.right.now c.args.a c.args.b _ _ c.in-Some.pair c.in_ok-same-in-Some.same _ c.values-these.ensures.values c.values-those.ensures.values entries c.in_ok-same-in-Some.ensures.told c.get_bit.ensures
+    entry_bit _ c.args.left.now c.args.right.now c.args.a c.args.b _ _ c.in-Some.pair c.in_ok-same-in-Some.same _ c.values-entries.ensures.values c.values-others.ensures.values entries c.in_ok-same-in-Some.ensures.told c.get_bit.ensures
 
 pub equal_entries-returns-in_ok-same-in-Some-clause-counted :
     goal.equal_entries-returns-in_ok-same-in-Some-clause-counted
 equal_entries-returns-in_ok-same-in-Some-clause-counted g t c =
     let entries = rw c.in-Some.is at c.row_entries.ensures in
     c.in_ok-same-in-Some.ensures.counted
-    ∙ ap (λ (k : ℕ). g.K.LeafKernel.count c.args.steps.now + k) (entry_count c.args.left.now c.args.right.now c.args.a c.args.b _ _ c.in-Some.pair c.values-these.ensures.values c.values-those.ensures.values entries)
+    ∙ ap (λ (k : ℕ). g.K.LeafKernel.count c.args.steps.now + k) (entry_count c.args.left.now c.args.right.now c.args.a c.args.b _ _ c.in-Some.pair c.values-entries.ensures.values c.values-others.ensures.values entries)

@@ -1,4 +1,4 @@
-use Rattle.polars_arrays_flat.specs.KindTestLaws.{dtype_eq-tells}
+use Rattle.polars_arrays_flat.specs.KindEqualityLaws.{dtype_eq-tells}
 use Rattle.polars_arrays_flat.proofs.data_type.ArrowDataTypePartialEq.eq.Goals as goal
 
 pub returns-clause-answer : goal.returns-clause-answer

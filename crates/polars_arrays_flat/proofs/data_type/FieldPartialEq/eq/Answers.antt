@@ -1,4 +1,4 @@
-use Rattle.polars_arrays_flat.specs.KindTestLaws.{field_eq-tells}
+use Rattle.polars_arrays_flat.specs.KindEqualityLaws.{field_eq-tells}
 use Rattle.polars_arrays_flat.proofs.data_type.FieldPartialEq.eq.Goals as goal
 
 pub returns-clause-answer : goal.returns-clause-answer

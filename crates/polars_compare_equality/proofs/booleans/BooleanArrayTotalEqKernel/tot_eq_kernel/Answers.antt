@@ -5,6 +5,6 @@ use Rattle.polars_compare_equality.proofs.booleans.BooleanArrayTotalEqKernel.tot
 
 pub returns : goal.returns
 returns c =
-    MatchResult-weaker c.test_truth_windows.result c.test_truth_windows.ensures
+    MatchResult-weaker c.compare_truth_windows.result c.compare_truth_windows.ensures
     (λ bits e. equal-windows _ _ _ _ _ bits c.len.ensures (truth_slots-as_long _ _ c.requires.comparable) e)
     (λ error m. m)

@@ -7,6 +7,6 @@ use Rattle.polars_compare_equality.proofs.borrowed.BytesEqKernel.tot_eq_kernel_b
 
 pub returns : goal.returns
 returns g c =
-    MatchResult-weaker c.test_bytes.result c.test_bytes.ensures
+    MatchResult-weaker c.compare_bytes.result c.compare_bytes.ensures
     (λ bits e. equal-constant _ _ _ (Bytes c.args.other.now) bits (e ∙ ap (map (λ row. same_row row (Bytes c.args.other.now))) (sym (g.met.Self.ByteRows.slots_law c.args.self.now))))
     (λ error m. m)

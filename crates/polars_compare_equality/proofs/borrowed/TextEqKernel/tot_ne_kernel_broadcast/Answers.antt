@@ -8,6 +8,6 @@ use Rattle.polars_compare_equality.proofs.borrowed.TextEqKernel.tot_ne_kernel_br
 
 pub returns : goal.returns
 returns g c =
-    MatchResult-weaker c.test_bytes.result c.test_bytes.ensures
+    MatchResult-weaker c.compare_bytes.result c.compare_bytes.ensures
     (λ bits e. unequal-constant _ _ _ (Bytes c.args.other.now) bits (e ∙ ap (λ xs. map (λ row. other_row row (Bytes xs)) (byte_slots (g.Self.ByteRows.strings c.args.self.now))) c.as_bytes.ensures.value ∙ ap (map (λ row. other_row row (Bytes c.args.other.now))) (sym (g.met.Self.ByteRows.slots_law c.args.self.now))))
     (λ error m. m)

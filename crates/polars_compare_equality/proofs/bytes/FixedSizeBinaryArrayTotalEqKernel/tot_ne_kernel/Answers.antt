@@ -10,7 +10,7 @@ use Rattle.polars_compare_equality.proofs.bytes.FixedSizeBinaryArrayTotalEqKerne
 
 pub returns : goal.returns
 returns c =
-    MatchResult-weaker c.test_sized_windows.result c.test_sized_windows.ensures
+    MatchResult-weaker c.compare_sized_windows.result c.compare_sized_windows.ensures
     (λ bits e.
     sized-raw false _ _ c.args.self.now.size c.args.other.now.size c.args.self.now.count c.args.other.now.count c.args.self.now.values c.args.other.now.values bits
     c.read_sizes.ensures.left c.read_sizes.ensures.right c.requires.comparable

@@ -5,6 +5,6 @@ use Rattle.polars_compare_equality.proofs.numbers.PrimitiveArrayTotalEqKernel.to
 
 pub returns : goal.returns
 returns g c =
-    MatchResult-weaker c.test_number_windows.result c.test_number_windows.ensures
+    MatchResult-weaker c.compare_number_windows.result c.compare_number_windows.ensures
     (λ bits e. unequal-windows _ _ _ _ _ bits c.len.ensures (number_slots-as_long g.T.Number.value _ _ c.requires.comparable) e)
     (λ error m. m)

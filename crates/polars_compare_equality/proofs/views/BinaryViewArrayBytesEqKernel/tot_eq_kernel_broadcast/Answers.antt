@@ -5,6 +5,6 @@ use Rattle.polars_compare_equality.proofs.views.BinaryViewArrayBytesEqKernel.tot
 
 pub returns : goal.returns
 returns c =
-    MatchResult-weaker c.test_view_bytes.result c.test_view_bytes.ensures
+    MatchResult-weaker c.compare_view_bytes.result c.compare_view_bytes.ensures
     (λ bits e. equal-constant _ _ _ (Bytes c.args.other.now) bits (e))
     (λ error m. m)

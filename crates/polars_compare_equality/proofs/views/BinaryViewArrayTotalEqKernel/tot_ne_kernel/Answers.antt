@@ -5,6 +5,6 @@ use Rattle.polars_compare_equality.proofs.views.BinaryViewArrayTotalEqKernel.tot
 
 pub returns : goal.returns
 returns c =
-    MatchResult-weaker c.test_view_windows.result c.test_view_windows.ensures.told
+    MatchResult-weaker c.compare_view_windows.result c.compare_view_windows.ensures.told
     (λ bits pairs. unequal-pairs _ _ (view_strings c.args.self.now) (view_strings c.args.other.now) c.count.result bits c.count.ensures c.requires.comparable pairs)
     (λ error m. m)

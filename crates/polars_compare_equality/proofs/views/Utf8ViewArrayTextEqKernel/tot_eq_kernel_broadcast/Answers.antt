@@ -9,6 +9,6 @@ use Rattle.polars_compare_equality.proofs.views.Utf8ViewArrayTextEqKernel.tot_eq
 
 pub returns : goal.returns
 returns c =
-    MatchResult-weaker c.test_view_bytes.result c.test_view_bytes.ensures
+    MatchResult-weaker c.compare_view_bytes.result c.compare_view_bytes.ensures
     (λ bits e. equal-constant _ _ _ (Bytes c.args.other.now) bits (e ∙ ap₂ (λ a xs. map (λ row. same_row row (Bytes xs)) (byte_slots (view_strings a))) c.as_binview.ensures.bytes c.as_bytes.ensures.value))
     (λ error m. m)

@@ -7,8 +7,8 @@ use Rattle.polars_compare_leaves.proofs.bytes.StringsAgainstTruthValues.value.Go
 
 pub returns : goal.returns
 returns g c =
-    c.test_constant.ensures
-    ∙ ap (λ xs. g.E.ByteTest.rows (Bytes xs) (Bytes c.args.self.now.right.now)) c.bytes.ensures
+    c.compare_constant.ensures
+    ∙ ap (λ xs. g.E.ByteComparison.rows (Bytes xs) (Bytes c.args.self.now.right.now)) c.bytes.ensures
     ∙ sym
-    (against-at (λ row. g.E.ByteTest.rows row (Bytes c.args.self.now.right.now)) (g.L.ByteRows.strings c.args.self.now.left.now) c.args.i
-    (against-within (λ row. g.E.ByteTest.rows row (Bytes c.args.self.now.right.now)) (g.L.ByteRows.strings c.args.self.now.left.now) c.args.i c.requires))
+    (against-at (λ row. g.E.ByteComparison.rows row (Bytes c.args.self.now.right.now)) (g.L.ByteRows.strings c.args.self.now.left.now) c.args.i
+    (against-within (λ row. g.E.ByteComparison.rows row (Bytes c.args.self.now.right.now)) (g.L.ByteRows.strings c.args.self.now.left.now) c.args.i c.requires))

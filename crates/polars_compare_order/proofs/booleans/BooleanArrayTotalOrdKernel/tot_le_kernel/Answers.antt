@@ -4,6 +4,6 @@ use Rattle.polars_compare_order.proofs.booleans.BooleanArrayTotalOrdKernel.tot_l
 
 pub returns : goal.returns
 returns c =
-    MatchResult-weaker c.test_truth_windows.result c.test_truth_windows.ensures
+    MatchResult-weaker c.compare_truth_windows.result c.compare_truth_windows.ensures
     (λ bits e. ordered-windows _ _ _ _ _ _ bits c.len.ensures c.requires e)
     (λ error m. m)

@@ -8,6 +8,6 @@ use Rattle.polars_compare_order.proofs.borrowed.TextOrdKernel.tot_le_kernel_broa
 
 pub returns : goal.returns
 returns g c =
-    MatchResult-weaker c.test_bytes.result c.test_bytes.ensures
+    MatchResult-weaker c.compare_bytes.result c.compare_bytes.ensures
     (λ bits e. ordered-constant row_at_most _ _ _ (Bytes c.args.other.now) bits (e ∙ ap (λ xs. map (λ row. row_at_most row (Bytes xs)) (byte_slots (g.Self.ByteRows.strings c.args.self.now))) c.as_bytes.ensures.value ∙ ap (map (λ row. row_at_most row (Bytes c.args.other.now))) (sym (g.met.Self.ByteRows.slots_law c.args.self.now))))
     (λ error m. m)

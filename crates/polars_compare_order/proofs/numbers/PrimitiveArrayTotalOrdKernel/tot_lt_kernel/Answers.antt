@@ -4,6 +4,6 @@ use Rattle.polars_compare_order.proofs.numbers.PrimitiveArrayTotalOrdKernel.tot_
 
 pub returns : goal.returns
 returns g c =
-    MatchResult-weaker c.test_number_windows.result c.test_number_windows.ensures
+    MatchResult-weaker c.compare_number_windows.result c.compare_number_windows.ensures
     (λ bits e. ordered-windows _ _ _ _ _ _ bits c.len.ensures c.requires e)
     (λ error m. m)

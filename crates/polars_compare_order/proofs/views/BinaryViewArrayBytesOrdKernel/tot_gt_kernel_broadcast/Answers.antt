@@ -6,6 +6,6 @@ use Rattle.polars_compare_order.proofs.views.BinaryViewArrayBytesOrdKernel.tot_g
 
 pub returns : goal.returns
 returns c =
-    MatchResult-weaker c.test_view_bytes.result c.test_view_bytes.ensures
+    MatchResult-weaker c.compare_view_bytes.result c.compare_view_bytes.ensures
     (λ bits e. ordered-constant row_greater _ _ _ (Bytes c.args.other.now) bits (e))
     (λ error m. m)

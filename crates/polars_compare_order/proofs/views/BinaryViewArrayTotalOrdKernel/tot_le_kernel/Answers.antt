@@ -6,6 +6,6 @@ use Rattle.polars_compare_order.proofs.views.BinaryViewArrayTotalOrdKernel.tot_l
 
 pub returns : goal.returns
 returns c =
-    MatchResult-weaker c.test_view_windows.result c.test_view_windows.ensures.told
+    MatchResult-weaker c.compare_view_windows.result c.compare_view_windows.ensures.told
     (λ bits pairs. ordered-pairs row_at_most _ _ (view_strings c.args.self.now) (view_strings c.args.other.now) c.count.result bits c.count.ensures c.requires pairs)
     (λ error m. m)

@@ -6,4 +6,4 @@ use Rattle.polars_compare_views.proofs.windows.ViewsAgainstTruthValues.value.Goa
 
 pub returns : goal.returns
 returns g c =
-    c.test_bytes.ensures ∙ sym (against-at (λ row. g.E.ViewTest.rows row (Bytes c.args.self.now.right)) (view_strings c.args.self.now.left.now) c.args.i c.requires)
+    c.compare_bytes.ensures ∙ sym (against-at (λ row. g.E.ViewComparison.rows row (Bytes c.args.self.now.right)) (view_strings c.args.self.now.left.now) c.args.i c.requires)

@@ -1,55 +1,55 @@
-//! Tests of two numbers, as tests of the rows that they stand for.
+//! Comparisons of two numbers, as comparisons of the rows that they stand for.
 
 ghost use Rattle.std.specs.Prelude.{◌≡◌, Bool, refl};
 ghost use Rattle.polars_arrays_flat.specs.Row.{Row, Int};
 ghost use Rattle.polars_compare_leaves.specs.Order.{int_le-not_less, row_at_least, row_at_most, row_greater, row_less};
 ghost use Rattle.polars_compare_leaves.specs.Sameness.{other_row, same_row};
 
-use polars_arrays_numbers::element_test::{
-    ElementTest, Equal, Greater, GreaterOrEqual, Less, LessOrEqual, Unequal,
+use polars_arrays_numbers::comparison::{
+    Comparison, Equal, Greater, GreaterOrEqual, Less, LessOrEqual, Unequal,
 };
 use polars_arrays_numbers::native_type::NativeType;
 
-/// A test of two numbers of one type that is a test of their rows.
-pub trait RowTest<T: NativeType>: ElementTest<T, T> {
-    // Which rows pass.
+/// A comparison of two numbers of one type that is one of their rows.
+pub trait RowComparison<T: NativeType>: Comparison<T, T> {
+    // Of which rows it holds.
     ghost rows: { Row → Row → Bool };
 
-    // Two numbers pass exactly where their rows do.
-    ghost rows_law: { (test : Self) (l r : T) → Self.passes test l r ≡ rows (Int (T.value l)) (Int (T.value r)) };
+    // It holds of two numbers exactly where it holds of their rows.
+    ghost rows_law: { (comparison : Self) (l r : T) → Self.holds comparison l r ≡ rows (Int (T.value l)) (Int (T.value r)) };
 }
 
-impl<T: NativeType> RowTest<T> for Equal {
+impl<T: NativeType> RowComparison<T> for Equal {
     ghost rows = { same_row };
 
     ghost rows_law = { λ _ l r. refl };
 }
 
-impl<T: NativeType> RowTest<T> for Unequal {
+impl<T: NativeType> RowComparison<T> for Unequal {
     ghost rows = { other_row };
 
     ghost rows_law = { λ _ l r. refl };
 }
 
-impl<T: NativeType> RowTest<T> for Less {
+impl<T: NativeType> RowComparison<T> for Less {
     ghost rows = { row_less };
 
     ghost rows_law = { λ _ l r. refl };
 }
 
-impl<T: NativeType> RowTest<T> for LessOrEqual {
+impl<T: NativeType> RowComparison<T> for LessOrEqual {
     ghost rows = { row_at_most };
 
     ghost rows_law = { λ _ l r. int_le-not_less (T.value l) (T.value r) };
 }
 
-impl<T: NativeType> RowTest<T> for Greater {
+impl<T: NativeType> RowComparison<T> for Greater {
     ghost rows = { row_greater };
 
     ghost rows_law = { λ _ l r. refl };
 }
 
-impl<T: NativeType> RowTest<T> for GreaterOrEqual {
+impl<T: NativeType> RowComparison<T> for GreaterOrEqual {
     ghost rows = { row_at_least };
 
     ghost rows_law = { λ _ l r. int_le-not_less (T.value r) (T.value l) };

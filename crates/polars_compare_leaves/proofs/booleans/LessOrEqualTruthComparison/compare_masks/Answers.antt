@@ -4,7 +4,7 @@ use Rattle.polars_arrays_bits.specs.Logic.{or_not}
 use Rattle.polars_arrays_flat.specs.Row.{Truth}
 use Rattle.polars_compare_leaves.specs.Order.{row_at_most}
 use Rattle.polars_compare_leaves.proofs.Truths.{zip2-turned, or_not-turned}
-use Rattle.polars_compare_leaves.proofs.booleans.LessOrEqualTruthTest.test_masks.Goals as goal
+use Rattle.polars_compare_leaves.proofs.booleans.LessOrEqualTruthComparison.compare_masks.Goals as goal
 
 pub returns : goal.returns
 returns c =

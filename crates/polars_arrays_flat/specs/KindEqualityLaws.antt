@@ -7,7 +7,7 @@ use Rattle.std.specs.Str.{bytes_eq}
 use Rattle.std.proofs.lemmas.Cmp.{nat_list_eq_equiv, on_equiv, and_equiv}
 use Rattle.std.proofs.lemmas.Slice.Eq.{bytes_eq-Decides}
 use Rattle.polars_arrays_flat.specs.Kind.{Kind, NullKind, BooleanKind, Int8Kind, Int16Kind, Int32Kind, Int64Kind, Int128Kind, UInt8Kind, UInt16Kind, UInt32Kind, UInt64Kind, UInt128Kind, BinaryKind, LargeBinaryKind, Utf8Kind, LargeUtf8Kind, BinaryViewKind, Utf8ViewKind, FixedSizeBinaryKind, ListKind, LargeListKind, FixedSizeListKind, StructKind, DictionaryKind, NamedKinds, no_kinds, more_kinds}
-use Rattle.polars_arrays_flat.specs.KindTest.{kind_eq, named_eq, dtype_eq, field_eq}
+use Rattle.polars_arrays_flat.specs.KindEquality.{kind_eq, named_eq, dtype_eq, field_eq}
 use Rattle.polars_arrays_flat.specs.DataType.{kind_of, IsSameField}
 use Rattle.polars_arrays_flat.specs.declared.data_type.ArrowDataType.{ArrowDataType}
 use Rattle.polars_arrays_flat.specs.declared.data_type.Field.{Field}

@@ -1,6 +1,6 @@
 use Rattle.std.proofs.Common.{arith}
 use Rattle.polars_arrays_bits.proofs.Pairs.{left_place, right_place, pair_at}
-use Rattle.polars_arrays_bits.proofs.comparison.PairsTruthValues.value.Goals as goal
+use Rattle.polars_arrays_bits.proofs.slices.PairsTruthValues.value.Goals as goal
 
 pub bounds-left-i : goal.bounds-left-i
 bounds-left-i g c = left_place _ _ _ _ c.requires
@@ -15,4 +15,4 @@ pub offset_bounds-right-i : goal.offset_bounds-right-i
 offset_bounds-right-i g c = omega (arith, right_place _ _ _ _ c.requires)
 
 pub returns : goal.returns
-returns g c = pair_at _ _ _ _ _ _ _ c.requires c.index-left-i.is c.index-right-i.is c.test.ensures
+returns g c = pair_at _ _ _ _ _ _ _ c.requires c.index-left-i.is c.index-right-i.is c.compare.ensures

@@ -1,4 +1,4 @@
-//! Tests of two rows of arrays of views.
+//! Comparisons of two rows of arrays of views.
 
 ghost use Rattle.std.specs.Prelude.{◌≡◌, ◌<◌, ◌+◌, ℕ, Bool, List, [], if◌then◌else◌, length, slice_index_or};
 ghost use Rattle.polars_arrays_flat.specs.Row.{Row, Bytes};
@@ -7,7 +7,7 @@ ghost use Rattle.polars_arrays_views.specs.Views.{followed_eq, followed_lt};
 ghost use Rattle.polars_compare_leaves.specs.Order.{row_at_least, row_at_most, row_greater, row_less};
 ghost use Rattle.polars_compare_leaves.specs.Sameness.{other_row, same_row};
 
-use polars_arrays_numbers::element_test::{
+use polars_arrays_numbers::comparison::{
     Equal, Greater, GreaterOrEqual, Less, LessOrEqual, Unequal,
 };
 use polars_arrays_numbers::steps::Steps;
@@ -17,17 +17,17 @@ use polars_arrays_views::rows::{
 };
 use polars_arrays_views::scalar::ScalarRow;
 
-/// A test of two byte strings that are kept by views, which is a test of their rows.
-pub trait ViewTest {
-    // Which rows pass.
+/// A comparison of two byte strings that are kept by views, which is one of their rows.
+pub trait ViewComparison {
+    // Of which rows it holds.
     ghost rows: { Row → Row → Bool };
 
     // Which pairs are looked up in buffers.
     ghost follows: { List ℕ → List ℕ → Bool };
 
-    /// Whether row `i` of one array and row `j` of another pass, masked or not. The counter rises by one
+    /// Whether it holds of row `i` of one array and row `j` of another, masked or not. The counter rises by one
     /// where the pair is looked up in buffers.
-    fn test(
+    fn compare(
         &self,
         left: &BinaryViewArray,
         i: usize,
@@ -40,19 +40,19 @@ pub trait ViewTest {
         ensures told { result ≡ rows (Bytes (slice_index_or (view_strings left.now) i [])) (Bytes (slice_index_or (view_strings right.now) j [])) }
         ensures counted { steps.new ≡ steps.old + (if follows (slice_index_or (view_strings left.now) i []) (slice_index_or (view_strings right.now) j []) then 1 else 0) };
 
-    /// Whether row `i` passes with a byte string, masked or not.
-    fn test_bytes(&self, left: &BinaryViewArray, i: usize, right: &ScalarRow) -> bool
+    /// Whether it holds of row `i` and a byte string, masked or not.
+    fn compare_bytes(&self, left: &BinaryViewArray, i: usize, right: &ScalarRow) -> bool
         requires { i < length left.now.views }
         ensures { result ≡ rows (Bytes (slice_index_or (view_strings left.now) i [])) (Bytes right.now) };
 }
 
-impl ViewTest for Equal {
+impl ViewComparison for Equal {
     ghost rows = { same_row };
 
     ghost follows = { followed_eq };
 
     #[inline(always)]
-    fn test(
+    fn compare(
         &self,
         left: &BinaryViewArray,
         i: usize,
@@ -64,18 +64,18 @@ impl ViewTest for Equal {
     }
 
     #[inline(always)]
-    fn test_bytes(&self, left: &BinaryViewArray, i: usize, right: &ScalarRow) -> bool {
+    fn compare_bytes(&self, left: &BinaryViewArray, i: usize, right: &ScalarRow) -> bool {
         row_equals_bytes(left, i, right)
     }
 }
 
-impl ViewTest for Unequal {
+impl ViewComparison for Unequal {
     ghost rows = { other_row };
 
     ghost follows = { followed_eq };
 
     #[inline(always)]
-    fn test(
+    fn compare(
         &self,
         left: &BinaryViewArray,
         i: usize,
@@ -87,18 +87,18 @@ impl ViewTest for Unequal {
     }
 
     #[inline(always)]
-    fn test_bytes(&self, left: &BinaryViewArray, i: usize, right: &ScalarRow) -> bool {
+    fn compare_bytes(&self, left: &BinaryViewArray, i: usize, right: &ScalarRow) -> bool {
         !row_equals_bytes(left, i, right)
     }
 }
 
-impl ViewTest for Less {
+impl ViewComparison for Less {
     ghost rows = { row_less };
 
     ghost follows = { followed_lt };
 
     #[inline(always)]
-    fn test(
+    fn compare(
         &self,
         left: &BinaryViewArray,
         i: usize,
@@ -110,18 +110,18 @@ impl ViewTest for Less {
     }
 
     #[inline(always)]
-    fn test_bytes(&self, left: &BinaryViewArray, i: usize, right: &ScalarRow) -> bool {
+    fn compare_bytes(&self, left: &BinaryViewArray, i: usize, right: &ScalarRow) -> bool {
         row_less_bytes(left, i, right)
     }
 }
 
-impl ViewTest for LessOrEqual {
+impl ViewComparison for LessOrEqual {
     ghost rows = { row_at_most };
 
     ghost follows = { λ xs ys. followed_lt ys xs };
 
     #[inline(always)]
-    fn test(
+    fn compare(
         &self,
         left: &BinaryViewArray,
         i: usize,
@@ -133,18 +133,18 @@ impl ViewTest for LessOrEqual {
     }
 
     #[inline(always)]
-    fn test_bytes(&self, left: &BinaryViewArray, i: usize, right: &ScalarRow) -> bool {
+    fn compare_bytes(&self, left: &BinaryViewArray, i: usize, right: &ScalarRow) -> bool {
         !bytes_less_row(right, left, i)
     }
 }
 
-impl ViewTest for Greater {
+impl ViewComparison for Greater {
     ghost rows = { row_greater };
 
     ghost follows = { λ xs ys. followed_lt ys xs };
 
     #[inline(always)]
-    fn test(
+    fn compare(
         &self,
         left: &BinaryViewArray,
         i: usize,
@@ -156,18 +156,18 @@ impl ViewTest for Greater {
     }
 
     #[inline(always)]
-    fn test_bytes(&self, left: &BinaryViewArray, i: usize, right: &ScalarRow) -> bool {
+    fn compare_bytes(&self, left: &BinaryViewArray, i: usize, right: &ScalarRow) -> bool {
         bytes_less_row(right, left, i)
     }
 }
 
-impl ViewTest for GreaterOrEqual {
+impl ViewComparison for GreaterOrEqual {
     ghost rows = { row_at_least };
 
     ghost follows = { followed_lt };
 
     #[inline(always)]
-    fn test(
+    fn compare(
         &self,
         left: &BinaryViewArray,
         i: usize,
@@ -179,7 +179,7 @@ impl ViewTest for GreaterOrEqual {
     }
 
     #[inline(always)]
-    fn test_bytes(&self, left: &BinaryViewArray, i: usize, right: &ScalarRow) -> bool {
+    fn compare_bytes(&self, left: &BinaryViewArray, i: usize, right: &ScalarRow) -> bool {
         !row_less_bytes(left, i, right)
     }
 }

@@ -4,7 +4,7 @@ use Rattle.polars_arrays_bits.specs.Logic.{and_not}
 use Rattle.polars_arrays_flat.specs.Row.{Truth}
 use Rattle.polars_compare_leaves.specs.Order.{row_less}
 use Rattle.polars_compare_leaves.proofs.Truths.{zip2-turned, and_not-turned}
-use Rattle.polars_compare_leaves.proofs.booleans.LessTruthTest.test_masks.Goals as goal
+use Rattle.polars_compare_leaves.proofs.booleans.LessTruthComparison.compare_masks.Goals as goal
 
 pub returns : goal.returns
 returns c =

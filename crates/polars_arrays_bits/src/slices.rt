@@ -1,4 +1,4 @@
-//! Tests of the elements of slices, place by place.
+//! Comparisons of the elements of slices, place by place.
 
 ghost use Rattle.std.specs.Prelude.{◌≡◌, ◌+◌, ◌≤◌, take, drop, map, length, MatchResult};
 ghost use Rattle.std.specs.Simd.Lanes.{zip2};
@@ -6,21 +6,21 @@ ghost use Rattle.polars_arrays_bits.specs.Errors.{IsMemory};
 
 use crate::bitmap::Bitmap;
 use crate::error::ComputeError;
-use polars_arrays_numbers::element_test::ElementTest;
+use polars_arrays_numbers::comparison::Comparison;
 use polars_arrays_words::packing::TruthValues;
 use std::alloc::Global;
 
-// A test of two slices, place by place.
+// A comparison of two slices, place by place.
 #[derive(Drop)]
 struct Pairs<'a, L, R, E> {
-    test: &'a E,
+    comparison: &'a E,
     left: &'a [L],
     right: &'a [R],
     ghost one_length: { length right.now ≡ length left.now },
 }
 
-impl<'a, L: Copy, R: Copy, E: ElementTest<L, R>> TruthValues for Pairs<'a, L, R, E> {
-    ghost values = { λ p. zip2 (E.passes p.test.now) p.left.now p.right.now };
+impl<'a, L: Copy, R: Copy, E: Comparison<L, R>> TruthValues for Pairs<'a, L, R, E> {
+    ghost values = { λ p. zip2 (E.holds p.comparison.now) p.left.now p.right.now };
 
     #[inline(always)]
     fn len(&self) -> usize {
@@ -31,34 +31,34 @@ impl<'a, L: Copy, R: Copy, E: ElementTest<L, R>> TruthValues for Pairs<'a, L, R,
     fn value(&self, i: usize) -> bool {
         let left = self.left;
         let right = self.right;
-        self.test.test(left[i], right[i])
+        self.comparison.compare(left[i], right[i])
     }
 
     #[inline(always)]
-    fn is_wide(&self) -> bool {
-        self.test.is_wide()
+    fn packs_by_bit(&self) -> bool {
+        self.comparison.packs_by_bit()
     }
 }
 
-/// Whether the elements of two slices of one length pass the test, place by place. The error is
+/// Of which elements of two slices of one length the comparison holds, place by place. The error is
 /// `Memory`.
-pub fn test_pairs<L: Copy, R: Copy, E: ElementTest<L, R>>(
+pub fn compare_pairs<L: Copy, R: Copy, E: Comparison<L, R>>(
     alloc: Global,
-    test: &E,
+    comparison: &E,
     left: &[L],
     right: &[R],
 ) -> Result<Bitmap, ComputeError>
     requires { length right.now ≡ length left.now }
-    ensures { MatchResult result (λ bits. bits ≡ zip2 (E.passes test.now) left.now right.now) IsMemory }
+    ensures { MatchResult result (λ bits. bits ≡ zip2 (E.holds comparison.now) left.now right.now) IsMemory }
 {
-    Bitmap::from_values(alloc, &Pairs { test, left, right })
+    Bitmap::from_values(alloc, &Pairs { comparison, left, right })
 }
 
 /// The same for windows: `count` elements from place `left_at` on of the left slice, and as many
 /// from place `right_at` on of the right one. The error is `Memory`.
-pub fn test_windows<L: Copy, R: Copy, E: ElementTest<L, R>>(
+pub fn compare_windows<L: Copy, R: Copy, E: Comparison<L, R>>(
     alloc: Global,
-    test: &E,
+    comparison: &E,
     left: &[L],
     left_at: usize,
     right: &[R],
@@ -67,27 +67,27 @@ pub fn test_windows<L: Copy, R: Copy, E: ElementTest<L, R>>(
 ) -> Result<Bitmap, ComputeError>
     requires left_in { left_at + count ≤ length left.now }
     requires right_in { right_at + count ≤ length right.now }
-    ensures { MatchResult result (λ bits. bits ≡ zip2 (E.passes test.now)
+    ensures { MatchResult result (λ bits. bits ≡ zip2 (E.holds comparison.now)
         (take count (drop left_at left.now)) (take count (drop right_at right.now))) IsMemory }
 {
-    test_pairs(
+    compare_pairs(
         alloc,
-        test,
+        comparison,
         &left[left_at..left_at + count],
         &right[right_at..right_at + count],
     )
 }
 
-// A test of a slice against one element.
+// A comparison of a slice with one element.
 #[derive(Drop)]
 struct Against<'a, L, R, E> {
-    test: &'a E,
+    comparison: &'a E,
     left: &'a [L],
     right: R,
 }
 
-impl<'a, L: Copy, R: Copy, E: ElementTest<L, R>> TruthValues for Against<'a, L, R, E> {
-    ghost values = { λ a. map (λ l. E.passes a.test.now l a.right) a.left.now };
+impl<'a, L: Copy, R: Copy, E: Comparison<L, R>> TruthValues for Against<'a, L, R, E> {
+    ghost values = { λ a. map (λ l. E.holds a.comparison.now l a.right) a.left.now };
 
     #[inline(always)]
     fn len(&self) -> usize {
@@ -96,24 +96,24 @@ impl<'a, L: Copy, R: Copy, E: ElementTest<L, R>> TruthValues for Against<'a, L, 
 
     #[inline(always)]
     fn value(&self, i: usize) -> bool {
-        self.test.test(self.left[i], self.right)
+        self.comparison.compare(self.left[i], self.right)
     }
 
     #[inline(always)]
-    fn is_wide(&self) -> bool {
-        self.test.is_wide()
+    fn packs_by_bit(&self) -> bool {
+        self.comparison.packs_by_bit()
     }
 }
 
-/// Whether the elements of a slice pass the test with `right`, place by place. The error is
+/// Of which elements of a slice and `right` the comparison holds, place by place. The error is
 /// `Memory`.
-pub fn test_constant<L: Copy, R: Copy, E: ElementTest<L, R>>(
+pub fn compare_constant<L: Copy, R: Copy, E: Comparison<L, R>>(
     alloc: Global,
-    test: &E,
+    comparison: &E,
     left: &[L],
     right: R,
 ) -> Result<Bitmap, ComputeError>
-    ensures { MatchResult result (λ bits. bits ≡ map (λ l. E.passes test.now l right) left.now) IsMemory }
+    ensures { MatchResult result (λ bits. bits ≡ map (λ l. E.holds comparison.now l right) left.now) IsMemory }
 {
-    Bitmap::from_values(alloc, &Against { test, left, right })
+    Bitmap::from_values(alloc, &Against { comparison, left, right })
 }

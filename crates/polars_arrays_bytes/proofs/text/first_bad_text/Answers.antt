@@ -1,7 +1,7 @@
 use Rattle.std.proofs.Common.{[], below_more, subst, arith}
 use Rattle.std.specs.Str.{IsUtf8}
 use Rattle.std.proofs.lemmas.List.Elements.{All-from_get_or}
-use Rattle.polars_arrays_bytes.proofs.text.first_other.Goals as goal
+use Rattle.polars_arrays_bytes.proofs.text.first_bad_text.Goals as goal
 
 pub loop-row-preserved : goal.loop-row-preserved
 loop-row-preserved g c =

@@ -1,0 +1,130 @@
+//! Comparisons of two elements.
+ghost use Rattle.std.specs.Prelude.{◌≡◌, Bool, not, int_lt, int_le};
+ghost use Rattle.std.specs.Ordering.{int_eq};
+
+use crate::native_type::{NativeType, has_wide_values};
+
+/// A comparison of a left and a right element: it holds of the two, or it does not.
+pub trait Comparison<L, R> {
+    // Whether it holds of two elements.
+    ghost holds: { Self → L → R → Bool };
+
+    /// Whether it holds of the two elements.
+    fn compare(&self, left: L, right: R) -> bool
+        ensures { result ≡ holds self.now left right };
+
+    /// Whether many answers are packed into bits one by one, which is faster for elements of more than 64 bits,
+    /// and not by 64 flags and one vector operation. No answer depends on it.
+    #[inline(always)]
+    fn packs_by_bit(&self) -> bool {
+        false
+    }
+}
+
+/// Whether two numbers are one.
+#[derive(Clone, Copy, Debug)]
+pub struct Equal;
+
+impl<T: NativeType> Comparison<T, T> for Equal {
+    ghost holds = { λ _ l r. int_eq (T.value l) (T.value r) };
+
+    #[inline(always)]
+    fn compare(&self, left: T, right: T) -> bool {
+        left == right
+    }
+
+    #[inline(always)]
+    fn packs_by_bit(&self) -> bool {
+        has_wide_values::<T>()
+    }
+}
+
+/// Whether two numbers differ.
+#[derive(Clone, Copy, Debug)]
+pub struct Unequal;
+
+impl<T: NativeType> Comparison<T, T> for Unequal {
+    ghost holds = { λ _ l r. not (int_eq (T.value l) (T.value r)) };
+
+    #[inline(always)]
+    fn compare(&self, left: T, right: T) -> bool {
+        left != right
+    }
+
+    #[inline(always)]
+    fn packs_by_bit(&self) -> bool {
+        has_wide_values::<T>()
+    }
+}
+
+/// Whether the left number is less than the right one.
+#[derive(Clone, Copy, Debug)]
+pub struct Less;
+
+impl<T: NativeType> Comparison<T, T> for Less {
+    ghost holds = { λ _ l r. int_lt (T.value l) (T.value r) };
+
+    #[inline(always)]
+    fn compare(&self, left: T, right: T) -> bool {
+        left < right
+    }
+
+    #[inline(always)]
+    fn packs_by_bit(&self) -> bool {
+        has_wide_values::<T>()
+    }
+}
+
+/// Whether the left number is less than the right one or equal to it.
+#[derive(Clone, Copy, Debug)]
+pub struct LessOrEqual;
+
+impl<T: NativeType> Comparison<T, T> for LessOrEqual {
+    ghost holds = { λ _ l r. int_le (T.value l) (T.value r) };
+
+    #[inline(always)]
+    fn compare(&self, left: T, right: T) -> bool {
+        left <= right
+    }
+
+    #[inline(always)]
+    fn packs_by_bit(&self) -> bool {
+        has_wide_values::<T>()
+    }
+}
+
+/// Whether the left number is greater than the right one.
+#[derive(Clone, Copy, Debug)]
+pub struct Greater;
+
+impl<T: NativeType> Comparison<T, T> for Greater {
+    ghost holds = { λ _ l r. int_lt (T.value r) (T.value l) };
+
+    #[inline(always)]
+    fn compare(&self, left: T, right: T) -> bool {
+        left > right
+    }
+
+    #[inline(always)]
+    fn packs_by_bit(&self) -> bool {
+        has_wide_values::<T>()
+    }
+}
+
+/// Whether the left number is greater than the right one or equal to it.
+#[derive(Clone, Copy, Debug)]
+pub struct GreaterOrEqual;
+
+impl<T: NativeType> Comparison<T, T> for GreaterOrEqual {
+    ghost holds = { λ _ l r. int_le (T.value r) (T.value l) };
+
+    #[inline(always)]
+    fn compare(&self, left: T, right: T) -> bool {
+        left >= right
+    }
+
+    #[inline(always)]
+    fn packs_by_bit(&self) -> bool {
+        has_wide_values::<T>()
+    }
+}
