@@ -26,6 +26,62 @@ use polars_arrays_views::binary_view::BinaryViewArray;
 use polars_arrays_views::text_view::Utf8ViewArray;
 use std::alloc::Global;
 
+// A match on an array: one expression for every kind, where the kinds that hold arrays may each have their own.
+macro_rules! each_array {
+    ($any:expr, $array:ident => $each:expr) => {
+        each_array!(
+            $any,
+            $array => $each,
+            List($array) => $each,
+            FixedSizeList($array) => $each,
+            Struct($array) => $each,
+            Dictionary($array) => $each,
+        )
+    };
+    ($any:expr, $array:ident => $flat:expr, $($kind:ident($nested:ident) => $arm:expr,)+) => {
+        match $any {
+            AnyArray::Null($array) => $flat,
+            AnyArray::Boolean($array) => $flat,
+            AnyArray::Int8($array) => $flat,
+            AnyArray::Int16($array) => $flat,
+            AnyArray::Int32($array) => $flat,
+            AnyArray::Int64($array) => $flat,
+            AnyArray::Int128($array) => $flat,
+            AnyArray::UInt8($array) => $flat,
+            AnyArray::UInt16($array) => $flat,
+            AnyArray::UInt32($array) => $flat,
+            AnyArray::UInt64($array) => $flat,
+            AnyArray::UInt128($array) => $flat,
+            AnyArray::Binary($array) => $flat,
+            AnyArray::LargeBinary($array) => $flat,
+            AnyArray::Utf8($array) => $flat,
+            AnyArray::LargeUtf8($array) => $flat,
+            AnyArray::BinaryView($array) => $flat,
+            AnyArray::Utf8View($array) => $flat,
+            AnyArray::FixedSizeBinary($array) => $flat,
+            $(AnyArray::$kind($nested) => $arm,)+
+        }
+    };
+}
+
+pub(crate) use each_array;
+
+// The same kind of array, of what an expression gives for each, in Ok.
+macro_rules! map_array {
+    ($any:expr, $array:ident => $each:expr) => {
+        map_array!(
+            $any, $array => $each, Null Boolean Int8 Int16 Int32 Int64 Int128 UInt8 UInt16 UInt32
+            UInt64 UInt128 Binary LargeBinary Utf8 LargeUtf8 BinaryView Utf8View FixedSizeBinary
+            List FixedSizeList Struct Dictionary
+        )
+    };
+    ($any:expr, $array:ident => $each:expr, $($kind:ident)+) => {
+        match $any {
+            $(AnyArray::$kind($array) => Ok(AnyArray::$kind($each)),)+
+        }
+    };
+}
+
 /// An array of any kind, those that hold arrays among them.
 #[cycle(arrays)]
 #[derive(Drop)]
@@ -61,31 +117,14 @@ impl AnyArray {
     pub fn len(&self) -> usize
         ensures { result ≡ len_of self.now }
     {
-        match self {
-            AnyArray::Null(array) => array.len(),
-            AnyArray::Boolean(array) => array.len(),
-            AnyArray::Int8(array) => array.len(),
-            AnyArray::Int16(array) => array.len(),
-            AnyArray::Int32(array) => array.len(),
-            AnyArray::Int64(array) => array.len(),
-            AnyArray::Int128(array) => array.len(),
-            AnyArray::UInt8(array) => array.len(),
-            AnyArray::UInt16(array) => array.len(),
-            AnyArray::UInt32(array) => array.len(),
-            AnyArray::UInt64(array) => array.len(),
-            AnyArray::UInt128(array) => array.len(),
-            AnyArray::Binary(array) => array.len(),
-            AnyArray::LargeBinary(array) => array.len(),
-            AnyArray::Utf8(array) => array.len(),
-            AnyArray::LargeUtf8(array) => array.len(),
-            AnyArray::BinaryView(array) => array.len(),
-            AnyArray::Utf8View(array) => array.len(),
-            AnyArray::FixedSizeBinary(array) => array.len(),
-            AnyArray::List(array) => array.offsets().len(),
-            AnyArray::FixedSizeList(array) => array.len(),
-            AnyArray::Struct(array) => array.len(),
-            AnyArray::Dictionary(array) => array.keys().len(),
-        }
+        each_array!(
+            self,
+            array => array.len(),
+            List(array) => array.offsets().len(),
+            FixedSizeList(array) => array.len(),
+            Struct(array) => array.len(),
+            Dictionary(array) => array.keys().len(),
+        )
     }
 
     /// A bit for each row, set where the row is present, or None where no row is masked.
@@ -95,31 +134,7 @@ impl AnyArray {
         ensures mask { option_copied result ≡ validity_of self.now }
         ensures bits { HasBits (len_of self.now) (validity_of self.now) }
     {
-        match self {
-            AnyArray::Null(array) => array.validity(),
-            AnyArray::Boolean(array) => array.validity(),
-            AnyArray::Int8(array) => array.validity(),
-            AnyArray::Int16(array) => array.validity(),
-            AnyArray::Int32(array) => array.validity(),
-            AnyArray::Int64(array) => array.validity(),
-            AnyArray::Int128(array) => array.validity(),
-            AnyArray::UInt8(array) => array.validity(),
-            AnyArray::UInt16(array) => array.validity(),
-            AnyArray::UInt32(array) => array.validity(),
-            AnyArray::UInt64(array) => array.validity(),
-            AnyArray::UInt128(array) => array.validity(),
-            AnyArray::Binary(array) => array.validity(),
-            AnyArray::LargeBinary(array) => array.validity(),
-            AnyArray::Utf8(array) => array.validity(),
-            AnyArray::LargeUtf8(array) => array.validity(),
-            AnyArray::BinaryView(array) => array.validity(),
-            AnyArray::Utf8View(array) => array.validity(),
-            AnyArray::FixedSizeBinary(array) => array.validity(),
-            AnyArray::List(array) => array.validity(),
-            AnyArray::FixedSizeList(array) => array.validity(),
-            AnyArray::Struct(array) => array.validity(),
-            AnyArray::Dictionary(array) => array.validity(),
-        }
+        each_array!(self, array => array.validity())
     }
 
     /// Keeps `n` rows from row `at` on.
@@ -130,31 +145,7 @@ impl AnyArray {
         requires within { at + n ≤ len_of self.old }
         ensures { IsCut self.new self.old at n }
     {
-        match self {
-            AnyArray::Null(array) => array.slice(at, n),
-            AnyArray::Boolean(array) => array.slice(at, n),
-            AnyArray::Int8(array) => array.slice(at, n),
-            AnyArray::Int16(array) => array.slice(at, n),
-            AnyArray::Int32(array) => array.slice(at, n),
-            AnyArray::Int64(array) => array.slice(at, n),
-            AnyArray::Int128(array) => array.slice(at, n),
-            AnyArray::UInt8(array) => array.slice(at, n),
-            AnyArray::UInt16(array) => array.slice(at, n),
-            AnyArray::UInt32(array) => array.slice(at, n),
-            AnyArray::UInt64(array) => array.slice(at, n),
-            AnyArray::UInt128(array) => array.slice(at, n),
-            AnyArray::Binary(array) => array.slice(at, n),
-            AnyArray::LargeBinary(array) => array.slice(at, n),
-            AnyArray::Utf8(array) => array.slice(at, n),
-            AnyArray::LargeUtf8(array) => array.slice(at, n),
-            AnyArray::BinaryView(array) => array.slice(at, n),
-            AnyArray::Utf8View(array) => array.slice(at, n),
-            AnyArray::FixedSizeBinary(array) => array.slice(at, n),
-            AnyArray::List(array) => array.slice(at, n),
-            AnyArray::FixedSizeList(array) => array.slice(at, n),
-            AnyArray::Struct(array) => array.slice(at, n),
-            AnyArray::Dictionary(array) => array.slice(at, n),
-        }
+        each_array!(self, array => array.slice(at, n))
     }
 
     /// A second array of the same rows and type. The error is `Memory`.
@@ -163,34 +154,6 @@ impl AnyArray {
     pub fn clone_array(&self, alloc: Global) -> Result<AnyArray, ComputeError>
         ensures { MatchResult result (λ copy. IsClone copy self.now) IsMemory }
     {
-        match self {
-            AnyArray::Null(array) => Ok(AnyArray::Null(array.clone_array(alloc)?)),
-            AnyArray::Boolean(array) => Ok(AnyArray::Boolean(array.clone_array(alloc)?)),
-            AnyArray::Int8(array) => Ok(AnyArray::Int8(array.clone_array(alloc)?)),
-            AnyArray::Int16(array) => Ok(AnyArray::Int16(array.clone_array(alloc)?)),
-            AnyArray::Int32(array) => Ok(AnyArray::Int32(array.clone_array(alloc)?)),
-            AnyArray::Int64(array) => Ok(AnyArray::Int64(array.clone_array(alloc)?)),
-            AnyArray::Int128(array) => Ok(AnyArray::Int128(array.clone_array(alloc)?)),
-            AnyArray::UInt8(array) => Ok(AnyArray::UInt8(array.clone_array(alloc)?)),
-            AnyArray::UInt16(array) => Ok(AnyArray::UInt16(array.clone_array(alloc)?)),
-            AnyArray::UInt32(array) => Ok(AnyArray::UInt32(array.clone_array(alloc)?)),
-            AnyArray::UInt64(array) => Ok(AnyArray::UInt64(array.clone_array(alloc)?)),
-            AnyArray::UInt128(array) => Ok(AnyArray::UInt128(array.clone_array(alloc)?)),
-            AnyArray::Binary(array) => Ok(AnyArray::Binary(array.clone_array(alloc)?)),
-            AnyArray::LargeBinary(array) => Ok(AnyArray::LargeBinary(array.clone_array(alloc)?)),
-            AnyArray::Utf8(array) => Ok(AnyArray::Utf8(array.clone_array(alloc)?)),
-            AnyArray::LargeUtf8(array) => Ok(AnyArray::LargeUtf8(array.clone_array(alloc)?)),
-            AnyArray::BinaryView(array) => Ok(AnyArray::BinaryView(array.clone_array(alloc)?)),
-            AnyArray::Utf8View(array) => Ok(AnyArray::Utf8View(array.clone_array(alloc)?)),
-            AnyArray::FixedSizeBinary(array) => Ok(AnyArray::FixedSizeBinary(array.clone_array(
-                alloc,
-            )?)),
-            AnyArray::List(array) => Ok(AnyArray::List(array.clone_array(alloc)?)),
-            AnyArray::FixedSizeList(array) => Ok(AnyArray::FixedSizeList(array.clone_array(
-                alloc,
-            )?)),
-            AnyArray::Struct(array) => Ok(AnyArray::Struct(array.clone_array(alloc)?)),
-            AnyArray::Dictionary(array) => Ok(AnyArray::Dictionary(array.clone_array(alloc)?)),
-        }
+        map_array!(self, array => array.clone_array(alloc)?)
     }
 }

@@ -6,7 +6,7 @@ ghost use Rattle.polars_arrays_flat.specs.DataType.{IsSameField, kind_of, kinds_
 ghost use Rattle.polars_arrays_nested.specs.Types.{type_of};
 ghost use Rattle.polars_arrays_nested.specs.declared.any_array.AnyArray.{List, FixedSizeList, Struct, Dictionary};
 
-use crate::any_array::AnyArray;
+use crate::any_array::{AnyArray, each_array};
 use crate::dictionary::DictionaryArray;
 use crate::fixed_size_list::FixedSizeListArray;
 use crate::list::ListArray;
@@ -72,31 +72,7 @@ impl AnyArray {
     pub fn dtype(&self, alloc: Global) -> Result<ArrowDataType, ComputeError>
         ensures { MatchResult result (λ dtype. kind_of dtype ≡ type_of self.now) IsMemory }
     {
-        match self {
-            AnyArray::Null(array) => array.dtype(alloc),
-            AnyArray::Boolean(array) => array.dtype(alloc),
-            AnyArray::Int8(array) => array.dtype(alloc),
-            AnyArray::Int16(array) => array.dtype(alloc),
-            AnyArray::Int32(array) => array.dtype(alloc),
-            AnyArray::Int64(array) => array.dtype(alloc),
-            AnyArray::Int128(array) => array.dtype(alloc),
-            AnyArray::UInt8(array) => array.dtype(alloc),
-            AnyArray::UInt16(array) => array.dtype(alloc),
-            AnyArray::UInt32(array) => array.dtype(alloc),
-            AnyArray::UInt64(array) => array.dtype(alloc),
-            AnyArray::UInt128(array) => array.dtype(alloc),
-            AnyArray::Binary(array) => array.dtype(alloc),
-            AnyArray::LargeBinary(array) => array.dtype(alloc),
-            AnyArray::Utf8(array) => array.dtype(alloc),
-            AnyArray::LargeUtf8(array) => array.dtype(alloc),
-            AnyArray::BinaryView(array) => array.dtype(alloc),
-            AnyArray::Utf8View(array) => array.dtype(alloc),
-            AnyArray::FixedSizeBinary(array) => array.dtype(alloc),
-            AnyArray::List(array) => array.dtype(alloc),
-            AnyArray::FixedSizeList(array) => array.dtype(alloc),
-            AnyArray::Struct(array) => array.dtype(alloc),
-            AnyArray::Dictionary(array) => array.dtype(alloc),
-        }
+        each_array!(self, array => array.dtype(alloc))
     }
 }
 

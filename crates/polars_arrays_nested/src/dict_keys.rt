@@ -16,6 +16,22 @@ use polars_arrays_flat::primitive::PrimitiveArray;
 use polars_arrays_numbers::dictionary_key::DictionaryKey;
 use std::alloc::Global;
 
+// A match on keys, with one expression for every type of key.
+macro_rules! each_type {
+    ($keys:expr, $of_type:ident => $each:expr) => {
+        match $keys {
+            DictKeys::Int8($of_type) => $each,
+            DictKeys::Int16($of_type) => $each,
+            DictKeys::Int32($of_type) => $each,
+            DictKeys::Int64($of_type) => $each,
+            DictKeys::UInt8($of_type) => $each,
+            DictKeys::UInt16($of_type) => $each,
+            DictKeys::UInt32($of_type) => $each,
+            DictKeys::UInt64($of_type) => $each,
+        }
+    };
+}
+
 /// For each row the number of its entry, of which a validity masks some.
 #[derive(Drop)]
 pub enum DictKeys {
@@ -35,16 +51,7 @@ impl DictKeys {
     pub fn len(&self) -> usize
         ensures { result ≡ key_count self.now }
     {
-        match self {
-            DictKeys::Int8(keys) => keys.len(),
-            DictKeys::Int16(keys) => keys.len(),
-            DictKeys::Int32(keys) => keys.len(),
-            DictKeys::Int64(keys) => keys.len(),
-            DictKeys::UInt8(keys) => keys.len(),
-            DictKeys::UInt16(keys) => keys.len(),
-            DictKeys::UInt32(keys) => keys.len(),
-            DictKeys::UInt64(keys) => keys.len(),
-        }
+        each_type!(self, keys => keys.len())
     }
 
     /// A bit for each key, set where it is present, or None where no key is masked.
@@ -53,32 +60,14 @@ impl DictKeys {
         ensures mask { option_copied result ≡ key_validity self.now }
         ensures bits { HasBits (key_count self.now) (key_validity self.now) }
     {
-        match self {
-            DictKeys::Int8(keys) => keys.validity(),
-            DictKeys::Int16(keys) => keys.validity(),
-            DictKeys::Int32(keys) => keys.validity(),
-            DictKeys::Int64(keys) => keys.validity(),
-            DictKeys::UInt8(keys) => keys.validity(),
-            DictKeys::UInt16(keys) => keys.validity(),
-            DictKeys::UInt32(keys) => keys.validity(),
-            DictKeys::UInt64(keys) => keys.validity(),
-        }
+        each_type!(self, keys => keys.validity())
     }
 
     /// How many keys are masked.
     pub fn null_count(&self) -> usize
         ensures { result ≡ masked_count (key_validity self.now) }
     {
-        match self {
-            DictKeys::Int8(keys) => keys.null_count(),
-            DictKeys::Int16(keys) => keys.null_count(),
-            DictKeys::Int32(keys) => keys.null_count(),
-            DictKeys::Int64(keys) => keys.null_count(),
-            DictKeys::UInt8(keys) => keys.null_count(),
-            DictKeys::UInt16(keys) => keys.null_count(),
-            DictKeys::UInt32(keys) => keys.null_count(),
-            DictKeys::UInt64(keys) => keys.null_count(),
-        }
+        each_type!(self, keys => keys.null_count())
     }
 
     /// The type of the keys.
@@ -105,32 +94,14 @@ impl DictKeys {
         requires { i < key_count self.now }
         ensures { result ≡ key_at self.now i }
     {
-        match self {
-            DictKeys::Int8(keys) => entry_of(keys.values(), i),
-            DictKeys::Int16(keys) => entry_of(keys.values(), i),
-            DictKeys::Int32(keys) => entry_of(keys.values(), i),
-            DictKeys::Int64(keys) => entry_of(keys.values(), i),
-            DictKeys::UInt8(keys) => entry_of(keys.values(), i),
-            DictKeys::UInt16(keys) => entry_of(keys.values(), i),
-            DictKeys::UInt32(keys) => entry_of(keys.values(), i),
-            DictKeys::UInt64(keys) => entry_of(keys.values(), i),
-        }
+        each_type!(self, keys => entry_of(keys.values(), i))
     }
 
     /// The first present key that names none of `n` entries.
     pub fn first_bad_key(&self, n: usize) -> Option<usize>
         ensures { MatchOption result (NameEntries n (key_validity self.now) (key_places self.now)) (IsFirstBadKey n (key_validity self.now) (key_places self.now)) }
     {
-        match self {
-            DictKeys::Int8(keys) => first_bad(keys, n),
-            DictKeys::Int16(keys) => first_bad(keys, n),
-            DictKeys::Int32(keys) => first_bad(keys, n),
-            DictKeys::Int64(keys) => first_bad(keys, n),
-            DictKeys::UInt8(keys) => first_bad(keys, n),
-            DictKeys::UInt16(keys) => first_bad(keys, n),
-            DictKeys::UInt32(keys) => first_bad(keys, n),
-            DictKeys::UInt64(keys) => first_bad(keys, n),
-        }
+        each_type!(self, keys => first_bad(keys, n))
     }
 
     /// Keeps `n` keys from key `at` on. No key moves.
@@ -141,16 +112,7 @@ impl DictKeys {
         ensures validity { key_validity self.new ≡ validity_window at n (key_validity self.old) }
         ensures name { key_type self.new ≡ key_type self.old }
     {
-        match self {
-            DictKeys::Int8(keys) => keys.slice(at, n),
-            DictKeys::Int16(keys) => keys.slice(at, n),
-            DictKeys::Int32(keys) => keys.slice(at, n),
-            DictKeys::Int64(keys) => keys.slice(at, n),
-            DictKeys::UInt8(keys) => keys.slice(at, n),
-            DictKeys::UInt16(keys) => keys.slice(at, n),
-            DictKeys::UInt32(keys) => keys.slice(at, n),
-            DictKeys::UInt64(keys) => keys.slice(at, n),
-        }
+        each_type!(self, keys => keys.slice(at, n))
     }
 
     /// A second copy of the keys, in the very values where these are shared. The error is `Memory`.

@@ -12,6 +12,16 @@ use crate::list::ListArray;
 use crate::struct_array::StructArray;
 use polars_arrays_flat::data_type::{ArrowDataType, is_struct_of, same_fields, same_keys};
 
+// A match on an array: of kinds that are types by themselves, whether the other array is of that type.
+macro_rules! same_type_as {
+    ($other:expr, $any:expr, $($kind:ident)+, $($rest:tt)*) => {
+        match $any {
+            $(AnyArray::$kind(_) => $other.has_type(&ArrowDataType::$kind),)+
+            $($rest)*
+        }
+    };
+}
+
 impl AnyArray {
     /// Whether the array is of a type. It takes no memory.
     pub fn has_type(&self, dtype: &ArrowDataType) -> bool
@@ -59,25 +69,11 @@ impl AnyArray {
     pub fn same_type(&self, other: &AnyArray) -> bool
         ensures { IsTrue result ↔ (type_of self.now ≡ type_of other.now) }
     {
-        match self {
-            AnyArray::Null(_) => other.has_type(&ArrowDataType::Null),
-            AnyArray::Boolean(_) => other.has_type(&ArrowDataType::Boolean),
-            AnyArray::Int8(_) => other.has_type(&ArrowDataType::Int8),
-            AnyArray::Int16(_) => other.has_type(&ArrowDataType::Int16),
-            AnyArray::Int32(_) => other.has_type(&ArrowDataType::Int32),
-            AnyArray::Int64(_) => other.has_type(&ArrowDataType::Int64),
-            AnyArray::Int128(_) => other.has_type(&ArrowDataType::Int128),
-            AnyArray::UInt8(_) => other.has_type(&ArrowDataType::UInt8),
-            AnyArray::UInt16(_) => other.has_type(&ArrowDataType::UInt16),
-            AnyArray::UInt32(_) => other.has_type(&ArrowDataType::UInt32),
-            AnyArray::UInt64(_) => other.has_type(&ArrowDataType::UInt64),
-            AnyArray::UInt128(_) => other.has_type(&ArrowDataType::UInt128),
-            AnyArray::Binary(_) => other.has_type(&ArrowDataType::Binary),
-            AnyArray::LargeBinary(_) => other.has_type(&ArrowDataType::LargeBinary),
-            AnyArray::Utf8(_) => other.has_type(&ArrowDataType::Utf8),
-            AnyArray::LargeUtf8(_) => other.has_type(&ArrowDataType::LargeUtf8),
-            AnyArray::BinaryView(_) => other.has_type(&ArrowDataType::BinaryView),
-            AnyArray::Utf8View(_) => other.has_type(&ArrowDataType::Utf8View),
+        same_type_as!(
+            other,
+            self,
+            Null Boolean Int8 Int16 Int32 Int64 Int128 UInt8 UInt16 UInt32 UInt64 UInt128 Binary
+            LargeBinary Utf8 LargeUtf8 BinaryView Utf8View,
             AnyArray::FixedSizeBinary(array) => {
                 other.has_type(&ArrowDataType::FixedSizeBinary(array.size()))
             }
@@ -85,7 +81,7 @@ impl AnyArray {
             AnyArray::FixedSizeList(array) => array.is_type_of(other),
             AnyArray::Struct(array) => array.is_type_of(other),
             AnyArray::Dictionary(array) => array.is_type_of(other),
-        }
+        )
     }
 }
 

@@ -13,11 +13,7 @@ ghost use Rattle.polars_compare_leaves.specs.Sameness.{same_leaf};
 ghost use Rattle.polars_compare_nested.specs.Bits.{LeafBits, PresentBits};
 ghost use Rattle.polars_compare_nested.specs.Leaf.{is_leaf};
 
-use crate::opened::{
-    as_binary, as_binary_view, as_boolean, as_fixed_size_binary, as_int8, as_int16, as_int32,
-    as_int64, as_int128, as_large_binary, as_large_utf8, as_uint8, as_uint16, as_uint32, as_uint64,
-    as_uint128, as_utf8, as_utf8_view,
-};
+use crate::downcast::downcast;
 use crate::sized::compare_sized_windows;
 use polars_arrays_bits::bitmap::Bitmap;
 use polars_arrays_bits::error::ComputeError;
@@ -30,15 +26,26 @@ use polars_arrays_numbers::comparison::Equal;
 use polars_arrays_numbers::native_type::NativeType;
 use polars_arrays_numbers::steps::Steps;
 use polars_arrays_views::binary_view::BinaryViewArray;
+use polars_arrays_views::text_view::Utf8ViewArray;
 use polars_compare_leaves::booleans::compare_truth_windows;
 use polars_compare_leaves::bytes::compare_byte_windows;
 use polars_compare_leaves::numbers::compare_number_windows;
 use polars_compare_views::windows::compare_view_windows;
 use std::alloc::Global;
 
+// A comparison of two arrays of one kind of leaf, by the function that stands before the kind.
+macro_rules! compare_leaves {
+    (($alloc:expr, $left:expr, $a:expr, $right:expr, $b:expr, $n:expr), $($windows:ident: $($kind:ident)+);+) => {
+        match $left {
+            $($(AnyArray::$kind(left) => $windows($alloc, left, $a, downcast!($right, $kind), $b, $n),)+)+
+            _ => unreachable!(),
+        }
+    };
+}
+
 /// Whether the leaves of two windows are equal, place by place: `n` rows from row `a` on of the left array,
 /// and as many from row `b` on of the right one. The error is `Memory`.
-#[tactic(auto, using(crate::proofs::Strings::counts))]
+#[tactic(auto, using(crate::proofs::Strings::counts, crate::proofs::Cases::cases))]
 #[inline]
 pub(crate) fn leaf_windows(
     alloc: Global,
@@ -54,33 +61,15 @@ pub(crate) fn leaf_windows(
     requires right_in { b + n ≤ len_of right.now }
     ensures { MatchResult result (LeafBits same_leaf left.now a right.now b n) IsMemory }
 {
-    match left {
-        AnyArray::Boolean(left) => truth_windows(alloc, left, a, as_boolean(right), b, n),
-        AnyArray::Int8(left) => number_windows(alloc, left, a, as_int8(right), b, n),
-        AnyArray::Int16(left) => number_windows(alloc, left, a, as_int16(right), b, n),
-        AnyArray::Int32(left) => number_windows(alloc, left, a, as_int32(right), b, n),
-        AnyArray::Int64(left) => number_windows(alloc, left, a, as_int64(right), b, n),
-        AnyArray::Int128(left) => number_windows(alloc, left, a, as_int128(right), b, n),
-        AnyArray::UInt8(left) => number_windows(alloc, left, a, as_uint8(right), b, n),
-        AnyArray::UInt16(left) => number_windows(alloc, left, a, as_uint16(right), b, n),
-        AnyArray::UInt32(left) => number_windows(alloc, left, a, as_uint32(right), b, n),
-        AnyArray::UInt64(left) => number_windows(alloc, left, a, as_uint64(right), b, n),
-        AnyArray::UInt128(left) => number_windows(alloc, left, a, as_uint128(right), b, n),
-        AnyArray::Binary(left) => byte_windows(alloc, left, a, as_binary(right), b, n),
-        AnyArray::LargeBinary(left) => byte_windows(alloc, left, a, as_large_binary(right), b, n),
-        AnyArray::Utf8(left) => byte_windows(alloc, left, a, as_utf8(right), b, n),
-        AnyArray::LargeUtf8(left) => byte_windows(alloc, left, a, as_large_utf8(right), b, n),
-        AnyArray::BinaryView(left) => view_windows(alloc, left, a, as_binary_view(right), b, n),
-        AnyArray::Utf8View(left) => {
-            let right = as_utf8_view(right).as_binview();
-            view_windows(alloc, left.as_binview(), a, right, b, n)
-        }
-        AnyArray::FixedSizeBinary(left) => {
-            let right = as_fixed_size_binary(right);
-            sized_windows(alloc, left, a, right, b, n)
-        }
-        _ => unreachable!(),
-    }
+    compare_leaves!(
+        (alloc, left, a, right, b, n),
+        truth_windows: Boolean;
+        number_windows: Int8 Int16 Int32 Int64 Int128 UInt8 UInt16 UInt32 UInt64 UInt128;
+        byte_windows: Binary LargeBinary Utf8 LargeUtf8;
+        view_windows: BinaryView;
+        text_windows: Utf8View;
+        sized_windows: FixedSizeBinary
+    )
 }
 
 // Whether the truth values of two windows are equal, place by place, as `leaf_windows` says it of any leaves.
@@ -149,6 +138,23 @@ fn sized_windows(
     ensures { MatchResult result (PresentBits same_leaf (row_at (sized_rows left.now)) left.now.validity a (row_at (sized_rows right.now)) right.now.validity b n) IsMemory }
 {
     compare_sized_windows(alloc, &Equal, left, a, right, b, n)
+}
+
+// The same of texts kept by views.
+#[inline]
+fn text_windows(
+    alloc: Global,
+    left: &Utf8ViewArray,
+    a: usize,
+    right: &Utf8ViewArray,
+    b: usize,
+    n: usize,
+) -> Result<Bitmap, ComputeError>
+    requires left_in { a + n ≤ length left.now.views }
+    requires right_in { b + n ≤ length right.now.views }
+    ensures { MatchResult result (PresentBits same_leaf (row_at (view_rows left.now)) left.now.validity a (row_at (view_rows right.now)) right.now.validity b n) IsMemory }
+{
+    view_windows(alloc, left.as_binview(), a, right.as_binview(), b, n)
 }
 
 // The same of byte strings and texts kept by views; how many rows are looked up in buffers is not asked.

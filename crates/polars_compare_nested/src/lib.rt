@@ -2,6 +2,7 @@
 #![tactic(auto)]
 
 pub mod broadcasts;
+mod downcast;
 mod entries;
 mod items;
 pub mod kernels;
@@ -9,7 +10,6 @@ pub mod laws;
 pub mod leaf_kernel;
 mod leaf_windows;
 mod masks;
-mod opened;
 mod runs;
 pub mod sized;
 mod spans;
