@@ -18,6 +18,7 @@ use polars_arrays_bits::error::{ArrayError, ComputeError};
 use polars_arrays_flat::array::Array;
 use polars_arrays_flat::byte_rows::ByteRows;
 use polars_arrays_flat::data_type::ArrowDataType;
+use polars_arrays_flat::mask::Mask;
 use polars_arrays_flat::validity::{clone_validity, has_bits, null_count, slice_validity};
 use polars_arrays_numbers::offset::Offset;
 use std::alloc::Global;
@@ -138,6 +139,8 @@ impl<O: OffsetType> BinaryArray<O> {
 impl<O: Offset> Array for BinaryArray<O> {
     ghost slots = { λ a. byte_slots (offset_strings O.value a) };
 
+    ghost validity_bits = { λ a. a.validity };
+
     ghost mask = { λ a. a.validity };
 
     ghost nulls = { λ a. masked_count a.validity };
@@ -154,6 +157,11 @@ impl<O: Offset> Array for BinaryArray<O> {
     #[tactic(auto, using(crate::proofs::OffsetWindows::offset_rows))]
     fn validity(&self) -> Option<&Bitmap> {
         self.validity.as_ref()
+    }
+
+    #[tactic(auto, using(crate::proofs::OffsetWindows::offset_rows))]
+    fn missing_mask(&self, _alloc: Global) -> Result<Mask<'_>, ComputeError> {
+        Ok(Mask::lent(self.validity()))
     }
 
     #[tactic(auto, using(crate::proofs::OffsetWindows::offset_rows))]

@@ -16,6 +16,7 @@ use polars_arrays_bits::error::{ArrayError, ComputeError};
 use polars_arrays_flat::array::Array;
 use polars_arrays_flat::byte_rows::ByteRows;
 use polars_arrays_flat::data_type::ArrowDataType;
+use polars_arrays_flat::mask::Mask;
 use polars_arrays_flat::validity::{clone_validity, has_bits, null_count, slice_validity};
 use std::alloc::Global;
 use std::marker::Model;
@@ -129,6 +130,8 @@ impl FixedSizeBinaryArray {
 impl Array for FixedSizeBinaryArray {
     ghost slots = { λ a. byte_slots (sized_strings a.size a.count a.values) };
 
+    ghost validity_bits = { λ a. a.validity };
+
     ghost mask = { λ a. a.validity };
 
     ghost nulls = { λ a. masked_count a.validity };
@@ -145,6 +148,11 @@ impl Array for FixedSizeBinaryArray {
     #[tactic(auto, using(crate::proofs::Windows::sized))]
     fn validity(&self) -> Option<&Bitmap> {
         self.validity.as_ref()
+    }
+
+    #[tactic(auto, using(crate::proofs::Windows::sized))]
+    fn missing_mask(&self, _alloc: Global) -> Result<Mask<'_>, ComputeError> {
+        Ok(Mask::lent(self.validity()))
     }
 
     #[tactic(auto, using(crate::proofs::Windows::sized))]

@@ -8,8 +8,11 @@ ghost use Rattle.polars_arrays_flat.specs.Validity.{masked_count};
 
 use crate::fixed_size::{FixedSizeBinaryArray, string_at};
 use polars_arrays_bits::bitmap::Bitmap;
+use polars_arrays_bits::error::ComputeError;
 use polars_arrays_flat::array::Array;
 use polars_arrays_flat::byte_rows::ByteRows;
+use polars_arrays_flat::mask::Mask;
+use std::alloc::Global;
 
 /// An array whose strings have `SIZE` bytes each. A loop over them is compiled for strings of that size.
 #[derive(Drop)]
@@ -32,6 +35,8 @@ impl<'a, const SIZE: usize> OfSize<'a, SIZE> {
 impl<const SIZE: usize> Array for OfSize<'_, SIZE> {
     ghost slots = { λ o. byte_slots (sized_strings o.array.now.size o.array.now.count o.array.now.values) };
 
+    ghost validity_bits = { λ o. o.array.now.validity };
+
     ghost mask = { λ o. o.array.now.validity };
 
     ghost nulls = { λ o. masked_count o.array.now.validity };
@@ -46,6 +51,10 @@ impl<const SIZE: usize> Array for OfSize<'_, SIZE> {
 
     fn validity(&self) -> Option<&Bitmap> {
         self.array.validity()
+    }
+
+    fn missing_mask(&self, _alloc: Global) -> Result<Mask<'_>, ComputeError> {
+        Ok(Mask::lent(self.validity()))
     }
 
     fn null_count(&self) -> usize {

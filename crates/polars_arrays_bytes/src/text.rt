@@ -20,6 +20,7 @@ use polars_arrays_bits::error::{ArrayError, ComputeError};
 use polars_arrays_flat::array::Array;
 use polars_arrays_flat::byte_rows::ByteRows;
 use polars_arrays_flat::data_type::ArrowDataType;
+use polars_arrays_flat::mask::Mask;
 use polars_arrays_numbers::offset::Offset;
 use std::alloc::Global;
 use std::marker::Model;
@@ -120,6 +121,8 @@ impl<O: OffsetType> Utf8Array<O> {
 impl<O: Offset> Array for Utf8Array<O> {
     ghost slots = { λ a. byte_slots (offset_strings O.value a) };
 
+    ghost validity_bits = { λ a. a.validity };
+
     ghost mask = { λ a. a.validity };
 
     ghost nulls = { λ a. masked_count a.validity };
@@ -134,6 +137,10 @@ impl<O: Offset> Array for Utf8Array<O> {
 
     fn validity(&self) -> Option<&Bitmap> {
         self.binary.validity()
+    }
+
+    fn missing_mask(&self, _alloc: Global) -> Result<Mask<'_>, ComputeError> {
+        Ok(Mask::lent(self.validity()))
     }
 
     fn null_count(&self) -> usize {

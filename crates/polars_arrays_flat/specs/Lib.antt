@@ -6,6 +6,7 @@ pub mod Flat
 pub mod Kind
 pub mod KindEquality
 pub mod KindEqualityLaws
+pub mod Masks
 pub mod Numbers
 pub mod NumbersLends
 pub mod Row

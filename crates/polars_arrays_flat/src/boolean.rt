@@ -12,6 +12,7 @@ ghost use Rattle.polars_arrays_flat.specs.Validity.{HasBits, masked_count, valid
 
 use crate::array::Array;
 use crate::data_type::ArrowDataType;
+use crate::mask::Mask;
 use crate::validity::{clone_validity, has_bits, null_count, slice_validity};
 use polars_arrays_bits::bitmap::Bitmap;
 use polars_arrays_bits::error::{ArrayError, ComputeError};
@@ -92,6 +93,8 @@ impl BooleanArray {
 impl Array for BooleanArray {
     ghost slots = { λ a. truth_slots a.values };
 
+    ghost validity_bits = { λ a. a.validity };
+
     ghost mask = { λ a. a.validity };
 
     ghost nulls = { λ a. masked_count a.validity };
@@ -106,6 +109,10 @@ impl Array for BooleanArray {
 
     fn validity(&self) -> Option<&Bitmap> {
         self.validity.as_ref()
+    }
+
+    fn missing_mask(&self, _alloc: Global) -> Result<Mask<'_>, ComputeError> {
+        Ok(Mask::lent(self.validity()))
     }
 
     #[tactic(auto, using(crate::proofs::NullCounts::nulls_counted))]

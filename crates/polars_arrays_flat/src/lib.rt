@@ -9,6 +9,7 @@ pub mod byte_order;
 pub mod byte_rows;
 pub mod data_type;
 mod fill;
+pub mod mask;
 pub mod null;
 pub mod primitive;
 pub mod validity;

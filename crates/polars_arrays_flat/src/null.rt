@@ -9,6 +9,7 @@ ghost use Rattle.polars_arrays_flat.specs.Validity.{window};
 
 use crate::array::Array;
 use crate::data_type::ArrowDataType;
+use crate::mask::Mask;
 use polars_arrays_bits::bitmap::Bitmap;
 use polars_arrays_bits::error::ComputeError;
 use std::alloc::Global;
@@ -64,6 +65,8 @@ impl NullArray {
 impl Array for NullArray {
     ghost slots = { λ a. replicate a Null };
 
+    ghost validity_bits = { λ a. None };
+
     ghost mask = { λ a. None };
 
     ghost nulls = { λ a. a };
@@ -78,6 +81,10 @@ impl Array for NullArray {
 
     fn validity(&self) -> Option<&Bitmap> {
         None
+    }
+
+    fn missing_mask(&self, _alloc: Global) -> Result<Mask<'_>, ComputeError> {
+        Ok(Mask::lent(self.validity()))
     }
 
     #[tactic(auto, using(crate::proofs::NullCounts::nulls_counted))]

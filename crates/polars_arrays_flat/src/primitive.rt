@@ -15,6 +15,7 @@ use crate::array::Array;
 use crate::arrow_type::ArrowType;
 use crate::data_type::ArrowDataType;
 use crate::fill::{filled, repeated};
+use crate::mask::Mask;
 use crate::validity::{clone_validity, has_bits, null_count, slice_validity};
 use num_traits::Zero;
 use polars_arrays_bits::bitmap::Bitmap;
@@ -215,6 +216,8 @@ impl<T: NativeType + Zero> PrimitiveArray<T> {
 impl<T: NativeType> Array for PrimitiveArray<T> {
     ghost slots = { λ a. number_slots T.value a.values };
 
+    ghost validity_bits = { λ a. a.validity };
+
     ghost mask = { λ a. a.validity };
 
     ghost nulls = { λ a. masked_count a.validity };
@@ -229,6 +232,10 @@ impl<T: NativeType> Array for PrimitiveArray<T> {
 
     fn validity(&self) -> Option<&Bitmap> {
         self.validity.as_ref()
+    }
+
+    fn missing_mask(&self, _alloc: Global) -> Result<Mask<'_>, ComputeError> {
+        Ok(Mask::lent(self.validity()))
     }
 
     #[tactic(auto, using(crate::proofs::NullCounts::nulls_counted))]

@@ -1,11 +1,12 @@
 //! What arrays do with an optional validity.
 
-ghost use Rattle.std.specs.Prelude.{◌≡◌, ◌↔◌, ◌+◌, ◌≤◌, ℕ, List, IsTrue, IfSome, MatchResult, length};
+ghost use Rattle.std.specs.Prelude.{◌≡◌, ◌↔◌, ◌+◌, ◌≤◌, ◌<◌, ℕ, List, IsTrue, IfSome, MatchResult, length};
+ghost use Rattle.std.specs.Option.{option_copied};
 ghost use Rattle.polars_arrays_bits.specs.Errors.{IsMemory};
 ghost use Rattle.polars_arrays_flat.specs.ArrayRows.{null_total};
 ghost use Rattle.polars_arrays_flat.specs.Row.{Row};
 ghost use Rattle.polars_arrays_flat.specs.StoredRows.{byte_slots, rows_under};
-ghost use Rattle.polars_arrays_flat.specs.Validity.{HasBits, masked_count, validity_window, window};
+ghost use Rattle.polars_arrays_flat.specs.Validity.{HasBits, is_present, masked_count, validity_window, window};
 
 use polars_arrays_bits::bitmap::Bitmap;
 use polars_arrays_bits::error::ComputeError;
@@ -19,6 +20,15 @@ pub fn has_bits(len: usize, validity: &Option<Bitmap>) -> bool
         Some(bits) => bits.len() == len,
         None => true,
     }
+}
+
+/// Whether row `i` is present, where a validity that is there has a bit for it.
+#[inline]
+pub fn is_present(validity: Option<&Bitmap>, i: usize) -> bool
+    requires { IfSome (option_copied validity) (λ bits. i < length bits) }
+    ensures { result ≡ is_present (option_copied validity.entry) i }
+{
+    validity.is_none_or(|bits| bits.get_bit(i))
 }
 
 /// How many rows are masked. Over byte strings these are the rows that are null.

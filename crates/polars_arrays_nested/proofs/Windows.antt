@@ -73,3 +73,5 @@ good-window m at n all good within = record {
 pub one_more : (m : ℕ) (all : List (Option ℕ)) (k : ℕ) → AreGood m all → k ≤ row_count all → k < length all
 one_more m [] k good within = absurd good.first
 one_more m (first ∷ rest) k good within = omega (arith, within)
+
+pub ruleset window_bits = (length-window, bits-window)

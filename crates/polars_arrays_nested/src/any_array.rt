@@ -127,11 +127,12 @@ impl AnyArray {
         )
     }
 
-    /// A bit for each row, set where the row is present, or None where no row is masked.
+    /// The validity that the array keeps: a bit for each row, 0 where it masks the row, or None where it masks none. A
+    /// dictionary's is that of its keys.
     #[tactic(auto, using(crate::proofs::Lengths::lengths))]
     pub fn validity(&self) -> Option<&Bitmap>
         requires { IsGood self.now }
-        ensures mask { option_copied result ≡ validity_of self.now }
+        ensures validity { option_copied result ≡ validity_of self.now }
         ensures bits { HasBits (len_of self.now) (validity_of self.now) }
     {
         each_array!(self, array => array.validity())

@@ -13,6 +13,7 @@ use polars_arrays_bits::error::ComputeError;
 use polars_arrays_flat::array::Array;
 use polars_arrays_flat::data_type::IntegerType;
 use polars_arrays_flat::primitive::PrimitiveArray;
+use polars_arrays_flat::validity::is_present;
 use polars_arrays_numbers::dictionary_key::DictionaryKey;
 use std::alloc::Global;
 
@@ -164,17 +165,6 @@ fn is_good_key<K: DictionaryKey>(keys: &PrimitiveArray<K>, row: usize, n: usize)
         names_entry(keys.values(), row, n)
     } else {
         true
-    }
-}
-
-// Whether row `row` is present.
-#[tactic(auto, using(crate::proofs::Places::reads))]
-fn is_present(validity: Option<&Bitmap>, row: usize) -> bool
-    ensures { result ≡ is_present (option_copied validity.entry) row }
-{
-    match validity {
-        Some(bits) => bits.get(row).unwrap_or(false),
-        None => true,
     }
 }
 

@@ -24,6 +24,7 @@ use crate::dict_keys::DictKeys;
 use polars_arrays_bits::bitmap::Bitmap;
 use polars_arrays_bits::error::{ArrayError, ComputeError};
 use polars_arrays_flat::array::Array;
+use polars_arrays_flat::mask::Mask;
 use std::alloc::Global;
 
 /// Rows that name entries of another array by keys, of which a validity masks some.
@@ -105,6 +106,8 @@ impl DictionaryArray {
 impl Array for DictionaryArray {
     ghost slots = { stored_entries };
 
+    ghost validity_bits = { λ a. key_validity (dictionary_keys a) };
+
     ghost mask = { λ a. key_validity (dictionary_keys a) };
 
     ghost nulls = { λ a. masked_count (key_validity (dictionary_keys a)) };
@@ -121,6 +124,11 @@ impl Array for DictionaryArray {
     #[tactic(auto, using(crate::proofs::Lengths::lengths))]
     fn validity(&self) -> Option<&Bitmap> {
         self.keys.validity()
+    }
+
+    #[tactic(auto, using(crate::proofs::Lengths::lengths))]
+    fn missing_mask(&self, _alloc: Global) -> Result<Mask<'_>, ComputeError> {
+        Ok(Mask::lent(self.validity()))
     }
 
     #[tactic(auto, using(crate::proofs::NullCounts::nulls_counted))]

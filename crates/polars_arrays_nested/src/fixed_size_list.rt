@@ -22,6 +22,7 @@ use crate::any_array::AnyArray;
 use polars_arrays_bits::bitmap::Bitmap;
 use polars_arrays_bits::error::{ArrayError, ComputeError};
 use polars_arrays_flat::array::Array;
+use polars_arrays_flat::mask::Mask;
 use polars_arrays_flat::validity::{clone_validity, has_bits, null_count, slice_validity};
 use std::alloc::Global;
 
@@ -120,6 +121,8 @@ impl FixedSizeListArray {
 impl Array for FixedSizeListArray {
     ghost slots = { stored_fixed_lists };
 
+    ghost validity_bits = { fixed_validity };
+
     ghost mask = { fixed_validity };
 
     ghost nulls = { λ a. masked_count (fixed_validity a) };
@@ -136,6 +139,11 @@ impl Array for FixedSizeListArray {
     #[tactic(auto, using(crate::proofs::Lengths::lengths))]
     fn validity(&self) -> Option<&Bitmap> {
         self.validity.as_ref()
+    }
+
+    #[tactic(auto, using(crate::proofs::Lengths::lengths))]
+    fn missing_mask(&self, _alloc: Global) -> Result<Mask<'_>, ComputeError> {
+        Ok(Mask::lent(self.validity()))
     }
 
     #[tactic(auto, using(crate::proofs::NullCounts::nulls_counted))]

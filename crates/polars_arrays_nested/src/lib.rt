@@ -9,5 +9,6 @@ pub mod fixed_size_list;
 pub mod laws;
 pub mod list;
 pub mod list_offsets;
+pub mod masks;
 pub mod struct_array;
 pub mod types;

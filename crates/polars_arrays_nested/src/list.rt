@@ -24,6 +24,7 @@ use crate::list_offsets::ListOffsets;
 use polars_arrays_bits::bitmap::Bitmap;
 use polars_arrays_bits::error::{ArrayError, ComputeError};
 use polars_arrays_flat::array::Array;
+use polars_arrays_flat::mask::Mask;
 use polars_arrays_flat::validity::{clone_validity, has_bits, null_count, slice_validity};
 use std::alloc::Global;
 
@@ -117,6 +118,8 @@ impl ListArray {
 impl Array for ListArray {
     ghost slots = { stored_lists };
 
+    ghost validity_bits = { list_validity };
+
     ghost mask = { list_validity };
 
     ghost nulls = { λ a. masked_count (list_validity a) };
@@ -133,6 +136,11 @@ impl Array for ListArray {
     #[tactic(auto, using(crate::proofs::Lengths::lengths))]
     fn validity(&self) -> Option<&Bitmap> {
         self.validity.as_ref()
+    }
+
+    #[tactic(auto, using(crate::proofs::Lengths::lengths))]
+    fn missing_mask(&self, _alloc: Global) -> Result<Mask<'_>, ComputeError> {
+        Ok(Mask::lent(self.validity()))
     }
 
     #[tactic(auto, using(crate::proofs::NullCounts::nulls_counted))]

@@ -27,6 +27,7 @@ use polars_arrays_bits::bitmap::Bitmap;
 use polars_arrays_bits::error::{ArrayError, ComputeError};
 use polars_arrays_flat::array::Array;
 use polars_arrays_flat::data_type::Field;
+use polars_arrays_flat::mask::Mask;
 use polars_arrays_flat::validity::{clone_validity, has_bits, null_count, slice_validity};
 use std::alloc::Global;
 
@@ -177,6 +178,8 @@ fn fits_at(fields: &[Field], len: usize, values: &[AnyArray], at: usize) -> bool
 impl Array for StructArray {
     ghost slots = { stored_structs };
 
+    ghost validity_bits = { struct_validity };
+
     ghost mask = { struct_validity };
 
     ghost nulls = { λ a. masked_count (struct_validity a) };
@@ -193,6 +196,11 @@ impl Array for StructArray {
     #[tactic(auto, using(crate::proofs::Lengths::lengths))]
     fn validity(&self) -> Option<&Bitmap> {
         self.validity.as_ref()
+    }
+
+    #[tactic(auto, using(crate::proofs::Lengths::lengths))]
+    fn missing_mask(&self, _alloc: Global) -> Result<Mask<'_>, ComputeError> {
+        Ok(Mask::lent(self.validity()))
     }
 
     #[tactic(auto, using(crate::proofs::NullCounts::nulls_counted))]

@@ -20,6 +20,7 @@ use polars_arrays_bits::error::{ArrayError, ComputeError};
 use polars_arrays_flat::array::Array;
 use polars_arrays_flat::byte_rows::ByteRows;
 use polars_arrays_flat::data_type::ArrowDataType;
+use polars_arrays_flat::mask::Mask;
 use polars_arrays_flat::validity::{clone_validity, has_bits, null_count, slice_validity};
 use std::alloc::Global;
 use std::marker::Model;
@@ -145,6 +146,8 @@ impl BinaryViewArray {
 impl Array for BinaryViewArray {
     ghost slots = { λ a. byte_slots (view_strings a) };
 
+    ghost validity_bits = { λ a. a.validity };
+
     ghost mask = { λ a. a.validity };
 
     ghost nulls = { λ a. masked_count a.validity };
@@ -159,6 +162,10 @@ impl Array for BinaryViewArray {
 
     fn validity(&self) -> Option<&Bitmap> {
         self.validity.as_ref()
+    }
+
+    fn missing_mask(&self, _alloc: Global) -> Result<Mask<'_>, ComputeError> {
+        Ok(Mask::lent(self.validity()))
     }
 
     fn null_count(&self) -> usize {

@@ -20,6 +20,7 @@ use polars_arrays_bits::error::{ArrayError, ComputeError};
 use polars_arrays_flat::array::Array;
 use polars_arrays_flat::byte_rows::ByteRows;
 use polars_arrays_flat::data_type::ArrowDataType;
+use polars_arrays_flat::mask::Mask;
 use std::alloc::Global;
 use std::marker::Model;
 use std::str::{from_utf8, from_utf8_unchecked};
@@ -109,6 +110,8 @@ impl Utf8ViewArray {
 impl Array for Utf8ViewArray {
     ghost slots = { λ a. byte_slots (view_strings a) };
 
+    ghost validity_bits = { λ a. a.validity };
+
     ghost mask = { λ a. a.validity };
 
     ghost nulls = { λ a. masked_count a.validity };
@@ -123,6 +126,10 @@ impl Array for Utf8ViewArray {
 
     fn validity(&self) -> Option<&Bitmap> {
         self.binary.validity()
+    }
+
+    fn missing_mask(&self, _alloc: Global) -> Result<Mask<'_>, ComputeError> {
+        Ok(Mask::lent(self.validity()))
     }
 
     fn null_count(&self) -> usize {

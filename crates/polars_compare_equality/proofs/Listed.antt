@@ -9,7 +9,7 @@ use Rattle.polars_arrays_flat.specs.StoredRows.{kept}
 use Rattle.polars_arrays_flat.specs.StoredRows.{row as row_at}
 use Rattle.polars_arrays_flat.specs.Validity.{is_present}
 use Rattle.polars_arrays_nested.specs.AnyRows.{row}
-use Rattle.polars_arrays_nested.specs.Lengths.{validity_of}
+use Rattle.polars_arrays_nested.specs.Lengths.{mask_of}
 use Rattle.polars_arrays_nested.specs.StoredRows.{listed}
 use Rattle.polars_arrays_nested.specs.Types.{type_of}
 use Rattle.polars_arrays_nested.specs.declared.any_array.AnyArray.{AnyArray}
@@ -28,10 +28,10 @@ listed-at f n i within = get_or-map-range_with_len f 0 n i i Null within (from-z
 
 -- the rows of an array are its stored ones, those that f gives, where they are present
 abbrev IsStored : AnyArray → (ℕ → Row) → Type 0
-IsStored x f = (i : ℕ) → row x i ≡ kept (is_present (validity_of x) i) (f i)
+IsStored x f = (i : ℕ) → row x i ≡ kept (is_present (mask_of x) i) (f i)
 
 -- a present row is the stored one
-stored-at : (x : AnyArray) (f : ℕ → Row) (n i : ℕ) → IsStored x f → i < n → IsTrue (is_present (validity_of x) i) → row_at (listed f n) i ≡ row x i
+stored-at : (x : AnyArray) (f : ℕ → Row) (n i : ℕ) → IsStored x f → i < n → IsTrue (is_present (mask_of x) i) → row_at (listed f n) i ≡ row x i
 stored-at x f n i stored within present =
     listed-at f n i within ∙ sym (stored i ∙ ap (λ (b : Bool). kept b (f i)) present)
 
@@ -39,14 +39,14 @@ stored-at x f n i stored within present =
 pub equal-bits :
     (x y : AnyArray) (f g : ℕ → Row) (k n m : ℕ) (bits : List Bool) → IsStored x f → IsStored y g → k ≡ n → n ≡ m → type_of x ≡ type_of y
     → RawBits same_leaf x 0 y 0 k bits
-    → RawEquality true (type_of x ≡ type_of y) (validity_of x) (validity_of y) (listed f n) (listed g m) bits
+    → RawEquality true (type_of x ≡ type_of y) (mask_of x) (mask_of y) (listed f n) (listed g m) bits
 equal-bits x y f g k n m bits left right all as_long one_type raw = record {
   size = raw.size ∙ all ∙ sym (length-map-range_with_len f 0 n);
   at_present = λ i h p q.
       let below : i < n = omega (arith, h, length-map-range_with_len f 0 n) in
       let this : row_at (listed f n) i ≡ row x i = stored-at x f n i left below p in
       let that : row_at (listed g m) i ≡ row y i = stored-at y g m i right (omega (arith, below, as_long)) q in
-      let bit : IsTrue (is_present (validity_of x) i) × IsTrue (is_present (validity_of y) i) → slice_index_or bits i false ≡ same same_leaf (row x i) (row y i) = subst (λ (j : ℕ). IsTrue (is_present (validity_of x) j) × IsTrue (is_present (validity_of y) j) → slice_index_or bits i false ≡ same same_leaf (row x j) (row y j)) (from-zero i) (raw.at_present i (omega (arith, below, all))) in
+      let bit : IsTrue (is_present (mask_of x) i) × IsTrue (is_present (mask_of y) i) → slice_index_or bits i false ≡ same same_leaf (row x i) (row y i) = subst (λ (j : ℕ). IsTrue (is_present (mask_of x) j) × IsTrue (is_present (mask_of y) j) → slice_index_or bits i false ≡ same same_leaf (row x j) (row y j)) (from-zero i) (raw.at_present i (omega (arith, below, all))) in
       let told = same-told (row x i) (row y i) in
       ((λ t. (one_type, this ∙ told.0 (sym (bit (p, q)) ∙ t) ∙ sym that)), (λ s. bit (p, q) ∙ told.1 (sym this ∙ s.1 ∙ that)));
 }

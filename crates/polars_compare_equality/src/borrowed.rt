@@ -6,10 +6,10 @@ ghost use Rattle.polars_arrays_flat.specs.Row.{Bytes};
 ghost use Rattle.polars_arrays_flat.specs.StoredRows.{rows_under};
 ghost use Rattle.polars_compare_leaves.specs.Equality.{RawEquality, MissingEquality};
 
-use crate::kernel::missing_mask;
 use polars_arrays_bits::bitmap::Bitmap;
 use polars_arrays_bits::error::ComputeError;
 use polars_arrays_flat::byte_rows::ByteRows;
+use polars_arrays_flat::mask::Mask;
 use polars_arrays_numbers::comparison::{Equal, Unequal};
 use polars_compare_leaves::bytes::compare_bytes;
 use polars_compare_leaves::joining::{Relation, join_nulls};
@@ -49,7 +49,8 @@ pub trait BytesEqKernel: ByteRows + Sized {
             IsMemory }
     {
         let raw = self.tot_eq_kernel_broadcast(alloc, other)?;
-        join_nulls(alloc, Relation::Equal, raw, missing_mask(self), None)
+        let mask = self.missing_mask(alloc)?;
+        join_nulls(alloc, Relation::Equal, raw, &mask, &Mask::all())
     }
 
     /// Where the rows are unequal to the byte string; each null is.
@@ -64,7 +65,8 @@ pub trait BytesEqKernel: ByteRows + Sized {
             IsMemory }
     {
         let raw = self.tot_ne_kernel_broadcast(alloc, other)?;
-        join_nulls(alloc, Relation::Unequal, raw, missing_mask(self), None)
+        let mask = self.missing_mask(alloc)?;
+        join_nulls(alloc, Relation::Unequal, raw, &mask, &Mask::all())
     }
 }
 
@@ -100,7 +102,8 @@ pub trait TextEqKernel: ByteRows + Sized {
             IsMemory }
     {
         let raw = self.tot_eq_kernel_broadcast(alloc, other)?;
-        join_nulls(alloc, Relation::Equal, raw, missing_mask(self), None)
+        let mask = self.missing_mask(alloc)?;
+        join_nulls(alloc, Relation::Equal, raw, &mask, &Mask::all())
     }
 
     /// Where the rows are unequal to the text; each null is.
@@ -115,6 +118,7 @@ pub trait TextEqKernel: ByteRows + Sized {
             IsMemory }
     {
         let raw = self.tot_ne_kernel_broadcast(alloc, other)?;
-        join_nulls(alloc, Relation::Unequal, raw, missing_mask(self), None)
+        let mask = self.missing_mask(alloc)?;
+        join_nulls(alloc, Relation::Unequal, raw, &mask, &Mask::all())
     }
 }

@@ -1,28 +1,18 @@
 //! Equality of the rows of two arrays, with and without regard to null.
 
 ghost use Rattle.std.specs.Prelude.{◌≡◌, ◌≢◌, ◌↔◌, List, Bool, Option, None, true, false, length, replicate, MatchResult, IsTrue, ⊤};
-ghost use Rattle.std.specs.Option.{option_copied};
 ghost use Rattle.polars_arrays_bits.specs.Errors.{IsMemory};
 ghost use Rattle.polars_arrays_flat.specs.Row.{Row, Null};
 ghost use Rattle.polars_arrays_flat.specs.StoredRows.{rows_under};
-ghost use Rattle.polars_arrays_flat.specs.Validity.{HasBits};
 ghost use Rattle.polars_compare_leaves.specs.Equality.{RawEquality, MissingEquality};
 ghost use Rattle.polars_compare_equality.specs.Answers.{Answers};
 
 use polars_arrays_bits::bitmap::Bitmap;
 use polars_arrays_bits::error::ComputeError;
 use polars_arrays_flat::array::Array;
+use polars_arrays_flat::mask::Mask;
 use polars_compare_leaves::joining::{Relation, join_nulls};
 use std::alloc::Global;
-
-// The mask of an array, for the null combination. No other place says which rows are masked.
-pub(crate) fn missing_mask<A: Array>(array: &A) -> Option<&Bitmap>
-    requires { A.good array.now }
-    ensures mask { option_copied result ≡ A.mask array.now }
-    ensures bits { HasBits (length (A.slots array.now)) (A.mask array.now) }
-{
-    array.validity()
-}
 
 /// Equality of the rows of two arrays of one kind.
 ///
@@ -117,13 +107,9 @@ pub trait TotalEqKernel: Sized + Array {
             IsMemory }
     {
         let raw = self.tot_eq_kernel(alloc, other)?;
-        join_nulls(
-            alloc,
-            Relation::Equal,
-            raw,
-            missing_mask(self),
-            missing_mask(other),
-        )
+        let left = self.missing_mask(alloc)?;
+        let right = other.missing_mask(alloc)?;
+        join_nulls(alloc, Relation::Equal, raw, &left, &right)
     }
 
     /// Where the rows are unequal, null to all but null.
@@ -140,13 +126,9 @@ pub trait TotalEqKernel: Sized + Array {
             IsMemory }
     {
         let raw = self.tot_ne_kernel(alloc, other)?;
-        join_nulls(
-            alloc,
-            Relation::Unequal,
-            raw,
-            missing_mask(self),
-            missing_mask(other),
-        )
+        let left = self.missing_mask(alloc)?;
+        let right = other.missing_mask(alloc)?;
+        join_nulls(alloc, Relation::Unequal, raw, &left, &right)
     }
 
     /// Where the rows are equal to the scalar; no null is.
@@ -162,7 +144,8 @@ pub trait TotalEqKernel: Sized + Array {
             (MissingEquality true ⊤ (rows_under (Self.mask self.now) (Self.slots self.now)) (replicate (length (Self.slots self.now)) (scalar_row other.now))) }
     {
         let raw = self.tot_eq_kernel_broadcast(alloc, other)?;
-        join_nulls(alloc, Relation::Equal, raw, missing_mask(self), None)
+        let mask = self.missing_mask(alloc)?;
+        join_nulls(alloc, Relation::Equal, raw, &mask, &Mask::all())
     }
 
     /// Where the rows are unequal to the scalar; each null is.
@@ -178,7 +161,8 @@ pub trait TotalEqKernel: Sized + Array {
             (MissingEquality false ⊤ (rows_under (Self.mask self.now) (Self.slots self.now)) (replicate (length (Self.slots self.now)) (scalar_row other.now))) }
     {
         let raw = self.tot_ne_kernel_broadcast(alloc, other)?;
-        join_nulls(alloc, Relation::Unequal, raw, missing_mask(self), None)
+        let mask = self.missing_mask(alloc)?;
+        join_nulls(alloc, Relation::Unequal, raw, &mask, &Mask::all())
     }
 
     // Arrays that can be compared are equally long.

@@ -1,7 +1,6 @@
-//! The null combination: raw bits, joined with two validities.
+//! The null combination: raw bits, joined with two masks.
 
 ghost use Rattle.std.specs.Prelude.{◌≡◌, length, MatchResult};
-ghost use Rattle.std.specs.Option.{option_copied};
 ghost use Rattle.polars_arrays_bits.specs.Errors.{IsMemory};
 ghost use Rattle.polars_arrays_flat.specs.Validity.{HasBits};
 ghost use Rattle.polars_compare_leaves.specs.Joining.{Joined, told};
@@ -9,6 +8,7 @@ ghost use Rattle.polars_compare_leaves.specs.Joining.{Joined, told};
 use polars_arrays_bits::bit_mask::BitMask;
 use polars_arrays_bits::bitmap::Bitmap;
 use polars_arrays_bits::error::ComputeError;
+use polars_arrays_flat::mask::Mask;
 use std::alloc::Global;
 
 /// What the bits of a comparison tell: where rows are equal, or where they are unequal.
@@ -18,7 +18,7 @@ pub enum Relation {
     Unequal,
 }
 
-// Raw bits joined with the validity of one side, where the other side has none.
+// Raw bits joined with the mask of one side, where all rows of the other side are present.
 fn join_one(
     alloc: Global,
     relation: Relation,
@@ -36,7 +36,7 @@ fn join_one(
     }
 }
 
-// Raw bits joined with the validities of both sides.
+// Raw bits joined with the masks of both sides.
 fn join_both(
     alloc: Global,
     relation: Relation,
@@ -55,7 +55,7 @@ fn join_both(
     }
 }
 
-/// Raw bits of a comparison joined with the validities of both sides, where there are any, of which windows
+/// Raw bits of a comparison joined with the masks of both sides, where there are any, of which windows
 /// are lent: a row that is present on both keeps its bit, of the others those are equal that are null on both.
 /// The error is `Memory`.
 #[inline(always)]
@@ -78,27 +78,18 @@ pub fn join_masks(
     }
 }
 
-// A validity, lent.
-fn lent(validity: Option<&Bitmap>) -> Option<BitMask<'_>>
-    ensures { result ≡ option_copied validity.entry }
-{
-    match validity {
-        Some(bits) => Some(BitMask::from_bitmap(bits)),
-        None => None,
-    }
-}
-
-/// The same for whole validities.
+/// The same for the masks of whole arrays or windows. The error is `Memory`.
+#[inline(always)]
 pub fn join_nulls(
     alloc: Global,
     relation: Relation,
     raw: Bitmap,
-    left: Option<&Bitmap>,
-    right: Option<&Bitmap>,
+    left: &Mask<'_>,
+    right: &Mask<'_>,
 ) -> Result<Bitmap, ComputeError>
-    requires left { HasBits (length raw) (option_copied left) }
-    requires right { HasBits (length raw) (option_copied right) }
-    ensures { MatchResult result (Joined (told relation) (option_copied left.entry) (option_copied right.entry) raw) IsMemory }
+    requires left { HasBits (length raw) left.now }
+    requires right { HasBits (length raw) right.now }
+    ensures { MatchResult result (Joined (told relation) left.now right.now raw) IsMemory }
 {
-    join_masks(alloc, relation, raw, lent(left), lent(right))
+    join_masks(alloc, relation, raw, left.bits(), right.bits())
 }

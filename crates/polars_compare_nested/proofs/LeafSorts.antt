@@ -11,7 +11,7 @@ use Rattle.polars_arrays_flat.specs.StoredRows.{masked, rows_under}
 use Rattle.polars_arrays_flat.specs.StoredRows.{row as row_at}
 use Rattle.polars_arrays_flat.specs.Validity.{is_present}
 use Rattle.polars_arrays_nested.specs.AnyRows.{row}
-use Rattle.polars_arrays_nested.specs.Lengths.{len_of, validity_of}
+use Rattle.polars_arrays_nested.specs.Lengths.{len_of, mask_of}
 use Rattle.polars_arrays_nested.specs.Types.{type_of}
 use Rattle.polars_arrays_nested.specs.declared.any_array.AnyArray.{AnyArray, Boolean, Int8, Int16, Int32, Int64, Int128, UInt8, UInt16, UInt32, UInt64, UInt128, Binary, LargeBinary, Utf8, LargeUtf8, BinaryView, Utf8View, FixedSizeBinary, FixedSizeList, Struct, Dictionary, List', FixedSizeList', Struct', Dictionary', roll-AnyArray, roll-out-AnyArray}
 use Rattle.polars_arrays_nested.specs.declared.any_array.AnyArray.{List as Lists, Null as Nulls}
@@ -74,7 +74,7 @@ strings-count value offsets bytes =
     ∙ ap (λ (k : ℕ). k - 1) (length-map offsets _)
 
 -- a present row of a leaf array is of the sort that its type says
-leaf-sort : (x : AnyArray) (i : ℕ) → IsTrue (is_leaf (type_of x)) → IsTrue (is_present (validity_of x) i) → i < len_of x → row_sort (row x i) ≡ kind_sort (type_of x)
+leaf-sort : (x : AnyArray) (i : ℕ) → IsTrue (is_leaf (type_of x)) → IsTrue (is_present (mask_of x) i) → i < len_of x → row_sort (row x i) ≡ kind_sort (type_of x)
 leaf-sort (Boolean a) i leaf here low = sort-under Truth 1 (λ x. refl) a.validity a.values i here low
 leaf-sort (Int8 a) i leaf here low = sort-under (λ x. Int x) 0 (λ x. refl) a.validity a.values i here low
 leaf-sort (Int16 a) i leaf here low = sort-under (λ x. Int x) 0 (λ x. refl) a.validity a.values i here low

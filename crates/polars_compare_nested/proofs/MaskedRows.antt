@@ -14,7 +14,7 @@ use Rattle.polars_arrays_flat.specs.StoredRows.{row as row_at}
 use Rattle.polars_arrays_flat.specs.Validity.{is_present}
 use Rattle.polars_arrays_nested.specs.AnyRows.{row}
 use Rattle.polars_arrays_nested.specs.DictKeys.{key_validity}
-use Rattle.polars_arrays_nested.specs.Lengths.{len_of, validity_of}
+use Rattle.polars_arrays_nested.specs.Lengths.{len_of, mask_of}
 use Rattle.polars_arrays_nested.specs.Types.{kind_of_lists, type_of}
 use Rattle.polars_arrays_nested.specs.declared.any_array.AnyArray.{AnyArray, Null, Boolean, Int8, Int16, Int32, Int64, Int128, UInt8, UInt16, UInt32, UInt64, UInt128, Binary, LargeBinary, Utf8, LargeUtf8, BinaryView, Utf8View, FixedSizeBinary, List', FixedSizeList', Struct', Dictionary'}
 use Rattle.polars_arrays_nested.specs.declared.list_offsets.ListOffsets.{ListOffsets}
@@ -81,13 +81,13 @@ list_not_null (Small offsets) item e = cc
 list_not_null (Large offsets) item e = cc
 
 -- an array of no type but nulls has no validity
-null_unmasked : (x : AnyArray) (i : ℕ) → NullKind ≡ type_of x → is_present (validity_of x) i ≡ true
+null_unmasked : (x : AnyArray) (i : ℕ) → NullKind ≡ type_of x → is_present (mask_of x) i ≡ true
 null_unmasked (Null a) i e = refl
 null_unmasked (List' offsets p values validity) i e = absurd (list_not_null offsets (type_of values) e)
 null_unmasked _ i e = cc
 
 -- a masked row is Null
-pub masked_null : (x : AnyArray) (i : ℕ) → is_present (validity_of x) i ≡ false → row x i ≡ Missing
+pub masked_null : (x : AnyArray) (i : ℕ) → is_present (mask_of x) i ≡ false → row x i ≡ Missing
 masked_null (Null a) i h = refl
 masked_null (Boolean a) i h = under_masked a.validity _ i h
 masked_null (Int8 a) i h = under_masked a.validity _ i h
@@ -113,7 +113,7 @@ masked_null (Struct' fields len p values validity) i h = kept_not (is_present va
 masked_null (Dictionary' keys p values) i h = kept_not (is_present (key_validity keys) i) _ h
 
 -- a present row is not, where an array of the same type has a masked one
-pub present_there : (x y : AnyArray) (i j : ℕ) → type_of x ≡ type_of y → i < len_of x → is_present (validity_of x) i ≡ true → is_present (validity_of y) j ≡ false → is_null (row x i) ≡ false
+pub present_there : (x y : AnyArray) (i j : ℕ) → type_of x ≡ type_of y → i < len_of x → is_present (mask_of x) i ≡ true → is_present (mask_of y) j ≡ false → is_null (row x i) ≡ false
 present_there (Null a) y i j e low h k = (let unmasked = null_unmasked y j e in cc)
 present_there (Boolean a) y i j e low h k =
     under_there a.validity _ i h (slot_there Truth (λ x. refl) a.values i low)

@@ -3,14 +3,14 @@ use Rattle.std.specs.Prelude.{◌≡◌, ◌+◌, ◌<◌, ℕ, Bool, false, IsT
 use Rattle.polars_arrays_flat.specs.Row.{Row}
 use Rattle.polars_arrays_flat.specs.Validity.{is_present}
 use Rattle.polars_arrays_nested.specs.AnyRows.{row}
-use Rattle.polars_arrays_nested.specs.Lengths.{validity_of}
+use Rattle.polars_arrays_nested.specs.Lengths.{mask_of}
 use Rattle.polars_arrays_nested.specs.declared.any_array.AnyArray.{AnyArray}
 use Rattle.polars_compare_leaves.specs.Sameness.{same}
 
 -- row a + i of the left array and row b + i of the right one are both present
 abbrev pub BothPresent : AnyArray → ℕ → AnyArray → ℕ → ℕ → Type 0
 BothPresent left a right b i =
-    IsTrue (is_present (validity_of left) (a + i)) × IsTrue (is_present (validity_of right) (b + i))
+    IsTrue (is_present (mask_of left) (a + i)) × IsTrue (is_present (mask_of right) (b + i))
 
 -- each bit says whether two rows are the same, where `agree` says it of leaf rows
 pub record SameBits (agree : Row → Row → Bool) (left : AnyArray) (a : ℕ) (right : AnyArray) (b n : ℕ) (bits : List Bool) : Type 0 where
@@ -31,7 +31,7 @@ pub record PresentBits (agree : Row → Row → Bool) (left : ℕ → Row) (left
 
 -- each bit of two leaf rows that are both present says whether they agree
 abbrev pub LeafBits : (Row → Row → Bool) → AnyArray → ℕ → AnyArray → ℕ → ℕ → List Bool → Type 0
-LeafBits agree left a right b n = PresentBits agree (row left) (validity_of left) a (row right) (validity_of right) b n
+LeafBits agree left a right b n = PresentBits agree (row left) (mask_of left) a (row right) (mask_of right) b n
 
 -- bits for n rows are added to old ones; at rows that are both present they say whether these are the same
 pub record AddsRawBits (agree : Row → Row → Bool) (left : AnyArray) (a : ℕ) (right : AnyArray) (b n : ℕ) (old new : List Bool) : Type 0 where

@@ -6,7 +6,7 @@ ghost use Rattle.polars_arrays_nested.specs.Lengths.{len_of};
 ghost use Rattle.polars_arrays_nested.specs.declared.any_array.AnyArray.{Dictionary};
 ghost use Rattle.polars_compare_nested.specs.Entries.{AreRowEntries};
 
-use crate::masks::has_row;
+use polars_arrays_flat::validity::is_present;
 use polars_arrays_nested::dictionary::DictionaryArray;
 
 /// The numbers of two entries, one of each dictionary.
@@ -30,7 +30,7 @@ pub(crate) fn row_entries(
     requires right_in { j < len_of (Dictionary right.now) }
     ensures { AreRowEntries left.now i right.now j result }
 {
-    if has_row(left.keys().validity(), i) && has_row(right.keys().validity(), j) {
+    if is_present(left.keys().validity(), i) && is_present(right.keys().validity(), j) {
         Some(EntryPair {
             left: left.key_value(i),
             right: right.key_value(j),

@@ -1,47 +1,20 @@
-//! The validities of two windows, joined with the raw bits of a comparison of them.
+//! The masks of two windows, joined with the raw bits of a comparison of them.
 
-ghost use Rattle.std.specs.Prelude.{◌≡◌, ◌+◌, ◌<◌, ◌≤◌, Bool, IfSome, MatchResult, length};
-ghost use Rattle.std.specs.Option.{option_copied};
+ghost use Rattle.std.specs.Prelude.{◌≡◌, ◌+◌, ◌≤◌, Bool, MatchResult, length};
 ghost use Rattle.polars_arrays_bits.specs.Errors.{IsMemory};
 ghost use Rattle.polars_arrays_flat.specs.Row.{Row};
-ghost use Rattle.polars_arrays_flat.specs.Validity.{HasBits, is_present, validity_window};
 ghost use Rattle.polars_arrays_nested.specs.GoodParts.{IsGood};
-ghost use Rattle.polars_arrays_nested.specs.Lengths.{len_of, validity_of};
+ghost use Rattle.polars_arrays_nested.specs.Lengths.{len_of};
 ghost use Rattle.polars_arrays_nested.specs.Types.{type_of};
 ghost use Rattle.polars_compare_nested.specs.Bits.{RawBits, SameBits};
 
-use polars_arrays_bits::bit_mask::BitMask;
 use polars_arrays_bits::bitmap::Bitmap;
 use polars_arrays_bits::error::ComputeError;
 use polars_arrays_nested::any_array::AnyArray;
-use polars_compare_leaves::joining::{Relation, join_masks};
+use polars_compare_leaves::joining::{Relation, join_nulls};
 use std::alloc::Global;
 
-/// Whether row `i` is present, where the validity has a bit for it.
-#[inline]
-pub(crate) fn has_row(validity: Option<&Bitmap>, i: usize) -> bool
-    requires { IfSome (option_copied validity) (λ bits. i < length bits) }
-    ensures { result ≡ is_present (option_copied validity.entry) i }
-{
-    validity.is_none_or(|bits| bits.get_bit(i))
-}
-
-// The validity of `n` rows from row `at` on, lent. No other place says which rows of a window are masked.
-#[tactic(auto, using(crate::proofs::WindowBits::window_bits))]
-#[inline(always)]
-fn missing_mask(array: &AnyArray, at: usize, n: usize) -> Option<BitMask<'_>>
-    requires good { IsGood array.now }
-    requires within { at + n ≤ len_of array.now }
-    ensures mask { result ≡ validity_window at n (validity_of array.now) }
-    ensures bits { HasBits n result }
-{
-    match array.validity() {
-        Some(bits) => Some(BitMask::from_bitmap(bits).window(at, n)),
-        None => None,
-    }
-}
-
-/// The raw bits of two windows joined with their validities, in which two null rows are equal and one alone
+/// The raw bits of two windows joined with their masks, in which two null rows are equal and one alone
 /// is not. The error is `Memory`.
 #[inline(always)]
 pub(crate) fn join_windows(
@@ -60,7 +33,7 @@ pub(crate) fn join_windows(
     ensures { MatchResult result (λ bits. (agree : Row → Row → Bool) → RawBits agree left.now a right.now b (length raw) raw → SameBits agree left.now a right.now b (length raw) bits) IsMemory }
 {
     let n = raw.len();
-    let left = missing_mask(left, a, n);
-    let right = missing_mask(right, b, n);
-    join_masks(alloc, Relation::Equal, raw, left, right)
+    let left_mask = left.window_mask(alloc, a, n)?;
+    let right_mask = right.window_mask(alloc, b, n)?;
+    join_nulls(alloc, Relation::Equal, raw, &left_mask, &right_mask)
 }

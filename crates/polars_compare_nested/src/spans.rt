@@ -11,12 +11,12 @@ ghost use Rattle.polars_arrays_nested.specs.Places.{place_or_zero};
 ghost use Rattle.polars_arrays_nested.specs.declared.any_array.AnyArray.{List};
 ghost use Rattle.polars_compare_nested.specs.Runs.{AddsRun, AreSpans, AreWithin, IsSpan, Match, all_lists, is_match, span_between, start_of};
 
-use crate::masks::has_row;
 use polars_arrays_bits::bit_mask::BitMask;
 use polars_arrays_bits::bitmap::Bitmap;
 use polars_arrays_bits::builder::BitmapBuilder;
 use polars_arrays_bits::packing::TruthValues;
 use polars_arrays_flat::array::Array;
+use polars_arrays_flat::validity::is_present;
 use polars_arrays_nested::list::ListArray;
 use polars_arrays_numbers::offset::Offset;
 
@@ -63,7 +63,7 @@ fn rows_match<L: Offset, R: Offset>(
 {
     let (_, count) = list_at(left_offsets, i);
     let (_, other) = list_at(right_offsets, j);
-    count == other && (count == 0 || has_row(left.validity(), i) && has_row(right.validity(), j))
+    count == other && (count == 0 || is_present(left.validity(), i) && is_present(right.validity(), j))
 }
 
 /// How many of the first `n` lists match, one after another, where the offsets of both arrays are lent.

@@ -12,6 +12,7 @@ use crate::kinds::{of_any_kind, of_numbers};
 use polars_arrays_bits::bitmap::Bitmap;
 use polars_arrays_flat::array::Array;
 use polars_arrays_flat::primitive::PrimitiveArray;
+use polars_arrays_flat::validity::is_present;
 use polars_arrays_nested::any_array::AnyArray;
 use polars_arrays_nested::dictionary::DictionaryArray;
 use polars_arrays_nested::list::ListArray;
@@ -238,18 +239,10 @@ fn entry_of(alloc: Global, array: &DictionaryArray, i: usize) -> Result<String, 
     requires { IsGood (Dictionary array.now) }
 {
     let keys = array.keys();
-    if i >= keys.len() || !has_row(keys.validity(), i) {
+    if i >= keys.len() || !is_present(keys.validity(), i) {
         return Err(Fault::Case);
     }
     Ok(array.key_value(i).to_string(alloc)?)
-}
-
-// Whether row `i` is present, where the validity has a bit for it.
-fn has_row(validity: Option<&Bitmap>, i: usize) -> bool
-    requires { IfSome (option_copied validity) (λ bits. i < length bits) }
-    ensures { result ≡ is_present (option_copied validity.entry) i }
-{
-    validity.is_none_or(|bits| bits.get_bit(i))
 }
 
 // How many lists of one width or structs there are.

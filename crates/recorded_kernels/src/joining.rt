@@ -9,6 +9,7 @@ ghost use Rattle.std.specs.Prelude.{◌≡◌};
 
 use polars_arrays_bits::bit_mask::BitMask;
 use polars_arrays_bits::bitmap::Bitmap;
+use polars_arrays_flat::mask::Mask;
 use polars_arrays_flat::validity::has_bits;
 use polars_compare_leaves::joining::{Relation, join_masks, join_nulls};
 use recorded_text::bits_text::write_bits;
@@ -55,7 +56,8 @@ fn nulls(alloc: Global, words: &mut Words) -> Result<String, Fault> {
     if !has_bits(raw.len(), &left) || !has_bits(raw.len(), &right) {
         return Err(Fault::Case);
     }
-    let bits = join_nulls(alloc, relation, raw, left.as_ref(), right.as_ref())?;
+    let (left, right) = (Mask::lent(left.as_ref()), Mask::lent(right.as_ref()));
+    let bits = join_nulls(alloc, relation, raw, &left, &right)?;
     write_bits(alloc, &bits)
 }
 

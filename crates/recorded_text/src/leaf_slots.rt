@@ -7,9 +7,9 @@
 ghost use Rattle.polars_arrays_nested.specs.GoodParts.{IsGood};
 ghost use Rattle.polars_arrays_nested.specs.declared.any_array.AnyArray.{List, FixedSizeList, Struct, Dictionary};
 
-use crate::bits_text::is_null;
 use crate::fault::Fault;
 use polars_arrays_flat::array::Array;
+use polars_arrays_flat::validity::is_present;
 use polars_arrays_nested::any_array::AnyArray;
 use polars_arrays_nested::dictionary::DictionaryArray;
 use polars_arrays_nested::fixed_size_list::FixedSizeListArray;
@@ -82,7 +82,7 @@ fn dictionary_slots(array: &DictionaryArray, from: usize, n: usize) -> Result<us
     }
     let mut slots: usize = 0;
     for i in from..from + n {
-        if !is_null(keys.validity(), i) {
+        if is_present(keys.validity(), i) {
             slots = slots.saturating_add(leaf_slots(array.values(), keys.key(i), 1)?);
         }
     }

@@ -7,13 +7,13 @@
 ghost use Rattle.polars_arrays_nested.specs.GoodParts.{IsGood};
 ghost use Rattle.polars_arrays_nested.specs.declared.any_array.AnyArray.{List, FixedSizeList, Struct, Dictionary};
 
-use crate::bits_text::is_null;
 use crate::bytes_text::push_bytes;
 use crate::fault::Fault;
 use polars_arrays_flat::array::Array;
 use polars_arrays_flat::boolean::BooleanArray;
 use polars_arrays_flat::byte_rows::ByteRows;
 use polars_arrays_flat::primitive::PrimitiveArray;
+use polars_arrays_flat::validity::is_present;
 use polars_arrays_nested::any_array::AnyArray;
 use polars_arrays_nested::dictionary::DictionaryArray;
 use polars_arrays_nested::fixed_size_list::FixedSizeListArray;
@@ -83,28 +83,7 @@ fn is_null_row(array: &AnyArray, i: usize) -> bool
 {
     match array {
         AnyArray::Null(_) => true,
-        AnyArray::Boolean(array) => is_null(array.validity(), i),
-        AnyArray::Int8(array) => is_null(array.validity(), i),
-        AnyArray::Int16(array) => is_null(array.validity(), i),
-        AnyArray::Int32(array) => is_null(array.validity(), i),
-        AnyArray::Int64(array) => is_null(array.validity(), i),
-        AnyArray::Int128(array) => is_null(array.validity(), i),
-        AnyArray::UInt8(array) => is_null(array.validity(), i),
-        AnyArray::UInt16(array) => is_null(array.validity(), i),
-        AnyArray::UInt32(array) => is_null(array.validity(), i),
-        AnyArray::UInt64(array) => is_null(array.validity(), i),
-        AnyArray::UInt128(array) => is_null(array.validity(), i),
-        AnyArray::Binary(array) => is_null(array.validity(), i),
-        AnyArray::LargeBinary(array) => is_null(array.validity(), i),
-        AnyArray::Utf8(array) => is_null(array.validity(), i),
-        AnyArray::LargeUtf8(array) => is_null(array.validity(), i),
-        AnyArray::BinaryView(array) => is_null(array.validity(), i),
-        AnyArray::Utf8View(array) => is_null(array.validity(), i),
-        AnyArray::FixedSizeBinary(array) => is_null(array.validity(), i),
-        AnyArray::List(array) => is_null(array.validity(), i),
-        AnyArray::FixedSizeList(array) => is_null(array.validity(), i),
-        AnyArray::Struct(array) => is_null(array.validity(), i),
-        AnyArray::Dictionary(array) => is_null(array.validity(), i),
+        _ => i >= array.len() || !is_present(array.validity(), i),
     }
 }
 

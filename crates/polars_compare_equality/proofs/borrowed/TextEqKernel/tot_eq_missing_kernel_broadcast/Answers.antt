@@ -9,8 +9,8 @@ pub returns : goal.returns
 returns g c =
     MatchResult-weaker c.join_nulls.result c.join_nulls.ensures
     (λ bits j.
-    let joined = rw c.missing_mask.ensures.mask at j in
-    missing-from-raw _ ⊤ _ _ _ _ _ _ bits c.missing_mask.ensures.bits tt
+    let joined = rw c.in_ok-mask.ensures.mask at j in
+    missing-from-raw _ ⊤ _ _ _ _ _ _ bits c.in_ok-mask.ensures.bits tt
     (sym (length-replicate _ _))
     (λ i within is_null. let law = g.met.Self.Array.null_law c.args.self.now c.args.self.now i within is_null in (law.0, refl, (tt, tt)))
     (repeated-present _ _ _ _ _ (λ e. cc))

@@ -6,8 +6,8 @@ pub returns : goal.returns
 returns g c =
     MatchResult-weaker c.join_nulls.result c.join_nulls.ensures
     (λ bits j.
-    let joined = rw (c.missing_mask.ensures.mask, c.missing_mask-2.ensures.mask) at j in
-    missing-from-raw _ _ _ _ _ _ _ _ bits c.missing_mask.ensures.bits c.missing_mask-2.ensures.bits
+    let joined = rw (c.in_ok-left.ensures.mask, c.in_ok-right.ensures.mask) at j in
+    missing-from-raw _ _ _ _ _ _ _ _ bits c.in_ok-left.ensures.bits c.in_ok-right.ensures.bits
     (g.met.Self.TotalEqKernel.comparable_law _ _ c.requires.comparable)
     (g.met.Self.Array.null_law c.args.self.now c.args.other.now)
     (g.met.Self.Array.null_law c.args.other.now c.args.self.now)

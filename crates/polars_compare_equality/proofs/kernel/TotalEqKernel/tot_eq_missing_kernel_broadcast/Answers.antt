@@ -10,9 +10,9 @@ returns g c =
     let has : g.Self.TotalEqKernel.broadcasts ≡ true = c.in_ok-raw.ensures.0 in
     MatchResult-weaker c.join_nulls.result c.join_nulls.ensures
     (λ bits j.
-    let joined = rw c.missing_mask.ensures.mask at j in (
+    let joined = rw c.in_ok-mask.ensures.mask at j in (
       has,
-      missing-from-raw _ ⊤ _ _ _ _ _ _ bits c.missing_mask.ensures.bits tt
+      missing-from-raw _ ⊤ _ _ _ _ _ _ bits c.in_ok-mask.ensures.bits tt
           (sym (length-replicate _ _))
           (λ i within is_null. let law = g.met.Self.Array.null_law c.args.self.now c.args.self.now i within is_null in (law.0, refl, (tt, tt)))
           (repeated-present _ _ _ _ _ (g.met.Self.TotalEqKernel.scalar_law c.args.other.now has))
