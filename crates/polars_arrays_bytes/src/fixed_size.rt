@@ -136,7 +136,7 @@ impl Array for FixedSizeBinaryArray {
 
     ghost nulls = { λ a. masked_count a.validity };
 
-    ghost same_type = { λ a b. a.size ≡ b.size };
+    ghost same_type = { λ a b. FixedSizeBinaryKind a.size ≡ FixedSizeBinaryKind b.size };
 
     ghost good = { λ a. ⊤ };
 
