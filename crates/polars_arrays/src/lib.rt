@@ -7,12 +7,14 @@
 #![tactic(auto)]
 
 pub use polars_arrays_bits::{
-    bit_mask, bitmap, buffer, builder, comparison, error, mutable_bitmap, packing,
+    bit_mask, bitmap, buffer, builder, error, mutable_bitmap, packing, slices,
 };
 pub use polars_arrays_bytes::{binary, fixed_size, offset_type, text};
-pub use polars_arrays_flat::{array, arrow_type, boolean, byte_rows, data_type, null, primitive};
+pub use polars_arrays_flat::{
+    array, arrow_type, boolean, byte_rows, data_type, mask, null, primitive,
+};
 pub use polars_arrays_nested::{
     any_array, dict_keys, dictionary, fixed_size_list, laws, list, list_offsets, struct_array,
 };
-pub use polars_arrays_numbers::{dictionary_key, comparison, native_type, offset, steps};
+pub use polars_arrays_numbers::{comparison, dictionary_key, native_type, offset, steps};
 pub use polars_arrays_views::{binary_view, text_view, view};

@@ -3,7 +3,7 @@
 //! `polars_arrays_words`.
 #![tactic(auto)]
 
-pub use polars_arrays_numbers::{dictionary_key, comparison, native_type, offset, steps};
+pub use polars_arrays_numbers::{comparison, dictionary_key, native_type, offset, steps};
 pub use polars_arrays_words::packing;
 
 pub mod bit_mask;

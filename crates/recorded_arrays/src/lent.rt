@@ -1,13 +1,11 @@
 //! What arrays lend: how many rows and nulls there are, validities, stored values, offsets, views and buffers,
 //! keys, and the arrays that they hold.
 
-ghost use Rattle.std.specs.Prelude.{◌≡◌, ◌<◌, IfSome, length};
 ghost use Rattle.polars_arrays_nested.specs.GoodParts.{IsGood};
 ghost use Rattle.polars_arrays_nested.specs.declared.any_array.AnyArray.{List, Struct, Dictionary};
 ghost use Rattle.recorded_text.specs.Cases.{HasGoodArrays};
 
 use crate::kinds::{of_any_kind, of_numbers};
-use polars_arrays_bits::bitmap::Bitmap;
 use polars_arrays_flat::array::Array;
 use polars_arrays_flat::primitive::PrimitiveArray;
 use polars_arrays_flat::validity::is_present;
