@@ -2,23 +2,15 @@
 #![tactic(auto, using(crate::proofs::Cases::cases))]
 
 ghost use Rattle.std.specs.Prelude.{◌≡◌, IsTrue};
-ghost use Rattle.polars_arrays_flat.specs.Kind.{BooleanKind, Int8Kind, Int16Kind, Int32Kind, Int64Kind, Int128Kind, UInt8Kind, UInt16Kind, UInt32Kind, UInt64Kind, UInt128Kind, BinaryKind, LargeBinaryKind, Utf8Kind, LargeUtf8Kind, BinaryViewKind, Utf8ViewKind};
 ghost use Rattle.polars_arrays_nested.specs.Types.{type_of};
-ghost use Rattle.polars_arrays_nested.specs.declared.any_array.AnyArray.{Boolean, Int8, Int16, Int32, Int64, Int128, UInt8, UInt16, UInt32, UInt64, UInt128, Binary, LargeBinary, Utf8, LargeUtf8, BinaryView, Utf8View, FixedSizeBinary, List, FixedSizeList, Struct, Dictionary};
-ghost use Rattle.polars_compare_nested.specs.KindSorts.{is_sized, is_list, is_fixed_list, is_struct, is_dictionary};
+ghost use Rattle.polars_arrays_nested.specs.declared.any_array.AnyArray.{List, FixedSizeList, Struct, Dictionary};
+ghost use Rattle.polars_compare_nested.specs.KindSorts.{is_list, is_fixed_list, is_struct, is_dictionary};
 
-use polars_arrays_bytes::binary::BinaryArray;
-use polars_arrays_bytes::fixed_size::FixedSizeBinaryArray;
-use polars_arrays_bytes::text::Utf8Array;
-use polars_arrays_flat::boolean::BooleanArray;
-use polars_arrays_flat::primitive::PrimitiveArray;
 use polars_arrays_nested::any_array::AnyArray;
 use polars_arrays_nested::dictionary::DictionaryArray;
 use polars_arrays_nested::fixed_size_list::FixedSizeListArray;
 use polars_arrays_nested::list::ListArray;
 use polars_arrays_nested::struct_array::StructArray;
-use polars_arrays_views::binary_view::BinaryViewArray;
-use polars_arrays_views::text_view::Utf8ViewArray;
 
 /// The array inside, where it is known to be of this kind.
 macro_rules! downcast {
