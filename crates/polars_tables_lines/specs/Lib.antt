@@ -5,7 +5,6 @@ pub mod Stored
 pub mod Operations
 pub mod Comparing
 pub mod Faults
-pub mod Sum
 pub mod Line
 pub mod Output
 pub mod Reading

@@ -14,9 +14,9 @@ use crate::comparing::{compare_rows, compare_scalar};
 use crate::line::LineError;
 use crate::operation::{Comparison, Operand};
 use crate::row_array::{RowArray, is_present};
-use crate::sum::wrapping_sum_arr;
 use polars_arrays_bits::bitmap::Bitmap;
 use polars_arrays_flat::primitive::PrimitiveArray;
+use polars_compute_bits::sum::wrapping_sum_arr;
 use std::alloc::{AllocError, Global};
 
 /// The word of a truth value, or of null.

@@ -11,5 +11,4 @@ mod row_array;
 mod row_number;
 mod row_type;
 pub mod running;
-mod sum;
 mod words;
