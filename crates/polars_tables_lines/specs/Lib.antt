@@ -1,3 +1,4 @@
+pub mod Tables
 pub mod Types
 pub mod Word
 pub mod Parsing

@@ -13,10 +13,9 @@ use Rattle.polars_tables_lines.specs.declared.operation.Operand.TheVariants.{Row
 use Rattle.polars_tables_lines.specs.declared.operation.Operation.{Operation}
 use Rattle.polars_tables_lines.specs.declared.operation.Operation.TheVariants.{Compare, Sum}
 use Rattle.polars_tables_lines.specs.declared.row_type.RowType.{RowType}
-use Rattle.polars_tables_lines.specs.declared.row_type.RowType.TheVariants.{I32}
 use Rattle.polars_tables_lines.specs.Comparing.{compared_rows}
 use Rattle.polars_tables_lines.specs.Faults.{or_fault, of_one, of_two, unless_null}
-use Rattle.polars_tables_lines.specs.Operations.{operation_of}
+use Rattle.polars_tables_lines.specs.Operations.{operation_of, has_type}
 use Rattle.polars_tables_lines.specs.Types.{row_type_of}
 use Rattle.polars_tables_lines.specs.Word.{words_of, lists_of}
 
@@ -49,12 +48,6 @@ abbrev pub answer_of : Operation → List (List Row) → Result (List ℕ) LineE
 answer_of (Compare comparison Rows) lists = of_two lists (rows_answer comparison)
 answer_of (Compare comparison Scalar) lists = of_two lists (scalar_answer comparison)
 answer_of Sum lists = of_one lists (λ rows. Ok (signed_decimal (wrapped (least_of true 32) 32 (total rows))))
-
--- whether there is such an operation on rows of the type
-abbrev pub has_type : Operation → RowType → Bool
-has_type (Compare comparison operand) type = true
-has_type Sum I32 = true
-has_type Sum type = false
 
 -- what an operation answers to rows of a type and bars
 abbrev pub rows_meaning : Operation → RowType → List (List ℕ) → Result (List ℕ) LineError
