@@ -1,18 +1,21 @@
 -- Worked examples of the definitions: the check computes both sides of each.
 use Rattle.std.proofs.Common.{◌≡◌, ℕ, true, false, [], ◌∷◌, ◌++◌, Some, None, Ok, Err, refl, codes}
 use Rattle.std.specs.Prelude.{pos, negsuc}
-use Rattle.std.specs.Int.{int_wrap}
 use Rattle.std.specs.Fmt.{digits}
 use Rattle.polars_arrays_flat.specs.Row.{Null, Int, Truth}
 use Rattle.polars_tables_lines.specs.declared.line.LineError.TheVariants.{Op, TypeName, Row as RowError, Length, Range}
 use Rattle.polars_tables_lines.specs.declared.operation.Comparison.TheVariants.{LessOrEqual, EqualMissing}
+use Rattle.polars_tables_lines.specs.declared.operation.Operand.TheVariants.{Scalar}
+use Rattle.polars_tables_lines.specs.declared.operation.Operation.TheVariants.{Compare, Sum}
 use Rattle.polars_tables_lines.specs.declared.program.Command.TheVariants.{Lines, Usage}
 use Rattle.polars_tables_lines.specs.declared.row_type.RowType.TheVariants.{I32, Boolean}
 use Rattle.polars_tables_lines.specs.Command.{command_of}
 use Rattle.polars_tables_lines.specs.Comparing.{compared_rows}
 use Rattle.polars_tables_lines.specs.Line.{line_meaning}
+use Rattle.polars_tables_lines.specs.Operations.{operation_of, has_type}
 use Rattle.polars_tables_lines.specs.Output.{lines_of, printed, fault_word}
-use Rattle.polars_tables_lines.specs.Sum.{total, wrap}
+use Rattle.polars_tables_lines.specs.Tables.{find}
+use Rattle.polars_tables_lines.specs.Types.{row_type_of}
 use Rattle.polars_tables_lines.specs.Word.{words_of, signed_number, unsigned_number, truth_of, row_of, lists_of}
 
 -- null is the same as null, and a row is at most itself
@@ -22,12 +25,20 @@ missing-nulls = refl
 ordered-nulls : compared_rows LessOrEqual (Truth true ∷ Truth true ∷ Null ∷ []) (Truth true ∷ Truth false ∷ Truth true ∷ []) ≡ Some true ∷ Some false ∷ None ∷ []
 ordered-nulls = refl
 
-wrap-above : wrap (pos 2147483648) ≡ negsuc 2147483647
-unfolding int_wrap
-wrap-above = refl
+find-first : find ((codes "a", 1) ∷ (codes "b", 2) ∷ (codes "a", 3) ∷ []) (codes "a") ≡ Some 1
+find-first = refl
 
-total-null : total (Null ∷ Int (pos 5) ∷ []) ≡ pos 5
-total-null = refl
+operation-named : operation_of (codes "le_broadcast") ≡ Some (Compare LessOrEqual Scalar)
+operation-named = refl
+
+operation-unnamed : operation_of (codes "le_") ≡ None
+operation-unnamed = refl
+
+type-named : row_type_of (codes "bool") ≡ Some Boolean
+type-named = refl
+
+sum-type : has_type Sum Boolean ≡ false
+sum-type = refl
 
 words-apart : words_of (codes "  a  bc ") ≡ codes "a" ∷ codes "bc" ∷ []
 words-apart = refl
@@ -66,7 +77,7 @@ line-scalar : line_meaning (codes "ge_broadcast i8 -128 127 null | 0") ≡ Ok (c
 line-scalar = refl
 
 line-sum : line_meaning (codes "sum i32 2147483647 1") ≡ Ok (codes "-2147483648")
-unfolding int_wrap digits
+unfolding digits
 line-sum = refl
 
 line-op : line_meaning (codes "less u8 x") ≡ Err Op

@@ -5,8 +5,6 @@ pub mod Joins
 pub mod Comparisons
 pub mod Shown
 pub mod Shapes
-pub mod Sums
-pub mod Wraps
 pub mod Known
 pub mod Cuts
 pub mod Texts

@@ -1,3 +1,4 @@
+pub mod Tables
 pub mod Types
 pub mod Word
 pub mod Parsing
@@ -5,7 +6,6 @@ pub mod Stored
 pub mod Operations
 pub mod Comparing
 pub mod Faults
-pub mod Sum
 pub mod Line
 pub mod Output
 pub mod Reading

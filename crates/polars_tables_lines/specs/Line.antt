@@ -3,6 +3,9 @@ use Rattle.std.specs.Prelude.{ℕ, Bool, true, false, ◌==◌, if◌then◌else
 use Rattle.std.specs.List.{join_with_byte}
 use Rattle.std.specs.Fmt.{signed_decimal}
 use Rattle.polars_arrays_flat.specs.Row.{Row}
+use Rattle.polars_arrays_numbers.specs.Ranges.{least_of}
+use Rattle.polars_arrays_numbers.specs.Wrapping.{wrapped}
+use Rattle.polars_compute_bits.specs.Sum.{total}
 use Rattle.polars_tables_lines.specs.declared.line.LineError.{LineError}
 use Rattle.polars_tables_lines.specs.declared.line.LineError.TheVariants.{Op, TypeName, Row as RowError, Length}
 use Rattle.polars_tables_lines.specs.declared.operation.Comparison.{Comparison}
@@ -10,11 +13,9 @@ use Rattle.polars_tables_lines.specs.declared.operation.Operand.TheVariants.{Row
 use Rattle.polars_tables_lines.specs.declared.operation.Operation.{Operation}
 use Rattle.polars_tables_lines.specs.declared.operation.Operation.TheVariants.{Compare, Sum}
 use Rattle.polars_tables_lines.specs.declared.row_type.RowType.{RowType}
-use Rattle.polars_tables_lines.specs.declared.row_type.RowType.TheVariants.{I32}
 use Rattle.polars_tables_lines.specs.Comparing.{compared_rows}
 use Rattle.polars_tables_lines.specs.Faults.{or_fault, of_one, of_two, unless_null}
-use Rattle.polars_tables_lines.specs.Operations.{operation_of}
-use Rattle.polars_tables_lines.specs.Sum.{total, wrap}
+use Rattle.polars_tables_lines.specs.Operations.{operation_of, has_type}
 use Rattle.polars_tables_lines.specs.Types.{row_type_of}
 use Rattle.polars_tables_lines.specs.Word.{words_of, lists_of}
 
@@ -46,13 +47,7 @@ scalar_answer comparison rows scalars =
 abbrev pub answer_of : Operation → List (List Row) → Result (List ℕ) LineError
 answer_of (Compare comparison Rows) lists = of_two lists (rows_answer comparison)
 answer_of (Compare comparison Scalar) lists = of_two lists (scalar_answer comparison)
-answer_of Sum lists = of_one lists (λ rows. Ok (signed_decimal (wrap (total rows))))
-
--- whether there is such an operation on rows of the type
-abbrev pub has_type : Operation → RowType → Bool
-has_type (Compare comparison operand) type = true
-has_type Sum I32 = true
-has_type Sum type = false
+answer_of Sum lists = of_one lists (λ rows. Ok (signed_decimal (wrapped (least_of true 32) 32 (total rows))))
 
 -- what an operation answers to rows of a type and bars
 abbrev pub rows_meaning : Operation → RowType → List (List ℕ) → Result (List ℕ) LineError

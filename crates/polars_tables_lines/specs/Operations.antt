@@ -1,27 +1,40 @@
--- The operations, by their names.
-use Rattle.std.specs.Prelude.{ℕ, if◌then◌else◌, List, codes, Option, None, Some}
-use Rattle.std.specs.Str.{bytes_eq}
+-- The operations: their names, the lists that they take, and the types of rows that they have.
+use Rattle.std.specs.Prelude.{ℕ, Bool, true, false, List, [], ◌∷◌, codes, Option}
 use Rattle.polars_tables_lines.specs.declared.operation.Comparison.TheVariants.{Equal, Unequal, Less, LessOrEqual, Greater, GreaterOrEqual, EqualMissing, UnequalMissing}
 use Rattle.polars_tables_lines.specs.declared.operation.Operand.TheVariants.{Rows, Scalar}
 use Rattle.polars_tables_lines.specs.declared.operation.Operation.{Operation}
 use Rattle.polars_tables_lines.specs.declared.operation.Operation.TheVariants.{Compare, Sum}
+use Rattle.polars_tables_lines.specs.declared.row_type.RowType.{RowType}
+use Rattle.polars_tables_lines.specs.declared.row_type.RowType.TheVariants.{I32}
+use Rattle.polars_tables_lines.specs.Tables.{find}
+
+-- the operations by their names; a comparison takes two lists of rows, or one and a scalar
+abbrev pub operations : List (List ℕ × Operation)
+operations = (codes "eq", Compare Equal Rows)
+    ∷ (codes "ne", Compare Unequal Rows)
+    ∷ (codes "lt", Compare Less Rows)
+    ∷ (codes "le", Compare LessOrEqual Rows)
+    ∷ (codes "gt", Compare Greater Rows)
+    ∷ (codes "ge", Compare GreaterOrEqual Rows)
+    ∷ (codes "eq_missing", Compare EqualMissing Rows)
+    ∷ (codes "ne_missing", Compare UnequalMissing Rows)
+    ∷ (codes "eq_broadcast", Compare Equal Scalar)
+    ∷ (codes "ne_broadcast", Compare Unequal Scalar)
+    ∷ (codes "lt_broadcast", Compare Less Scalar)
+    ∷ (codes "le_broadcast", Compare LessOrEqual Scalar)
+    ∷ (codes "gt_broadcast", Compare Greater Scalar)
+    ∷ (codes "ge_broadcast", Compare GreaterOrEqual Scalar)
+    ∷ (codes "eq_missing_broadcast", Compare EqualMissing Scalar)
+    ∷ (codes "ne_missing_broadcast", Compare UnequalMissing Scalar)
+    ∷ (codes "sum", Sum)
+    ∷ []
 
 -- the operation of a name
 abbrev pub operation_of : List ℕ → Option Operation
-operation_of name = if bytes_eq name (codes "eq") then Some (Compare Equal Rows)
-    else (if bytes_eq name (codes "ne") then Some (Compare Unequal Rows)
-    else (if bytes_eq name (codes "lt") then Some (Compare Less Rows)
-    else (if bytes_eq name (codes "le") then Some (Compare LessOrEqual Rows)
-    else (if bytes_eq name (codes "gt") then Some (Compare Greater Rows)
-    else (if bytes_eq name (codes "ge") then Some (Compare GreaterOrEqual Rows)
-    else (if bytes_eq name (codes "eq_missing") then Some (Compare EqualMissing Rows)
-    else (if bytes_eq name (codes "ne_missing") then Some (Compare UnequalMissing Rows)
-    else (if bytes_eq name (codes "eq_broadcast") then Some (Compare Equal Scalar)
-    else (if bytes_eq name (codes "ne_broadcast") then Some (Compare Unequal Scalar)
-    else (if bytes_eq name (codes "lt_broadcast") then Some (Compare Less Scalar)
-    else (if bytes_eq name (codes "le_broadcast") then Some (Compare LessOrEqual Scalar)
-    else (if bytes_eq name (codes "gt_broadcast") then Some (Compare Greater Scalar)
-    else (if bytes_eq name (codes "ge_broadcast") then Some (Compare GreaterOrEqual Scalar)
-    else (if bytes_eq name (codes "eq_missing_broadcast") then Some (Compare EqualMissing Scalar)
-    else (if bytes_eq name (codes "ne_missing_broadcast") then Some (Compare UnequalMissing Scalar)
-    else (if bytes_eq name (codes "sum") then Some Sum else None))))))))))))))))
+operation_of name = find operations name
+
+-- whether an operation has rows of the type: comparisons have every type
+abbrev pub has_type : Operation → RowType → Bool
+has_type (Compare comparison operand) type = true
+has_type Sum I32 = true
+has_type Sum type = false

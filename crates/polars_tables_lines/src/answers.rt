@@ -11,12 +11,12 @@ ghost use Rattle.polars_tables_lines.specs.Faults.{UnlessMemory};
 ghost use Rattle.polars_tables_lines.specs.Line.{answer_word, answer_words, rows_answer, scalar_answer, answer_of};
 
 use crate::comparing::{compare_rows, compare_scalar};
-use crate::line::LineError;
+use crate::line::{LineError, or_memory};
 use crate::operation::{Comparison, Operand};
 use crate::row_array::{RowArray, is_present};
-use crate::sum::wrapping_sum_arr;
 use polars_arrays_bits::bitmap::Bitmap;
 use polars_arrays_flat::primitive::PrimitiveArray;
+use polars_compute_bits::sum::wrapping_sum_arr;
 use std::alloc::{AllocError, Global};
 
 /// The word of a truth value, or of null.
@@ -101,7 +101,7 @@ fn answer_rows<A: RowArray>(
     if left_count != right_count {
         return Err(LineError::Length);
     }
-    let bits = compare_rows(alloc, comparison, left, right)?;
+    let bits = or_memory(compare_rows(alloc, comparison, left, right))?;
     let left_mask = null_mask(comparison, left_mask);
     let right_mask = null_mask(comparison, right_mask);
     Ok(write_answers(alloc, left_mask, right_mask, &bits)?)
@@ -127,7 +127,7 @@ fn answer_scalar<A: RowArray>(
         return Err(LineError::Range);
     };
     let mask = rows.validity();
-    let bits = compare_scalar(alloc, comparison, rows, &scalar)?;
+    let bits = or_memory(compare_scalar(alloc, comparison, rows, &scalar))?;
     let mask = null_mask(comparison, mask);
     Ok(write_answers(alloc, mask, None, &bits)?)
 }

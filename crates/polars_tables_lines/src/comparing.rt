@@ -12,7 +12,8 @@ use polars_arrays_bits::bitmap::Bitmap;
 use polars_arrays_bits::error::ComputeError;
 use std::alloc::Global;
 
-/// A bit for each row, right wherever the comparison of the two rows answers a truth value.
+/// A bit for each row, right wherever the comparison of the two rows answers a truth value. The error is
+/// `Memory`: every `RowArray` can be compared with another one as long as it.
 pub fn compare_rows<A: RowArray>(
     alloc: Global,
     comparison: Comparison,
@@ -38,7 +39,8 @@ pub fn compare_rows<A: RowArray>(
     }
 }
 
-/// The same of each row and a scalar.
+/// The same of each row and a scalar. The error is `Memory`: every `RowArray` has broadcasts, so that no kernel
+/// answers `Unsupported`.
 pub fn compare_scalar<A: RowArray>(
     alloc: Global,
     comparison: Comparison,

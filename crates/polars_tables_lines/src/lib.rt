@@ -11,5 +11,5 @@ mod row_array;
 mod row_number;
 mod row_type;
 pub mod running;
-mod sum;
+mod tables;
 mod words;

@@ -2,6 +2,7 @@
 
 ghost use Rattle.std.specs.Prelude.{◌≡◌, map, IfOk, IfErr, Err, Ok};
 ghost use Rattle.std.specs.String.{string_bytes};
+ghost use Rattle.polars_arrays_bits.specs.Errors.{IsMemory};
 ghost use Rattle.polars_tables_lines.specs.declared.line.LineError.TheVariants.{Memory, Row as RowError};
 ghost use Rattle.polars_tables_lines.specs.declared.operation.Operation.TheVariants.{Compare};
 ghost use Rattle.polars_tables_lines.specs.declared.row_type.RowType.TheVariants.{I32};
@@ -59,12 +60,17 @@ impl<T: Drop> From<AllocFailed<T>> for LineError {
     }
 }
 
-// The kernels that are called fail only where a growth is refused.
-impl From<ComputeError> for LineError {
-    ghost from_gives = { λ _ e. e ≡ Memory };
-
-    fn from(_error: ComputeError) -> LineError {
-        LineError::Memory
+/// The answer of a call whose one error is a refused growth, which its contract says: `Unsupported` and
+/// `KeyOutOfRange` never become `LineError::Memory`.
+pub(crate) fn or_memory<X>(answer: Result<X, ComputeError>) -> Result<X, LineError>
+    requires { IfErr answer IsMemory }
+    ensures answered { IfOk result (λ x. answer ≡ Ok x) }
+    ensures refused { IfErr result (λ e. e ≡ Memory) }
+{
+    match answer {
+        Ok(x) => Ok(x),
+        Err(ComputeError::Memory(_)) => Err(LineError::Memory),
+        Err(_) => unreachable!(),
     }
 }
 

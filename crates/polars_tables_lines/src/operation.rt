@@ -3,6 +3,8 @@
 ghost use Rattle.std.specs.Prelude.{◌≡◌};
 ghost use Rattle.polars_tables_lines.specs.Operations.{operation_of};
 
+use crate::tables::find;
+
 /// A comparison of two rows. In the first six the answer is null where either row is null, and in the
 /// last two null is a row of its own.
 #[derive(Clone, Copy, Debug, PartialEq, Eq)]
@@ -35,31 +37,32 @@ pub enum Operation {
     Sum,
 }
 
+/// The operations by their names. A new one is a line here and in `specs/Operations.antt`.
+const OPERATIONS: [(&str, Operation); 17] = [
+    ("eq", Operation::Compare(Comparison::Equal, Operand::Rows)),
+    ("ne", Operation::Compare(Comparison::Unequal, Operand::Rows)),
+    ("lt", Operation::Compare(Comparison::Less, Operand::Rows)),
+    ("le", Operation::Compare(Comparison::LessOrEqual, Operand::Rows)),
+    ("gt", Operation::Compare(Comparison::Greater, Operand::Rows)),
+    ("ge", Operation::Compare(Comparison::GreaterOrEqual, Operand::Rows)),
+    ("eq_missing", Operation::Compare(Comparison::EqualMissing, Operand::Rows)),
+    ("ne_missing", Operation::Compare(Comparison::UnequalMissing, Operand::Rows)),
+    ("eq_broadcast", Operation::Compare(Comparison::Equal, Operand::Scalar)),
+    ("ne_broadcast", Operation::Compare(Comparison::Unequal, Operand::Scalar)),
+    ("lt_broadcast", Operation::Compare(Comparison::Less, Operand::Scalar)),
+    ("le_broadcast", Operation::Compare(Comparison::LessOrEqual, Operand::Scalar)),
+    ("gt_broadcast", Operation::Compare(Comparison::Greater, Operand::Scalar)),
+    ("ge_broadcast", Operation::Compare(Comparison::GreaterOrEqual, Operand::Scalar)),
+    ("eq_missing_broadcast", Operation::Compare(Comparison::EqualMissing, Operand::Scalar)),
+    ("ne_missing_broadcast", Operation::Compare(Comparison::UnequalMissing, Operand::Scalar)),
+    ("sum", Operation::Sum),
+];
+
 impl Operation {
     /// The operation of this name.
     pub fn from_name(name: &str) -> Option<Operation>
         ensures { result ≡ operation_of name.now }
     {
-        let (comparison, operand) = match name {
-            "eq" => (Comparison::Equal, Operand::Rows),
-            "ne" => (Comparison::Unequal, Operand::Rows),
-            "lt" => (Comparison::Less, Operand::Rows),
-            "le" => (Comparison::LessOrEqual, Operand::Rows),
-            "gt" => (Comparison::Greater, Operand::Rows),
-            "ge" => (Comparison::GreaterOrEqual, Operand::Rows),
-            "eq_missing" => (Comparison::EqualMissing, Operand::Rows),
-            "ne_missing" => (Comparison::UnequalMissing, Operand::Rows),
-            "eq_broadcast" => (Comparison::Equal, Operand::Scalar),
-            "ne_broadcast" => (Comparison::Unequal, Operand::Scalar),
-            "lt_broadcast" => (Comparison::Less, Operand::Scalar),
-            "le_broadcast" => (Comparison::LessOrEqual, Operand::Scalar),
-            "gt_broadcast" => (Comparison::Greater, Operand::Scalar),
-            "ge_broadcast" => (Comparison::GreaterOrEqual, Operand::Scalar),
-            "eq_missing_broadcast" => (Comparison::EqualMissing, Operand::Scalar),
-            "ne_missing_broadcast" => (Comparison::UnequalMissing, Operand::Scalar),
-            "sum" => return Some(Operation::Sum),
-            _ => return None,
-        };
-        Some(Operation::Compare(comparison, operand))
+        find(&OPERATIONS, name)
     }
 }

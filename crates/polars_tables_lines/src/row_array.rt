@@ -37,7 +37,8 @@ pub trait RowArray: TotalEqKernel<Scalar = <Self as RowArray>::Value>
     // The row that a value is.
     ghost value_row: { Self.Value → Row };
 
-    /// The array of these values, each of which is a row where its bit is set and null where it is not.
+    /// The array of these values, each of which is a row where its bit is set and null where it is not. The error
+    /// is `Memory`.
     fn from_values(
         alloc: Global,
         values: Vec<Self::Value>,

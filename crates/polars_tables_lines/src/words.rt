@@ -6,7 +6,7 @@ ghost use Rattle.polars_arrays_flat.specs.StoredRows.{rows_under};
 ghost use Rattle.polars_tables_lines.specs.Faults.{UnlessMemory};
 ghost use Rattle.polars_tables_lines.specs.Word.{words_of, is_bar, value_of, row_from, row_of, rows_of, lists_of};
 
-use crate::line::LineError;
+use crate::line::{LineError, or_memory};
 use crate::row_array::RowArray;
 use polars_arrays_bits::builder::BitmapBuilder;
 use std::alloc::{AllocError, Global};
@@ -62,7 +62,7 @@ fn parse_rows<A: RowArray>(alloc: Global, words: &[&str]) -> Result<A, LineError
         ((e ≡ LineError.Row) × (rows_of A.kind (map (λ w. w.now) words.now) ≡ None))) }
 {
     let mut values = Vec::with_capacity(alloc, words.len())?;
-    let mut present = BitmapBuilder::with_capacity(alloc, words.len())?;
+    let mut present = or_memory(BitmapBuilder::with_capacity(alloc, words.len()))?;
     for word in words {
         let Some(row) = parse_row::<A>(word) else {
             return Err(LineError::Row);
@@ -70,7 +70,7 @@ fn parse_rows<A: RowArray>(alloc: Global, words: &[&str]) -> Result<A, LineError
         present.push_reserved(row.is_some());
         values.push_reserved(stored_value(row));
     }
-    let array = A::from_values(alloc, values, present.freeze())?;
+    let array = or_memory(A::from_values(alloc, values, present.freeze()))?;
     Ok(array)
 }
 

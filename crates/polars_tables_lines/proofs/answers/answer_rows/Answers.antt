@@ -15,4 +15,4 @@ returns-clause-text g c =
     let stored = sym c.count_rows-left_count.ensures.slots ∙ c.if-left_count-right_count.false ∙ c.count_rows-right_count.ensures.slots in
     let written = rw (c.null_mask-left_mask.ensures, c.null_mask-right_mask.ensures, c.validity-left_mask.ensures.mask, c.validity-right_mask.ensures.mask) at c.in_ok-write_answers.ensures in
     rows_answer-text c.args.comparison _ _ _ same
-    (written ∙ ap answer_words (answers-are g.A.RowArray.value_row law.values_law c.args.comparison _ _ _ _ _ c.validity-left_mask.ensures.bits c.validity-right_mask.ensures.bits (law.stored_law c.args.left.now) (law.stored_law c.args.right.now) (sym stored) c.in_ok-bits.ensures))
+    (written ∙ ap answer_words (answers-are g.A.RowArray.value_row law.values_law c.args.comparison _ _ _ _ _ c.validity-left_mask.ensures.bits c.validity-right_mask.ensures.bits (law.stored_law c.args.left.now) (law.stored_law c.args.right.now) (sym stored) (rw c.in_ok-bits.ensures.answered at c.compare_rows.ensures)))

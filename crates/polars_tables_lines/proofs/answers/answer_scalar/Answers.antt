@@ -22,4 +22,4 @@ returns-clause-text g c =
     let value = sym (ap (row_from g.A.RowArray.value_row) c.in-Some.is) ∙ c.value.ensures in
     let written = rw (c.null_mask-mask.ensures, c.validity-mask.ensures.mask) at c.in_ok-write_answers.ensures in
     scalar_answer-text c.args.comparison _ _ (g.A.RowArray.value_row c.in-Some.scalar) _ one value (law.values_law.present c.in-Some.scalar)
-    (written ∙ ap answer_words (scalar_answers-are g.A.RowArray.value_row law.values_law c.args.comparison _ _ c.in-Some.scalar _ c.validity-mask.ensures.bits (law.stored_law c.args.rows.now) c.in_ok-bits.ensures))
+    (written ∙ ap answer_words (scalar_answers-are g.A.RowArray.value_row law.values_law c.args.comparison _ _ c.in-Some.scalar _ c.validity-mask.ensures.bits (law.stored_law c.args.rows.now) (rw c.in_ok-bits.ensures.answered at c.compare_scalar.ensures)))

@@ -36,7 +36,7 @@ returns-in_default-clause-fault g c =
 pub returns-clause-rows : goal.returns-clause-rows
 returns-clause-rows g c =
     let of = λ (w : Bor (List ℕ)). row_of g.A.RowArray.kind w.now in
-    let made = rw c.freeze.ensures at c.in_ok-array.ensures in
+    let made = rw (c.in_ok-array.ensures.answered, c.freeze.ensures) at c.from_values.ensures in
     rows_of-lent g.A.RowArray.kind c.args.words.now ∙ c.loop-word.invariant.rows
     ∙ values-end of c.args.words.now c.loop-word.word-index (masked c.loop-word.present.bits (map g.A.RowArray.value_row c.loop-word.values.items)) (omega (arith, c.loop-word-test.false))
     ∙ ap (λ (rs : List Row). Some rs) (sym made)

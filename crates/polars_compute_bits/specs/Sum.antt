@@ -1,0 +1,13 @@
+-- The sum of rows.
+use Rattle.std.specs.Prelude.{◌+ℤ◌, ℤ, pos, List, [], ◌∷◌}
+use Rattle.polars_arrays_flat.specs.Row.{Row, Int}
+
+-- what a row adds to a sum: a number itself, and any other row nothing
+abbrev pub addend : Row → ℤ
+addend (Int n) = n
+addend row = pos 0
+
+-- the sum of the present rows, 0 without one
+abbrev pub total : List Row → ℤ
+total [] = pos 0
+total (row ∷ more) = addend row +ℤ total more

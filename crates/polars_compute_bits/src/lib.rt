@@ -1,0 +1,5 @@
+//! Counts, reductions and sums of columns.
+#![tactic(auto)]
+
+pub mod sum;
+pub mod wrapping;
