@@ -1,6 +1,6 @@
 //! Arrays of byte strings between offsets.
 
-ghost use Rattle.std.specs.Prelude.{◌≡◌, ◌+◌, ◌<◌, ◌≤◌, [], length, slice_index_or, MatchResult, IfOk, IfErr, ⊤, refl};
+ghost use Rattle.std.specs.Prelude.{◌≡◌, ◌+◌, ◌<◌, ◌≤◌, [], length, slice_index_or, IsOk, MatchResult, IfOk, IfErr, ⊤, refl};
 ghost use Rattle.std.specs.Result.{OkIff};
 ghost use Rattle.polars_arrays_bits.specs.Errors.{IsMemory};
 ghost use Rattle.polars_arrays_bytes.specs.Faults.{IsFirstFault};
@@ -127,9 +127,10 @@ impl<O: Offset> BinaryArray<O> {
 }
 
 impl<O: OffsetType> BinaryArray<O> {
-    /// The array's type. The error is `Memory`.
+    /// The array's type. It takes no memory, so that there is always one.
     pub fn dtype(&self, _alloc: Global) -> Result<ArrowDataType, ComputeError>
-        ensures { MatchResult result (λ dtype. kind_of dtype ≡ O.binary_kind) IsMemory }
+        ensures dtype { MatchResult result (λ dtype. kind_of dtype ≡ O.binary_kind) IsMemory }
+        ensures succeeds { IsOk result }
     {
         Ok(O::binary_data_type())
     }

@@ -1,6 +1,6 @@
 //! Arrays of byte strings of one size.
 
-ghost use Rattle.std.specs.Prelude.{◌≡◌, ◌+◌, ◌*◌, ◌<◌, ◌≤◌, [], length, slice_index_or, MatchResult, IfOk, IfErr, ⊤, refl};
+ghost use Rattle.std.specs.Prelude.{◌≡◌, ◌+◌, ◌*◌, ◌<◌, ◌≤◌, [], length, slice_index_or, IsOk, MatchResult, IfOk, IfErr, ⊤, refl};
 ghost use Rattle.std.specs.Result.{OkIff};
 ghost use Rattle.polars_arrays_bits.specs.Errors.{IsMemory};
 ghost use Rattle.polars_arrays_bytes.specs.SizedStrings.{IsSized, sized_rows, sized_string, sized_strings};
@@ -118,9 +118,10 @@ impl FixedSizeBinaryArray {
         })
     }
 
-    /// The array's type. The error is `Memory`.
+    /// The array's type. It takes no memory, so that there is always one.
     pub fn dtype(&self, _alloc: Global) -> Result<ArrowDataType, ComputeError>
-        ensures { MatchResult result (λ dtype. kind_of dtype ≡ FixedSizeBinaryKind self.now.size) IsMemory }
+        ensures dtype { MatchResult result (λ dtype. kind_of dtype ≡ FixedSizeBinaryKind self.now.size) IsMemory }
+        ensures succeeds { IsOk result }
     {
         Ok(ArrowDataType::FixedSizeBinary(self.size))
     }

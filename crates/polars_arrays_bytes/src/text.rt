@@ -1,6 +1,6 @@
 //! Arrays of texts between offsets.
 
-ghost use Rattle.std.specs.Prelude.{◌≡◌, ◌+◌, ◌<◌, ◌≤◌, ◌↔◌, [], length, slice_index_or, IsTrue, MatchResult, IfOk, IfErr, ⊤, refl};
+ghost use Rattle.std.specs.Prelude.{◌≡◌, ◌+◌, ◌<◌, ◌≤◌, ◌↔◌, [], length, slice_index_or, IsTrue, IsOk, MatchResult, IfOk, IfErr, ⊤, refl};
 ghost use Rattle.std.specs.Option.{MatchOption};
 ghost use Rattle.std.specs.Result.{OkIff};
 ghost use Rattle.std.specs.Str.{IsUtf8};
@@ -109,9 +109,10 @@ impl<O: Offset> Utf8Array<O> {
 }
 
 impl<O: OffsetType> Utf8Array<O> {
-    /// The array's type. The error is `Memory`.
+    /// The array's type. It takes no memory, so that there is always one.
     pub fn dtype(&self, _alloc: Global) -> Result<ArrowDataType, ComputeError>
-        ensures { MatchResult result (λ dtype. kind_of dtype ≡ O.text_kind) IsMemory }
+        ensures dtype { MatchResult result (λ dtype. kind_of dtype ≡ O.text_kind) IsMemory }
+        ensures succeeds { IsOk result }
     {
         Ok(O::text_data_type())
     }

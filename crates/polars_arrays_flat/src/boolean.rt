@@ -1,6 +1,6 @@
 //! Arrays of truth values.
 
-ghost use Rattle.std.specs.Prelude.{◌≡◌, ◌+◌, ◌≤◌, length, MatchResult, IfOk, IfErr, ⊤};
+ghost use Rattle.std.specs.Prelude.{◌≡◌, ◌+◌, ◌≤◌, length, IsOk, MatchResult, IfOk, IfErr, ⊤};
 ghost use Rattle.std.specs.Result.{OkIff};
 ghost use Rattle.polars_arrays_bits.specs.Errors.{IsMemory};
 ghost use Rattle.polars_arrays_flat.specs.ArrayRows.{truth_rows};
@@ -81,9 +81,10 @@ impl BooleanArray {
         Ok(BooleanArray { values, validity })
     }
 
-    /// The array's type. The error is `Memory`.
+    /// The array's type. It takes no memory, so that there is always one.
     pub fn dtype(&self, _alloc: Global) -> Result<ArrowDataType, ComputeError>
-        ensures { MatchResult result (λ dtype. kind_of dtype ≡ BooleanKind) IsMemory }
+        ensures dtype { MatchResult result (λ dtype. kind_of dtype ≡ BooleanKind) IsMemory }
+        ensures succeeds { IsOk result }
     {
         Ok(ArrowDataType::Boolean)
     }

@@ -1,6 +1,6 @@
 //! Buffers whose elements are all the same.
 
-ghost use Rattle.std.specs.Prelude.{◌≡◌, length, replicate, true, MatchResult};
+ghost use Rattle.std.specs.Prelude.{◌≡◌, length, replicate, true, IsOk, IsTrue, MatchResult};
 ghost use Rattle.polars_arrays_bits.specs.Errors.{IsMemory};
 
 use polars_arrays_bits::buffer::Buffer;
@@ -28,7 +28,8 @@ pub(crate) fn filled<T: Copy>(
     mut buffer: Buffer<T>,
     value: T,
 ) -> Result<Buffer<T>, ComputeError>
-    ensures { MatchResult result (λ filled. filled ≡ record { items = replicate (length buffer.items) value; owned = true }) IsMemory }
+    ensures filled { MatchResult result (λ filled. filled ≡ record { items = replicate (length buffer.items) value; owned = true }) IsMemory }
+    ensures in_place { IsTrue buffer.owned → IsOk result }
 {
     if !buffer.is_owned() {
         return repeated(alloc, value, buffer.len());

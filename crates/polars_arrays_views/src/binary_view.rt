@@ -1,6 +1,6 @@
 //! Arrays of byte strings, each said by a view.
 
-ghost use Rattle.std.specs.Prelude.{◌≡◌, ◌<◌, ◌≤◌, ◌+◌, [], length, slice_index_or, IfOk, IfErr, MatchOption, MatchResult, ⊤, refl};
+ghost use Rattle.std.specs.Prelude.{◌≡◌, ◌<◌, ◌≤◌, ◌+◌, [], length, slice_index_or, IfOk, IfErr, MatchOption, IsOk, MatchResult, ⊤, refl};
 ghost use Rattle.std.specs.List.{All};
 ghost use Rattle.std.specs.Result.{OkIff};
 ghost use Rattle.polars_arrays_bits.specs.Errors.{IsMemory};
@@ -134,9 +134,10 @@ impl BinaryViewArray {
         })
     }
 
-    /// The array's type. The error is `Memory`.
+    /// The array's type. It takes no memory, so that there is always one.
     pub fn dtype(&self, _alloc: Global) -> Result<ArrowDataType, ComputeError>
-        ensures { MatchResult result (λ dtype. kind_of dtype ≡ BinaryViewKind) IsMemory }
+        ensures dtype { MatchResult result (λ dtype. kind_of dtype ≡ BinaryViewKind) IsMemory }
+        ensures succeeds { IsOk result }
     {
         Ok(ArrowDataType::BinaryView)
     }

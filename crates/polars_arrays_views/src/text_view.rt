@@ -1,6 +1,6 @@
 //! Arrays of texts, each said by a view.
 
-ghost use Rattle.std.specs.Prelude.{◌≡◌, ◌↔◌, ◌<◌, ◌≤◌, ◌+◌, [], length, slice_index_or, IfOk, IfErr, IsTrue, MatchOption, MatchResult, ⊤, refl};
+ghost use Rattle.std.specs.Prelude.{◌≡◌, ◌↔◌, ◌<◌, ◌≤◌, ◌+◌, [], length, slice_index_or, IfOk, IfErr, IsTrue, MatchOption, IsOk, MatchResult, ⊤, refl};
 ghost use Rattle.std.specs.Result.{OkIff};
 ghost use Rattle.std.specs.Str.{IsUtf8};
 ghost use Rattle.polars_arrays_bits.specs.Errors.{IsMemory};
@@ -98,9 +98,10 @@ impl Utf8ViewArray {
         Ok(Utf8ViewArray { binary })
     }
 
-    /// The array's type. The error is `Memory`.
+    /// The array's type. It takes no memory, so that there is always one.
     pub fn dtype(&self, _alloc: Global) -> Result<ArrowDataType, ComputeError>
-        ensures { MatchResult result (λ dtype. kind_of dtype ≡ Utf8ViewKind) IsMemory }
+        ensures dtype { MatchResult result (λ dtype. kind_of dtype ≡ Utf8ViewKind) IsMemory }
+        ensures succeeds { IsOk result }
     {
         Ok(ArrowDataType::Utf8View)
     }
