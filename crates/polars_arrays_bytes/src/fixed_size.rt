@@ -6,7 +6,7 @@ ghost use Rattle.polars_arrays_bits.specs.Errors.{IsMemory};
 ghost use Rattle.polars_arrays_bytes.specs.SizedStrings.{IsSized, sized_rows, sized_string, sized_strings};
 ghost use Rattle.polars_arrays_flat.specs.DataType.{kind_of};
 ghost use Rattle.polars_arrays_flat.specs.Kind.{FixedSizeBinaryKind};
-ghost use Rattle.polars_arrays_flat.specs.Slots.{byte_slots-present};
+ghost use Rattle.polars_arrays_flat.specs.SlotLaws.{byte_slots-present};
 ghost use Rattle.polars_arrays_flat.specs.StoredRows.{rows_under, byte_slots};
 ghost use Rattle.polars_arrays_flat.specs.Validity.{masked_count, validity_window, window};
 

@@ -6,7 +6,7 @@ ghost use Rattle.polars_arrays_bits.specs.Errors.{IsMemory};
 ghost use Rattle.polars_arrays_flat.specs.ArrayRows.{truth_rows};
 ghost use Rattle.polars_arrays_flat.specs.DataType.{kind_of};
 ghost use Rattle.polars_arrays_flat.specs.Kind.{BooleanKind};
-ghost use Rattle.polars_arrays_flat.specs.Slots.{truth_slots-present};
+ghost use Rattle.polars_arrays_flat.specs.SlotLaws.{truth_slots-present};
 ghost use Rattle.polars_arrays_flat.specs.StoredRows.{rows_under, truth_slots};
 ghost use Rattle.polars_arrays_flat.specs.Validity.{HasBits, masked_count, validity_window, window};
 

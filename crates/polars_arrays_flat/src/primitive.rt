@@ -7,7 +7,7 @@ ghost use Rattle.polars_arrays_bits.specs.Errors.{IsMemory};
 ghost use Rattle.polars_arrays_flat.specs.ArrayRows.{number_rows, filled_row};
 ghost use Rattle.polars_arrays_flat.specs.DataType.{kind_of};
 ghost use Rattle.polars_arrays_flat.specs.Row.{Null};
-ghost use Rattle.polars_arrays_flat.specs.Slots.{number_slots-present};
+ghost use Rattle.polars_arrays_flat.specs.SlotLaws.{number_slots-present};
 ghost use Rattle.polars_arrays_flat.specs.StoredRows.{rows_under, number_slots};
 ghost use Rattle.polars_arrays_flat.specs.Validity.{HasBits, masked_count, validity_window, window};
 

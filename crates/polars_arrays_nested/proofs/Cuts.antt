@@ -13,7 +13,8 @@ use Rattle.polars_arrays_flat.specs.StoredRows.{kept}
 use Rattle.polars_arrays_flat.specs.Validity.{is_present, validity_window, window}
 use Rattle.polars_arrays_flat.specs.declared.data_type.Field.{Field}
 use Rattle.polars_arrays_nested.specs.AnyRows.{row, rows_from}
-use Rattle.polars_arrays_nested.specs.Columns.{AreColumns, columns_leaves, good-struct, leaves-struct, row-struct, rows_at, struct-good}
+use Rattle.polars_arrays_nested.specs.Columns.{AreColumns, columns_leaves, rows_at}
+use Rattle.polars_arrays_nested.specs.ColumnLaws.{good-struct, leaves-struct, row-struct, struct-good}
 use Rattle.polars_arrays_nested.specs.Cuts.{IsCut}
 use Rattle.polars_arrays_nested.specs.DictKeys.{key_at, key_count, key_places, key_type, key_validity}
 use Rattle.polars_arrays_nested.specs.GoodParts.{IsGood}

@@ -6,7 +6,7 @@ ghost use Rattle.std.specs.Str.{IsUtf8};
 ghost use Rattle.polars_arrays_bits.specs.Errors.{IsMemory};
 ghost use Rattle.polars_arrays_flat.specs.DataType.{kind_of};
 ghost use Rattle.polars_arrays_flat.specs.Kind.{Utf8ViewKind};
-ghost use Rattle.polars_arrays_flat.specs.Slots.{byte_slots-present};
+ghost use Rattle.polars_arrays_flat.specs.SlotLaws.{byte_slots-present};
 ghost use Rattle.polars_arrays_flat.specs.StoredRows.{rows_under, byte_slots};
 ghost use Rattle.polars_arrays_flat.specs.Validity.{masked_count, validity_window, window};
 ghost use Rattle.polars_arrays_views.specs.Parts.{contents, strings_of, view_rows, view_strings, GoodParts};
