@@ -134,8 +134,8 @@ impl<T: Copy> Buffer<T> {
         }
     }
 
-    /// The same elements, from now on in a slice that clones share. No element moves. The error is `Memory`,
-    /// and comes only of elements that are owned.
+    /// The same elements, in a slice that later clones share and do not copy. No element moves. The error is
+    /// `Memory`, and comes only of elements that are owned.
     pub fn share(self, _alloc: Global) -> Result<Buffer<T>, ComputeError>
         ensures shared { MatchResult result (λ shared. shared ≡ record { items = self.items; owned = false }) IsMemory }
         ensures stays { IsFalse self.owned → IsOk result }
@@ -152,8 +152,7 @@ impl<T: Copy> Buffer<T> {
         })
     }
 
-    /// A second buffer of the same elements: a copy of owned ones, the very slice of shared ones. The error
-    /// is `Memory`.
+    /// A second buffer of the same elements. Owned ones are copied, shared ones are not. The error is `Memory`.
     pub fn clone_buffer(&self, alloc: Global) -> Result<Buffer<T>, ComputeError>
         ensures { MatchResult result (λ copy. copy ≡ self.now) IsMemory }
     {

@@ -187,7 +187,7 @@ fn keep_strings(values: &mut Buffer<u8>, size: usize, at: usize, n: usize)
     requires { size * at + size * n ≤ length values.old.items }
     ensures { values.new ≡ record { items = window (size * at) (size * n) values.old.items; owned = values.old.owned } }
 {
-    // a `usize`, so that the products are too
+    // The products below are at most this length, and so fit a `usize`.
     let _len = values.len();
     values.slice(size * at, size * n);
 }

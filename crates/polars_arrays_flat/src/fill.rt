@@ -22,7 +22,7 @@ pub(crate) fn repeated<T: Copy>(
     Ok(Buffer::from_vec(elements))
 }
 
-// A buffer of as many elements that are all `value`, in the memory there was where the buffer owns it.
+// A buffer of as many elements that are all `value`: the same buffer, written in place, where it owns them.
 pub(crate) fn filled<T: Copy>(
     alloc: Global,
     mut buffer: Buffer<T>,

@@ -152,8 +152,8 @@ impl<T: NativeType> PrimitiveArray<T> {
         PrimitiveArray { values, validity }
     }
 
-    /// The same rows, from now on in stored values that clones share. No value moves. The error is `Memory`,
-    /// and comes only of values that are owned.
+    /// The same rows, in stored values that later clones share and do not copy. No value moves. The error is
+    /// `Memory`, and comes only of values that are owned.
     pub fn share(self, alloc: Global) -> Result<PrimitiveArray<T>, ComputeError>
         ensures stored { MatchResult result (λ shared. shared ≡ record self { owned = false }) IsMemory }
         ensures rows { IfOk result (λ shared. number_rows T.value shared ≡ number_rows T.value self) }
@@ -164,8 +164,8 @@ impl<T: NativeType> PrimitiveArray<T> {
         Ok(PrimitiveArray { values, validity })
     }
 
-    /// A second array of the same values and validity, in the very values where these are shared. The error
-    /// is `Memory`.
+    /// A second array of the same values and validity. Values that are shared are not copied. The error is
+    /// `Memory`.
     pub fn clone_array(&self, alloc: Global) -> Result<PrimitiveArray<T>, ComputeError>
         ensures { MatchResult result (λ copy. copy ≡ self.now) IsMemory }
     {
@@ -186,8 +186,8 @@ impl<T: ArrowType> PrimitiveArray<T> {
 }
 
 impl<T: NativeType> PrimitiveArray<T> {
-    /// The same validity over stored values that are all `value`, in the values there were where the array
-    /// owns them. The error is `Memory`, and comes only of values that are not owned.
+    /// The same validity over stored values that are all `value`. Values that the array owns are overwritten in
+    /// place; else new ones are made, and then the error is `Memory`.
     #[tactic(auto, using(crate::proofs::RowWindows::fills))]
     pub fn fill_with(self, alloc: Global, value: T) -> Result<PrimitiveArray<T>, ComputeError>
         ensures stored { MatchResult result (λ filled. filled ≡ record { values = replicate (length self.values) value; validity = self.validity; owned = true }) IsMemory }

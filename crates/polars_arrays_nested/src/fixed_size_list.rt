@@ -93,7 +93,7 @@ impl FixedSizeListArray {
         requires within { at + n ≤ len_of (FixedSizeList self.old) }
         ensures { IsCut (FixedSizeList self.new) (FixedSizeList self.old) at n }
     {
-        // a `usize`, so that the products are two
+        // The products below are at most this number, and so fit a `usize`.
         let _items = self.values.len();
         self.values.slice(self.width * at, self.width * n);
         slice_validity(&mut self.validity, at, n);

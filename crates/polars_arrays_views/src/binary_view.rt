@@ -1,4 +1,4 @@
-//! Arrays of byte strings, each said by a view.
+//! Arrays of byte strings, each described by a view.
 
 ghost use Rattle.std.specs.Prelude.{◌≡◌, ◌<◌, ◌≤◌, ◌+◌, [], length, slice_index_or, IfOk, IfErr, MatchOption, IsOk, MatchResult, ⊤, refl};
 ghost use Rattle.std.specs.List.{All};

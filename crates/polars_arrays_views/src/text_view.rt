@@ -1,4 +1,4 @@
-//! Arrays of texts, each said by a view.
+//! Arrays of texts, each described by a view.
 
 ghost use Rattle.std.specs.Prelude.{◌≡◌, ◌↔◌, ◌<◌, ◌≤◌, ◌+◌, [], length, slice_index_or, IfOk, IfErr, IsTrue, MatchOption, IsOk, MatchResult, ⊤, refl};
 ghost use Rattle.std.specs.Result.{OkIff};
