@@ -134,7 +134,7 @@ impl Bitmap {
         self.len = n;
     }
 
-    /// The same bits, from now on in words that clones share. No word moves. The error is `Memory`.
+    /// The same bits, in words that later clones share and do not copy. No word moves. The error is `Memory`.
     pub fn share(self, alloc: Global) -> Result<Bitmap, ComputeError>
         ensures { MatchResult result (λ shared. shared ≡ self) IsMemory }
     {
@@ -143,7 +143,7 @@ impl Bitmap {
         Ok(Bitmap { words, at, len })
     }
 
-    /// A second bitmap of the same bits, in the very words where these are shared. The error is `Memory`.
+    /// A second bitmap of the same bits. Words that are shared are not copied. The error is `Memory`.
     pub fn clone_bitmap(&self, alloc: Global) -> Result<Bitmap, ComputeError>
         ensures { MatchResult result (λ copy. copy ≡ self.now) IsMemory }
     {

@@ -1,6 +1,6 @@
 //! Elements that are kept in one piece of memory, owned or shared.
 
-ghost use Rattle.std.specs.Prelude.{◌≡◌, ◌+◌, ◌≤◌, ◌↔◌, List, Bool, true, false, IsTrue, IsSome, IfSome, MatchResult, take, drop, length};
+ghost use Rattle.std.specs.Prelude.{◌≡◌, ◌+◌, ◌≤◌, ◌↔◌, List, Bool, true, false, IsTrue, IsFalse, IsOk, IsSome, IfSome, MatchResult, take, drop, length};
 ghost use Rattle.std.specs.Borrow.{sem};
 ghost use Rattle.polars_arrays_bits.specs.Errors.{IsMemory};
 
@@ -134,9 +134,11 @@ impl<T: Copy> Buffer<T> {
         }
     }
 
-    /// The same elements, from now on in a slice that clones share. No element moves. The error is `Memory`.
+    /// The same elements, in a slice that later clones share and do not copy. No element moves. The error is
+    /// `Memory`, and comes only of elements that are owned.
     pub fn share(self, _alloc: Global) -> Result<Buffer<T>, ComputeError>
-        ensures { MatchResult result (λ shared. shared ≡ record { items = self.items; owned = false }) IsMemory }
+        ensures shared { MatchResult result (λ shared. shared ≡ record { items = self.items; owned = false }) IsMemory }
+        ensures stays { IsFalse self.owned → IsOk result }
     {
         let Buffer { store, start, len } = self;
         let elements = match store {
@@ -150,8 +152,7 @@ impl<T: Copy> Buffer<T> {
         })
     }
 
-    /// A second buffer of the same elements: a copy of owned ones, the very slice of shared ones. The error
-    /// is `Memory`.
+    /// A second buffer of the same elements. Owned ones are copied, shared ones are not. The error is `Memory`.
     pub fn clone_buffer(&self, alloc: Global) -> Result<Buffer<T>, ComputeError>
         ensures { MatchResult result (λ copy. copy ≡ self.now) IsMemory }
     {

@@ -40,8 +40,8 @@ impl<'a, L: Copy, R: Copy, E: Comparison<L, R>> TruthValues for Pairs<'a, L, R, 
     }
 }
 
-/// Of which elements of two slices of one length the comparison holds, place by place. The error is
-/// `Memory`.
+/// For each place of two slices of one length, whether the comparison holds of the elements there. The error
+/// is `Memory`.
 pub fn compare_pairs<L: Copy, R: Copy, E: Comparison<L, R>>(
     alloc: Global,
     comparison: &E,
@@ -105,8 +105,7 @@ impl<'a, L: Copy, R: Copy, E: Comparison<L, R>> TruthValues for Against<'a, L, R
     }
 }
 
-/// Of which elements of a slice and `right` the comparison holds, place by place. The error is
-/// `Memory`.
+/// For each element of a slice, whether the comparison holds of it and `right`. The error is `Memory`.
 pub fn compare_constant<L: Copy, R: Copy, E: Comparison<L, R>>(
     alloc: Global,
     comparison: &E,

@@ -1,12 +1,12 @@
 //! Arrays of byte strings between offsets.
 
-ghost use Rattle.std.specs.Prelude.{◌≡◌, ◌+◌, ◌<◌, ◌≤◌, [], length, slice_index_or, MatchResult, IfOk, IfErr, ⊤, refl};
+ghost use Rattle.std.specs.Prelude.{◌≡◌, ◌+◌, ◌<◌, ◌≤◌, [], length, slice_index_or, IsOk, MatchResult, IfOk, IfErr, ⊤, refl};
 ghost use Rattle.std.specs.Result.{OkIff};
 ghost use Rattle.polars_arrays_bits.specs.Errors.{IsMemory};
 ghost use Rattle.polars_arrays_bytes.specs.Faults.{IsFirstFault};
 ghost use Rattle.polars_arrays_bytes.specs.OffsetStrings.{AreBounded, AreGood, offset_rows, offset_strings, places, row_count, strings_between};
 ghost use Rattle.polars_arrays_flat.specs.DataType.{kind_of};
-ghost use Rattle.polars_arrays_flat.specs.Slots.{byte_slots-present};
+ghost use Rattle.polars_arrays_flat.specs.SlotLaws.{byte_slots-present};
 ghost use Rattle.polars_arrays_flat.specs.StoredRows.{rows_under, byte_slots};
 ghost use Rattle.polars_arrays_flat.specs.Validity.{masked_count, validity_window, window};
 
@@ -128,9 +128,10 @@ impl<O: Offset> BinaryArray<O> {
 }
 
 impl<O: OffsetType> BinaryArray<O> {
-    /// The array's type. The error is `Memory`.
+    /// The array's type. It takes no memory, so that there is always one.
     pub fn dtype(&self, _alloc: Global) -> Result<ArrowDataType, ComputeError>
-        ensures { MatchResult result (λ dtype. kind_of dtype ≡ O.binary_kind) IsMemory }
+        ensures dtype { MatchResult result (λ dtype. kind_of dtype ≡ O.binary_kind) IsMemory }
+        ensures succeeds { IsOk result }
     {
         Ok(O::binary_data_type())
     }

@@ -1,12 +1,12 @@
 //! Arrays of byte strings of one size.
 
-ghost use Rattle.std.specs.Prelude.{◌≡◌, ◌+◌, ◌*◌, ◌<◌, ◌≤◌, [], length, slice_index_or, MatchResult, IfOk, IfErr, ⊤, refl};
+ghost use Rattle.std.specs.Prelude.{◌≡◌, ◌+◌, ◌*◌, ◌<◌, ◌≤◌, [], length, slice_index_or, IsOk, MatchResult, IfOk, IfErr, ⊤, refl};
 ghost use Rattle.std.specs.Result.{OkIff};
 ghost use Rattle.polars_arrays_bits.specs.Errors.{IsMemory};
 ghost use Rattle.polars_arrays_bytes.specs.SizedStrings.{IsSized, sized_rows, sized_string, sized_strings};
 ghost use Rattle.polars_arrays_flat.specs.DataType.{kind_of};
 ghost use Rattle.polars_arrays_flat.specs.Kind.{FixedSizeBinaryKind};
-ghost use Rattle.polars_arrays_flat.specs.Slots.{byte_slots-present};
+ghost use Rattle.polars_arrays_flat.specs.SlotLaws.{byte_slots-present};
 ghost use Rattle.polars_arrays_flat.specs.StoredRows.{rows_under, byte_slots};
 ghost use Rattle.polars_arrays_flat.specs.Validity.{masked_count, validity_window, window};
 
@@ -119,9 +119,10 @@ impl FixedSizeBinaryArray {
         })
     }
 
-    /// The array's type. The error is `Memory`.
+    /// The array's type. It takes no memory, so that there is always one.
     pub fn dtype(&self, _alloc: Global) -> Result<ArrowDataType, ComputeError>
-        ensures { MatchResult result (λ dtype. kind_of dtype ≡ FixedSizeBinaryKind self.now.size) IsMemory }
+        ensures dtype { MatchResult result (λ dtype. kind_of dtype ≡ FixedSizeBinaryKind self.now.size) IsMemory }
+        ensures succeeds { IsOk result }
     {
         Ok(ArrowDataType::FixedSizeBinary(self.size))
     }
@@ -194,7 +195,7 @@ fn keep_strings(values: &mut Buffer<u8>, size: usize, at: usize, n: usize)
     requires { size * at + size * n ≤ length values.old.items }
     ensures { values.new ≡ record { items = window (size * at) (size * n) values.old.items; owned = values.old.owned } }
 {
-    // a `usize`, so that the products are too
+    // The products below are at most this length, and so fit a `usize`.
     let _len = values.len();
     values.slice(size * at, size * n);
 }

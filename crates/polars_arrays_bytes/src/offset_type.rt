@@ -1,4 +1,4 @@
-//! The types of offsets that the types of arrays name.
+//! The types of offsets between which byte strings and texts lie.
 
 ghost use Rattle.std.specs.Prelude.{◌≡◌};
 ghost use Rattle.polars_arrays_flat.specs.DataType.{kind_of};
@@ -7,7 +7,7 @@ ghost use Rattle.polars_arrays_flat.specs.Kind.{Kind, BinaryKind, LargeBinaryKin
 use polars_arrays_flat::data_type::ArrowDataType;
 use polars_arrays_numbers::offset::Offset;
 
-/// A type of offsets that a type of byte strings and a type of texts are named after.
+/// A type of offsets: for each there is a type of arrays of byte strings and one of arrays of texts.
 pub trait OffsetType: Offset {
     // The kind of an array of byte strings between these offsets.
     ghost binary_kind: { Kind };

@@ -1,4 +1,4 @@
-//! What offsets say: where each row lies, and which row is bad.
+//! Reading offsets: how many rows they bound, where each row lies, and the first row that is bad.
 
 ghost use Rattle.std.specs.Prelude.{◌≡◌, ◌+◌, ◌<◌, ◌↔◌, IsTrue, length};
 ghost use Rattle.std.specs.Option.{MatchOption};
@@ -87,7 +87,7 @@ pub fn keep_rows<O: Offset>(offsets: &mut Buffer<O>, at: usize, n: usize)
     requires { at + n < length offsets.old.items }
     ensures { offsets.new ≡ record { items = window at (n + 1) offsets.old.items; owned = offsets.old.owned } }
 {
-    // a `usize`, so that the sum is one too
+    // The sum below is at most this length, and so fits a `usize`.
     let _len = offsets.len();
     offsets.slice(at, n + 1);
 }

@@ -1,6 +1,6 @@
 //! Arrays of texts between offsets.
 
-ghost use Rattle.std.specs.Prelude.{◌≡◌, ◌+◌, ◌<◌, ◌≤◌, ◌↔◌, [], length, slice_index_or, IsTrue, MatchResult, IfOk, IfErr, ⊤, refl};
+ghost use Rattle.std.specs.Prelude.{◌≡◌, ◌+◌, ◌<◌, ◌≤◌, ◌↔◌, [], length, slice_index_or, IsTrue, IsOk, MatchResult, IfOk, IfErr, ⊤, refl};
 ghost use Rattle.std.specs.Option.{MatchOption};
 ghost use Rattle.std.specs.Result.{OkIff};
 ghost use Rattle.std.specs.Str.{IsUtf8};
@@ -8,7 +8,7 @@ ghost use Rattle.polars_arrays_bits.specs.Errors.{IsMemory};
 ghost use Rattle.polars_arrays_bytes.specs.OffsetStrings.{AreGood, offset_rows, offset_strings, places, row_count, strings_between};
 ghost use Rattle.polars_arrays_bytes.specs.Texts.{AreTextParts, AreTexts, IsFirstOther, IsFirstTextFault};
 ghost use Rattle.polars_arrays_flat.specs.DataType.{kind_of};
-ghost use Rattle.polars_arrays_flat.specs.Slots.{byte_slots-present};
+ghost use Rattle.polars_arrays_flat.specs.SlotLaws.{byte_slots-present};
 ghost use Rattle.polars_arrays_flat.specs.StoredRows.{rows_under, byte_slots};
 ghost use Rattle.polars_arrays_flat.specs.Validity.{masked_count, validity_window, window};
 
@@ -110,9 +110,10 @@ impl<O: Offset> Utf8Array<O> {
 }
 
 impl<O: OffsetType> Utf8Array<O> {
-    /// The array's type. The error is `Memory`.
+    /// The array's type. It takes no memory, so that there is always one.
     pub fn dtype(&self, _alloc: Global) -> Result<ArrowDataType, ComputeError>
-        ensures { MatchResult result (λ dtype. kind_of dtype ≡ O.text_kind) IsMemory }
+        ensures dtype { MatchResult result (λ dtype. kind_of dtype ≡ O.text_kind) IsMemory }
+        ensures succeeds { IsOk result }
     {
         Ok(O::text_data_type())
     }

@@ -7,8 +7,8 @@ use Rattle.std.specs.declared.cmp.Ordering.{Ordering}
 use Rattle.std.specs.declared.cmp.Ordering.TheVariants.{Less, Equal, Greater}
 use Rattle.std.proofs.lemmas.Cmp.{ranked, by_ranked}
 use Rattle.std.proofs.lemmas.List.{drop-take, length-drop, length-take, take-take}
-use Rattle.polars_arrays_flat.specs.ByteOrder.{bytes_lt, few_number}
-use Rattle.polars_arrays_flat.specs.ByteOrderLaws.{AreBytes, by_length, bytes_drop, bytes_take, digit_step, eight_decide, equal_from, four_decide, overlap}
+use Rattle.polars_arrays_flat.specs.ByteOrder.{AreBytes, bytes_lt, few_number}
+use Rattle.polars_arrays_flat.specs.ByteOrderLaws.{by_length, bytes_drop, bytes_take, digit_step, eight_decide, equal_from, four_decide, overlap}
 
 test_of_cmp : (b c : Bool) → b ≡ is_lt (cond b Less (cond c Equal Greater))
 test_of_cmp true c = refl

@@ -3,7 +3,8 @@ use Rattle.std.proofs.Common.{◌≡◌, ℕ, zero, suc, ◌<◌, ◌↔◌, Boo
 use Rattle.std.proofs.lemmas.Bool.{false≢true}
 use Rattle.std.specs.declared.vec.Vec.{Vec}
 use Rattle.std.specs.declared.alloc.Global.{Global}
-use Rattle.polars_arrays_flat.specs.DataType.{kind_of, kinds_of, kind_of-struct, IsSameField}
+use Rattle.polars_arrays_flat.specs.DataType.{kind_of, kinds_of, IsSameField}
+use Rattle.polars_arrays_flat.specs.DataTypeLaws.{kind_of-struct}
 use Rattle.polars_arrays_flat.specs.Kind.{NamedKinds, StructKind}
 use Rattle.polars_arrays_flat.specs.declared.data_type.Field.{Field}
 use Rattle.polars_arrays_flat.specs.declared.data_type.ArrowDataType as types

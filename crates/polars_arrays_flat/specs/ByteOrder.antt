@@ -1,8 +1,12 @@
 -- The order of byte strings.
-use Rattle.std.specs.Prelude.{◌/◌, ℕ, zero, suc, Bool, List, [], ◌∷◌, slice_index}
+use Rattle.std.specs.Prelude.{◌<◌, ◌/◌, ℕ, zero, suc, Bool, List, [], ◌∷◌, get_or, slice_index}
 use Rattle.std.specs.Cmp.Lexicographic.{slice_cmp}
 use Rattle.std.specs.Int.{w32, from_be_bytes}
 use Rattle.std.specs.Ordering.{nat_cmp, is_lt}
+
+-- each element is a byte
+abbrev pub AreBytes : List ℕ → Type 0
+AreBytes xs = (k : ℕ) → get_or xs k 0 < 256
 
 -- the first byte string is less: at the first place where the two differ, or as a proper beginning
 abbrev pub bytes_lt : List ℕ → List ℕ → Bool

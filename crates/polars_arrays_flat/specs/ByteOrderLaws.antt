@@ -8,6 +8,7 @@ use Rattle.std.proofs.lemmas.Bool.Decides.{nat_tests}
 use Rattle.std.proofs.lemmas.Cmp.{ranked, by_ranked}
 use Rattle.std.proofs.lemmas.List.{get_or-drop}
 use Rattle.std.proofs.lemmas.Nat.{row_fits}
+use Rattle.polars_arrays_flat.specs.ByteOrder.{AreBytes}
 
 pub less_from : (x y : ℕ) → x < y → nat_cmp x y ≡ Less
 less_from x y h = grind (arith, nat_tests)
@@ -25,10 +26,6 @@ cmp_suc m n =
     (λ e p. e ∙ sym (less_from (suc m) (suc n) (omega arith)))
     (λ e p. e ∙ sym (equal_from (suc m) (suc n) (omega arith)))
     (λ e p. e ∙ sym (greater_from (suc m) (suc n) (omega arith)))
-
--- each element is a byte
-abbrev pub AreBytes : List ℕ → Type 0
-AreBytes xs = (k : ℕ) → get_or xs k 0 < 256
 
 -- ---- parts
 -- the first m elements decide, or else what stands from an earlier place on

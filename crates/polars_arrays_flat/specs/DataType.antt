@@ -1,13 +1,9 @@
 -- The kind that a type of the program stands for.
 use Rattle.std.specs.Prelude.{◌≡◌, List, [], ◌∷◌, string_bytes}
-use Rattle.std.proofs.Common.{refl, ap, ◌∙◌}
-use Rattle.std.specs.declared.vec.Vec.{Vec}
-use Rattle.std.specs.declared.alloc.Global.{Global}
 use Rattle.polars_arrays_flat.specs.Kind.{Kind, NullKind, BooleanKind, Int8Kind, Int16Kind, Int32Kind, Int64Kind, Int128Kind, UInt8Kind, UInt16Kind, UInt32Kind, UInt64Kind, UInt128Kind, BinaryKind, LargeBinaryKind, Utf8Kind, LargeUtf8Kind, BinaryViewKind, Utf8ViewKind, FixedSizeBinaryKind, ListKind, LargeListKind, FixedSizeListKind, StructKind, DictionaryKind, NamedKinds, no_kinds, more_kinds}
 use Rattle.polars_arrays_flat.specs.declared.data_type.IntegerType.{IntegerType}
 use Rattle.polars_arrays_flat.specs.declared.data_type.IntegerType.TheVariants as key
-use Rattle.polars_arrays_flat.specs.declared.data_type.ArrowDataType.{ArrowDataType, Null, Boolean, Int8, Int16, Int32, Int64, Int128, UInt8, UInt16, UInt32, UInt64, UInt128, Binary, LargeBinary, Utf8, LargeUtf8, BinaryView, Utf8View, FixedSizeBinary, List', LargeList', FixedSizeList', Struct, Struct', Dictionary', Row_of-Field, end_of-Field, more_of-Field, items-the_row-Field, items_hidden-the_row-Field-0}
-use Rattle.polars_arrays_flat.specs.declared.data_type.ArrowDataType.TheBlock.{hidden-the_row-Field-0}
+use Rattle.polars_arrays_flat.specs.declared.data_type.ArrowDataType.{ArrowDataType, Null, Boolean, Int8, Int16, Int32, Int64, Int128, UInt8, UInt16, UInt32, UInt64, UInt128, Binary, LargeBinary, Utf8, LargeUtf8, BinaryView, Utf8View, FixedSizeBinary, List', LargeList', FixedSizeList', Struct', Dictionary', Row_of-Field, end_of-Field, more_of-Field}
 use Rattle.polars_arrays_flat.specs.declared.data_type.Field.{Field}
 
 -- the kind of keys of this type
@@ -58,16 +54,6 @@ abbrev mutual
 abbrev pub kinds_of : List Field → NamedKinds
 kinds_of [] = no_kinds
 kinds_of (field ∷ rest) = more_kinds (string_bytes field.name) (kind_of field.dtype) (kinds_of rest)
-
-kinds_in-is : (m : _) (all : Row_of-Field m) → kinds_in all ≡ kinds_of (items-the_row-Field m all)
-kinds_in-is m end_of-Field = refl
-kinds_in-is m (more_of-Field name dtype rest) =
-    ap (λ r. more_kinds (string_bytes name) (kind_of dtype) r) (kinds_in-is _ rest)
-
--- a struct's kind is that of its fields
-pub kind_of-struct : (fields : Vec Field Global) → kind_of (Struct fields) ≡ StructKind (kinds_of fields.items)
-kind_of-struct fields =
-    ap StructKind (kinds_in-is _ (hidden-the_row-Field-0 fields) ∙ ap kinds_of (items_hidden-the_row-Field-0 fields))
 
 -- one name, byte for byte, and one kind
 pub record IsSameField (f g : Field) : Type 0 where

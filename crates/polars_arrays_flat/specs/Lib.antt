@@ -2,6 +2,7 @@ pub mod ArrayRows
 pub mod ByteOrder
 pub mod ByteOrderLaws
 pub mod DataType
+pub mod DataTypeLaws
 pub mod Flat
 pub mod Kind
 pub mod KindEquality
@@ -10,6 +11,6 @@ pub mod Masks
 pub mod Numbers
 pub mod NumbersLends
 pub mod Row
-pub mod Slots
+pub mod SlotLaws
 pub mod StoredRows
 pub mod Validity

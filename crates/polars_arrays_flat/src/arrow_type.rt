@@ -1,4 +1,4 @@
-//! The number types that the types of arrays name.
+//! The number types whose arrays have a type of their own.
 
 ghost use Rattle.std.specs.Prelude.{◌≡◌};
 ghost use Rattle.polars_arrays_flat.specs.DataType.{kind_of};
@@ -7,7 +7,7 @@ ghost use Rattle.polars_arrays_flat.specs.Kind.{Kind, Int8Kind, Int16Kind, Int32
 use crate::data_type::ArrowDataType;
 use polars_arrays_numbers::native_type::NativeType;
 
-/// A number type that a type of arrays is named after.
+/// A number type whose arrays have a type of their own.
 pub trait ArrowType: NativeType {
     // The kind of an array of these numbers.
     ghost kind: { Kind };

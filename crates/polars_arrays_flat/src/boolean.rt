@@ -1,12 +1,12 @@
 //! Arrays of truth values.
 
-ghost use Rattle.std.specs.Prelude.{◌≡◌, ◌+◌, ◌≤◌, length, MatchResult, IfOk, IfErr, ⊤};
+ghost use Rattle.std.specs.Prelude.{◌≡◌, ◌+◌, ◌≤◌, length, IsOk, MatchResult, IfOk, IfErr, ⊤};
 ghost use Rattle.std.specs.Result.{OkIff};
 ghost use Rattle.polars_arrays_bits.specs.Errors.{IsMemory};
 ghost use Rattle.polars_arrays_flat.specs.ArrayRows.{truth_rows};
 ghost use Rattle.polars_arrays_flat.specs.DataType.{kind_of};
 ghost use Rattle.polars_arrays_flat.specs.Kind.{BooleanKind};
-ghost use Rattle.polars_arrays_flat.specs.Slots.{truth_slots-present};
+ghost use Rattle.polars_arrays_flat.specs.SlotLaws.{truth_slots-present};
 ghost use Rattle.polars_arrays_flat.specs.StoredRows.{rows_under, truth_slots};
 ghost use Rattle.polars_arrays_flat.specs.Validity.{HasBits, masked_count, validity_window, window};
 
@@ -82,9 +82,10 @@ impl BooleanArray {
         Ok(BooleanArray { values, validity })
     }
 
-    /// The array's type. The error is `Memory`.
+    /// The array's type. It takes no memory, so that there is always one.
     pub fn dtype(&self, _alloc: Global) -> Result<ArrowDataType, ComputeError>
-        ensures { MatchResult result (λ dtype. kind_of dtype ≡ BooleanKind) IsMemory }
+        ensures dtype { MatchResult result (λ dtype. kind_of dtype ≡ BooleanKind) IsMemory }
+        ensures succeeds { IsOk result }
     {
         Ok(ArrowDataType::Boolean)
     }

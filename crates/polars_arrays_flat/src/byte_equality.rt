@@ -5,9 +5,8 @@ ghost use Rattle.std.specs.Int.{w32, w64, from_le_bytes, to_le_bytes};
 ghost use Rattle.std.specs.Str.{bytes_eq};
 ghost use Rattle.polars_arrays_flat.specs.Validity.{window};
 
-/// Whether two byte strings are equal. It is made for short ones: up to 16 bytes it compares them as
-/// far as the shorter one goes, by numbers and with few branches, since whether strings are as long
-/// as each other is seldom foreseen.
+/// Whether two byte strings are equal. Up to 16 bytes they are compared as numbers, as far as the shorter
+/// one goes, whatever the other's length: a branch on the lengths would often be predicted wrongly.
 #[inline(always)]
 pub fn bytes_equal(left: &[u8], right: &[u8]) -> bool
     ensures { result ≡ bytes_eq left.now right.now }

@@ -4,8 +4,7 @@ ghost use Rattle.std.specs.Prelude.{◌≡◌, ◌≤◌, ◌<◌, ◌+◌, ◌-
 ghost use Rattle.std.specs.Cmp.Lexicographic.{slice_cmp};
 ghost use Rattle.std.specs.Int.{w32, w64, from_be_bytes};
 ghost use Rattle.std.specs.Ordering.{nat_cmp, is_lt, ordering_then};
-ghost use Rattle.polars_arrays_flat.specs.ByteOrder.{bytes_lt, few_number};
-ghost use Rattle.polars_arrays_flat.specs.ByteOrderLaws.{AreBytes};
+ghost use Rattle.polars_arrays_flat.specs.ByteOrder.{AreBytes, bytes_lt, few_number};
 
 /// Whether the left byte string is less: at the first place where the two differ, or as a proper beginning.
 #[inline(always)]

@@ -4,7 +4,7 @@ ghost use Rattle.std.specs.Prelude.{◌≡◌, ◌↔◌, IsTrue};
 ghost use Rattle.polars_arrays_flat.specs.DataType.{key_kind, kind_of, kinds_of, IsSameField};
 ghost use Rattle.polars_arrays_flat.specs.Kind.{StructKind};
 
-/// A type of whole numbers that numbers the entries of a dictionary.
+/// The type of a dictionary's keys.
 #[derive(Clone, Copy, PartialEq, Eq, Debug)]
 pub enum IntegerType {
     Int8,

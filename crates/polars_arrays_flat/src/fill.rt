@@ -1,6 +1,6 @@
 //! Buffers whose elements are all the same.
 
-ghost use Rattle.std.specs.Prelude.{◌≡◌, length, replicate, true, MatchResult};
+ghost use Rattle.std.specs.Prelude.{◌≡◌, length, replicate, true, IsOk, IsTrue, MatchResult};
 ghost use Rattle.polars_arrays_bits.specs.Errors.{IsMemory};
 
 use polars_arrays_bits::buffer::Buffer;
@@ -22,13 +22,14 @@ pub(crate) fn repeated<T: Copy>(
     Ok(Buffer::from_vec(elements))
 }
 
-// A buffer of as many elements that are all `value`, in the memory there was where the buffer owns it.
+// A buffer of as many elements that are all `value`: the same buffer, written in place, where it owns them.
 pub(crate) fn filled<T: Copy>(
     alloc: Global,
     mut buffer: Buffer<T>,
     value: T,
 ) -> Result<Buffer<T>, ComputeError>
-    ensures { MatchResult result (λ filled. filled ≡ record { items = replicate (length buffer.items) value; owned = true }) IsMemory }
+    ensures filled { MatchResult result (λ filled. filled ≡ record { items = replicate (length buffer.items) value; owned = true }) IsMemory }
+    ensures in_place { IsTrue buffer.owned → IsOk result }
 {
     if !buffer.is_owned() {
         return repeated(alloc, value, buffer.len());

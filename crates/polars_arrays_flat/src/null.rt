@@ -1,6 +1,6 @@
 //! Arrays of nulls.
 
-ghost use Rattle.std.specs.Prelude.{◌≡◌, ◌+◌, ◌≤◌, None, replicate, refl, MatchResult, ⊤};
+ghost use Rattle.std.specs.Prelude.{◌≡◌, ◌+◌, ◌≤◌, None, replicate, refl, IsOk, MatchResult, ⊤};
 ghost use Rattle.polars_arrays_bits.specs.Errors.{IsMemory};
 ghost use Rattle.polars_arrays_flat.specs.DataType.{kind_of};
 ghost use Rattle.polars_arrays_flat.specs.Kind.{NullKind};
@@ -47,16 +47,18 @@ impl NullArray {
         self.len = n;
     }
 
-    /// A second array of as many rows. The error is `Memory`.
+    /// A second array of as many rows. It takes no memory, so that there is always one.
     pub fn clone_array(&self, _alloc: Global) -> Result<NullArray, ComputeError>
-        ensures { MatchResult result (λ copy. copy ≡ self.now) IsMemory }
+        ensures copy { MatchResult result (λ copy. copy ≡ self.now) IsMemory }
+        ensures succeeds { IsOk result }
     {
         Ok(NullArray { len: self.len })
     }
 
-    /// The array's type. The error is `Memory`.
+    /// The array's type. It takes no memory, so that there is always one.
     pub fn dtype(&self, _alloc: Global) -> Result<ArrowDataType, ComputeError>
-        ensures { MatchResult result (λ dtype. kind_of dtype ≡ NullKind) IsMemory }
+        ensures dtype { MatchResult result (λ dtype. kind_of dtype ≡ NullKind) IsMemory }
+        ensures succeeds { IsOk result }
     {
         Ok(ArrowDataType::Null)
     }

@@ -1,13 +1,13 @@
 //! Arrays of numbers.
 
-ghost use Rattle.std.specs.Prelude.{◌≡◌, ◌↔◌, ◌+◌, ◌≤◌, length, map, replicate, false, true, None, Some, IsTrue, IsSome, IfSome, IfOk, IfErr, MatchResult, ⊤};
+ghost use Rattle.std.specs.Prelude.{◌≡◌, ◌↔◌, ◌+◌, ◌≤◌, length, map, replicate, false, true, None, Some, IsTrue, IsFalse, IsOk, IsSome, IfSome, IfOk, IfErr, MatchResult, ⊤};
 ghost use Rattle.std.specs.Borrow.{sem};
 ghost use Rattle.std.specs.Result.{OkIff};
 ghost use Rattle.polars_arrays_bits.specs.Errors.{IsMemory};
 ghost use Rattle.polars_arrays_flat.specs.ArrayRows.{number_rows, filled_row};
 ghost use Rattle.polars_arrays_flat.specs.DataType.{kind_of};
 ghost use Rattle.polars_arrays_flat.specs.Row.{Null};
-ghost use Rattle.polars_arrays_flat.specs.Slots.{number_slots-present};
+ghost use Rattle.polars_arrays_flat.specs.SlotLaws.{number_slots-present};
 ghost use Rattle.polars_arrays_flat.specs.StoredRows.{rows_under, number_slots};
 ghost use Rattle.polars_arrays_flat.specs.Validity.{HasBits, masked_count, validity_window, window};
 
@@ -153,18 +153,20 @@ impl<T: NativeType> PrimitiveArray<T> {
         PrimitiveArray { values, validity }
     }
 
-    /// The same rows, from now on in stored values that clones share. No value moves. The error is `Memory`.
+    /// The same rows, in stored values that later clones share and do not copy. No value moves. The error is
+    /// `Memory`, and comes only of values that are owned.
     pub fn share(self, alloc: Global) -> Result<PrimitiveArray<T>, ComputeError>
         ensures stored { MatchResult result (λ shared. shared ≡ record self { owned = false }) IsMemory }
         ensures rows { IfOk result (λ shared. number_rows T.value shared ≡ number_rows T.value self) }
+        ensures stays { IsFalse self.owned → IsOk result }
     {
         let PrimitiveArray { values, validity } = self;
         let values = values.share(alloc)?;
         Ok(PrimitiveArray { values, validity })
     }
 
-    /// A second array of the same values and validity, in the very values where these are shared. The error
-    /// is `Memory`.
+    /// A second array of the same values and validity. Values that are shared are not copied. The error is
+    /// `Memory`.
     pub fn clone_array(&self, alloc: Global) -> Result<PrimitiveArray<T>, ComputeError>
         ensures { MatchResult result (λ copy. copy ≡ self.now) IsMemory }
     {
@@ -175,21 +177,23 @@ impl<T: NativeType> PrimitiveArray<T> {
 }
 
 impl<T: ArrowType> PrimitiveArray<T> {
-    /// The array's type. The error is `Memory`.
+    /// The array's type. It takes no memory, so that there is always one.
     pub fn dtype(&self, _alloc: Global) -> Result<ArrowDataType, ComputeError>
-        ensures { MatchResult result (λ dtype. kind_of dtype ≡ T.kind) IsMemory }
+        ensures dtype { MatchResult result (λ dtype. kind_of dtype ≡ T.kind) IsMemory }
+        ensures succeeds { IsOk result }
     {
         Ok(T::arrow_data_type())
     }
 }
 
 impl<T: NativeType> PrimitiveArray<T> {
-    /// The same validity over stored values that are all `value`, in the values there were where the array
-    /// owns them. The error is `Memory`.
+    /// The same validity over stored values that are all `value`. Values that the array owns are overwritten in
+    /// place; else new ones are made, and then the error is `Memory`.
     #[tactic(auto, using(crate::proofs::RowWindows::fills))]
     pub fn fill_with(self, alloc: Global, value: T) -> Result<PrimitiveArray<T>, ComputeError>
         ensures stored { MatchResult result (λ filled. filled ≡ record { values = replicate (length self.values) value; validity = self.validity; owned = true }) IsMemory }
         ensures rows { IfOk result (λ filled. number_rows T.value filled ≡ map (filled_row (T.value value)) (number_rows T.value self)) }
+        ensures in_place { IsTrue self.owned → IsOk result }
     {
         let PrimitiveArray { values, validity } = self;
         let values = filled(alloc, values, value)?;

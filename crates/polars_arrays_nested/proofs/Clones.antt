@@ -1,5 +1,5 @@
 -- Second copies of the parts of an array make a second copy of the array.
-use Rattle.std.proofs.Common.{◌≡◌, ◌<◌, ◌+◌, ℕ, suc, List, [], ◌∷◌, length, get_or, refl, ap, sym, subst, ◌∙◌, arith, ◌*◌, ◌++◌, inl, inr, length-append}
+use Rattle.std.proofs.Common.{◌≡◌, ◌<◌, ◌+◌, ℕ, suc, List, [], ◌∷◌, length, get_or, refl, ap, sym, subst, ◌∙◌, arith, ◌*◌, ◌++◌, inl, inr, length-append, ◌-◌, cond}
 use Rattle.std.proofs.Math.Seq.{get_or-append_seam}
 use Rattle.std.proofs.lemmas.Bool.{cases_lt}
 use Rattle.std.proofs.lemmas.List.{get_or_append_left, get_or_default}
@@ -11,9 +11,11 @@ use Rattle.polars_arrays_flat.specs.Validity.{is_present}
 use Rattle.polars_arrays_flat.specs.declared.data_type.Field.{Field}
 use Rattle.polars_arrays_nested.specs.AnyRows.{row}
 use Rattle.polars_arrays_nested.specs.Clones.{IsClone}
-use Rattle.polars_arrays_nested.specs.Columns.{AreColumns, good-struct, row-struct, rows_at, struct-good}
+use Rattle.polars_arrays_nested.specs.Columns.{AreColumns, columns_leaves, rows_at}
+use Rattle.polars_arrays_nested.specs.ColumnLaws.{good-struct, leaves-struct, row-struct, struct-good}
 use Rattle.polars_arrays_nested.specs.DictKeys.{key_at, key_validity}
 use Rattle.polars_arrays_nested.specs.GoodParts.{IsGood}
+use Rattle.polars_arrays_nested.specs.Leaves.{leaves}
 use Rattle.polars_arrays_nested.specs.Lengths.{len_of}
 use Rattle.polars_arrays_nested.specs.ListOffsets.{offset_at, span}
 use Rattle.polars_arrays_nested.specs.Parts.{columns, struct_fields, struct_validity}
@@ -24,13 +26,14 @@ use Rattle.polars_arrays_nested.specs.declared.dictionary.DictionaryArray.{Dicti
 use Rattle.polars_arrays_nested.specs.declared.fixed_size_list.FixedSizeListArray.{FixedSizeListArray}
 use Rattle.polars_arrays_nested.specs.declared.list.ListArray.{ListArray}
 use Rattle.polars_arrays_nested.specs.declared.struct_array.StructArray.{StructArray}
-use Rattle.polars_arrays_nested.proofs.Cuts.{windows_agree}
+use Rattle.polars_arrays_nested.proofs.Cuts.{totals_agree, windows_agree}
 
 pub clone-same : (a b : AnyArray) → a ≡ b → IsClone a b
 clone-same a b same = record {
   one_type = ap type_of same;
   as_long = ap len_of same;
   same_rows = λ i. ap (λ x. row x i) same;
+  same_leaves = λ i m. ap (λ x. leaves x i m) same;
   good = λ good. subst IsGood (sym same) good;
 }
 
@@ -42,6 +45,8 @@ clone-list a b offsets child mask = record {
       rw (offsets, mask)
       (ap (λ r. kept (is_present b.validity i) (Rows r))
       (windows_agree (λ k. row a.values.value k) (λ k. row b.values.value k) (offset_at b.offsets i) (offset_at b.offsets i) (span b.offsets i) (λ k low. child.same_rows (offset_at b.offsets i + k))));
+  same_leaves = λ i m.
+      rw offsets (child.same_leaves (offset_at b.offsets i) (offset_at b.offsets (i + m) - offset_at b.offsets i));
   good = λ good. (
     record { bits = rw (offsets, mask) good.0.bits; good = rw (offsets, child.as_long) good.0.good },
     child.good good.1,
@@ -56,6 +61,7 @@ clone-fixed a b width len child mask = record {
       rw (width, mask)
       (ap (λ r. kept (is_present b.validity i) (Rows r))
       (windows_agree (λ k. row a.values.value k) (λ k. row b.values.value k) (b.width * i) (b.width * i) b.width (λ k low. child.same_rows (b.width * i + k))));
+  same_leaves = λ i m. rw width (child.same_leaves (b.width * i) (b.width * m));
   good = λ good. (
     record { bits = rw (len, mask) good.0.bits; items = rw (child.as_long, width, len) good.0.items },
     child.good good.1,
@@ -68,6 +74,13 @@ clone-dictionary a b keys child = record {
   as_long = rw keys refl;
   same_rows = λ i.
       rw keys (ap (λ r. kept (is_present (key_validity b.keys) i) (Entry r)) (child.same_rows (key_at b.keys i)));
+  same_leaves = λ i m.
+      totals_agree
+      (λ k. cond (is_present (key_validity a.keys) k) (leaves a.values.value (key_at a.keys k) 1) 0)
+      (λ k. cond (is_present (key_validity b.keys) k) (leaves b.values.value (key_at b.keys k) 1) 0)
+      i i m
+      (λ k low.
+      rw keys (ap (λ (slots : ℕ). cond (is_present (key_validity b.keys) (i + k)) slots 0) (child.same_leaves (key_at b.keys (i + k)) 1)));
   good = λ good. (record { named = rw (keys, child.as_long) good.0.named }, child.good good.1);
 }
 
@@ -97,11 +110,23 @@ clone-rows_at (x ∷ xs) (y ∷ ys) many each j =
     let rest = clone-rows_at xs ys (omega arith) (λ i d low. each (suc i) d (omega arith)) j in
     cc
 
+clone-columns_leaves : (xs ys : List AnyArray) → length xs ≡ length ys → ((i : ℕ) (d : AnyArray) → i < length ys → IsClone (get_or xs i d) (get_or ys i d)) → (j m : ℕ) → columns_leaves xs j m ≡ columns_leaves ys j m
+clone-columns_leaves [] [] many each j m = refl
+clone-columns_leaves [] (y ∷ ys) many each j m = absurd (omega arith)
+clone-columns_leaves (x ∷ xs) [] many each j m = absurd (omega arith)
+clone-columns_leaves (x ∷ xs) (y ∷ ys) many each j m =
+    let first : IsClone x y = each 0 x (omega arith) in
+    let one = first.same_leaves j m in
+    let rest = clone-columns_leaves xs ys (omega arith) (λ i d low. each (suc i) d (omega arith)) j m in
+    omega (arith, one, rest)
+
 pub clone-struct : (a b : StructArray) → kinds_of (struct_fields a) ≡ kinds_of (struct_fields b) → a.len ≡ b.len → length (columns a) ≡ length (columns b) → ((i : ℕ) (d : AnyArray) → i < length (columns b) → IsClone (get_or (columns a) i d) (get_or (columns b) i d)) → struct_validity a ≡ struct_validity b → IsClone (Struct a) (Struct b)
 clone-struct a b kinds len many each mask = record {
   one_type = ap StructKind kinds;
   as_long = len;
   same_rows = λ i. row-struct a i ∙ rw (mask, clone-rows_at (columns a) (columns b) many each i) (sym (row-struct b i));
+  same_leaves = λ i m.
+      leaves-struct a i m ∙ clone-columns_leaves (columns a) (columns b) many each i m ∙ sym (leaves-struct b i m);
   good = λ good.
       let known = good-struct b good in
       struct-good a (rw (mask, len) known.0) (rw len (clone-columns (struct_fields a) (struct_fields b) b.len (columns a) (columns b) kinds known.1 many each));

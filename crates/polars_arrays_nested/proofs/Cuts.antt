@@ -1,7 +1,7 @@
 -- What slices of the parts of an array make of the array.
-use Rattle.std.proofs.Common.{◌≡◌, ◌<◌, ◌≤◌, ◌+◌, ◌*◌, ℕ, zero, suc, true, List, [], ◌∷◌, length, get_or, refl, ap, sym, subst, ◌∙◌, arith, add-zero, inl, inr, set, ◌≢◌}
+use Rattle.std.proofs.Common.{◌≡◌, ◌<◌, ◌≤◌, ◌+◌, ◌*◌, ℕ, zero, suc, true, List, [], ◌∷◌, length, get_or, refl, ap, sym, subst, ◌∙◌, arith, add-zero, inl, inr, set, ◌≢◌, cond}
 use Rattle.std.specs.Prelude.{Option, None}
-use Rattle.std.proofs.Math.Nat.{mul-add}
+use Rattle.std.proofs.Math.Nat.{mul-add, mul-le-mul_left}
 use Rattle.std.proofs.lemmas.Bool.{cases_lt}
 use Rattle.std.proofs.lemmas.List.{get_or-set_other, get_or-set_same, get_or_default}
 use Rattle.std.proofs.lemmas.Nat.{mul-add-lt}
@@ -13,10 +13,12 @@ use Rattle.polars_arrays_flat.specs.StoredRows.{kept}
 use Rattle.polars_arrays_flat.specs.Validity.{is_present, validity_window, window}
 use Rattle.polars_arrays_flat.specs.declared.data_type.Field.{Field}
 use Rattle.polars_arrays_nested.specs.AnyRows.{row, rows_from}
-use Rattle.polars_arrays_nested.specs.Columns.{AreColumns, good-struct, row-struct, rows_at, struct-good}
+use Rattle.polars_arrays_nested.specs.Columns.{AreColumns, columns_leaves, rows_at}
+use Rattle.polars_arrays_nested.specs.ColumnLaws.{good-struct, leaves-struct, row-struct, struct-good}
 use Rattle.polars_arrays_nested.specs.Cuts.{IsCut}
-use Rattle.polars_arrays_nested.specs.DictKeys.{key_count, key_places, key_type, key_validity}
+use Rattle.polars_arrays_nested.specs.DictKeys.{key_at, key_count, key_places, key_type, key_validity}
 use Rattle.polars_arrays_nested.specs.GoodParts.{IsGood}
+use Rattle.polars_arrays_nested.specs.Leaves.{leaves, total}
 use Rattle.polars_arrays_nested.specs.Lengths.{len_of}
 use Rattle.polars_arrays_nested.specs.ListOffsets.{is_large, list_count, list_places, offset_at}
 use Rattle.polars_arrays_nested.specs.Parts.{columns, struct_fields, struct_validity}
@@ -47,6 +49,14 @@ windows_agree f g p q (suc n) h =
     rw (i', j') at) in
     cc
 
+-- sums of the same numbers are the same
+pub totals_agree : (f g : ℕ → ℕ) (p q n : ℕ) → ((k : ℕ) → k < n → f (p + k) ≡ g (q + k)) → total f p n ≡ total g q n
+totals_agree f g p q zero h = refl
+totals_agree f g p q (suc n) h =
+    let last : f (p + n) ≡ g (q + n) = h n (omega arith) in
+    let rest = totals_agree f g p q n (λ k low. h k (omega (arith, low))) in
+    omega (arith, last, rest)
+
 -- offsets of one width make lists of one kind
 kind-offsets : (a b : ListOffsets) (item : Kind) → is_large a ≡ is_large b → kind_of_lists a item ≡ kind_of_lists b item
 kind-offsets (Small a) (Small b) item same = refl
@@ -73,6 +83,11 @@ cut-list a b at n good within cut same values mask =
           let next : at + (i + 1) ≡ at + i + 1 = omega arith in
           let to = offset-window a.offsets b.offsets at n (i + 1) cut (omega (arith, low)) ∙ ap (offset_at b.offsets) next in
           rw (values, mask, from, to, present-window at n b.validity i low) refl;
+      same_leaves = λ i m low.
+          let from = offset-window a.offsets b.offsets at n i cut (omega (arith, low)) in
+          let next : at + (i + m) ≡ at + i + m = omega arith in
+          let to = offset-window a.offsets b.offsets at n (i + m) cut (omega (arith, low)) ∙ ap (offset_at b.offsets) next in
+          rw (values, from, to) refl;
       good = (
         record {
           bits = rw (mask, long) (bits-window (list_count b.offsets) at n b.validity good.0.bits within);
@@ -97,6 +112,11 @@ cut-fixed a b at n good within ew el child mask = record {
       let e : b.width * (at + i) + k ≡ b.width * at + (b.width * i + k) = grind (arith, mul-add) in
       let l : b.width * i + k < b.width * n = omega (arith, inside) in
       rw e (child.same_rows (b.width * i + k) l))));
+  same_leaves = λ i m low.
+      let fits : b.width * (i + m) ≤ b.width * n = mul-le-mul_left b.width low in
+      let inside : b.width * i + b.width * m ≤ b.width * n = omega (arith, fits) in
+      let e : b.width * (at + i) ≡ b.width * at + b.width * i = omega arith in
+      rw (ew, e) (child.same_leaves (b.width * i) (b.width * m) inside);
   good = (
     record {
       bits = rw (mask, el) (bits-window b.len at n b.validity good.0.bits within);
@@ -121,6 +141,16 @@ cut-dictionary a b at n good within cut mask name values =
       same_rows = λ i low.
           let key = ap place_or_zero (key-window a.keys b.keys at n i cut low) in
           rw (values, mask, key, present-window at n (key_validity b.keys) i low) refl;
+      same_leaves = λ i m low.
+          totals_agree
+          (λ k. cond (is_present (key_validity a.keys) k) (leaves a.values.value (key_at a.keys k) 1) 0)
+          (λ k. cond (is_present (key_validity b.keys) k) (leaves b.values.value (key_at b.keys k) 1) 0)
+          i (at + i) m
+          (λ k low'.
+          let below : i + k < n = omega (arith, low, low') in
+          let key = ap place_or_zero (key-window a.keys b.keys at n (i + k) cut below) in
+          let place : at + (i + k) ≡ at + i + k = omega arith in
+          rw (values, mask, key, present-window at n (key_validity b.keys) (i + k) below, place) refl);
       good = (
         record {
           named = λ i low here.
@@ -160,6 +190,16 @@ cut-rows_at at n (x ∷ xs) (y ∷ ys) e k j low =
     let rest = cut-rows_at at n xs ys (omega arith) (λ i d low'. k (suc i) d (omega arith)) j low in
     cc
 
+cut-columns_leaves : (at n : ℕ) (xs ys : List AnyArray) → length xs ≡ length ys → ((i : ℕ) (d : AnyArray) → i < length ys → IsCut (get_or xs i d) (get_or ys i d) at n) → (j m : ℕ) → j + m ≤ n → columns_leaves xs j m ≡ columns_leaves ys (at + j) m
+cut-columns_leaves at n [] [] e k j m low = refl
+cut-columns_leaves at n [] (y ∷ ys) e k j m low = absurd (omega arith)
+cut-columns_leaves at n (x ∷ xs) [] e k j m low = absurd (omega arith)
+cut-columns_leaves at n (x ∷ xs) (y ∷ ys) e k j m low =
+    let first : IsCut x y at n = k 0 x (omega arith) in
+    let one = first.same_leaves j m low in
+    let rest = cut-columns_leaves at n xs ys (omega arith) (λ i d low'. k (suc i) d (omega arith)) j m low in
+    omega (arith, one, rest)
+
 -- one column more was cut, of the columns zs that the struct had before
 pub cuts-more : (xs zs : List AnyArray) (i : ℕ) (new old : AnyArray) (at n : ℕ) → length xs ≡ length zs → i < length zs → old ≡ get_or zs i old → IsCut new old at n → ((k : ℕ) (d : AnyArray) → k < i → IsCut (get_or xs k d) (get_or zs k d) at n) → (k : ℕ) (d : AnyArray) → k < i + 1 → IsCut (get_or (set xs i new) k d) (get_or zs k d) at n
 cuts-more xs zs i new old at n many low was cut before k d below = elim (cases_lt k i) [
@@ -189,6 +229,10 @@ cut-struct a b at n good within ef el many each mask =
       same_rows = λ i low.
           row-struct a i
           ∙ rw (mask, present-window at n (struct_validity b) i low, cut-rows_at at n (columns a) (columns b) many each i low) (sym (row-struct b (at + i)));
+      same_leaves = λ i m low.
+          leaves-struct a i m
+          ∙ cut-columns_leaves at n (columns a) (columns b) many each i m low
+          ∙ sym (leaves-struct b (at + i) m);
       good = struct-good a
           (rw (mask, el) (bits-window b.len at n (struct_validity b) known.0 within))
           (rw (ef, el) (cut-columns (struct_fields b) b.len at n (columns a) (columns b) known.1 many each));

@@ -2,7 +2,8 @@
 use Rattle.std.proofs.Common.{◌≡◌, ◌<◌, ℕ, suc, List, [], ◌∷◌, length, get_or, refl, ap, ◌∙◌, arith}
 use Rattle.std.specs.declared.vec.Vec.{Vec}
 use Rattle.std.specs.declared.alloc.Global.{Global}
-use Rattle.polars_arrays_flat.specs.DataType.{IsSameField, kind_of, kind_of-struct, kinds_of}
+use Rattle.polars_arrays_flat.specs.DataType.{IsSameField, kind_of, kinds_of}
+use Rattle.polars_arrays_flat.specs.DataTypeLaws.{kind_of-struct}
 use Rattle.polars_arrays_flat.specs.Kind.{StructKind}
 use Rattle.polars_arrays_flat.specs.declared.data_type.ArrowDataType as types
 use Rattle.polars_arrays_flat.specs.declared.data_type.Field.{Field}

@@ -8,7 +8,7 @@ use Rattle.polars_arrays_flat.specs.StoredRows.{kept, masked, rows_under}
 use Rattle.polars_arrays_flat.specs.StoredRows.{row as row_at}
 use Rattle.polars_arrays_flat.specs.Validity.{HasBits, is_present}
 use Rattle.polars_arrays_nested.specs.AnyRows.{row, rows}
-use Rattle.polars_arrays_nested.specs.Columns.{row-struct}
+use Rattle.polars_arrays_nested.specs.ColumnLaws.{row-struct}
 use Rattle.polars_arrays_nested.specs.DictKeys.{key_count, key_validity}
 use Rattle.polars_arrays_nested.specs.GoodParts.{IsGood}
 use Rattle.polars_arrays_nested.specs.ListOffsets.{list_count}

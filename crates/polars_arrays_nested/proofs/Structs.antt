@@ -5,7 +5,8 @@ use Rattle.std.proofs.lemmas.Bool.{cases_lt}
 use Rattle.std.proofs.lemmas.Option.{slice_get_past}
 use Rattle.polars_arrays_flat.specs.Validity.{HasBits}
 use Rattle.polars_arrays_flat.specs.declared.data_type.Field.{Field}
-use Rattle.polars_arrays_nested.specs.Columns.{AreColumns, row-struct, struct-good}
+use Rattle.polars_arrays_nested.specs.Columns.{AreColumns}
+use Rattle.polars_arrays_nested.specs.ColumnLaws.{row-struct, struct-good}
 use Rattle.polars_arrays_nested.specs.Faults.{FitsAt, IsFirstMisfit}
 use Rattle.polars_arrays_nested.specs.GoodParts.{IsGood}
 use Rattle.polars_arrays_nested.specs.Parts.{columns, struct_fields, struct_validity}

@@ -8,7 +8,7 @@ use Rattle.polars_arrays_nested.specs.DictKeys.{NameEntries, key_places, key_val
 use Rattle.polars_arrays_nested.specs.Lengths.{len_of}
 use Rattle.polars_arrays_nested.specs.ListOffsets.{list_count, list_places}
 use Rattle.polars_arrays_nested.specs.Types.{type_of}
-use Rattle.polars_arrays_nested.specs.declared.any_array.AnyArray.{AnyArray, List', FixedSizeList', Struct', Dictionary', Row_of-AnyArray, end_of-AnyArray, more_of-AnyArray}
+use Rattle.polars_arrays_nested.specs.declared.any_array.AnyArray.{AnyArray, Null, Boolean, Int8, Int16, Int32, Int64, Int128, UInt8, UInt16, UInt32, UInt64, UInt128, Binary, LargeBinary, Utf8, LargeUtf8, BinaryView, Utf8View, FixedSizeBinary, List', FixedSizeList', Struct', Dictionary', Row_of-AnyArray, end_of-AnyArray, more_of-AnyArray}
 use Rattle.polars_arrays_nested.specs.declared.dict_keys.DictKeys.{DictKeys}
 use Rattle.polars_arrays_nested.specs.declared.list_offsets.ListOffsets.{ListOffsets}
 
@@ -29,12 +29,30 @@ pub record AreKeys (n : ℕ) (keys : DictKeys) : Type 0 where
 abbrev mutual
   -- an array and all arrays inside it are made of good parts; one of one level always is, by its type
   pub IsGood : AnyArray → Type 0
+  IsGood (Null a) = ⊤
+  IsGood (Boolean a) = ⊤
+  IsGood (Int8 a) = ⊤
+  IsGood (Int16 a) = ⊤
+  IsGood (Int32 a) = ⊤
+  IsGood (Int64 a) = ⊤
+  IsGood (Int128 a) = ⊤
+  IsGood (UInt8 a) = ⊤
+  IsGood (UInt16 a) = ⊤
+  IsGood (UInt32 a) = ⊤
+  IsGood (UInt64 a) = ⊤
+  IsGood (UInt128 a) = ⊤
+  IsGood (Binary a) = ⊤
+  IsGood (LargeBinary a) = ⊤
+  IsGood (Utf8 a) = ⊤
+  IsGood (LargeUtf8 a) = ⊤
+  IsGood (BinaryView a) = ⊤
+  IsGood (Utf8View a) = ⊤
+  IsGood (FixedSizeBinary a) = ⊤
   IsGood (List' offsets p values validity) = AreLists (len_of values) offsets validity × IsGood values
   IsGood (FixedSizeList' width len p values validity) =
       AreFixedLists (len_of values) width len validity × IsGood values
   IsGood (Struct' fields len p values validity) = HasBits len validity × AreFields fields.items len values
   IsGood (Dictionary' keys p values) = AreKeys (len_of values) keys × IsGood values
-  IsGood _ = ⊤
 
   -- there is one good array for each field, of its type and of `len` rows
   pub AreFields : {m : _} → List Field → ℕ → Row_of-AnyArray m → Type 0

@@ -5,7 +5,7 @@ use Rattle.polars_arrays_nested.specs.DictKeys.{key_at, key_validity}
 use Rattle.polars_arrays_nested.specs.GoodParts.{IsGood}
 use Rattle.polars_arrays_nested.specs.Lengths.{len_of}
 use Rattle.polars_arrays_nested.specs.ListOffsets.{offset_at}
-use Rattle.polars_arrays_nested.specs.declared.any_array.AnyArray.{AnyArray, Null, List', FixedSizeList', Struct', Dictionary', Row_of-AnyArray, end_of-AnyArray, more_of-AnyArray}
+use Rattle.polars_arrays_nested.specs.declared.any_array.AnyArray.{AnyArray, Null, Boolean, Int8, Int16, Int32, Int64, Int128, UInt8, UInt16, UInt32, UInt64, UInt128, Binary, LargeBinary, Utf8, LargeUtf8, BinaryView, Utf8View, FixedSizeBinary, List', FixedSizeList', Struct', Dictionary', Row_of-AnyArray, end_of-AnyArray, more_of-AnyArray}
 
 -- the sum of f over `count` numbers from `from` on
 abbrev pub total : (ℕ → ℕ) → ℕ → ℕ → ℕ
@@ -16,13 +16,30 @@ abbrev mutual
   -- the leaf slots in the n rows from row `from` on: of an array of one level its rows, of lists those of their items, of structs those of all fields, of a dictionary those of each present row's entry, and of nulls none
   pub leaves : AnyArray → ℕ → ℕ → ℕ
   leaves (Null a) from n = 0
+  leaves (Boolean a) from n = n
+  leaves (Int8 a) from n = n
+  leaves (Int16 a) from n = n
+  leaves (Int32 a) from n = n
+  leaves (Int64 a) from n = n
+  leaves (Int128 a) from n = n
+  leaves (UInt8 a) from n = n
+  leaves (UInt16 a) from n = n
+  leaves (UInt32 a) from n = n
+  leaves (UInt64 a) from n = n
+  leaves (UInt128 a) from n = n
+  leaves (Binary a) from n = n
+  leaves (LargeBinary a) from n = n
+  leaves (Utf8 a) from n = n
+  leaves (LargeUtf8 a) from n = n
+  leaves (BinaryView a) from n = n
+  leaves (Utf8View a) from n = n
+  leaves (FixedSizeBinary a) from n = n
   leaves (List' offsets p values validity) from n =
       leaves values (offset_at offsets from) (offset_at offsets (from + n) - offset_at offsets from)
   leaves (FixedSizeList' width len p values validity) from n = leaves values (width * from) (width * n)
   leaves (Struct' fields len p values validity) from n = leaves_across values from n
   leaves (Dictionary' keys p values) from n =
       total (λ k. cond (is_present (key_validity keys) k) (leaves values (key_at keys k) 1) 0) from n
-  leaves _ from n = n
 
   -- those of each array, added up
   pub leaves_across : {m : _} → Row_of-AnyArray m → ℕ → ℕ → ℕ

@@ -1,5 +1,6 @@
 pub mod AnyRows
 pub mod Clones
+pub mod ColumnLaws
 pub mod Columns
 pub mod Cuts
 pub mod DictKeys
@@ -10,5 +11,6 @@ pub mod Lengths
 pub mod ListOffsets
 pub mod Parts
 pub mod Places
+pub mod StoredRowLaws
 pub mod StoredRows
 pub mod Types

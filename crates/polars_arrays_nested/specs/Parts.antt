@@ -1,4 +1,4 @@
--- The parts of arrays that hold arrays, as their lending calls lend them.
+-- The parts of arrays that hold arrays, as the calls that borrow them give them.
 use Rattle.std.specs.Prelude.{ℕ, Bool, List, Option}
 use Rattle.polars_arrays_flat.specs.declared.data_type.Field.{Field}
 use Rattle.polars_arrays_nested.specs.declared.any_array.AnyArray.{AnyArray}

@@ -1,11 +1,7 @@
 -- The rows of arrays that hold arrays as they are stored, whatever the validity says.
-use Rattle.std.specs.Prelude.{◌≡◌, ◌<◌, ◌*◌, ℕ, false, List, length, map}
+use Rattle.std.specs.Prelude.{◌*◌, ℕ, List, map}
 use Rattle.std.specs.List.{range_with_len}
-use Rattle.std.proofs.Common.{arith, ap, sym, ◌∙◌}
-use Rattle.std.proofs.lemmas.List.FromFn.{length-map-range_with_len, get_or-map-range_with_len}
-use Rattle.polars_arrays_flat.specs.ArrayRows.{is_null}
-use Rattle.polars_arrays_flat.specs.Row.{Row, Null, Rows, Fields, Entry}
-use Rattle.polars_arrays_flat.specs.StoredRows.{row as row_at}
+use Rattle.polars_arrays_flat.specs.Row.{Row, Rows, Fields, Entry}
 use Rattle.polars_arrays_nested.specs.AnyRows.{row, rows_from}
 use Rattle.polars_arrays_nested.specs.Columns.{rows_at}
 use Rattle.polars_arrays_nested.specs.DictKeys.{key_at, key_count}
@@ -52,10 +48,3 @@ stored_entry a i = Entry (row (dictionary_values a) (key_at (dictionary_keys a) 
 -- all rows of a dictionary array
 abbrev pub stored_entries : DictionaryArray → List Row
 stored_entries a = listed (stored_entry a) (key_count (dictionary_keys a))
-
--- rows of which none is Null are not stored as Null
-pub listed-present : (f : ℕ → Row) (n i : ℕ) → ((k : ℕ) → is_null (f k) ≡ false) → i < length (listed f n) → row_at (listed f n) i ≡ Null → ⊥
-listed-present f n i present within null =
-    let there : row_at (listed f n) i ≡ f i = get_or-map-range_with_len f 0 n i i Null (omega (arith, within, length-map-range_with_len f 0 n)) (omega arith) in
-    let is : is_null Null ≡ false = sym (ap is_null (sym there ∙ null)) ∙ present i in
-    cc

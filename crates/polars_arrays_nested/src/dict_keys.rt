@@ -116,7 +116,7 @@ impl DictKeys {
         each_type!(self, keys => keys.slice(at, n))
     }
 
-    /// A second copy of the keys, in the very values where these are shared. The error is `Memory`.
+    /// A second copy of the keys. Values that are shared are not copied. The error is `Memory`.
     pub fn clone_keys(&self, alloc: Global) -> Result<DictKeys, ComputeError>
         ensures { MatchResult result (λ copy. copy ≡ self.now) IsMemory }
     {

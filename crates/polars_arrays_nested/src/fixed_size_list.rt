@@ -13,7 +13,8 @@ ghost use Rattle.polars_arrays_nested.specs.Cuts.{IsCut};
 ghost use Rattle.polars_arrays_nested.specs.GoodParts.{AreFixedLists, IsGood};
 ghost use Rattle.polars_arrays_nested.specs.Lengths.{len_of};
 ghost use Rattle.polars_arrays_nested.specs.Parts.{fixed_validity, fixed_values, fixed_width};
-ghost use Rattle.polars_arrays_nested.specs.StoredRows.{listed-present, stored_fixed_list, stored_fixed_lists};
+ghost use Rattle.polars_arrays_nested.specs.StoredRows.{stored_fixed_list, stored_fixed_lists};
+ghost use Rattle.polars_arrays_nested.specs.StoredRowLaws.{listed-present};
 ghost use Rattle.polars_arrays_nested.specs.Types.{type_of};
 ghost use Rattle.polars_arrays_nested.specs.declared.any_array.AnyArray.{FixedSizeList, size-AnyArray};
 ghost use Rattle.polars_arrays_nested.specs.declared.fixed_size_list.FixedSizeListArray.{size-FixedSizeListArray};
@@ -93,7 +94,7 @@ impl FixedSizeListArray {
         requires within { at + n ≤ len_of (FixedSizeList self.old) }
         ensures { IsCut (FixedSizeList self.new) (FixedSizeList self.old) at n }
     {
-        // a `usize`, so that the products are two
+        // The products below are at most this number, and so fit a `usize`.
         let _items = self.values.len();
         self.values.slice(self.width * at, self.width * n);
         slice_validity(&mut self.validity, at, n);

@@ -76,7 +76,7 @@ impl ListOffsets {
         }
     }
 
-    /// A second copy of the offsets, in the very buffer where it is shared. The error is `Memory`.
+    /// A second copy of the offsets. A buffer that is shared is not copied. The error is `Memory`.
     pub fn clone_offsets(&self, alloc: Global) -> Result<ListOffsets, ComputeError>
         ensures { MatchResult result (λ copy. copy ≡ self.now) IsMemory }
     {

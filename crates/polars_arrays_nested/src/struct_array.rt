@@ -16,7 +16,8 @@ ghost use Rattle.polars_arrays_nested.specs.Faults.{AreStructs, FitsAt, IsFirstM
 ghost use Rattle.polars_arrays_nested.specs.GoodParts.{IsGood};
 ghost use Rattle.polars_arrays_nested.specs.Lengths.{len_of};
 ghost use Rattle.polars_arrays_nested.specs.Parts.{columns, struct_fields, struct_validity};
-ghost use Rattle.polars_arrays_nested.specs.StoredRows.{listed-present, stored_struct, stored_structs};
+ghost use Rattle.polars_arrays_nested.specs.StoredRows.{stored_struct, stored_structs};
+ghost use Rattle.polars_arrays_nested.specs.StoredRowLaws.{listed-present};
 ghost use Rattle.polars_arrays_nested.specs.Types.{type_of};
 ghost use Rattle.polars_arrays_nested.specs.declared.any_array.AnyArray.{AnyArray, Struct, size-AnyArray};
 ghost use Rattle.polars_arrays_nested.specs.declared.struct_array.StructArray.{size-StructArray};

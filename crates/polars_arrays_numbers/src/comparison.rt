@@ -13,8 +13,8 @@ pub trait Comparison<L, R> {
     fn compare(&self, left: L, right: R) -> bool
         ensures { result ≡ holds self.now left right };
 
-    /// Whether many answers are packed into bits one by one, which is faster for elements of more than 64 bits,
-    /// and not by 64 flags and one vector operation. No answer depends on it.
+    /// Whether many answers are packed into bits one by one, and not by 64 flags and one vector operation: the
+    /// faster way for elements of more than 64 bits. The answers are the same either way.
     #[inline(always)]
     fn packs_by_bit(&self) -> bool {
         false

@@ -1,4 +1,4 @@
-//! The types of offsets into bytes or child rows.
+//! The types of offsets into bytes or items.
 ghost use Rattle.std.specs.Prelude.{◌≡◌, ◌≢◌, Some, None};
 ghost use Rattle.polars_arrays_numbers.specs.Naturals.{natural_of};
 
@@ -10,7 +10,7 @@ pub trait Offset: NativeType {
     fn to_place(self) -> Option<usize>
         ensures { result ≡ natural_of (Self.value self) };
 
-    /// An offset that is not negative as a place.
+    /// The offset as a place, without a test: the offset is known not to be negative.
     fn place(self) -> usize
         requires { natural_of (Self.value self) ≢ None }
         ensures { natural_of (Self.value self) ≡ Some result };

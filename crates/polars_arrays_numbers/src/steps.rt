@@ -1,5 +1,4 @@
-//! A counter of which contracts see the exact whole number, though it stops at `u64::MAX` when it
-//! runs.
+//! A counter. Contracts see the exact count; `seen()` stops at `u64::MAX`.
 ghost use Rattle.std.specs.Prelude.{◌≡◌, ℕ, min, ◌+◌, ◌-◌, ◌^◌};
 
 use std::marker::Model;
@@ -12,7 +11,7 @@ enum Past {
     After(Snapshot<usize>, Snapshot<Past>),
 }
 
-/// A counter, which a clause reads as the whole number that was counted.
+/// A counter. Clauses read it as the exact count, which has no bound; `seen` stops at `u64::MAX`.
 #[derive(Drop)]
 pub struct Steps {
     seen: u64,
@@ -42,7 +41,7 @@ impl Steps {
         }
     }
 
-    /// Counts `n` more, exactly, whatever `seen` can show of it.
+    /// Counts `n` more.
     pub fn add(&mut self, n: usize)
         ensures { self.new ≡ self.old + n }
     {
@@ -51,7 +50,7 @@ impl Steps {
         self.past = Past::After(Snapshot::of(&n), before);
     }
 
-    /// The count, and `u64::MAX` from there on.
+    /// The count, or `u64::MAX` where it is greater.
     pub fn seen(&self) -> u64
         ensures { result ≡ min self.now (2 ^ 64 - 1) }
     {

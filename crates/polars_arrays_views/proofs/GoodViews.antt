@@ -6,7 +6,8 @@ use Rattle.std.proofs.lemmas.Bool.{cases_lt}
 use Rattle.std.proofs.lemmas.Bool.Decides.{nat_tests}
 use Rattle.std.proofs.lemmas.List.{get_or-take, length-take, length-drop, take-take, take-append-drop, drop-drop, drop-take}
 use Rattle.std.proofs.lemmas.Nat.{le_bytes_4}
-use Rattle.polars_arrays_flat.specs.ByteOrderLaws.{AreBytes, bytes_take}
+use Rattle.polars_arrays_flat.specs.ByteOrderLaws.{bytes_take}
+use Rattle.polars_arrays_flat.specs.ByteOrder.{AreBytes}
 use Rattle.polars_arrays_views.specs.Views.{IsView, GoodView, AllZero, view_len, view_prefix, view_offset, view_buffer, buffer_at, row_bytes, padded, short_view}
 use Rattle.polars_arrays_views.proofs.Padding.{length-padded, zeros_after, front_of_padded, padded_zeros, padded_long}
 use Rattle.polars_arrays_views.proofs.Words.{bytes_padded}

@@ -11,8 +11,8 @@ use Rattle.std.proofs.lemmas.Bool.Decides.{Decides-and, Decides-or, Decides-ltb}
 use Rattle.std.proofs.lemmas.List.{drop-drop, length-drop, length-take}
 use Rattle.std.proofs.lemmas.Map.Text.{is_eq-slice_cmp}
 use Rattle.std.proofs.lemmas.Slice.Eq.{bytes_eq-Decides}
-use Rattle.polars_arrays_flat.specs.ByteOrder.{bytes_lt}
-use Rattle.polars_arrays_flat.specs.ByteOrderLaws.{AreBytes, bytes_drop, bytes_take, eight_decide, equal_from, four_decide, overlap}
+use Rattle.polars_arrays_flat.specs.ByteOrder.{AreBytes, bytes_lt}
+use Rattle.polars_arrays_flat.specs.ByteOrderLaws.{bytes_drop, bytes_take, eight_decide, equal_from, four_decide, overlap}
 use Rattle.polars_arrays_views.specs.Views.{AllZero, GoodView, HoldsScalar, IsView, view_len, view_prefix, row_bytes, padded, followed_lt}
 use Rattle.polars_arrays_views.proofs.EqualRows.{decided_false}
 use Rattle.polars_arrays_views.proofs.GoodViews.{inlined_tail, prefix_is}

@@ -3,7 +3,7 @@ use Rattle.std.proofs.Common.{◌≡◌, ◌↔◌, ℕ, zero, suc, IsTrue, nat_
 use Rattle.std.specs.Int.{w64, from_le_bytes, to_le_bytes}
 use Rattle.std.proofs.lemmas.Nat.{le_bytes_8}
 use Rattle.std.proofs.lemmas.Bool.Decides.{Decides-eqb}
-use Rattle.polars_arrays_flat.specs.ByteOrderLaws.{AreBytes}
+use Rattle.polars_arrays_flat.specs.ByteOrder.{AreBytes}
 use Rattle.polars_arrays_views.specs.Views.{padded}
 
 -- eight bytes are known by their number

@@ -1,7 +1,7 @@
 -- What the sixteen bytes of a view say, and the row that they stand for (the Arrow layout). All numbers in a view are little endian.
 use Rattle.std.specs.Prelude.{◌≡◌, ◌≤◌, ◌<◌, ◌+◌, ◌*◌, ◌&&◌, ◌||◌, ℕ, zero, suc, Bool, List, [], ◌∷◌, if◌then◌else◌, nat_le, nat_lt, nat_eq, length, take, drop, slice_index, slice_index_or, EachIndex}
 use Rattle.std.specs.Str.{bytes_eq}
-use Rattle.polars_arrays_flat.specs.ByteOrderLaws.{AreBytes}
+use Rattle.polars_arrays_flat.specs.ByteOrder.{AreBytes}
 
 -- sixteen bytes
 pub record IsView (v : List ℕ) : Type 0 where

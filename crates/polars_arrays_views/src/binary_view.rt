@@ -1,12 +1,12 @@
-//! Arrays of byte strings, each said by a view.
+//! Arrays of byte strings, each described by a view.
 
-ghost use Rattle.std.specs.Prelude.{◌≡◌, ◌<◌, ◌≤◌, ◌+◌, [], length, slice_index_or, IfOk, IfErr, MatchOption, MatchResult, ⊤, refl};
+ghost use Rattle.std.specs.Prelude.{◌≡◌, ◌<◌, ◌≤◌, ◌+◌, [], length, slice_index_or, IfOk, IfErr, MatchOption, IsOk, MatchResult, ⊤, refl};
 ghost use Rattle.std.specs.List.{All};
 ghost use Rattle.std.specs.Result.{OkIff};
 ghost use Rattle.polars_arrays_bits.specs.Errors.{IsMemory};
 ghost use Rattle.polars_arrays_flat.specs.DataType.{kind_of};
 ghost use Rattle.polars_arrays_flat.specs.Kind.{BinaryViewKind};
-ghost use Rattle.polars_arrays_flat.specs.Slots.{byte_slots-present};
+ghost use Rattle.polars_arrays_flat.specs.SlotLaws.{byte_slots-present};
 ghost use Rattle.polars_arrays_flat.specs.StoredRows.{rows_under, byte_slots};
 ghost use Rattle.polars_arrays_flat.specs.Validity.{masked_count, validity_window, window};
 ghost use Rattle.polars_arrays_views.specs.Faults.{IsFirstBadView, IsFirstFault};
@@ -135,9 +135,10 @@ impl BinaryViewArray {
         })
     }
 
-    /// The array's type. The error is `Memory`.
+    /// The array's type. It takes no memory, so that there is always one.
     pub fn dtype(&self, _alloc: Global) -> Result<ArrowDataType, ComputeError>
-        ensures { MatchResult result (λ dtype. kind_of dtype ≡ BinaryViewKind) IsMemory }
+        ensures dtype { MatchResult result (λ dtype. kind_of dtype ≡ BinaryViewKind) IsMemory }
+        ensures succeeds { IsOk result }
     {
         Ok(ArrowDataType::BinaryView)
     }

@@ -28,7 +28,7 @@ pub fn rows_equal(
 {
     let v = left.view(i);
     let w = right.view(j);
-    // both tests, so that no branch hangs on the bytes of short rows
+    // both tests, so that no branch depends on the bytes of short rows
     if v.len() <= 12 {
         return v.same_head(w) & v.same_tail(w);
     }

@@ -1,12 +1,12 @@
-//! Arrays of texts, each said by a view.
+//! Arrays of texts, each described by a view.
 
-ghost use Rattle.std.specs.Prelude.{◌≡◌, ◌↔◌, ◌<◌, ◌≤◌, ◌+◌, [], length, slice_index_or, IfOk, IfErr, IsTrue, MatchOption, MatchResult, ⊤, refl};
+ghost use Rattle.std.specs.Prelude.{◌≡◌, ◌↔◌, ◌<◌, ◌≤◌, ◌+◌, [], length, slice_index_or, IfOk, IfErr, IsTrue, MatchOption, IsOk, MatchResult, ⊤, refl};
 ghost use Rattle.std.specs.Result.{OkIff};
 ghost use Rattle.std.specs.Str.{IsUtf8};
 ghost use Rattle.polars_arrays_bits.specs.Errors.{IsMemory};
 ghost use Rattle.polars_arrays_flat.specs.DataType.{kind_of};
 ghost use Rattle.polars_arrays_flat.specs.Kind.{Utf8ViewKind};
-ghost use Rattle.polars_arrays_flat.specs.Slots.{byte_slots-present};
+ghost use Rattle.polars_arrays_flat.specs.SlotLaws.{byte_slots-present};
 ghost use Rattle.polars_arrays_flat.specs.StoredRows.{rows_under, byte_slots};
 ghost use Rattle.polars_arrays_flat.specs.Validity.{masked_count, validity_window, window};
 ghost use Rattle.polars_arrays_views.specs.Parts.{contents, strings_of, view_rows, view_strings, GoodParts};
@@ -99,9 +99,10 @@ impl Utf8ViewArray {
         Ok(Utf8ViewArray { binary })
     }
 
-    /// The array's type. The error is `Memory`.
+    /// The array's type. It takes no memory, so that there is always one.
     pub fn dtype(&self, _alloc: Global) -> Result<ArrowDataType, ComputeError>
-        ensures { MatchResult result (λ dtype. kind_of dtype ≡ Utf8ViewKind) IsMemory }
+        ensures dtype { MatchResult result (λ dtype. kind_of dtype ≡ Utf8ViewKind) IsMemory }
+        ensures succeeds { IsOk result }
     {
         Ok(ArrowDataType::Utf8View)
     }

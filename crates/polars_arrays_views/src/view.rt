@@ -173,7 +173,7 @@ impl View {
     {
         let (p, q) = (self.prefix(), other.prefix());
         let (s, t) = (self.rest(), other.rest());
-        // no branch hangs on the bytes
+        // no branch depends on the bytes
         (p < q) | ((p == q) & pair_less(s, t, self.len(), other.len()))
     }
 

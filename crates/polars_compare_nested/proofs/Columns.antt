@@ -10,7 +10,8 @@ use Rattle.polars_arrays_flat.specs.StoredRows.{kept}
 use Rattle.polars_arrays_flat.specs.Validity.{is_present}
 use Rattle.polars_arrays_flat.specs.declared.data_type.Field.{Field}
 use Rattle.polars_arrays_nested.specs.AnyRows.{row}
-use Rattle.polars_arrays_nested.specs.Columns.{AreColumns, rows_at, good-struct, row-struct}
+use Rattle.polars_arrays_nested.specs.Columns.{AreColumns, rows_at}
+use Rattle.polars_arrays_nested.specs.ColumnLaws.{good-struct, row-struct}
 use Rattle.polars_arrays_nested.specs.GoodParts.{IsGood}
 use Rattle.polars_arrays_nested.specs.Parts.{columns, struct_fields, struct_validity}
 use Rattle.polars_arrays_nested.specs.Types.{type_of}

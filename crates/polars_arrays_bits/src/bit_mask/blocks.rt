@@ -1,4 +1,4 @@
-//! Blocks of bits, of which one bit each says whether they are all true.
+//! Blocks of bits, folded to one bit each: whether all bits of the block are true.
 
 ghost use Rattle.std.specs.Prelude.{◌≡◌, ◌*◌, ◌^◌, ◌<◌, ◌≤◌, length, MatchResult};
 ghost use Rattle.polars_arrays_words.specs.Blocks.{blocks_all};
@@ -75,7 +75,7 @@ impl BitMask<'_> {
     }
 
     /// Whether the bits of each block are all true: of `n` blocks of `width` bits, the first of which begins
-    /// at the first bit. The bits of an empty block are. Blocks of 2, 4, 8 and 16 bits are folded a word at
+    /// at the first bit. Of an empty block they all are. Blocks of 2, 4, 8 and 16 bits are folded a word at
     /// a time. The error is `Memory`.
     pub fn all_in_blocks(
         &self,

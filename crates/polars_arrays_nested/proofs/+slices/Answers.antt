@@ -2,7 +2,7 @@ use Rattle.std.proofs.Common.{◌≡◌, ◌+◌, ◌≤◌, ◌<◌, length, ge
 use Rattle.std.proofs.lemmas.List.{length-set}
 use Rattle.polars_arrays_nested.specs.GoodParts.{IsGood}
 use Rattle.polars_arrays_nested.specs.Lengths.{len_of}
-use Rattle.polars_arrays_nested.specs.Columns.{good-struct}
+use Rattle.polars_arrays_nested.specs.ColumnLaws.{good-struct}
 use Rattle.polars_arrays_nested.specs.Parts.{columns, struct_fields, struct_validity}
 use Rattle.polars_arrays_nested.proofs.Cuts.{cut-fixed, cut-struct, cuts-more, column_good, unvisited-more}
 use Rattle.polars_arrays_nested.proofs.Windows.{reaches}

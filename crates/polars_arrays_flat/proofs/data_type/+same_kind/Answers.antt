@@ -1,6 +1,6 @@
 use Rattle.std.proofs.Common.{arith, refl, sym, ◌∙◌}
 use Rattle.std.proofs.lemmas.Bool.{false≢true}
-use Rattle.polars_arrays_flat.specs.DataType.{kind_of-struct}
+use Rattle.polars_arrays_flat.specs.DataTypeLaws.{kind_of-struct}
 use Rattle.polars_arrays_flat.proofs.SameKinds.{never, struct_agrees, kinds_agree, kinds_count, fields_at}
 use Rattle.polars_arrays_flat.proofs.data_type.+same_kind.Goals as goal
 

@@ -1,5 +1,6 @@
 use Rattle.std.proofs.Common.{◌≡◌, arith, sym, ap, ◌∙◌}
-use Rattle.polars_arrays_flat.specs.DataType.{kind_of, kind_of-struct, kinds_of}
+use Rattle.polars_arrays_flat.specs.DataType.{kind_of, kinds_of}
+use Rattle.polars_arrays_flat.specs.DataTypeLaws.{kind_of-struct}
 use Rattle.polars_arrays_nested.proofs.FieldKinds.{kinds_agree, struct_kind}
 use Rattle.polars_arrays_nested.proofs.data_types.+clone_types.Goals as goal
 

@@ -1,6 +1,6 @@
 use Rattle.std.proofs.Common.{◌≡◌, sym, subst}
 use Rattle.polars_arrays_nested.proofs.Cuts.{column_good}
-use Rattle.polars_arrays_nested.specs.Columns.{good-struct}
+use Rattle.polars_arrays_nested.specs.ColumnLaws.{good-struct}
 use Rattle.polars_arrays_nested.specs.GoodParts.{IsGood}
 use Rattle.polars_arrays_nested.specs.Lengths.{len_of}
 use Rattle.polars_arrays_nested.specs.Parts.{columns, struct_fields}

@@ -1,5 +1,5 @@
 use Rattle.std.proofs.Common.{rules}
-use Rattle.polars_arrays_nested.specs.Columns.{row-struct}
+use Rattle.polars_arrays_nested.specs.ColumnLaws.{row-struct}
 use Rattle.polars_arrays_nested.proofs.Structs.{structs-good}
 use Rattle.polars_arrays_nested.specs.declared.struct_array.StructArray.{StructArray}
 use Rattle.polars_arrays_nested.proofs.struct_array.StructArray.try_new.Goals as goal

@@ -4,7 +4,7 @@ use Rattle.std.proofs.lemmas.List.FromFn.{length-map-range_with_len}
 use Rattle.std.proofs.lemmas.Result.{MatchResult-weaker}
 use Rattle.polars_arrays_flat.specs.DataType.{kinds_of}
 use Rattle.polars_arrays_flat.specs.Kind.{StructKind}
-use Rattle.polars_arrays_nested.specs.Columns.{row-struct}
+use Rattle.polars_arrays_nested.specs.ColumnLaws.{row-struct}
 use Rattle.polars_arrays_nested.specs.StoredRows.{stored_struct}
 use Rattle.polars_arrays_nested.specs.declared.any_array.AnyArray.{Struct}
 use Rattle.polars_compare_equality.proofs.Listed.{apart, equal-bits, fields-equal}
