@@ -195,7 +195,7 @@ match_none l r a b k none h =
     rw (add-zero a, add-zero b) at here
 
 -- lists that match one after another make a run
-pub run_is : (l r : ListArray) (a b n rows : ℕ) (run : ItemRun) → IsGood (Lists l) → IsGood (Lists r) → a + n ≤ len_of (Lists l) → b + n ≤ len_of (Lists r) → 1 ≤ rows → rows ≤ n → Match l a r b rows → run ≡ record { left = offset_at (list_offsets l) a; right = offset_at (list_offsets r) b; count = offset_at (list_offsets l) (a + rows) - offset_at (list_offsets l) a; rows = rows } → IsRun l a r b n run
+pub run_is : (l r : ListArray) (a b n rows : ℕ) (run : ItemRun) → IsGood (Lists l) → IsGood (Lists r) → a + n ≤ len_of (Lists l) → b + n ≤ len_of (Lists r) → 1 ≤ rows → rows ≤ n → Match l a r b rows → run ≡ record { left_start = offset_at (list_offsets l) a; right_start = offset_at (list_offsets r) b; count = offset_at (list_offsets l) (a + rows) - offset_at (list_offsets l) a; len = rows } → IsRun l a r b n run
 run_is l r a b n rows run h k low low' some within matching is =
     let rise = offset_rise _ (list_offsets l) a rows h.0.good (omega (arith, low, within)) in
     let far = run_offsets (list_offsets l) (list_offsets r) _ _ a b rows h.0.good k.0.good (omega (arith, low, within)) (omega (arith, low', within)) (match_spans l r a b rows matching) in
