@@ -76,6 +76,32 @@ pub fn array_tot_ne_missing_kernel_counted<K: LeafKernel>(
 
 /// Where the rows of two arrays of one type and length are the same tree, null as null alone. The error is
 /// `Memory`.
+///
+/// On `Ok` the count has risen by exactly one for each leaf slot of the left array that is set against one of
+/// the right: at most the leaf slots of either array, a dictionary's entries counted once per present row. On
+/// `Memory` it has not fallen.
+#[tactic(auto, using(crate::proofs::Headline::bounds))]
+pub fn array_tot_eq_missing_kernel_with_steps(
+    alloc: Global,
+    left: &AnyArray,
+    right: &AnyArray,
+    steps: &mut Steps,
+) -> Result<Bitmap, ComputeError>
+    requires left_good { IsGood left.now }
+    requires right_good { IsGood right.now }
+    requires one_type { type_of left.now ≡ type_of right.now }
+    requires one_length { len_of left.now ≡ len_of right.now }
+    ensures trees { MatchResult result (SameTrees true left.now right.now) IsMemory }
+    ensures counted { IfOk result (λ _. steps.new ≡ steps.old + tally left.now right.now 0 0 (len_of left.now)) }
+    ensures within_left { tally left.now right.now 0 0 (len_of left.now) ≤ leaves left.now 0 (len_of left.now) }
+    ensures within_right { tally left.now right.now 0 0 (len_of left.now) ≤ leaves right.now 0 (len_of right.now) }
+    ensures kept { steps.old ≤ steps.new }
+{
+    array_tot_eq_missing_kernel_counted(alloc, left, right, steps)
+}
+
+/// Where the rows of two arrays of one type and length are the same tree, null as null alone. The error is
+/// `Memory`.
 pub fn array_tot_eq_missing_kernel(
     alloc: Global,
     left: &AnyArray,
@@ -88,7 +114,7 @@ pub fn array_tot_eq_missing_kernel(
     ensures trees { MatchResult result (SameTrees true left.now right.now) IsMemory }
     ensures missing { MatchResult result (MissingEquality true (type_of left.now ≡ type_of right.now) (rows left.now) (rows right.now)) IsMemory }
 {
-    array_tot_eq_missing_kernel_counted(alloc, left, right, &mut Steps::new())
+    array_tot_eq_missing_kernel_with_steps(alloc, left, right, &mut Steps::new())
 }
 
 /// Where the rows of two arrays of one type and length are not the same tree, null being the same as null
