@@ -7,6 +7,7 @@ use Rattle.polars_arrays_nested.specs.declared.any_array.AnyArray.{Null as Nulls
 use Rattle.polars_arrays_nested.specs.declared.dict_keys.DictKeys.TheVariants.{UInt8}
 use Rattle.polars_arrays_nested.specs.declared.list_offsets.ListOffsets.TheVariants.{Small}
 use Rattle.polars_compare_nested.specs.Broadcasts.{all_rows}
+use Rattle.polars_compare_nested.specs.Headline.{IsEquality}
 use Rattle.polars_compare_nested.specs.KindSorts.{is_dictionary, is_fixed_list, is_list, is_sized, is_struct}
 use Rattle.polars_compare_nested.specs.Leaf.{is_leaf}
 use Rattle.polars_compare_nested.specs.Runs.{all_items, all_lists, span_between, start_of}
@@ -39,6 +40,10 @@ is_struct-empty = refl
 
 is_dictionary-numbers : is_dictionary (DictionaryKind UInt32Kind Int8Kind) ≡ true
 is_dictionary-numbers = refl
+
+-- a test that says of all leaves that they agree is not equality: it takes 1 for 2
+always_agree-not_equality : IsEquality (λ _ _. true) → ⊥
+always_agree-not_equality h = let one_is_two : pos 1 ≡ pos 2 = (h.numbers (pos 1) (pos 2)).0 refl in cc
 
 -- the sum of f 5 7, f 6 8 and f 7 9
 total_pairs-three : total_pairs (λ i j. i + j) 5 7 3 ≡ 42

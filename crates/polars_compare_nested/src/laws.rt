@@ -1,7 +1,7 @@
 //! Laws of the definitions, each the contract of a function that does nothing.
 
 ghost use Rattle.polars_compare_leaves.specs.Sameness.{same_leaf};
-ghost use Rattle.polars_compare_nested.specs.Headline.{IsEquality};
+ghost use Rattle.polars_compare_nested.specs.Headline.{EqualityTellsTrees, IsEquality};
 ghost use Rattle.polars_compare_nested.specs.TallyLaws.{TallyAddsUp, TallyIsSymmetric, TallyIsWithinLeaves};
 
 use polars_arrays_nested::laws::law_leaves;
@@ -17,7 +17,10 @@ pub fn law_tally()
     law_leaves();
 }
 
-/// The kernel of `Steps` tells equality: by it two rows are the same exactly where they are the same tree.
+/// The test of leaves by `Steps` is equality; and by any test that is, two rows are the same exactly where they
+/// are the same tree. So a `LeafKernel` tells trees apart as soon as its test is equality of two numbers, of two
+/// truth values and of two byte strings.
 pub fn law_steps()
-    ensures { IsEquality same_leaf }
+    ensures equality { IsEquality same_leaf }
+    ensures trees { EqualityTellsTrees }
 {}
