@@ -3,7 +3,7 @@ use Rattle.std.specs.Prelude.{ℕ, zero, suc, ◌+◌, ◌*◌, ◌&&◌, eqb, c
 use Rattle.polars_arrays_flat.specs.Validity.{is_present}
 use Rattle.polars_arrays_nested.specs.DictKeys.{key_at, key_validity}
 use Rattle.polars_arrays_nested.specs.ListOffsets.{offset_at, span}
-use Rattle.polars_arrays_nested.specs.declared.any_array.AnyArray.{AnyArray, Null, List', FixedSizeList', Struct', Dictionary', Row_of-AnyArray, end_of-AnyArray, more_of-AnyArray, items-the_row-AnyArray}
+use Rattle.polars_arrays_nested.specs.declared.any_array.AnyArray.{AnyArray, Null, Boolean, Int8, Int16, Int32, Int64, Int128, UInt8, UInt16, UInt32, UInt64, UInt128, Binary, LargeBinary, Utf8, LargeUtf8, BinaryView, Utf8View, FixedSizeBinary, List', FixedSizeList', Struct', Dictionary', Row_of-AnyArray, end_of-AnyArray, more_of-AnyArray, items-the_row-AnyArray}
 use Rattle.polars_arrays_nested.specs.declared.dict_keys.DictKeys.{DictKeys}
 use Rattle.polars_arrays_nested.specs.declared.list_offsets.ListOffsets.{ListOffsets}
 
@@ -40,7 +40,24 @@ abbrev mutual
   tally (FixedSizeList' width len p values validity) y a b n = 0
   tally (Struct' fields len p values validity) y a b n = 0
   tally (Dictionary' keys p values) y a b n = 0
-  tally x y a b n = n
+  tally (Boolean x) y a b n = n
+  tally (Int8 x) y a b n = n
+  tally (Int16 x) y a b n = n
+  tally (Int32 x) y a b n = n
+  tally (Int64 x) y a b n = n
+  tally (Int128 x) y a b n = n
+  tally (UInt8 x) y a b n = n
+  tally (UInt16 x) y a b n = n
+  tally (UInt32 x) y a b n = n
+  tally (UInt64 x) y a b n = n
+  tally (UInt128 x) y a b n = n
+  tally (Binary x) y a b n = n
+  tally (LargeBinary x) y a b n = n
+  tally (Utf8 x) y a b n = n
+  tally (LargeUtf8 x) y a b n = n
+  tally (BinaryView x) y a b n = n
+  tally (Utf8View x) y a b n = n
+  tally (FixedSizeBinary x) y a b n = n
 
   -- those of each two arrays, added up
   pub tally_across : {m : _} → Row_of-AnyArray m → List AnyArray → ℕ → ℕ → ℕ → ℕ
