@@ -9,11 +9,11 @@ use polars_arrays_nested::laws::law_leaves;
 
 /// What two windows cost, and what bounds it.
 ///
-/// The comparisons are no more than the leaf slots of the left window; comparisons and leaf slots of adjacent
-/// windows add up; and the comparisons stay when the sides are exchanged, so that the leaf slots of the right
-/// window bound them too. The items of a list end where those of the next one begin, so a window of lists has
-/// the leaf slots of one window of items, and lists that match one after another cost what that window costs. A
-/// struct goes over each of its columns once.
+/// The comparisons are no more than the leaf slots of the left window; comparisons and leaf slots of
+/// adjacent windows add up; and the comparisons stay when the sides are exchanged, so that the leaf slots of
+/// the right window bound them too. The items of a list end where those of the next one begin, so a window
+/// of lists has the leaf slots of one window of items, and lists that match one after another cost what that
+/// window costs. A struct goes over each of its columns once.
 pub fn law_tally()
     ensures within { TallyIsWithinLeaves }
     ensures adds_up { TallyAddsUp }
@@ -28,9 +28,9 @@ pub fn law_tally()
     law_leaves();
 }
 
-/// The test of leaves by `Steps` is equality; and by any test that is, two rows are the same exactly where they
-/// are the same tree. So a `LeafKernel` tells trees apart as soon as its test is equality of two numbers, of two
-/// truth values and of two byte strings.
+/// The test of leaves by `Steps` is equality; and by any test that is, two rows are the same exactly where
+/// they are the same tree. So a `LeafKernel` tells trees apart as soon as its test is equality of two
+/// numbers, of two truth values and of two byte strings.
 pub fn law_steps()
     ensures equality { IsEquality same_leaf }
     ensures trees { EqualityTellsTrees }
