@@ -11,16 +11,18 @@ use Rattle.polars_arrays_flat.specs.Validity.{is_present}
 use Rattle.polars_arrays_flat.specs.declared.data_type.Field.{Field}
 use Rattle.polars_arrays_nested.specs.AnyRows.{row}
 use Rattle.polars_arrays_nested.specs.Columns.{AreColumns, rows_at}
-use Rattle.polars_arrays_nested.specs.ColumnLaws.{good-struct, row-struct}
+use Rattle.polars_arrays_nested.specs.ColumnLaws.{good-struct, leaves-struct, row-struct}
 use Rattle.polars_arrays_nested.specs.GoodParts.{IsGood}
 use Rattle.polars_arrays_nested.specs.Parts.{columns, struct_fields, struct_validity}
 use Rattle.polars_arrays_nested.specs.Types.{type_of}
-use Rattle.polars_arrays_nested.specs.declared.any_array.AnyArray.{AnyArray, Struct}
+use Rattle.polars_arrays_nested.specs.declared.any_array.AnyArray.{AnyArray, Struct, Row_of-AnyArray, end_of-AnyArray, more_of-AnyArray, items-the_row-AnyArray, items_hidden-the_row-AnyArray-0}
+use Rattle.polars_arrays_nested.specs.declared.any_array.AnyArray.TheBlock.{hidden-the_row-AnyArray-0}
 use Rattle.polars_arrays_nested.specs.declared.struct_array.StructArray.{StructArray}
 use Rattle.polars_compare_leaves.specs.Sameness.{same, same_rows}
 use Rattle.polars_compare_nested.specs.Bits.{RawBits, SameBits}
-use Rattle.polars_compare_nested.specs.Tally.{tally}
-use Rattle.polars_compare_nested.specs.TallyColumns.{columns_tally, tally-struct}
+use Rattle.polars_compare_nested.specs.Tally.{tally, tally_across}
+use Rattle.polars_compare_nested.specs.TallyColumns.{columns_tally}
+use Rattle.polars_compare_nested.specs.TallyLaws.{StructLeavesAreColumns, StructTallyIsColumns}
 
 columns_count : (fs fs' : List Field) (n m : ℕ) (ls rs : List AnyArray) → AreColumns fs n ls → AreColumns fs' m rs → kinds_of fs ≡ kinds_of fs' → length ls ≡ length rs
 columns_count fs fs' n m [] [] h k e = refl
@@ -119,6 +121,23 @@ struct_bits agree l r a b n m bits all all' h = record {
       ∙ ap (λ x. same agree x (kept (is_present (struct_validity r) (b + i)) (Fields (rows_at (columns r) (b + i))))) (sym (row-struct l (a + i)))
       ∙ ap (λ y. same agree (row (Struct l) (a + i)) y) (sym (row-struct r (b + i)));
 }
+
+tally_across_is : (m : _) (all : Row_of-AnyArray m) (others : List AnyArray) (a b n : ℕ) → tally_across all others a b n ≡ columns_tally (items-the_row-AnyArray m all) others a b n
+tally_across_is m end_of-AnyArray others a b n = refl
+tally_across_is m (more_of-AnyArray first rest) [] a b n = refl
+tally_across_is m (more_of-AnyArray first rest) (other ∷ others) a b n =
+    ap (λ r. tally first other a b n + r) (tally_across_is _ rest others a b n)
+
+-- the comparisons of two structs are those of their columns
+pub tally-struct : StructTallyIsColumns
+tally-struct s t a b n =
+    ap (λ l. tally_across (hidden-the_row-AnyArray-0 s.values) l a b n) (items_hidden-the_row-AnyArray-0 t.values)
+    ∙ tally_across_is _ (hidden-the_row-AnyArray-0 s.values) (columns t) a b n
+    ∙ ap (λ l. columns_tally l (columns t) a b n) (items_hidden-the_row-AnyArray-0 s.values)
+
+-- as its leaf slots are
+pub struct-leaves : StructLeavesAreColumns
+struct-leaves s a n = leaves-struct s a n
 
 -- and they cost what all columns cost
 pub struct_tally : (l r : StructArray) (a b n m : ℕ) → length (columns l) ≤ m → length (columns r) ≤ m → tally (Struct l) (Struct r) a b n ≡ columns_tally (take m (columns l)) (take m (columns r)) a b n

@@ -7,10 +7,13 @@ use Rattle.polars_arrays_nested.specs.declared.any_array.AnyArray.{Null as Nulls
 use Rattle.polars_arrays_nested.specs.declared.dict_keys.DictKeys.TheVariants.{UInt8}
 use Rattle.polars_arrays_nested.specs.declared.list_offsets.ListOffsets.TheVariants.{Small}
 use Rattle.polars_compare_nested.specs.Broadcasts.{all_rows}
+use Rattle.polars_compare_nested.specs.Headline.{IsEquality}
 use Rattle.polars_compare_nested.specs.KindSorts.{is_dictionary, is_fixed_list, is_list, is_sized, is_struct}
 use Rattle.polars_compare_nested.specs.Leaf.{is_leaf}
 use Rattle.polars_compare_nested.specs.Runs.{all_items, all_lists, span_between, start_of}
 use Rattle.polars_compare_nested.specs.Tally.{tally, tally_across, total_pairs}
+use Rattle.polars_compare_nested.specs.TallyColumns.{columns_tally}
+use Rattle.polars_compare_nested.specs.TallyLaws.{items_in}
 
 is_leaf-number : is_leaf Int8Kind ≡ true
 is_leaf-number = refl
@@ -39,6 +42,10 @@ is_struct-empty = refl
 
 is_dictionary-numbers : is_dictionary (DictionaryKind UInt32Kind Int8Kind) ≡ true
 is_dictionary-numbers = refl
+
+-- a test that says of all leaves that they agree is not equality: it takes 1 for 2
+always_agree-not_equality : IsEquality (λ _ _. true) → ⊥
+always_agree-not_equality h = let one_is_two : pos 1 ≡ pos 2 = (h.numbers (pos 1) (pos 2)).0 refl in cc
 
 -- the sum of f 5 7, f 6 8 and f 7 9
 total_pairs-three : total_pairs (λ i j. i + j) 5 7 3 ≡ 42
@@ -85,12 +92,21 @@ tally-columns : tally_across (more_of-AnyArray three (more_of-AnyArray three end
 unfolding three
 tally-columns = refl
 
+-- a column that has no partner costs nothing
+columns_tally-two : columns_tally (three ∷ three ∷ []) (three ∷ []) 0 0 3 ≡ 3
+unfolding three
+columns_tally-two = refl
+
 -- of the offsets 4, 6 and 9: list 1 starts at item 6, and has three items
 start_of-second : start_of (Some 4 ∷ Some 6 ∷ Some 9 ∷ []) 1 ≡ 6
 start_of-second = refl
 
 span_between-second : span_between (Some 4 ∷ Some 6 ∷ Some 9 ∷ []) 1 ≡ 3
 span_between-second = refl
+
+-- lists 1 and 2 of the offsets 0, 2, 3 and 7 have the items from 2 to 7
+items_in-two : items_in (Small (record { items = pos 0 ∷ pos 2 ∷ pos 3 ∷ pos 7 ∷ []; owned = true })) 1 2 ≡ 5
+items_in-two = refl
 
 -- of the bits of the items from item 4 on, those of list 1 (items 6 and 7) are not both set
 all_items-second : all_items (true ∷ true ∷ true ∷ false ∷ []) (Some 4 ∷ Some 6 ∷ Some 8 ∷ []) 4 1 ≡ false

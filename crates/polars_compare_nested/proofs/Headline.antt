@@ -20,6 +20,7 @@ use Rattle.polars_compare_nested.specs.Bits.{SameBits}
 use Rattle.polars_compare_nested.specs.Headline.{IsEquality, SameRows, SameTrees}
 use Rattle.polars_compare_nested.specs.Tally.{tally}
 use Rattle.polars_compare_nested.specs.TallyLaws.{TallyIsSymmetric, TallyIsWithinLeaves}
+use Rattle.polars_compare_nested.proofs.Trees.{equality-trees}
 
 -- each bit of two whole arrays
 bit-at : (agree : Row → Row → Bool) (l r : AnyArray) (bits : List Bool) → SameBits agree l 0 r 0 (len_of l) bits → (i : ℕ) → i < len_of l → slice_index_or bits i false ≡ same agree (row l i) (row r i)
@@ -58,7 +59,7 @@ trees-told told agree l r bits equality rows_told = record {
   size = rows_told.size;
   at_each = λ i below.
       let here = rows_told.at_each i below in
-      let tree = equality (row l i) (row r i) in
+      let tree = equality-trees agree equality (row l i) (row r i) in
       ((λ bit. tree.0 (here.0 bit)), (λ one. here.1 (tree.1 one)));
 }
 

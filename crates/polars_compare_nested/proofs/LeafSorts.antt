@@ -5,7 +5,7 @@ use Rattle.std.proofs.lemmas.List.{length-map}
 use Rattle.std.proofs.lemmas.List.FromFn.{length-range_with_len}
 use Rattle.polars_arrays_bytes.specs.OffsetStrings.{row_count, places, strings_between, string_between}
 use Rattle.polars_arrays_bytes.specs.SizedStrings.{sized_string}
-use Rattle.polars_arrays_flat.specs.Kind.{Kind, BooleanKind, BinaryKind, LargeBinaryKind, Utf8Kind, LargeUtf8Kind, BinaryViewKind, Utf8ViewKind, FixedSizeBinaryKind}
+use Rattle.polars_arrays_flat.specs.Kind.{Kind, BooleanKind, Int8Kind, Int16Kind, Int32Kind, Int64Kind, Int128Kind, UInt8Kind, UInt16Kind, UInt32Kind, UInt64Kind, UInt128Kind, BinaryKind, LargeBinaryKind, Utf8Kind, LargeUtf8Kind, BinaryViewKind, Utf8ViewKind, FixedSizeBinaryKind}
 use Rattle.polars_arrays_flat.specs.Row.{Row, Null, Int, Truth, Bytes, Rows, Fields, Entry}
 use Rattle.polars_arrays_flat.specs.StoredRows.{masked, rows_under}
 use Rattle.polars_arrays_flat.specs.StoredRows.{row as row_at}
@@ -35,8 +35,18 @@ row_sort (Rows xs) = 4
 row_sort (Fields xs) = 5
 row_sort (Entry x) = 6
 
--- the sort of the rows of leaf arrays
+-- the sort of the rows of leaf arrays, 3 for other kinds
 abbrev kind_sort : Kind → ℕ
+kind_sort Int8Kind = 0
+kind_sort Int16Kind = 0
+kind_sort Int32Kind = 0
+kind_sort Int64Kind = 0
+kind_sort Int128Kind = 0
+kind_sort UInt8Kind = 0
+kind_sort UInt16Kind = 0
+kind_sort UInt32Kind = 0
+kind_sort UInt64Kind = 0
+kind_sort UInt128Kind = 0
 kind_sort BooleanKind = 1
 kind_sort BinaryKind = 2
 kind_sort LargeBinaryKind = 2
@@ -45,7 +55,7 @@ kind_sort LargeUtf8Kind = 2
 kind_sort BinaryViewKind = 2
 kind_sort Utf8ViewKind = 2
 kind_sort (FixedSizeBinaryKind size) = 2
-kind_sort _ = 0
+kind_sort _ = 3
 
 present-masked : (bits : List Bool) (xs : List Row) (i : ℕ) → IsTrue (slice_index_or bits i false) → row_at (masked bits xs) i ≡ row_at xs i
 present-masked [] xs i h = cc
@@ -104,16 +114,26 @@ leaf-sort (List' (Small o) p values v) i leaf here low = cc
 leaf-sort (List' (Large o) p values v) i leaf here low = cc
 leaf-sort _ i leaf here low = cc
 
-kind_sort-low : (k : Kind) → kind_sort k ≤ 2
-kind_sort-low BooleanKind = omega arith
-kind_sort-low BinaryKind = omega arith
-kind_sort-low LargeBinaryKind = omega arith
-kind_sort-low Utf8Kind = omega arith
-kind_sort-low LargeUtf8Kind = omega arith
-kind_sort-low BinaryViewKind = omega arith
-kind_sort-low Utf8ViewKind = omega arith
-kind_sort-low (FixedSizeBinaryKind size) = omega arith
-kind_sort-low _ = omega arith
+kind_sort-low : (k : Kind) → IsTrue (is_leaf k) → kind_sort k ≤ 2
+kind_sort-low BooleanKind leaf = omega arith
+kind_sort-low Int8Kind leaf = omega arith
+kind_sort-low Int16Kind leaf = omega arith
+kind_sort-low Int32Kind leaf = omega arith
+kind_sort-low Int64Kind leaf = omega arith
+kind_sort-low Int128Kind leaf = omega arith
+kind_sort-low UInt8Kind leaf = omega arith
+kind_sort-low UInt16Kind leaf = omega arith
+kind_sort-low UInt32Kind leaf = omega arith
+kind_sort-low UInt64Kind leaf = omega arith
+kind_sort-low UInt128Kind leaf = omega arith
+kind_sort-low BinaryKind leaf = omega arith
+kind_sort-low LargeBinaryKind leaf = omega arith
+kind_sort-low Utf8Kind leaf = omega arith
+kind_sort-low LargeUtf8Kind leaf = omega arith
+kind_sort-low BinaryViewKind leaf = omega arith
+kind_sort-low Utf8ViewKind leaf = omega arith
+kind_sort-low (FixedSizeBinaryKind size) leaf = omega arith
+kind_sort-low _ leaf = cc
 
 -- of two leaves of one sort sameness is what `agree` says
 same-leaves : (agree : Row → Row → Bool) (x y : Row) → row_sort x ≡ row_sort y → row_sort x ≤ 2 → agree x y ≡ same agree x y
@@ -131,7 +151,7 @@ leaf_bits agree x y a b n bits leaf one_type left_in right_in h = record {
       let right = leaf-sort y (b + i) (subst (λ k. IsTrue (is_leaf k)) one_type leaf) both.1 (omega (arith, low, right_in)) in
       let one_sort : row_sort (row x (a + i)) ≡ row_sort (row y (b + i)) = left ∙ ap kind_sort one_type ∙ sym right in
       h.at_present i low both
-      ∙ same-leaves agree (row x (a + i)) (row y (b + i)) one_sort (omega (arith, left, kind_sort-low (type_of x)));
+      ∙ same-leaves agree (row x (a + i)) (row y (b + i)) one_sort (omega (arith, left, kind_sort-low (type_of x) leaf));
 }
 
 -- a window of leaves costs a comparison a row

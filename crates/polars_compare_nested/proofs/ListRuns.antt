@@ -21,6 +21,7 @@ use Rattle.polars_compare_leaves.specs.Sameness.{same, same_rows}
 use Rattle.polars_compare_nested.specs.Bits.{AddsRawBits, SameBits}
 use Rattle.polars_compare_nested.specs.Runs.{AddsRun, IsRun, Match, all_items, is_match}
 use Rattle.polars_compare_nested.specs.Tally.{pair_tally, tally, total_pairs}
+use Rattle.polars_compare_nested.specs.TallyLaws.{ListTallyIsOneWindow, ListsAreAdjacent}
 use Rattle.polars_compare_nested.specs.declared.runs.ItemRun.{ItemRun}
 use Rattle.polars_compare_nested.proofs.Offsets.{offset_rise, offset_step, offset_within}
 use Rattle.polars_compare_nested.proofs.TallyAdds.{AddsUp, tally-adds}
@@ -101,16 +102,25 @@ window_cost child o o' v v' items items' a b (suc n) add h k low low' e costs =
     let cost = costs n (omega arith) in
     rw (same, before, cost, there) (sym (rw (here, all) at adds))
 
--- the lists of a run are compared as one window of their items
-pub run_tally : (l r : ListArray) (a b n : ℕ) (run : ItemRun) → IsGood (Lists l) → IsGood (Lists r) → a + n ≤ len_of (Lists l) → b + n ≤ len_of (Lists r) → IsRun l a r b n run → tally (Lists l) (Lists r) a b run.len ≡ tally (list_values l) (list_values r) run.left_start run.right_start run.count
-run_tally l r a b n run h k low low' is =
+-- the items of a list end where those of the next one begin
+pub lists-adjacent : ListsAreAdjacent
+lists-adjacent l good i low = omega (arith, offset_step _ (list_offsets l) i good.0.good low)
+
+-- lists that match one after another cost what one window of their items costs
+pub lists-tally : ListTallyIsOneWindow
+lists-tally l r h k a b n low low' matching =
     let child : ℕ → ℕ → ℕ → ℕ = λ i j m. tally (list_values l) (list_values r) i j m in
     let add : AddsUp child = λ i j m n. tally-adds (list_values l) (list_values r) i j m n in
-    let costs : Costs child (list_offsets l) (list_validity l) a (list_offsets r) (list_validity r) b run.len =
+    let costs : Costs child (list_offsets l) (list_validity l) a (list_offsets r) (list_validity r) b n =
     λ i within.
-    row_cost child add (is_present (list_validity l) (a + i)) (is_present (list_validity r) (b + i)) _ _ (span (list_offsets l) (a + i)) (span (list_offsets r) (b + i)) (is.matching i within) in
+    row_cost child add (is_present (list_validity l) (a + i)) (is_present (list_validity r) (b + i)) _ _ (span (list_offsets l) (a + i)) (span (list_offsets r) (b + i)) (matching i within) in
+    window_cost child (list_offsets l) (list_offsets r) (list_validity l) (list_validity r) _ _ a b n add h.0.good k.0.good low low' (match_spans l r a b n matching) costs
+
+-- so the lists of a run are compared as one window of their items
+pub run_tally : (l r : ListArray) (a b n : ℕ) (run : ItemRun) → IsGood (Lists l) → IsGood (Lists r) → a + n ≤ len_of (Lists l) → b + n ≤ len_of (Lists r) → IsRun l a r b n run → tally (Lists l) (Lists r) a b run.len ≡ tally (list_values l) (list_values r) run.left_start run.right_start run.count
+run_tally l r a b n run h k low low' is =
     rw (is.left_is, is.right_is, is.count_is)
-    (window_cost child (list_offsets l) (list_offsets r) (list_validity l) (list_validity r) _ _ a b run.len add h.0.good k.0.good (omega (arith, is.within, low)) (omega (arith, is.within, low')) (match_spans l r a b run.len is.matching) costs)
+    (lists-tally l r h k a b run.len (omega (arith, is.within, low)) (omega (arith, is.within, low')) is.matching)
 
 -- two lists that are both present are the same where their items are
 both_kept : (agree : Row → Row → Bool) (p q : Bool) (xs ys : RowList) → IsTrue p → IsTrue q → same agree (kept p (Rows xs)) (kept q (Rows ys)) ≡ same_rows agree xs ys
@@ -195,7 +205,7 @@ match_none l r a b k none h =
     rw (add-zero a, add-zero b) at here
 
 -- lists that match one after another make a run
-pub run_is : (l r : ListArray) (a b n rows : ℕ) (run : ItemRun) → IsGood (Lists l) → IsGood (Lists r) → a + n ≤ len_of (Lists l) → b + n ≤ len_of (Lists r) → 1 ≤ rows → rows ≤ n → Match l a r b rows → run ≡ record { left = offset_at (list_offsets l) a; right = offset_at (list_offsets r) b; count = offset_at (list_offsets l) (a + rows) - offset_at (list_offsets l) a; rows = rows } → IsRun l a r b n run
+pub run_is : (l r : ListArray) (a b n rows : ℕ) (run : ItemRun) → IsGood (Lists l) → IsGood (Lists r) → a + n ≤ len_of (Lists l) → b + n ≤ len_of (Lists r) → 1 ≤ rows → rows ≤ n → Match l a r b rows → run ≡ record { left_start = offset_at (list_offsets l) a; right_start = offset_at (list_offsets r) b; count = offset_at (list_offsets l) (a + rows) - offset_at (list_offsets l) a; len = rows } → IsRun l a r b n run
 run_is l r a b n rows run h k low low' some within matching is =
     let rise = offset_rise _ (list_offsets l) a rows h.0.good (omega (arith, low, within)) in
     let far = run_offsets (list_offsets l) (list_offsets r) _ _ a b rows h.0.good k.0.good (omega (arith, low, within)) (omega (arith, low', within)) (match_spans l r a b rows matching) in

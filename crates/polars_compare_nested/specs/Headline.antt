@@ -1,6 +1,6 @@
 -- What the missing kernels say of two whole arrays.
-use Rattle.std.specs.Prelude.{◌≡◌, ◌<◌, ◌↔◌, ℕ, Bool, false, IsTrue, List, length, slice_index_or}
-use Rattle.polars_arrays_flat.specs.Row.{Row}
+use Rattle.std.specs.Prelude.{◌≡◌, ◌<◌, ◌↔◌, ℕ, ℤ, Bool, false, IsTrue, List, length, slice_index_or}
+use Rattle.polars_arrays_flat.specs.Row.{Row, Int, Truth, Bytes}
 use Rattle.polars_arrays_nested.specs.AnyRows.{row}
 use Rattle.polars_arrays_nested.specs.Lengths.{len_of}
 use Rattle.polars_arrays_nested.specs.declared.any_array.AnyArray.{AnyArray}
@@ -16,6 +16,13 @@ pub record SameTrees (told : Bool) (left right : AnyArray) (bits : List Bool) : 
   pub size : length bits ≡ len_of left
   pub at_each : (i : ℕ) → i < len_of left → (slice_index_or bits i false ≡ told) ↔ (row left i ≡ row right i)
 
--- leaf rows agree exactly where they are equal, so that rows are the same exactly where they are the same tree
-abbrev pub IsEquality : (Row → Row → Bool) → Type 0
-IsEquality agree = (x y : Row) → IsTrue (same agree x y) ↔ (x ≡ y)
+-- two leaf rows of one sort agree exactly where they are equal: two numbers, two truth values, two byte strings
+pub record IsEquality (agree : Row → Row → Bool) : Type 0 where
+  pub numbers : (m n : ℤ) → IsTrue (agree (Int m) (Int n)) ↔ (m ≡ n)
+  pub truth_values : (a b : Bool) → IsTrue (agree (Truth a) (Truth b)) ↔ (a ≡ b)
+  pub byte_strings : (xs ys : List ℕ) → IsTrue (agree (Bytes xs) (Bytes ys)) ↔ (xs ≡ ys)
+
+-- by a test of leaf rows that is equality, two rows are the same exactly where they are the same tree
+abbrev pub EqualityTellsTrees : Type 0
+EqualityTellsTrees =
+    (agree : Row → Row → Bool) → IsEquality agree → (x y : Row) → IsTrue (same agree x y) ↔ (x ≡ y)

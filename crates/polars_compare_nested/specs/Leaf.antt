@@ -1,13 +1,25 @@
 -- Arrays whose rows are leaves: numbers, truth values, byte strings and texts.
 use Rattle.std.specs.Prelude.{Bool, true, false}
-use Rattle.polars_arrays_flat.specs.Kind.{Kind, NullKind, ListKind, LargeListKind, FixedSizeListKind, StructKind, DictionaryKind}
+use Rattle.polars_arrays_flat.specs.Kind.{Kind, BooleanKind, Int8Kind, Int16Kind, Int32Kind, Int64Kind, Int128Kind, UInt8Kind, UInt16Kind, UInt32Kind, UInt64Kind, UInt128Kind, BinaryKind, LargeBinaryKind, Utf8Kind, LargeUtf8Kind, BinaryViewKind, Utf8ViewKind, FixedSizeBinaryKind}
 
 -- whether an array of this kind has leaves for rows: it holds no array, and its rows are not all null
 abbrev pub is_leaf : Kind → Bool
-is_leaf NullKind = false
-is_leaf (ListKind item) = false
-is_leaf (LargeListKind item) = false
-is_leaf (FixedSizeListKind item width) = false
-is_leaf (StructKind fields) = false
-is_leaf (DictionaryKind keys entry) = false
-is_leaf _ = true
+is_leaf BooleanKind = true
+is_leaf Int8Kind = true
+is_leaf Int16Kind = true
+is_leaf Int32Kind = true
+is_leaf Int64Kind = true
+is_leaf Int128Kind = true
+is_leaf UInt8Kind = true
+is_leaf UInt16Kind = true
+is_leaf UInt32Kind = true
+is_leaf UInt64Kind = true
+is_leaf UInt128Kind = true
+is_leaf BinaryKind = true
+is_leaf LargeBinaryKind = true
+is_leaf Utf8Kind = true
+is_leaf LargeUtf8Kind = true
+is_leaf BinaryViewKind = true
+is_leaf Utf8ViewKind = true
+is_leaf (FixedSizeBinaryKind size) = true
+is_leaf _ = false

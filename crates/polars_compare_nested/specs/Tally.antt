@@ -1,9 +1,9 @@
--- The comparisons of two windows of one type: one for each leaf slot of the left array that is set against one of the right.
+-- How many comparisons two windows of one type cost: one for each leaf slot of the left array that is compared with one of the right.
 use Rattle.std.specs.Prelude.{ℕ, zero, suc, ◌+◌, ◌*◌, ◌&&◌, eqb, cond, Bool, List, [], ◌∷◌, Option}
 use Rattle.polars_arrays_flat.specs.Validity.{is_present}
 use Rattle.polars_arrays_nested.specs.DictKeys.{key_at, key_validity}
 use Rattle.polars_arrays_nested.specs.ListOffsets.{offset_at, span}
-use Rattle.polars_arrays_nested.specs.declared.any_array.AnyArray.{AnyArray, Null, List', FixedSizeList', Struct', Dictionary', Row_of-AnyArray, end_of-AnyArray, more_of-AnyArray, items-the_row-AnyArray}
+use Rattle.polars_arrays_nested.specs.declared.any_array.AnyArray.{AnyArray, Null, Boolean, Int8, Int16, Int32, Int64, Int128, UInt8, UInt16, UInt32, UInt64, UInt128, Binary, LargeBinary, Utf8, LargeUtf8, BinaryView, Utf8View, FixedSizeBinary, List', FixedSizeList', Struct', Dictionary', Row_of-AnyArray, end_of-AnyArray, more_of-AnyArray, items-the_row-AnyArray}
 use Rattle.polars_arrays_nested.specs.declared.dict_keys.DictKeys.{DictKeys}
 use Rattle.polars_arrays_nested.specs.declared.list_offsets.ListOffsets.{ListOffsets}
 
@@ -12,20 +12,20 @@ abbrev pub total_pairs : (ℕ → ℕ → ℕ) → ℕ → ℕ → ℕ → ℕ
 total_pairs f a b zero = 0
 total_pairs f a b (suc count) = total_pairs f a b count + f (a + count) (b + count)
 
--- the comparisons of lists i and j, where `items` has those of windows of items: two present lists of one length cost those of their items, others nothing
+-- what lists i and j cost: two present lists of one length cost what their items do, others nothing; `items` says what two windows of items cost
 abbrev pub pair_tally : (ℕ → ℕ → ℕ → ℕ) → ListOffsets → Option (List Bool) → ListOffsets → Option (List Bool) → ℕ → ℕ → ℕ
 pair_tally items offsets validity offsets' validity' i j =
     cond (is_present validity i && is_present validity' j && eqb (span offsets i) (span offsets' j))
     (items (offset_at offsets i) (offset_at offsets' j) (span offsets i))
     0
 
--- the comparisons of rows i and j of two dictionaries, where `entries` has those of windows of entries: two present keys cost those of their entries, others nothing
+-- what rows i and j of two dictionaries cost: two present keys cost what their entries do, others nothing; `entries` says what two windows of entries cost
 abbrev pub entry_tally : (ℕ → ℕ → ℕ → ℕ) → DictKeys → DictKeys → ℕ → ℕ → ℕ
 entry_tally entries keys keys' i j =
     cond (is_present (key_validity keys) i && is_present (key_validity keys') j) (entries (key_at keys i) (key_at keys' j) 1) 0
 
 abbrev mutual
-  -- the comparisons of n rows from row a on of one array and as many from row b on of another of its type: of leaves one each, of lists and dictionaries those of each pair of rows, of lists of one width those of all items, of structs those of each field, and of nulls none
+  -- what n rows from row a on of one array and as many from row b on of another of its type cost: a pair of leaves one comparison, nulls none, lists and dictionaries what each pair of rows costs, lists of one width what all their items cost, and structs what each pair of columns costs
   pub tally : AnyArray → AnyArray → ℕ → ℕ → ℕ → ℕ
   tally (List' offsets p values validity) (List' offsets' p' values' validity') a b n =
       total_pairs (pair_tally (λ i j m. tally values values' i j m) offsets validity offsets' validity') a b n
@@ -40,9 +40,26 @@ abbrev mutual
   tally (FixedSizeList' width len p values validity) y a b n = 0
   tally (Struct' fields len p values validity) y a b n = 0
   tally (Dictionary' keys p values) y a b n = 0
-  tally x y a b n = n
+  tally (Boolean x) y a b n = n
+  tally (Int8 x) y a b n = n
+  tally (Int16 x) y a b n = n
+  tally (Int32 x) y a b n = n
+  tally (Int64 x) y a b n = n
+  tally (Int128 x) y a b n = n
+  tally (UInt8 x) y a b n = n
+  tally (UInt16 x) y a b n = n
+  tally (UInt32 x) y a b n = n
+  tally (UInt64 x) y a b n = n
+  tally (UInt128 x) y a b n = n
+  tally (Binary x) y a b n = n
+  tally (LargeBinary x) y a b n = n
+  tally (Utf8 x) y a b n = n
+  tally (LargeUtf8 x) y a b n = n
+  tally (BinaryView x) y a b n = n
+  tally (Utf8View x) y a b n = n
+  tally (FixedSizeBinary x) y a b n = n
 
-  -- those of each two arrays, added up
+  -- what each pair of columns costs, added up
   pub tally_across : {m : _} → Row_of-AnyArray m → List AnyArray → ℕ → ℕ → ℕ → ℕ
   tally_across end_of-AnyArray others a b n = 0
   tally_across (more_of-AnyArray first rest) [] a b n = 0

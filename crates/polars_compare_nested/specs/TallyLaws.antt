@@ -1,20 +1,55 @@
--- Laws of the comparisons of two windows.
-use Rattle.std.specs.Prelude.{◌≡◌, ◌≤◌, ◌+◌, ℕ}
+-- Laws of what two windows cost (their tally), and of the leaf slots that bound it.
+use Rattle.std.specs.Prelude.{◌≡◌, ◌≤◌, ◌<◌, ◌+◌, ◌-◌, ℕ}
+use Rattle.polars_arrays_nested.specs.Columns.{columns_leaves}
 use Rattle.polars_arrays_nested.specs.GoodParts.{IsGood}
 use Rattle.polars_arrays_nested.specs.Leaves.{leaves}
 use Rattle.polars_arrays_nested.specs.Lengths.{len_of}
+use Rattle.polars_arrays_nested.specs.ListOffsets.{offset_at, span}
+use Rattle.polars_arrays_nested.specs.Parts.{columns, list_offsets, list_values}
 use Rattle.polars_arrays_nested.specs.Types.{type_of}
-use Rattle.polars_arrays_nested.specs.declared.any_array.AnyArray.{AnyArray}
+use Rattle.polars_arrays_nested.specs.declared.any_array.AnyArray.{AnyArray, List, Struct}
+use Rattle.polars_arrays_nested.specs.declared.list.ListArray.{ListArray}
+use Rattle.polars_arrays_nested.specs.declared.list_offsets.ListOffsets.{ListOffsets}
+use Rattle.polars_arrays_nested.specs.declared.struct_array.StructArray.{StructArray}
+use Rattle.polars_compare_nested.specs.Runs.{Match}
 use Rattle.polars_compare_nested.specs.Tally.{tally}
+use Rattle.polars_compare_nested.specs.TallyColumns.{columns_tally}
 
--- they are no more than the leaf slots of the left window
+-- the tally is no more than the leaf slots of the left window
 abbrev pub TallyIsWithinLeaves : Type 0
 TallyIsWithinLeaves = (x y : AnyArray) → IsGood x → (a b n : ℕ) → a + n ≤ len_of x → tally x y a b n ≤ leaves x a n
 
--- of two windows, the second beginning where the first ends on both sides, they are those of both together
+-- the tallies of adjacent windows add up: the second begins where the first ends, on both sides
 abbrev pub TallyAddsUp : Type 0
 TallyAddsUp = (x y : AnyArray) (a b m n : ℕ) → tally x y a b (m + n) ≡ tally x y a b m + tally x y (a + m) (b + m) n
 
--- they stay when the sides are exchanged
+-- the tally stays when the sides are exchanged
 abbrev pub TallyIsSymmetric : Type 0
 TallyIsSymmetric = (x y : AnyArray) → IsGood x → IsGood y → type_of x ≡ type_of y → (a b n : ℕ) → tally x y a b n ≡ tally y x b a n
+
+-- how many items the n lists from list a on have, from the first one's first item to the last one's last
+abbrev pub items_in : ListOffsets → ℕ → ℕ → ℕ
+items_in offsets a n = offset_at offsets (a + n) - offset_at offsets a
+
+-- the items of a list end where those of the next one begin
+abbrev pub ListsAreAdjacent : Type 0
+ListsAreAdjacent = (l : ListArray) → IsGood (List l) → (i : ℕ) → i < len_of (List l)
+    → offset_at (list_offsets l) i + span (list_offsets l) i ≡ offset_at (list_offsets l) (i + 1)
+
+-- the leaf slots of a window of lists are those of one window of items
+abbrev pub ListLeavesAreOneWindow : Type 0
+ListLeavesAreOneWindow = (l : ListArray) (a n : ℕ)
+    → leaves (List l) a n ≡ leaves (list_values l) (offset_at (list_offsets l) a) (items_in (list_offsets l) a n)
+
+-- lists that match one after another have the tally of one window of their items
+abbrev pub ListTallyIsOneWindow : Type 0
+ListTallyIsOneWindow = (l r : ListArray) → IsGood (List l) → IsGood (List r) → (a b n : ℕ) → a + n ≤ len_of (List l) → b + n ≤ len_of (List r) → Match l a r b n
+    → tally (List l) (List r) a b n ≡ tally (list_values l) (list_values r) (offset_at (list_offsets l) a) (offset_at (list_offsets r) b) (items_in (list_offsets l) a n)
+
+-- the leaf slots of a struct are those of its columns, each of which is gone over once
+abbrev pub StructLeavesAreColumns : Type 0
+StructLeavesAreColumns = (s : StructArray) (a n : ℕ) → leaves (Struct s) a n ≡ columns_leaves (columns s) a n
+
+-- the tally of two structs is that of their columns, each of which is gone over once
+abbrev pub StructTallyIsColumns : Type 0
+StructTallyIsColumns = (s t : StructArray) (a b n : ℕ) → tally (Struct s) (Struct t) a b n ≡ columns_tally (columns s) (columns t) a b n

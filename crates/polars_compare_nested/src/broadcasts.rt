@@ -1,4 +1,4 @@
-//! Lists set against all rows of one array.
+//! Lists compared with one list, which is given as an array of its items.
 
 ghost use Rattle.std.specs.Prelude.{◌≡◌, ◌+◌, ◌≤◌, MatchResult};
 ghost use Rattle.polars_arrays_bits.specs.Errors.{IsMemory};
@@ -26,7 +26,8 @@ use polars_arrays_nested::list::ListArray;
 use polars_arrays_numbers::steps::Steps;
 use std::alloc::Global;
 
-// Whether `count` items from item `from` on are all rows of an array, in order. The error is `Memory`.
+// Whether `count` items from item `from` on are the rows of an array, all of them and in order. The error is
+// `Memory`.
 fn are_all_rows(
     alloc: Global,
     items: &AnyArray,
@@ -47,8 +48,8 @@ fn are_all_rows(
     Ok(BitMask::from_bitmap(&same).all_set(0, count))
 }
 
-/// Where a list, whatever the validity says, has for items all rows of an array, in order. The error is
-/// `Memory`.
+/// Which lists have exactly the rows of an array for items, in order. The validity is not asked: a masked
+/// list is compared by the items that are stored for it. The error is `Memory`.
 pub fn list_broadcast(
     alloc: Global,
     lists: &ListArray,
@@ -70,8 +71,8 @@ pub fn list_broadcast(
     Ok(bits.freeze())
 }
 
-/// Where a list of one width, whatever the validity says, has for items all rows of an array, in order. The
-/// error is `Memory`.
+/// Which lists of one width have exactly the rows of an array for items, in order. The validity is not
+/// asked: a masked list is compared by the items that are stored for it. The error is `Memory`.
 pub fn fixed_size_list_broadcast(
     alloc: Global,
     lists: &FixedSizeListArray,

@@ -16,7 +16,7 @@ pub(crate) fn item_window(array: &FixedSizeListArray, at: usize, n: usize) -> (u
     ensures count { result.1 ≡ fixed_width array.now * n }
     ensures within { result.0 + result.1 ≤ len_of (fixed_values array.now) }
 {
-    // No effect at run time. The proof reads from it that the products are numbers of 64 bits.
+    // For the proof alone: that the items have a length of 64 bits says that the products don't overflow.
     let _items = array.values().len();
     (array.width() * at, array.width() * n)
 }

@@ -20,13 +20,13 @@ use polars_arrays_nested::any_array::AnyArray;
 use polars_arrays_numbers::steps::Steps;
 use std::alloc::Global;
 
-/// Where the rows of two arrays of one type and length are the same, null as null alone, where the kernel
-/// says it of leaves.
+/// Which rows of two arrays of one type and length are the same. Null is the same as null alone, and leaves
+/// are the same where the kernel says so.
 ///
 /// The count rises by exactly one for each leaf slot of the left array that is set against one of the right:
-/// at most the leaf slots of either array, a dictionary's entries counted once per present row. Where the
-/// kernel tells equality, as that of `Steps` does, a row's bit is set exactly where the two rows are the same
-/// tree. The error is `Memory`, and then the count has not fallen.
+/// at most the leaf slots of either array, a dictionary's entries counted once per present row. If the
+/// kernel's test of leaves is equality, as that of `Steps` is, a row's bit is set exactly where the two rows
+/// are the same tree. The error is `Memory`, and then the count has not fallen.
 #[tactic(auto, using(crate::proofs::Headline::bounds))]
 pub fn array_tot_eq_missing_kernel_counted<K: LeafKernel>(
     alloc: Global,
@@ -49,7 +49,7 @@ pub fn array_tot_eq_missing_kernel_counted<K: LeafKernel>(
     equal_windows(alloc, left, 0, right, 0, left.len(), steps)
 }
 
-/// Where the rows of two arrays of one type and length are not the same: the answer of
+/// Which rows of two arrays of one type and length are not the same: the answer of
 /// `array_tot_eq_missing_kernel_counted` with each bit turned, after the same comparisons.
 #[tactic(auto, using(crate::proofs::Headline::bounds))]
 pub fn array_tot_ne_missing_kernel_counted<K: LeafKernel>(
@@ -74,8 +74,34 @@ pub fn array_tot_ne_missing_kernel_counted<K: LeafKernel>(
     same.not(alloc)
 }
 
-/// Where the rows of two arrays of one type and length are the same tree, null as null alone. The error is
-/// `Memory`.
+/// Which rows of two arrays of one type and length are the same tree, where null is the same as null alone.
+/// The error is `Memory`.
+///
+/// On `Ok` the count has risen by exactly one for each leaf slot of the left array that is set against one
+/// of the right: at most the leaf slots of either array, a dictionary's entries counted once per present
+/// row. On `Memory` it has not fallen.
+#[tactic(auto, using(crate::proofs::Headline::bounds))]
+pub fn array_tot_eq_missing_kernel_with_steps(
+    alloc: Global,
+    left: &AnyArray,
+    right: &AnyArray,
+    steps: &mut Steps,
+) -> Result<Bitmap, ComputeError>
+    requires left_good { IsGood left.now }
+    requires right_good { IsGood right.now }
+    requires one_type { type_of left.now ≡ type_of right.now }
+    requires one_length { len_of left.now ≡ len_of right.now }
+    ensures trees { MatchResult result (SameTrees true left.now right.now) IsMemory }
+    ensures counted { IfOk result (λ _. steps.new ≡ steps.old + tally left.now right.now 0 0 (len_of left.now)) }
+    ensures within_left { tally left.now right.now 0 0 (len_of left.now) ≤ leaves left.now 0 (len_of left.now) }
+    ensures within_right { tally left.now right.now 0 0 (len_of left.now) ≤ leaves right.now 0 (len_of right.now) }
+    ensures kept { steps.old ≤ steps.new }
+{
+    array_tot_eq_missing_kernel_counted(alloc, left, right, steps)
+}
+
+/// Which rows of two arrays of one type and length are the same tree, where null is the same as null alone.
+/// The error is `Memory`.
 pub fn array_tot_eq_missing_kernel(
     alloc: Global,
     left: &AnyArray,
@@ -88,10 +114,10 @@ pub fn array_tot_eq_missing_kernel(
     ensures trees { MatchResult result (SameTrees true left.now right.now) IsMemory }
     ensures missing { MatchResult result (MissingEquality true (type_of left.now ≡ type_of right.now) (rows left.now) (rows right.now)) IsMemory }
 {
-    array_tot_eq_missing_kernel_counted(alloc, left, right, &mut Steps::new())
+    array_tot_eq_missing_kernel_with_steps(alloc, left, right, &mut Steps::new())
 }
 
-/// Where the rows of two arrays of one type and length are not the same tree, null being the same as null
+/// Which rows of two arrays of one type and length are not the same tree, where null is the same as null
 /// alone. The error is `Memory`.
 pub fn array_tot_ne_missing_kernel(
     alloc: Global,

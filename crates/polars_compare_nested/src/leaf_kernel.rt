@@ -1,4 +1,4 @@
-//! How leaf rows are compared, and what a comparison counts.
+//! How leaf rows are compared, and how their comparisons are counted.
 
 ghost use Rattle.std.specs.Prelude.{◌≡◌, ◌+◌, ◌≤◌, ℕ, Bool, IsTrue, IfOk, MatchResult};
 ghost use Rattle.polars_arrays_bits.specs.Errors.{IsMemory};
@@ -17,8 +17,8 @@ use polars_arrays_nested::any_array::AnyArray;
 use polars_arrays_numbers::steps::Steps;
 use std::alloc::Global;
 
-/// What compares stored leaves (numbers, truth values, byte strings and texts) and counts the comparisons.
-/// The comparison of arrays that hold arrays knows no more of it.
+/// Compares stored leaves (numbers, truth values, byte strings and texts) and counts the comparisons. The
+/// comparison of nested arrays reaches leaves through this trait alone.
 pub trait LeafKernel {
     // Whether two leaf rows agree.
     ghost agree: { Row → Row → Bool };
@@ -27,8 +27,9 @@ pub trait LeafKernel {
     ghost count: { Self → ℕ };
 
     /// Whether the leaves of two windows agree, place by place: `n` rows from row `a` on of the left array,
-    /// and as many from row `b` on of the right one. A bit is right where both rows are present. The count
-    /// rises by `n`, a comparison a row. The error is `Memory`, and then the count has not fallen.
+    /// and as many from row `b` on of the right one. Where a row is masked on either side the bit means
+    /// nothing. The count rises by `n`, a comparison a row. The error is `Memory`, and then the count has
+    /// not fallen.
     fn leaf_eq(
         &mut self,
         alloc: Global,

@@ -33,7 +33,8 @@ use polars_compare_leaves::numbers::compare_number_windows;
 use polars_compare_views::windows::compare_view_windows;
 use std::alloc::Global;
 
-// A comparison of two arrays of one kind of leaf, by the function that stands before the kind.
+// Compares windows of two arrays of one kind of leaf by the function that stands before the name of the
+// kind.
 macro_rules! compare_leaves {
     (($alloc:expr, $left:expr, $a:expr, $right:expr, $b:expr, $n:expr), $($windows:ident: $($kind:ident)+);+) => {
         match $left {
@@ -72,7 +73,7 @@ pub(crate) fn leaf_windows(
     )
 }
 
-// Whether the truth values of two windows are equal, place by place, as `leaf_windows` says it of any leaves.
+// What `leaf_windows` says of any leaves, of truth values.
 #[inline]
 fn truth_windows(
     alloc: Global,
@@ -157,7 +158,8 @@ fn text_windows(
     view_windows(alloc, left.as_binview(), a, right.as_binview(), b, n)
 }
 
-// The same of byte strings and texts kept by views; how many rows are looked up in buffers is not asked.
+// The same of byte strings and texts kept by views. How many of them are looked up in buffers is counted and
+// dropped: this crate counts comparisons of leaves.
 #[inline]
 fn view_windows(
     alloc: Global,

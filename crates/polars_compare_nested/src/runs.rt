@@ -14,7 +14,7 @@ use polars_arrays_bits::builder::BitmapBuilder;
 use polars_arrays_nested::list::ListArray;
 use polars_arrays_nested::list_offsets::ListOffsets;
 
-/// Lists that match one after another, and the windows of their items.
+/// A run of lists that match one after another, as the two windows of all their items.
 #[derive(Drop)]
 pub(crate) struct ItemRun {
     /// The first item of the left lists.
@@ -30,7 +30,8 @@ pub(crate) struct ItemRun {
 /// What the first lists of two windows are.
 #[derive(Drop)]
 pub(crate) enum NextRows {
-    /// The first two lists have not the same number of items, or one of them is null and they have items.
+    /// The first two lists don't match: they differ in their number of items, or they have items and one of
+    /// the two is null.
     Apart,
     /// The first lists match.
     Run(ItemRun),
@@ -42,7 +43,7 @@ pub(crate) fn item_count(array: &ListArray, i: usize) -> usize
     requires within { i < len_of (List array.now) }
     ensures { result ≡ span (list_offsets array.now) i }
 {
-    // No effect at run time. The proof reads from it that `i + 1` is a number of 64 bits.
+    // For the proof alone: that the lists have a length of 64 bits says that `i + 1` doesn't overflow.
     let _lists = array.offsets().len();
     array.offsets().offset(i + 1) - array.offsets().offset(i)
 }
@@ -73,7 +74,8 @@ fn run_length(left: &ListArray, a: usize, right: &ListArray, b: usize, n: usize)
     }
 }
 
-/// What the first of `n` lists are, from row `a` on of the left array and from row `b` on of the right one.
+/// How the next lists are compared, where `n` are left: from row `a` on of the left array, and from row `b`
+/// on of the right one.
 pub(crate) fn next_rows(
     left: &ListArray,
     a: usize,
@@ -92,7 +94,7 @@ pub(crate) fn next_rows(
     if rows == 0 {
         return NextRows::Apart;
     }
-    // No effect at run time. The proof reads from it that `a + rows` is a number of 64 bits.
+    // For the proof alone: that the lists have a length of 64 bits says that `a + rows` doesn't overflow.
     let _lists = left.offsets().len();
     let first = left.offsets().offset(a);
     NextRows::Run(ItemRun {
@@ -103,7 +105,8 @@ pub(crate) fn next_rows(
     })
 }
 
-/// Adds a bit for each of `rows` lists from row `a` on: whether the bits of its items are all set.
+/// Adds a bit for each of `rows` lists from row `a` on: whether all bits of its items are set. `items` has
+/// the bits of the items of these lists alone.
 pub(crate) fn push_rows(
     bits: &mut BitmapBuilder,
     items: &Bitmap,

@@ -18,9 +18,9 @@ use std::alloc::Global;
 // of 128 bits.
 const UUID_SIZE: usize = 16;
 
-/// Of which stored rows of two windows a comparison holds, place by place: `n` byte strings from place `a` on
-/// of the left array, and as many from place `b` on of the right one, whose strings may have another size.
-/// The error is `Memory`.
+/// For which stored rows of two windows the comparison is true, place by place: `n` byte strings from place
+/// `a` on of the left array, and as many from place `b` on of the right one, whose strings may have another
+/// size. The error is `Memory`.
 pub fn compare_sized_windows<E: ByteComparison>(
     alloc: Global,
     comparison: &E,

@@ -1,5 +1,5 @@
-//! Lists between offsets of a known width: how many of them match, and which have all bits of their items
-//! set.
+//! The loops over lists between offsets, for offsets of either width: how many lists match, and which lists
+//! have all bits of their items set. The offsets come as slices, beside the array that they are of.
 
 ghost use Rattle.std.specs.Prelude.{◌≡◌, ◌+◌, ◌-◌, ◌^◌, ◌<◌, ◌≤◌, false, length};
 ghost use Rattle.polars_arrays_bytes.specs.OffsetStrings.{place_at, places, row_count};
@@ -42,8 +42,7 @@ fn list_at<O: Offset>(offsets: &[O], i: usize) -> (usize, usize)
     (from, to - from)
 }
 
-// Whether two lists have as many items, and are both present or have none, where the offsets of both arrays
-// are lent.
+// Whether two lists match: they have the same number of items, and both are present or they have none.
 #[inline(always)]
 fn rows_match<L: Offset, R: Offset>(
     left: &ListArray,
@@ -66,7 +65,7 @@ fn rows_match<L: Offset, R: Offset>(
     count == other && (count == 0 || is_present(left.validity(), i) && is_present(right.validity(), j))
 }
 
-/// How many of the first `n` lists match, one after another, where the offsets of both arrays are lent.
+/// How many of the `n` lists match before the first pair that doesn't.
 pub(crate) fn matching_rows<L: Offset, R: Offset>(
     left: &ListArray,
     left_offsets: &[L],
@@ -86,7 +85,7 @@ pub(crate) fn matching_rows<L: Offset, R: Offset>(
     ensures matching { Match left.now a right.now b result }
     ensures longest { result < n → is_match left.now (a + result) right.now (b + result) ≡ false }
 {
-    // No effect at run time. The proof reads from it that the sums are numbers of 64 bits.
+    // For the proof alone: that the lists have a length of 64 bits says that the sums don't overflow.
     let (_lists, _others) = (left.offsets().len(), right.offsets().len());
     for k in 0..n {
         if !rows_match(left, left_offsets, a + k, right, right_offsets, b + k) {
@@ -96,8 +95,8 @@ pub(crate) fn matching_rows<L: Offset, R: Offset>(
     n
 }
 
-// For each list of a run whether the bits of its items are all set, of which the first is that of the item
-// at place `first`.
+// For each list of a run whether all bits of its items are set. `items` begins with the bit of the item at
+// place `first`.
 #[derive(Drop)]
 struct ListBits<'m, 'a, O: Offset> {
     items: &'m BitMask<'a>,
@@ -125,15 +124,14 @@ impl<O: Offset> TruthValues for ListBits<'_, '_, O> {
         self.items.all_set(place.saturating_sub(self.first), count)
     }
 
-    // A list lies in two words.
+    // Each value is found from two offsets and the bits between them, which are more than 64 bits.
     #[inline(always)]
     fn packs_by_bit(&self) -> bool {
         true
     }
 }
 
-/// Adds a bit for each of `rows` lists from row `a` on: whether the bits of its items are all set. The offsets
-/// of the array are lent.
+/// Adds a bit for each of `rows` lists from row `a` on: whether all bits of its items are set.
 pub(crate) fn push_lists<O: Offset>(
     bits: &mut BitmapBuilder,
     items: &Bitmap,
@@ -150,7 +148,7 @@ pub(crate) fn push_lists<O: Offset>(
     ensures bits { AddsRun items.now (list_places (list_offsets array.now)) a rows bits.old.bits bits.new.bits }
     ensures room { bits.new.room ≡ bits.old.room - rows }
 {
-    // No effect at run time. The proof reads from it that the sums are numbers of 64 bits.
+    // For the proof alone: that the lists have a length of 64 bits says that the sums don't overflow.
     let _lists = array.offsets().len();
     let first = place_of(offsets, a);
     let items = &BitMask::from_bitmap(items);

@@ -11,7 +11,8 @@ ghost use Rattle.polars_arrays_nested.specs.declared.struct_array.StructArray.{s
 use polars_arrays_nested::any_array::AnyArray;
 use polars_arrays_nested::struct_array::StructArray;
 
-/// Column `i` of each of two structs of one type.
+/// Column `i` of each of two structs of one type. Both columns are good, of one type, and as long as their
+/// structs.
 pub(crate) fn column_pair<'a>(
     left: &'a StructArray,
     right: &'a StructArray,

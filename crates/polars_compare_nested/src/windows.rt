@@ -1,10 +1,10 @@
 //! Equality of the rows of two windows: `n` rows from row `a` on of the left array, and as many from row `b`
 //! on of the right one, which are of one type.
 //!
-//! The windows of arrays that hold arrays are compared by windows of what they hold, and no array is copied.
-//! A struct is compared by one window a field, lists of one width by one window in all, lists between offsets
-//! by one window a run of lists whose items are adjacent, and a dictionary by one entry a row. Leaves are
-//! compared by a `LeafKernel` alone.
+//! Nested arrays are compared by windows of the arrays that they hold, and no array is copied. For a struct
+//! these are one window of each column; for lists of one width, one window of all their items; for lists
+//! between offsets, one window for each run of lists that match, whose items lie one after another on both
+//! sides; for a dictionary, one entry for each row. Leaves are compared by a `LeafKernel` alone.
 
 ghost use Rattle.std.specs.Prelude.{◌≡◌, ◌+◌, ◌-◌, ◌<◌, ◌≤◌, length, IfOk, MatchResult};
 ghost use Rattle.polars_arrays_bits.specs.Errors.{IsMemory};
@@ -34,8 +34,8 @@ use polars_arrays_nested::list::ListArray;
 use polars_arrays_nested::struct_array::StructArray;
 use std::alloc::Global;
 
-/// Where the rows of two windows are the same, null as null alone. The count rises by a comparison for each
-/// leaf that is set against another. The error is `Memory`, and then the count has not fallen.
+/// Which rows of two windows are the same, where null is the same as null alone. The count rises by one for
+/// each leaf that is compared with another. The error is `Memory`, and then the count has not fallen.
 #[cycle(equal)]
 pub fn equal_windows<K: LeafKernel>(
     alloc: Global,
@@ -59,7 +59,8 @@ pub fn equal_windows<K: LeafKernel>(
     join_windows(alloc, raw, left, a, right, b)
 }
 
-// The same, whatever the validities of the two arrays say: a bit is right where both rows are present.
+// The same without a look at the validities of the two arrays: where a row is masked on either side the bit
+// means nothing.
 #[cycle(equal)]
 fn raw_windows<K: LeafKernel>(
     alloc: Global,
@@ -93,8 +94,8 @@ fn raw_windows<K: LeafKernel>(
     }
 }
 
-/// Where the lists of two windows have as many items on both sides, which are the same in order. A bit is
-/// right where both lists are present. The error is `Memory`.
+/// Which lists of two windows have the same number of items, and the same items in order. Where a list is
+/// masked on either side the bit means nothing. The error is `Memory`.
 #[cycle(equal)]
 pub fn list_windows<K: LeafKernel>(
     alloc: Global,
@@ -114,7 +115,7 @@ pub fn list_windows<K: LeafKernel>(
     ensures counted { IfOk result (λ _. K.count steps.new ≡ K.count steps.old + tally (List left.now) (List right.now) a b n) }
     ensures kept { K.count steps.old ≤ K.count steps.new }
 {
-    // No effect at run time. The proof reads from them that the places of all rows are numbers of 64 bits.
+    // For the proof alone: that both arrays have a length of 64 bits says that the places don't overflow.
     let (_rows, _others) = (left.offsets().len(), right.offsets().len());
     let mut bits = BitmapBuilder::with_capacity(alloc, n)?;
     let mut done = 0;
@@ -133,7 +134,8 @@ pub fn list_windows<K: LeafKernel>(
     Ok(bits.freeze())
 }
 
-// Adds the bits of the first of `n` lists, and says of how many. The error is `Memory`.
+// Adds the bits of the next lists, where `n` are left, and says how many lists these were. The error is
+// `Memory`.
 #[cycle(equal)]
 fn push_next<K: LeafKernel>(
     alloc: Global,
@@ -181,8 +183,8 @@ fn push_next<K: LeafKernel>(
     }
 }
 
-/// Where the lists of two windows of one width have the same items in order. A bit is right where both lists
-/// are present. The error is `Memory`.
+/// Which lists of one width of two windows have the same items in order. Where a list is masked on either
+/// side the bit means nothing. The error is `Memory`.
 #[cycle(equal)]
 pub fn fixed_size_list_windows<K: LeafKernel>(
     alloc: Global,
@@ -217,8 +219,8 @@ pub fn fixed_size_list_windows<K: LeafKernel>(
     BitMask::from_bitmap(&items).all_in_blocks(alloc, left.width(), n)
 }
 
-/// Where the structs of two windows have the same row in each field. A bit is right where both structs are
-/// present. The error is `Memory`.
+/// Which structs of two windows have the same row in each field. Where a struct is masked on either side the
+/// bit means nothing. The error is `Memory`.
 #[cycle(equal)]
 pub fn struct_windows<K: LeafKernel>(
     alloc: Global,
@@ -247,8 +249,8 @@ pub fn struct_windows<K: LeafKernel>(
     Ok(bits.freeze())
 }
 
-/// Where the keys of two windows name the same entries. A bit is right where both keys are present. The error
-/// is `Memory`.
+/// Which keys of two windows name entries that are the same. Where a key is masked on either side the bit
+/// means nothing. The error is `Memory`.
 #[cycle(equal)]
 pub fn dictionary_windows<K: LeafKernel>(
     alloc: Global,
@@ -268,7 +270,7 @@ pub fn dictionary_windows<K: LeafKernel>(
     ensures counted { IfOk result (λ _. K.count steps.new ≡ K.count steps.old + tally (Dictionary left.now) (Dictionary right.now) a b n) }
     ensures kept { K.count steps.old ≤ K.count steps.new }
 {
-    // No effect at run time. The proof reads from them that the places of all rows are numbers of 64 bits.
+    // For the proof alone: that both arrays have a length of 64 bits says that the places don't overflow.
     let (_rows, _others) = (left.keys().len(), right.keys().len());
     let mut bits = BitmapBuilder::with_capacity(alloc, n)?;
     for i in 0..n {
@@ -278,7 +280,7 @@ pub fn dictionary_windows<K: LeafKernel>(
     Ok(bits.freeze())
 }
 
-// Whether the entries of two rows are the same, or false where one of the rows is masked. The error is
+// Whether the entries of two rows are the same; false where a row is masked on either side. The error is
 // `Memory`.
 #[cycle(equal)]
 fn equal_entries<K: LeafKernel>(

@@ -4,6 +4,7 @@
 //! |---|---|
 //! | `array_tot_eq_missing_kernel A B`, `array_tot_ne_missing_kernel A B` | the bits |
 //! | `array_tot_eq_missing_kernel_counted A B [LEAVES]` and the same of `ne` | `BITS in N comparisons` |
+//! | `array_tot_eq_missing_kernel_with_steps A B` | the same |
 //! | `list_broadcast LISTS ITEMS`, `fixed_size_list_broadcast LISTS ITEMS` | the bits, masked rows among them |
 //! | `law_tally`, `law_steps` | `holds` |
 //!
@@ -21,7 +22,8 @@ use polars_arrays_numbers::steps::Steps;
 use polars_compare_leaves::joining::Relation;
 use polars_compare_nested::broadcasts::{fixed_size_list_broadcast, list_broadcast};
 use polars_compare_nested::kernels::{
-    array_tot_eq_missing_kernel, array_tot_eq_missing_kernel_counted, array_tot_ne_missing_kernel,
+    array_tot_eq_missing_kernel, array_tot_eq_missing_kernel_counted,
+    array_tot_eq_missing_kernel_with_steps, array_tot_ne_missing_kernel,
     array_tot_ne_missing_kernel_counted,
 };
 use polars_compare_nested::laws::{law_steps, law_tally};
@@ -45,6 +47,7 @@ pub fn answer(
         "array_tot_ne_missing_kernel" => missing(alloc, store, words, Relation::Unequal),
         "array_tot_eq_missing_kernel_counted" => counted(alloc, store, words, Relation::Equal),
         "array_tot_ne_missing_kernel_counted" => counted(alloc, store, words, Relation::Unequal),
+        "array_tot_eq_missing_kernel_with_steps" => with_steps(alloc, store, words),
         "list_broadcast" => lists(alloc, store, words),
         "fixed_size_list_broadcast" => fixed_size_lists(alloc, store, words),
         "law_tally" => {
@@ -131,6 +134,21 @@ fn counted_by<K: SeenKernel + Drop>(
     };
     let bits = write_bits(alloc, &bits)?;
     Ok(format!(in alloc; "{bits} in {} comparisons", kernel.seen())?)
+}
+
+// The same by the call that takes a counter.
+fn with_steps(alloc: Global, store: &Store, words: &mut Words) -> Result<String, Fault>
+    requires { HasGoodArrays store.now }
+{
+    let left = store.read(words)?;
+    let right = store.read(words)?;
+    if !can_compare(left, right) {
+        return Err(Fault::Case);
+    }
+    let mut steps = Steps::new();
+    let bits = array_tot_eq_missing_kernel_with_steps(alloc, left, right, &mut steps)?;
+    let bits = write_bits(alloc, &bits)?;
+    Ok(format!(in alloc; "{bits} in {} comparisons", steps.seen())?)
 }
 
 // Where lists have for items all rows of an array, in order.
