@@ -1,7 +1,6 @@
 //! What the operations answer to their lists of rows.
 
 ghost use Rattle.std.specs.Prelude.{◌≡◌, ◌<◌, length, map, IfOk, IfErr, Ok, Err};
-ghost use Rattle.std.specs.Option.{option_copied};
 ghost use Rattle.std.specs.String.{string_bytes};
 ghost use Rattle.polars_arrays_flat.specs.StoredRows.{rows_under, number_slots};
 ghost use Rattle.polars_arrays_flat.specs.Validity.{HasBits};
@@ -13,8 +12,9 @@ ghost use Rattle.polars_tables_lines.specs.Line.{answer_word, answer_words, rows
 use crate::comparing::{compare_rows, compare_scalar};
 use crate::line::{LineError, or_memory};
 use crate::operation::{Comparison, Operand};
-use crate::row_array::{RowArray, is_present};
+use crate::row_array::RowArray;
 use polars_arrays_bits::bitmap::Bitmap;
+use polars_arrays_flat::mask::Mask;
 use polars_arrays_flat::primitive::PrimitiveArray;
 use polars_compute_bits::sum::wrapping_sum_arr;
 use std::alloc::{AllocError, Global};
@@ -31,11 +31,11 @@ fn answer_word(answer: Option<bool>) -> &'static str
 }
 
 /// The answer of bit `i`: null where row `i` is masked on either side.
-fn answer_at(left: Option<&Bitmap>, right: Option<&Bitmap>, bits: &Bitmap, i: usize) -> Option<bool>
+fn answer_at(left: &Mask<'_>, right: &Mask<'_>, bits: &Bitmap, i: usize) -> Option<bool>
     requires { i < length bits.now }
-    ensures { result ≡ answer_at (option_copied left.entry) (option_copied right.entry) bits.now i }
+    ensures { result ≡ answer_at left.now right.now bits.now i }
 {
-    if is_present(left, i) && is_present(right, i) {
+    if left.is_present(i) && right.is_present(i) {
         Some(bits.get_bit(i))
     } else {
         None
@@ -45,12 +45,12 @@ fn answer_at(left: Option<&Bitmap>, right: Option<&Bitmap>, bits: &Bitmap, i: us
 /// Bits as words, parted by one space: null where a row is masked on either side.
 fn write_answers(
     alloc: Global,
-    left: Option<&Bitmap>,
-    right: Option<&Bitmap>,
+    left: &Mask<'_>,
+    right: &Mask<'_>,
     bits: &Bitmap,
 ) -> Result<String, AllocError>
     ensures { IfOk result (λ text. string_bytes text
-        ≡ answer_words (answers (option_copied left.entry) (option_copied right.entry) bits.now)) }
+        ≡ answer_words (answers left.now right.now bits.now)) }
 {
     let mut text = String::new(alloc);
     for i in 0..bits.len() {
@@ -62,23 +62,22 @@ fn write_answers(
     Ok(text)
 }
 
-/// The validity that makes answers of a comparison null.
-fn null_mask(comparison: Comparison, mask: Option<&Bitmap>) -> Option<&Bitmap>
-    ensures { option_copied result ≡ null_mask comparison (option_copied mask.entry) }
+/// The mask that makes answers of a comparison null.
+fn null_mask<'a>(comparison: Comparison, mask: Mask<'a>) -> Mask<'a>
+    ensures { result ≡ null_mask comparison mask.entry }
 {
     match comparison {
-        Comparison::EqualMissing | Comparison::UnequalMissing => None,
+        Comparison::EqualMissing | Comparison::UnequalMissing => Mask::all(),
         _ => mask,
     }
 }
 
 /// How many rows an array has, masked or not.
 fn count_rows<A: RowArray>(array: &A) -> usize
+    requires bits { HasBits (length (A.slots array.now)) (A.mask array.now) }
     ensures slots { result ≡ length (A.slots array.now) }
     ensures rows { result ≡ length (rows_under (A.mask array.now) (A.slots array.now)) }
 {
-    // its contract says that the validity has a bit for each row
-    let _mask = array.validity();
     array.len()
 }
 
@@ -94,17 +93,17 @@ fn answer_rows<A: RowArray>(
     ensures fault { IfErr result (λ e. UnlessMemory e (rows_answer comparison
         (rows_under (A.mask left.now) (A.slots left.now)) (rows_under (A.mask right.now) (A.slots right.now)) ≡ Err e)) }
 {
-    let left_mask = left.validity();
-    let right_mask = right.validity();
+    let left_rows = or_memory(left.missing_mask(alloc))?;
+    let right_rows = or_memory(right.missing_mask(alloc))?;
     let left_count = count_rows(left);
     let right_count = count_rows(right);
     if left_count != right_count {
         return Err(LineError::Length);
     }
     let bits = or_memory(compare_rows(alloc, comparison, left, right))?;
-    let left_mask = null_mask(comparison, left_mask);
-    let right_mask = null_mask(comparison, right_mask);
-    Ok(write_answers(alloc, left_mask, right_mask, &bits)?)
+    let left_mask = null_mask(comparison, left_rows);
+    let right_mask = null_mask(comparison, right_rows);
+    Ok(write_answers(alloc, &left_mask, &right_mask, &bits)?)
 }
 
 /// A list of rows compared with a scalar, which is a list of one row that is not null.
@@ -119,6 +118,8 @@ fn answer_scalar<A: RowArray>(
     ensures fault { IfErr result (λ e. UnlessMemory e (scalar_answer comparison
         (rows_under (A.mask rows.now) (A.slots rows.now)) (rows_under (A.mask scalars.now) (A.slots scalars.now)) ≡ Err e)) }
 {
+    // its contract says that the mask has a bit for each row
+    let _scalar_mask = or_memory(scalars.missing_mask(alloc))?;
     let count = count_rows(scalars);
     if count != 1 {
         return Err(LineError::Length);
@@ -126,10 +127,10 @@ fn answer_scalar<A: RowArray>(
     let Some(scalar) = scalars.value(0) else {
         return Err(LineError::Range);
     };
-    let mask = rows.validity();
+    let present = or_memory(rows.missing_mask(alloc))?;
     let bits = or_memory(compare_scalar(alloc, comparison, rows, &scalar))?;
-    let mask = null_mask(comparison, mask);
-    Ok(write_answers(alloc, mask, None, &bits)?)
+    let mask = null_mask(comparison, present);
+    Ok(write_answers(alloc, &mask, &Mask::all(), &bits)?)
 }
 
 /// What a comparison answers to its lists of rows.

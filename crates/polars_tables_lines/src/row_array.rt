@@ -1,12 +1,10 @@
 //! What the line language asks of a kind of array.
 
 ghost use Rattle.std.specs.Prelude.{◌≡◌, ◌<◌, ℕ, List, Result, length, map, option_map, vec_len, Some, true, IsTrue, MatchResult, refl};
-ghost use Rattle.std.specs.Option.{option_copied};
 ghost use Rattle.std.specs.Result.{result_ok};
 ghost use Rattle.polars_arrays_bits.specs.Errors.{IsMemory};
 ghost use Rattle.polars_arrays_flat.specs.Row.{Row, Int, Truth};
 ghost use Rattle.polars_arrays_flat.specs.StoredRows.{masked, number_slots, row, rows_under, truth_slots};
-ghost use Rattle.polars_arrays_flat.specs.Validity.{is_present};
 ghost use Rattle.polars_tables_lines.specs.declared.row_type.RowType.{RowType};
 ghost use Rattle.polars_tables_lines.specs.declared.row_type.RowType.TheVariants.{Boolean};
 ghost use Rattle.polars_tables_lines.specs.Parsing.{truth_row};
@@ -19,6 +17,7 @@ use polars_arrays_bits::error::ComputeError;
 use polars_arrays_flat::array::Array;
 use polars_arrays_flat::boolean::BooleanArray;
 use polars_arrays_flat::primitive::PrimitiveArray;
+use polars_arrays_flat::validity::is_present;
 use polars_compare_equality::kernel::TotalEqKernel;
 use polars_compare_order::kernel::TotalOrdKernel;
 use std::alloc::Global;
@@ -81,16 +80,6 @@ pub trait RowArray: TotalEqKernel<Scalar = <Self as RowArray>::Value>
     ghost good_law: { (a : Self) → Self.good a };
 
     ghost one_type_law: { (a b : Self) → Self.same_type a b };
-}
-
-/// Whether row `i` is masked by no validity.
-pub fn is_present(validity: Option<&Bitmap>, i: usize) -> bool
-    ensures { result ≡ is_present (option_copied validity.entry) i }
-{
-    match validity {
-        Some(bits) => bits.get(i).unwrap_or(false),
-        None => true,
-    }
 }
 
 impl<T: RowNumber> RowArray for PrimitiveArray<T> {

@@ -13,6 +13,8 @@ returns-clause-text g c =
     let law = g.met.A.RowArray in
     let same = sym c.count_rows-left_count.ensures.rows ∙ c.if-left_count-right_count.false ∙ c.count_rows-right_count.ensures.rows in
     let stored = sym c.count_rows-left_count.ensures.slots ∙ c.if-left_count-right_count.false ∙ c.count_rows-right_count.ensures.slots in
-    let written = rw (c.null_mask-left_mask.ensures, c.null_mask-right_mask.ensures, c.validity-left_mask.ensures.mask, c.validity-right_mask.ensures.mask) at c.in_ok-write_answers.ensures in
+    let left_rows = rw c.in_ok-left_rows.ensures.answered at c.missing_mask.ensures.mask in
+    let right_rows = rw c.in_ok-right_rows.ensures.answered at c.missing_mask-2.ensures.mask in
+    let written = rw (c.null_mask-left_mask.ensures, c.null_mask-right_mask.ensures, left_rows, right_rows) at c.in_ok-write_answers.ensures in
     rows_answer-text c.args.comparison _ _ _ same
-    (written ∙ ap answer_words (answers-are g.A.RowArray.value_row law.values_law c.args.comparison _ _ _ _ _ c.validity-left_mask.ensures.bits c.validity-right_mask.ensures.bits (law.stored_law c.args.left.now) (law.stored_law c.args.right.now) (sym stored) (rw c.in_ok-bits.ensures.answered at c.compare_rows.ensures)))
+    (written ∙ ap answer_words (answers-are g.A.RowArray.value_row law.values_law c.args.comparison _ _ _ _ _ c.missing_mask.ensures.bits c.missing_mask-2.ensures.bits (law.stored_law c.args.left.now) (law.stored_law c.args.right.now) (sym stored) (rw c.in_ok-bits.ensures.answered at c.compare_rows.ensures)))

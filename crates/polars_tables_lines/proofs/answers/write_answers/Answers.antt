@@ -1,6 +1,5 @@
 use Rattle.std.proofs.Common.{◌<◌, ◌∙◌, length, ap, sym, arith}
 use Rattle.std.proofs.lemmas.List.{take_all}
-use Rattle.std.specs.Option.{option_copied}
 use Rattle.std.specs.String.{string_bytes}
 use Rattle.polars_tables_lines.specs.Comparing.{answers}
 use Rattle.polars_tables_lines.specs.Line.{answer_word, answer_words}
@@ -11,8 +10,8 @@ use Rattle.polars_tables_lines.proofs.answers.write_answers.Goals.{then-i-gt0+in
 
 pub loop-i-preserved : goal.loop-i-preserved
 loop-i-preserved c =
-    let left = option_copied c.args.left in
-    let right = option_copied c.args.right in
+    let left = c.args.left.now in
+    let right = c.args.right.now in
     let all = answers left right c.args.bits.now in
     let below : c.loop-i.i < length c.args.bits.now = omega (arith, c.len-i-end.ensures, c.loop-i-test.true) in
     let within : c.loop-i.i < length all = omega (arith, length-answers left right c.args.bits.now) in
@@ -26,8 +25,8 @@ loop-i-preserved c =
 
 pub returns : goal.returns
 returns c =
-    let left = option_copied c.args.left in
-    let right = option_copied c.args.right in
+    let left = c.args.left.now in
+    let right = c.args.right.now in
     let all = answers left right c.args.bits.now in
     c.loop-i.invariant
     ∙ ap answer_words (take_all c.loop-i.i all (omega (arith, length-answers left right c.args.bits.now, c.len-i-end.ensures, c.loop-i-test.false)))
