@@ -1,4 +1,5 @@
 use Rattle.polars_compare_nested.proofs.TallyAdds.{tally-adds}
+use Rattle.polars_compare_nested.proofs.TallyAlike.{tally-clone, tally-cut}
 use Rattle.polars_compare_nested.proofs.TallySwap.{tally-swap}
 use Rattle.polars_compare_nested.proofs.TallyWithin.{tally-within}
 use Rattle.polars_compare_nested.proofs.laws.law_tally.Goals as goal
@@ -8,4 +9,6 @@ returns c = record {
   within = tally-within c.law_leaves.ensures;
   adds_up = tally-adds;
   symmetric = tally-swap;
+  of_cut = tally-cut;
+  of_clone = tally-clone;
 }
