@@ -8,7 +8,7 @@ use Rattle.polars_arrays_nested.specs.Lengths.{len_of}
 use Rattle.polars_arrays_nested.specs.Types.{type_of}
 use Rattle.polars_arrays_nested.specs.declared.any_array.AnyArray.{AnyArray}
 
--- a has the rows of b, with their leaf slots and kept alike, and its type, and is good where b is
+-- a has the rows of b, each window of them with its leaf slots and kept alike, and b's type, and is good where b is
 pub record IsClone (a b : AnyArray) : Type 0 where
   pub one_type : type_of a ≡ type_of b
   pub as_long : len_of a ≡ len_of b

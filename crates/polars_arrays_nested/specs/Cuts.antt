@@ -8,7 +8,7 @@ use Rattle.polars_arrays_nested.specs.Lengths.{len_of}
 use Rattle.polars_arrays_nested.specs.Types.{type_of}
 use Rattle.polars_arrays_nested.specs.declared.any_array.AnyArray.{AnyArray}
 
--- a has the n rows of b from row `at` on, with the leaf slots that these have in b and kept alike, and its type, and is good
+-- a has the n rows of b from row `at` on, each window of them with its leaf slots and kept alike, and b's type, and is good
 pub record IsCut (a b : AnyArray) (at n : ℕ) : Type 0 where
   pub one_type : type_of a ≡ type_of b
   pub as_long : len_of a ≡ n
