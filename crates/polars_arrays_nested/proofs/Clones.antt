@@ -11,10 +11,11 @@ use Rattle.polars_arrays_flat.specs.Validity.{is_present}
 use Rattle.polars_arrays_flat.specs.declared.data_type.Field.{Field}
 use Rattle.polars_arrays_nested.specs.AnyRows.{row}
 use Rattle.polars_arrays_nested.specs.Clones.{IsClone}
-use Rattle.polars_arrays_nested.specs.Columns.{AreColumns, columns_leaves, rows_at}
-use Rattle.polars_arrays_nested.specs.ColumnLaws.{good-struct, leaves-struct, row-struct, struct-good}
+use Rattle.polars_arrays_nested.specs.Columns.{AreColumns, ColumnsAlike, columns_leaves, rows_at}
+use Rattle.polars_arrays_nested.specs.ColumnLaws.{alike-struct, good-struct, leaves-struct, row-struct, struct-good}
 use Rattle.polars_arrays_nested.specs.DictKeys.{key_at, key_validity}
 use Rattle.polars_arrays_nested.specs.GoodParts.{IsGood}
+use Rattle.polars_arrays_nested.specs.KeptAlike.{KeptAlike}
 use Rattle.polars_arrays_nested.specs.Leaves.{leaves}
 use Rattle.polars_arrays_nested.specs.Lengths.{len_of}
 use Rattle.polars_arrays_nested.specs.ListOffsets.{offset_at, span}
@@ -27,6 +28,7 @@ use Rattle.polars_arrays_nested.specs.declared.fixed_size_list.FixedSizeListArra
 use Rattle.polars_arrays_nested.specs.declared.list.ListArray.{ListArray}
 use Rattle.polars_arrays_nested.specs.declared.struct_array.StructArray.{StructArray}
 use Rattle.polars_arrays_nested.proofs.Cuts.{totals_agree, windows_agree}
+use Rattle.polars_arrays_nested.proofs.KeptAlike.{alike-same}
 
 pub clone-same : (a b : AnyArray) → a ≡ b → IsClone a b
 clone-same a b same = record {
@@ -34,6 +36,7 @@ clone-same a b same = record {
   as_long = ap len_of same;
   same_rows = λ i. ap (λ x. row x i) same;
   same_leaves = λ i m. ap (λ x. leaves x i m) same;
+  alike = λ i m. subst (λ x. KeptAlike x b i i m) (sym same) (alike-same b i m);
   good = λ good. subst IsGood (sym same) good;
 }
 
@@ -47,6 +50,11 @@ clone-list a b offsets child mask = record {
       (windows_agree (λ k. row a.values.value k) (λ k. row b.values.value k) (offset_at b.offsets i) (offset_at b.offsets i) (span b.offsets i) (λ k low. child.same_rows (offset_at b.offsets i + k))));
   same_leaves = λ i m.
       rw offsets (child.same_leaves (offset_at b.offsets i) (offset_at b.offsets (i + m) - offset_at b.offsets i));
+  alike = λ i m k low. record {
+    masks = rw mask refl;
+    spans = rw offsets refl;
+    items = rw offsets (child.alike (offset_at b.offsets (i + k)) (span b.offsets (i + k)));
+  };
   good = λ good. (
     record { bits = rw (offsets, mask) good.0.bits; good = rw (offsets, child.as_long) good.0.good },
     child.good good.1,
@@ -62,6 +70,7 @@ clone-fixed a b width len child mask = record {
       (ap (λ r. kept (is_present b.validity i) (Rows r))
       (windows_agree (λ k. row a.values.value k) (λ k. row b.values.value k) (b.width * i) (b.width * i) b.width (λ k low. child.same_rows (b.width * i + k))));
   same_leaves = λ i m. rw width (child.same_leaves (b.width * i) (b.width * m));
+  alike = λ i m. (width, rw width (child.alike (b.width * i) (b.width * m)));
   good = λ good. (
     record { bits = rw (len, mask) good.0.bits; items = rw (child.as_long, width, len) good.0.items },
     child.good good.1,
@@ -81,6 +90,10 @@ clone-dictionary a b keys child = record {
       i i m
       (λ k low.
       rw keys (ap (λ (slots : ℕ). cond (is_present (key_validity b.keys) (i + k)) slots 0) (child.same_leaves (key_at b.keys (i + k)) 1)));
+  alike = λ i m k low. record {
+    masks = rw keys refl;
+    entries = λ here. rw keys (child.alike (key_at b.keys (i + k)) 1);
+  };
   good = λ good. (record { named = rw (keys, child.as_long) good.0.named }, child.good good.1);
 }
 
@@ -120,6 +133,14 @@ clone-columns_leaves (x ∷ xs) (y ∷ ys) many each j m =
     let rest = clone-columns_leaves xs ys (omega arith) (λ i d low. each (suc i) d (omega arith)) j m in
     omega (arith, one, rest)
 
+clone-columns_alike : (xs ys : List AnyArray) → length xs ≡ length ys → ((i : ℕ) (d : AnyArray) → i < length ys → IsClone (get_or xs i d) (get_or ys i d)) → (j m : ℕ) → ColumnsAlike xs ys j j m
+clone-columns_alike [] [] many each j m = tt
+clone-columns_alike [] (y ∷ ys) many each j m = absurd (omega arith)
+clone-columns_alike (x ∷ xs) [] many each j m = absurd (omega arith)
+clone-columns_alike (x ∷ xs) (y ∷ ys) many each j m =
+    let first : IsClone x y = each 0 x (omega arith) in
+    (first.alike j m, clone-columns_alike xs ys (omega arith) (λ i d low. each (suc i) d (omega arith)) j m)
+
 pub clone-struct : (a b : StructArray) → kinds_of (struct_fields a) ≡ kinds_of (struct_fields b) → a.len ≡ b.len → length (columns a) ≡ length (columns b) → ((i : ℕ) (d : AnyArray) → i < length (columns b) → IsClone (get_or (columns a) i d) (get_or (columns b) i d)) → struct_validity a ≡ struct_validity b → IsClone (Struct a) (Struct b)
 clone-struct a b kinds len many each mask = record {
   one_type = ap StructKind kinds;
@@ -127,6 +148,7 @@ clone-struct a b kinds len many each mask = record {
   same_rows = λ i. row-struct a i ∙ rw (mask, clone-rows_at (columns a) (columns b) many each i) (sym (row-struct b i));
   same_leaves = λ i m.
       leaves-struct a i m ∙ clone-columns_leaves (columns a) (columns b) many each i m ∙ sym (leaves-struct b i m);
+  alike = λ i m. alike-struct a b i i m (clone-columns_alike (columns a) (columns b) many each i m);
   good = λ good.
       let known = good-struct b good in
       struct-good a (rw (mask, len) known.0) (rw len (clone-columns (struct_fields a) (struct_fields b) b.len (columns a) (columns b) kinds known.1 many each));

@@ -13,14 +13,14 @@ use Rattle.polars_arrays_flat.specs.StoredRows.{kept}
 use Rattle.polars_arrays_flat.specs.Validity.{is_present, validity_window, window}
 use Rattle.polars_arrays_flat.specs.declared.data_type.Field.{Field}
 use Rattle.polars_arrays_nested.specs.AnyRows.{row, rows_from}
-use Rattle.polars_arrays_nested.specs.Columns.{AreColumns, columns_leaves, rows_at}
-use Rattle.polars_arrays_nested.specs.ColumnLaws.{good-struct, leaves-struct, row-struct, struct-good}
+use Rattle.polars_arrays_nested.specs.Columns.{AreColumns, ColumnsAlike, columns_leaves, rows_at}
+use Rattle.polars_arrays_nested.specs.ColumnLaws.{alike-struct, good-struct, leaves-struct, row-struct, struct-good}
 use Rattle.polars_arrays_nested.specs.Cuts.{IsCut}
 use Rattle.polars_arrays_nested.specs.DictKeys.{key_at, key_count, key_places, key_type, key_validity}
 use Rattle.polars_arrays_nested.specs.GoodParts.{IsGood}
 use Rattle.polars_arrays_nested.specs.Leaves.{leaves, total}
 use Rattle.polars_arrays_nested.specs.Lengths.{len_of}
-use Rattle.polars_arrays_nested.specs.ListOffsets.{is_large, list_count, list_places, offset_at}
+use Rattle.polars_arrays_nested.specs.ListOffsets.{is_large, list_count, list_places, offset_at, span}
 use Rattle.polars_arrays_nested.specs.Parts.{columns, struct_fields, struct_validity}
 use Rattle.polars_arrays_nested.specs.Places.{place_or_zero}
 use Rattle.polars_arrays_nested.specs.Types.{kind_of_lists, type_of}
@@ -33,6 +33,7 @@ use Rattle.polars_arrays_nested.specs.declared.list.ListArray.{ListArray}
 use Rattle.polars_arrays_nested.specs.declared.list_offsets.ListOffsets.{ListOffsets}
 use Rattle.polars_arrays_nested.specs.declared.list_offsets.ListOffsets.TheVariants.{Small, Large}
 use Rattle.polars_arrays_nested.specs.declared.struct_array.StructArray.{StructArray}
+use Rattle.polars_arrays_nested.proofs.KeptAlike.{alike-same}
 use Rattle.polars_arrays_nested.proofs.Windows.{bits-window, get_or-window, good-window, length-window, one_more, present-window, row-window}
 
 -- windows of the same rows are the same
@@ -88,6 +89,17 @@ cut-list a b at n good within cut same values mask =
           let next : at + (i + m) ≡ at + i + m = omega arith in
           let to = offset-window a.offsets b.offsets at n (i + m) cut (omega (arith, low)) ∙ ap (offset_at b.offsets) next in
           rw (values, from, to) refl;
+      alike = λ i m low k low'.
+          let below : i + k < n = omega (arith, low, low') in
+          let place : at + (i + k) ≡ at + i + k = omega arith in
+          let next : at + (i + k + 1) ≡ at + i + k + 1 = omega arith in
+          let from = offset-window a.offsets b.offsets at n (i + k) cut (omega (arith, below)) ∙ ap (offset_at b.offsets) place in
+          let to = offset-window a.offsets b.offsets at n (i + k + 1) cut (omega (arith, below)) ∙ ap (offset_at b.offsets) next in
+          record {
+            masks = rw mask (present-window at n b.validity (i + k) below ∙ ap (is_present b.validity) place);
+            spans = rw (from, to) refl;
+            items = rw (values, from, to) (alike-same b.values.value (offset_at b.offsets (at + i + k)) (span b.offsets (at + i + k)));
+          };
       good = (
         record {
           bits = rw (mask, long) (bits-window (list_count b.offsets) at n b.validity good.0.bits within);
@@ -117,6 +129,11 @@ cut-fixed a b at n good within ew el child mask = record {
       let inside : b.width * i + b.width * m ≤ b.width * n = omega (arith, fits) in
       let e : b.width * (at + i) ≡ b.width * at + b.width * i = omega arith in
       rw (ew, e) (child.same_leaves (b.width * i) (b.width * m) inside);
+  alike = λ i m low.
+      let fits : b.width * (i + m) ≤ b.width * n = mul-le-mul_left b.width low in
+      let inside : b.width * i + b.width * m ≤ b.width * n = omega (arith, fits) in
+      let e : b.width * (at + i) ≡ b.width * at + b.width * i = omega arith in
+      (ew, rw (ew, e) (child.alike (b.width * i) (b.width * m) inside));
   good = (
     record {
       bits = rw (mask, el) (bits-window b.len at n b.validity good.0.bits within);
@@ -151,6 +168,14 @@ cut-dictionary a b at n good within cut mask name values =
           let key = ap place_or_zero (key-window a.keys b.keys at n (i + k) cut below) in
           let place : at + (i + k) ≡ at + i + k = omega arith in
           rw (values, mask, key, present-window at n (key_validity b.keys) (i + k) below, place) refl);
+      alike = λ i m low k low'.
+          let below : i + k < n = omega (arith, low, low') in
+          let place : at + (i + k) ≡ at + i + k = omega arith in
+          let key = ap place_or_zero (key-window a.keys b.keys at n (i + k) cut below) ∙ ap (key_at b.keys) place in
+          record {
+            masks = rw mask (present-window at n (key_validity b.keys) (i + k) below ∙ ap (is_present (key_validity b.keys)) place);
+            entries = λ here. rw (values, key) (alike-same b.values.value (key_at b.keys (at + i + k)) 1);
+          };
       good = (
         record {
           named = λ i low here.
@@ -200,6 +225,14 @@ cut-columns_leaves at n (x ∷ xs) (y ∷ ys) e k j m low =
     let rest = cut-columns_leaves at n xs ys (omega arith) (λ i d low'. k (suc i) d (omega arith)) j m low in
     omega (arith, one, rest)
 
+cut-columns_alike : (at n : ℕ) (xs ys : List AnyArray) → length xs ≡ length ys → ((i : ℕ) (d : AnyArray) → i < length ys → IsCut (get_or xs i d) (get_or ys i d) at n) → (j m : ℕ) → j + m ≤ n → ColumnsAlike xs ys j (at + j) m
+cut-columns_alike at n [] [] e k j m low = tt
+cut-columns_alike at n [] (y ∷ ys) e k j m low = absurd (omega arith)
+cut-columns_alike at n (x ∷ xs) [] e k j m low = absurd (omega arith)
+cut-columns_alike at n (x ∷ xs) (y ∷ ys) e k j m low =
+    let first : IsCut x y at n = k 0 x (omega arith) in
+    (first.alike j m low, cut-columns_alike at n xs ys (omega arith) (λ i d low'. k (suc i) d (omega arith)) j m low)
+
 -- one column more was cut, of the columns zs that the struct had before
 pub cuts-more : (xs zs : List AnyArray) (i : ℕ) (new old : AnyArray) (at n : ℕ) → length xs ≡ length zs → i < length zs → old ≡ get_or zs i old → IsCut new old at n → ((k : ℕ) (d : AnyArray) → k < i → IsCut (get_or xs k d) (get_or zs k d) at n) → (k : ℕ) (d : AnyArray) → k < i + 1 → IsCut (get_or (set xs i new) k d) (get_or zs k d) at n
 cuts-more xs zs i new old at n many low was cut before k d below = elim (cases_lt k i) [
@@ -233,6 +266,8 @@ cut-struct a b at n good within ef el many each mask =
           leaves-struct a i m
           ∙ cut-columns_leaves at n (columns a) (columns b) many each i m low
           ∙ sym (leaves-struct b (at + i) m);
+      alike = λ i m low.
+          alike-struct a b i (at + i) m (cut-columns_alike at n (columns a) (columns b) many each i m low);
       good = struct-good a
           (rw (mask, el) (bits-window b.len at n (struct_validity b) known.0 within))
           (rw (ef, el) (cut-columns (struct_fields b) b.len at n (columns a) (columns b) known.1 many each));

@@ -7,6 +7,7 @@ use Rattle.polars_arrays_nested.specs.AnyRows.{across, row, rows, rows_from}
 use Rattle.polars_arrays_nested.specs.DictKeys.{key_at, key_places, IsFirstBadKey, IsGoodKey}
 use Rattle.polars_arrays_nested.specs.Faults.{Fits}
 use Rattle.polars_arrays_nested.specs.GoodParts.{AreFixedLists}
+use Rattle.polars_arrays_nested.specs.KeptAlike.{KeptAlike}
 use Rattle.polars_arrays_nested.specs.Leaves.{leaves, leaves_across, total}
 use Rattle.polars_arrays_nested.specs.Lengths.{len_of}
 use Rattle.polars_arrays_nested.specs.ListOffsets.{list_count, offset_at, span}
@@ -157,3 +158,18 @@ Fits-past = tt
 -- an entry counts once for each present row that names it
 total-three : total (λ k. k) 2 3 ≡ 9
 total-three = refl
+
+-- nulls and numbers are kept alike wherever their windows lie, and never with an array of another kind
+KeptAlike-numbers : KeptAlike some some 0 1 2
+unfolding some
+KeptAlike-numbers = tt
+
+KeptAlike-others : ¬ (KeptAlike some (Nulls 3) 0 0 1)
+unfolding some
+KeptAlike-others alike = alike
+
+-- the first list of one array and the second of the other: two items each
+KeptAlike-lists : (p q : _) → KeptAlike (List' (Small (record { items = pos 0 ∷ pos 2 ∷ []; owned = true })) p some None) (List' (Small (record { items = pos 0 ∷ pos 1 ∷ pos 3 ∷ []; owned = true })) q some None) 0 1 1
+unfolding some
+KeptAlike-lists p q zero low = record { masks = refl; spans = refl; items = tt }
+KeptAlike-lists p q (suc k) low = absurd (omega (arith, low))

@@ -2,17 +2,19 @@
 use Rattle.std.specs.Prelude.{◌≡◌, ◌<◌, ℕ, List, length, slice_index_or}
 use Rattle.polars_arrays_nested.specs.AnyRows.{row}
 use Rattle.polars_arrays_nested.specs.GoodParts.{IsGood}
+use Rattle.polars_arrays_nested.specs.KeptAlike.{KeptAlike}
 use Rattle.polars_arrays_nested.specs.Leaves.{leaves}
 use Rattle.polars_arrays_nested.specs.Lengths.{len_of}
 use Rattle.polars_arrays_nested.specs.Types.{type_of}
 use Rattle.polars_arrays_nested.specs.declared.any_array.AnyArray.{AnyArray}
 
--- a has the rows of b, their leaf slots and its type, and is good where b is
+-- a has the rows of b, each window of them with its leaf slots and kept alike, and b's type, and is good where b is
 pub record IsClone (a b : AnyArray) : Type 0 where
   pub one_type : type_of a ≡ type_of b
   pub as_long : len_of a ≡ len_of b
   pub same_rows : (i : ℕ) → row a i ≡ row b i
   pub same_leaves : (i m : ℕ) → leaves a i m ≡ leaves b i m
+  pub alike : (i m : ℕ) → KeptAlike a b i i m
   pub good : IsGood b → IsGood a
 
 -- each of some arrays is a second copy of the one at its place

@@ -1,4 +1,4 @@
--- Rows, type, leaf slots and goodness of a struct, by its columns.
+-- Rows, type, leaf slots and goodness of a struct, and what it is kept alike with, by its columns.
 use Rattle.std.specs.Prelude.{◌≡◌, ℕ, ◌+◌, List, [], ◌∷◌}
 use Rattle.std.proofs.Common.{refl, ap, ◌∙◌, sym, subst}
 use Rattle.polars_arrays_flat.specs.DataType.{kinds_of}
@@ -8,8 +8,9 @@ use Rattle.polars_arrays_flat.specs.StoredRows.{kept}
 use Rattle.polars_arrays_flat.specs.Validity.{HasBits, is_present}
 use Rattle.polars_arrays_flat.specs.declared.data_type.Field.{Field}
 use Rattle.polars_arrays_nested.specs.AnyRows.{across, row}
-use Rattle.polars_arrays_nested.specs.Columns.{AreColumns, columns_leaves, rows_at}
+use Rattle.polars_arrays_nested.specs.Columns.{AreColumns, ColumnsAlike, columns_leaves, rows_at}
 use Rattle.polars_arrays_nested.specs.GoodParts.{AreFields, IsGood}
+use Rattle.polars_arrays_nested.specs.KeptAlike.{AcrossAlike, KeptAlike}
 use Rattle.polars_arrays_nested.specs.Leaves.{leaves, leaves_across}
 use Rattle.polars_arrays_nested.specs.Parts.{columns, struct_fields, struct_validity}
 use Rattle.polars_arrays_nested.specs.Types.{type_of}
@@ -24,6 +25,13 @@ across_is m (more_of-AnyArray first rest) i = ap (λ r. more_rows (row first i) 
 leaves_across_is : (m : _) (all : Row_of-AnyArray m) (from n : ℕ) → leaves_across all from n ≡ columns_leaves (items-the_row-AnyArray m all) from n
 leaves_across_is m end_of-AnyArray from n = refl
 leaves_across_is m (more_of-AnyArray first rest) from n = ap (λ r. leaves first from n + r) (leaves_across_is _ rest from n)
+
+across_alike : (m : _) (m' : _) (all : Row_of-AnyArray m) (all' : Row_of-AnyArray m') (i j n : ℕ) → ColumnsAlike (items-the_row-AnyArray m all) (items-the_row-AnyArray m' all') i j n → AcrossAlike all all' i j n
+across_alike m m' end_of-AnyArray end_of-AnyArray i j n h = h
+across_alike m m' end_of-AnyArray (more_of-AnyArray first' rest') i j n h = h
+across_alike m m' (more_of-AnyArray first rest) end_of-AnyArray i j n h = h
+across_alike m m' (more_of-AnyArray first rest) (more_of-AnyArray first' rest') i j n h =
+    (h.0, across_alike _ _ rest rest' i j n h.1)
 
 fields-columns : (m : _) (fields : List Field) (len : ℕ) (all : Row_of-AnyArray m) → AreFields fields len all → AreColumns fields len (items-the_row-AnyArray m all)
 fields-columns m [] len end_of-AnyArray h = h
@@ -54,6 +62,13 @@ pub leaves-struct : (s : StructArray) (from n : ℕ) → leaves (Struct s) from 
 leaves-struct s from n =
     leaves_across_is _ (hidden-the_row-AnyArray-0 s.values) from n
     ∙ ap (λ l. columns_leaves l from n) (items_hidden-the_row-AnyArray-0 s.values)
+
+-- windows of structs are kept alike where those of their columns are
+pub alike-struct : (s t : StructArray) (i j n : ℕ) → ColumnsAlike (columns s) (columns t) i j n → KeptAlike (Struct s) (Struct t) i j n
+alike-struct s t i j n alike =
+    across_alike _ _ (hidden-the_row-AnyArray-0 s.values) (hidden-the_row-AnyArray-0 t.values) i j n
+    (subst (λ l. ColumnsAlike l (items-the_row-AnyArray _ (hidden-the_row-AnyArray-0 t.values)) i j n) (sym (items_hidden-the_row-AnyArray-0 s.values))
+    (subst (λ l. ColumnsAlike (columns s) l i j n) (sym (items_hidden-the_row-AnyArray-0 t.values)) alike))
 
 -- a good struct has a good column for each field
 pub good-struct : (s : StructArray) → IsGood (Struct s) → HasBits s.len (struct_validity s) × AreColumns (struct_fields s) s.len (columns s)

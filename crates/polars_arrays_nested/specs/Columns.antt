@@ -5,6 +5,7 @@ use Rattle.polars_arrays_flat.specs.Row.{RowList, no_rows, more_rows}
 use Rattle.polars_arrays_flat.specs.declared.data_type.Field.{Field}
 use Rattle.polars_arrays_nested.specs.AnyRows.{row}
 use Rattle.polars_arrays_nested.specs.GoodParts.{IsGood}
+use Rattle.polars_arrays_nested.specs.KeptAlike.{KeptAlike}
 use Rattle.polars_arrays_nested.specs.Leaves.{leaves}
 use Rattle.polars_arrays_nested.specs.Lengths.{len_of}
 use Rattle.polars_arrays_nested.specs.Types.{type_of}
@@ -19,6 +20,12 @@ rows_at (first ∷ rest) i = more_rows (row first i) (rows_at rest i)
 abbrev pub columns_leaves : List AnyArray → ℕ → ℕ → ℕ
 columns_leaves [] from n = 0
 columns_leaves (first ∷ rest) from n = leaves first from n + columns_leaves rest from n
+
+-- windows of columns are kept alike, each as the one at its place
+abbrev pub ColumnsAlike : List AnyArray → List AnyArray → ℕ → ℕ → ℕ → Type 0
+ColumnsAlike [] [] i j n = ⊤
+ColumnsAlike (first ∷ rest) (first' ∷ rest') i j n = KeptAlike first first' i j n × ColumnsAlike rest rest' i j n
+ColumnsAlike _ _ i j n = ⊥
 
 -- there is one good column for each field, of its type and of `len` rows
 abbrev pub AreColumns : List Field → ℕ → List AnyArray → Type 0

@@ -6,6 +6,7 @@ pub mod Cuts
 pub mod DictKeys
 pub mod Faults
 pub mod GoodParts
+pub mod KeptAlike
 pub mod Leaves
 pub mod Lengths
 pub mod ListOffsets

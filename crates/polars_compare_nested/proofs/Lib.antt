@@ -14,6 +14,7 @@ mod Offsets
 mod RawRows
 mod Strings
 mod TallyAdds
+mod TallyAlike
 mod TallySwap
 mod TallyWithin
 mod Trees

@@ -1,7 +1,10 @@
 -- Laws of what two windows cost (their tally), and of the leaf slots that bound it.
 use Rattle.std.specs.Prelude.{◌≡◌, ◌≤◌, ◌<◌, ◌+◌, ◌-◌, ℕ}
+use Rattle.polars_arrays_nested.specs.Clones.{IsClone}
 use Rattle.polars_arrays_nested.specs.Columns.{columns_leaves}
+use Rattle.polars_arrays_nested.specs.Cuts.{IsCut}
 use Rattle.polars_arrays_nested.specs.GoodParts.{IsGood}
+use Rattle.polars_arrays_nested.specs.KeptAlike.{KeptAlike}
 use Rattle.polars_arrays_nested.specs.Leaves.{leaves}
 use Rattle.polars_arrays_nested.specs.Lengths.{len_of}
 use Rattle.polars_arrays_nested.specs.ListOffsets.{offset_at, span}
@@ -53,3 +56,16 @@ StructLeavesAreColumns = (s : StructArray) (a n : ℕ) → leaves (Struct s) a n
 -- the tally of two structs is that of their columns, each of which is gone over once
 abbrev pub StructTallyIsColumns : Type 0
 StructTallyIsColumns = (s t : StructArray) (a b n : ℕ) → tally (Struct s) (Struct t) a b n ≡ columns_tally (columns s) (columns t) a b n
+
+-- windows that are kept alike cost the same beside any other
+abbrev pub TallyIsKept : Type 0
+TallyIsKept = (x y other : AnyArray) (a a' b n : ℕ) → KeptAlike x y a a' n → tally x other a b n ≡ tally y other a' b n
+
+-- what a slice leaves costs what the same rows did before
+abbrev pub TallyOfCut : Type 0
+TallyOfCut =
+    (x y other : AnyArray) (at n : ℕ) → IsCut x y at n → (i m b : ℕ) → i + m ≤ n → tally x other i b m ≡ tally y other (at + i) b m
+
+-- a second copy costs what the first one does
+abbrev pub TallyOfClone : Type 0
+TallyOfClone = (x y other : AnyArray) → IsClone x y → (a b n : ℕ) → tally x other a b n ≡ tally y other a b n

@@ -3,7 +3,7 @@
 ghost use Rattle.polars_arrays_nested.specs.Leaves.{LeavesAddUp};
 ghost use Rattle.polars_compare_leaves.specs.Sameness.{same_leaf};
 ghost use Rattle.polars_compare_nested.specs.Headline.{EqualityTellsTrees, IsEquality};
-ghost use Rattle.polars_compare_nested.specs.TallyLaws.{ListLeavesAreOneWindow, ListTallyIsOneWindow, ListsAreAdjacent, StructLeavesAreColumns, StructTallyIsColumns, TallyAddsUp, TallyIsSymmetric, TallyIsWithinLeaves};
+ghost use Rattle.polars_compare_nested.specs.TallyLaws.{ListLeavesAreOneWindow, ListTallyIsOneWindow, ListsAreAdjacent, StructLeavesAreColumns, StructTallyIsColumns, TallyAddsUp, TallyIsSymmetric, TallyIsWithinLeaves, TallyOfClone, TallyOfCut};
 
 use polars_arrays_nested::laws::law_leaves;
 
@@ -13,7 +13,8 @@ use polars_arrays_nested::laws::law_leaves;
 /// adjacent windows add up; and the comparisons stay when the sides are exchanged, so that the leaf slots of
 /// the right window bound them too. The items of a list end where those of the next one begin, so a window
 /// of lists has the leaf slots of one window of items, and lists that match one after another cost what that
-/// window costs. A struct goes over each of its columns once.
+/// window costs. A struct goes over each of its columns once. A slice and a second copy cost what the same rows of
+/// the array did that they were made of.
 pub fn law_tally()
     ensures within { TallyIsWithinLeaves }
     ensures adds_up { TallyAddsUp }
@@ -24,6 +25,8 @@ pub fn law_tally()
     ensures list_tally { ListTallyIsOneWindow }
     ensures struct_leaves { StructLeavesAreColumns }
     ensures struct_tally { StructTallyIsColumns }
+    ensures of_cut { TallyOfCut }
+    ensures of_clone { TallyOfClone }
 {
     law_leaves();
 }

@@ -2,6 +2,7 @@ use Rattle.std.proofs.Common.{refl}
 use Rattle.polars_compare_nested.proofs.Columns.{struct-leaves, tally-struct}
 use Rattle.polars_compare_nested.proofs.ListRuns.{lists-adjacent, lists-tally}
 use Rattle.polars_compare_nested.proofs.TallyAdds.{tally-adds}
+use Rattle.polars_compare_nested.proofs.TallyAlike.{tally-clone, tally-cut}
 use Rattle.polars_compare_nested.proofs.TallySwap.{tally-swap}
 use Rattle.polars_compare_nested.proofs.TallyWithin.{tally-within}
 use Rattle.polars_compare_nested.proofs.laws.law_tally.Goals as goal
@@ -17,4 +18,6 @@ returns c = record {
   list_tally = lists-tally;
   struct_leaves = struct-leaves;
   struct_tally = tally-struct;
+  of_cut = tally-cut;
+  of_clone = tally-clone;
 }
