@@ -20,7 +20,7 @@ use polars_arrays::primitive::PrimitiveArray;
 use polars_arrays::steps::Steps;
 use polars_arrays::struct_array::StructArray;
 use polars_arrays::text::Utf8Array;
-use polars_compare::dispatch::array_tot_eq_missing_kernel_counted;
+use polars_compare::dispatch::array_tot_eq_missing_kernel_with_steps;
 use std::alloc::Global;
 use std::process::ExitCode;
 
@@ -90,7 +90,7 @@ fn compare_orders(rt: &(impl Print + AllocGlobal)) -> Result<(), Fault> {
         return Err(Fault::Columns);
     }
     let mut steps = Steps::new();
-    let same = array_tot_eq_missing_kernel_counted(alloc, &left, &right, &mut steps)?;
+    let same = array_tot_eq_missing_kernel_with_steps(alloc, &left, &right, &mut steps)?;
     for i in 0..same.len() {
         let told = if same.get_bit(i) { "the same" } else { "not the same" };
         println!(rt; "row {i}: {told}")?;
