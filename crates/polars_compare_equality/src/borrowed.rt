@@ -6,13 +6,13 @@ ghost use Rattle.polars_arrays_flat.specs.Row.{Bytes};
 ghost use Rattle.polars_arrays_flat.specs.StoredRows.{rows_under};
 ghost use Rattle.polars_compare_leaves.specs.Equality.{RawEquality, MissingEquality};
 
+use crate::joining::join_scalar;
 use polars_arrays_bits::bitmap::Bitmap;
 use polars_arrays_bits::error::ComputeError;
 use polars_arrays_flat::byte_rows::ByteRows;
-use polars_arrays_flat::mask::Mask;
 use polars_arrays_numbers::comparison::{Equal, Unequal};
 use polars_compare_leaves::bytes::compare_bytes;
-use polars_compare_leaves::joining::{Relation, join_nulls};
+use polars_compare_leaves::joining::Relation;
 use std::alloc::Global;
 
 /// Equality of the rows of an array of byte strings with one that is borrowed, called by path beside
@@ -49,8 +49,7 @@ pub trait BytesEqKernel: ByteRows + Sized {
             IsMemory }
     {
         let raw = self.tot_eq_kernel_broadcast(alloc, other)?;
-        let mask = self.missing_mask(alloc)?;
-        join_nulls(alloc, Relation::Equal, raw, &mask, &Mask::all())
+        join_scalar(alloc, Relation::Equal, raw, self)
     }
 
     /// Where the rows are unequal to the byte string; each null is.
@@ -65,8 +64,7 @@ pub trait BytesEqKernel: ByteRows + Sized {
             IsMemory }
     {
         let raw = self.tot_ne_kernel_broadcast(alloc, other)?;
-        let mask = self.missing_mask(alloc)?;
-        join_nulls(alloc, Relation::Unequal, raw, &mask, &Mask::all())
+        join_scalar(alloc, Relation::Unequal, raw, self)
     }
 }
 
@@ -102,8 +100,7 @@ pub trait TextEqKernel: ByteRows + Sized {
             IsMemory }
     {
         let raw = self.tot_eq_kernel_broadcast(alloc, other)?;
-        let mask = self.missing_mask(alloc)?;
-        join_nulls(alloc, Relation::Equal, raw, &mask, &Mask::all())
+        join_scalar(alloc, Relation::Equal, raw, self)
     }
 
     /// Where the rows are unequal to the text; each null is.
@@ -118,7 +115,6 @@ pub trait TextEqKernel: ByteRows + Sized {
             IsMemory }
     {
         let raw = self.tot_ne_kernel_broadcast(alloc, other)?;
-        let mask = self.missing_mask(alloc)?;
-        join_nulls(alloc, Relation::Unequal, raw, &mask, &Mask::all())
+        join_scalar(alloc, Relation::Unequal, raw, self)
     }
 }

@@ -7,11 +7,11 @@ ghost use Rattle.polars_arrays_flat.specs.StoredRows.{rows_under};
 ghost use Rattle.polars_compare_leaves.specs.Equality.{RawEquality, MissingEquality};
 ghost use Rattle.polars_compare_equality.specs.Answers.{Answers};
 
+use crate::joining::{join_rows, join_scalar};
 use polars_arrays_bits::bitmap::Bitmap;
 use polars_arrays_bits::error::ComputeError;
 use polars_arrays_flat::array::Array;
-use polars_arrays_flat::mask::Mask;
-use polars_compare_leaves::joining::{Relation, join_nulls};
+use polars_compare_leaves::joining::Relation;
 use std::alloc::Global;
 
 /// Equality of the rows of two arrays of one kind.
@@ -107,9 +107,7 @@ pub trait TotalEqKernel: Sized + Array {
             IsMemory }
     {
         let raw = self.tot_eq_kernel(alloc, other)?;
-        let left = self.missing_mask(alloc)?;
-        let right = other.missing_mask(alloc)?;
-        join_nulls(alloc, Relation::Equal, raw, &left, &right)
+        join_rows(alloc, Relation::Equal, raw, self, other)
     }
 
     /// Where the rows are unequal, null to all but null.
@@ -126,9 +124,7 @@ pub trait TotalEqKernel: Sized + Array {
             IsMemory }
     {
         let raw = self.tot_ne_kernel(alloc, other)?;
-        let left = self.missing_mask(alloc)?;
-        let right = other.missing_mask(alloc)?;
-        join_nulls(alloc, Relation::Unequal, raw, &left, &right)
+        join_rows(alloc, Relation::Unequal, raw, self, other)
     }
 
     /// Where the rows are equal to the scalar; no null is.
@@ -144,8 +140,7 @@ pub trait TotalEqKernel: Sized + Array {
             (MissingEquality true ⊤ (rows_under (Self.mask self.now) (Self.slots self.now)) (replicate (length (Self.slots self.now)) (scalar_row other.now))) }
     {
         let raw = self.tot_eq_kernel_broadcast(alloc, other)?;
-        let mask = self.missing_mask(alloc)?;
-        join_nulls(alloc, Relation::Equal, raw, &mask, &Mask::all())
+        join_scalar(alloc, Relation::Equal, raw, self)
     }
 
     /// Where the rows are unequal to the scalar; each null is.
@@ -161,8 +156,7 @@ pub trait TotalEqKernel: Sized + Array {
             (MissingEquality false ⊤ (rows_under (Self.mask self.now) (Self.slots self.now)) (replicate (length (Self.slots self.now)) (scalar_row other.now))) }
     {
         let raw = self.tot_ne_kernel_broadcast(alloc, other)?;
-        let mask = self.missing_mask(alloc)?;
-        join_nulls(alloc, Relation::Unequal, raw, &mask, &Mask::all())
+        join_scalar(alloc, Relation::Unequal, raw, self)
     }
 
     // Arrays that can be compared are equally long.

@@ -6,6 +6,7 @@ pub mod borrowed;
 mod bytes;
 mod dictionaries;
 mod fixed_size_lists;
+mod joining;
 pub mod kernel;
 mod lists;
 mod null;

@@ -1,21 +1,10 @@
-use Rattle.std.proofs.Common.{◌≡◌, sym, true, refl}
-use Rattle.std.specs.Bool.{⊤}
+use Rattle.std.proofs.Common.{◌≡◌, true}
 use Rattle.std.proofs.lemmas.Result.{MatchResult-weaker}
-use Rattle.std.proofs.lemmas.List.{length-replicate}
-use Rattle.polars_compare_equality.proofs.Missing.{missing-from-raw, repeated-present}
 use Rattle.polars_compare_equality.proofs.kernel.TotalEqKernel.tot_eq_missing_kernel_broadcast.Goals as goal
 
 pub returns : goal.returns
 returns g c =
     let has : g.Self.TotalEqKernel.broadcasts ≡ true = c.in_ok-raw.ensures.0 in
-    MatchResult-weaker c.join_nulls.result c.join_nulls.ensures
-    (λ bits j.
-    let joined = rw c.in_ok-mask.ensures.mask at j in (
-      has,
-      missing-from-raw _ ⊤ _ _ _ _ _ _ bits c.in_ok-mask.ensures.bits tt
-          (sym (length-replicate _ _))
-          (λ i within is_null. let law = g.met.Self.Array.null_law c.args.self.now c.args.self.now i within is_null in (law.0, refl, (tt, tt)))
-          (repeated-present _ _ _ _ _ (g.met.Self.TotalEqKernel.scalar_law c.args.other.now has))
-          c.in_ok-raw.ensures.1 joined,
-    ))
+    MatchResult-weaker c.join_scalar.result c.join_scalar.ensures
+    (λ bits joined. (has, joined _ (g.met.Self.TotalEqKernel.scalar_law c.args.other.now has) c.in_ok-raw.ensures.1))
     (λ error m. rw has m)
