@@ -13,7 +13,7 @@ length-blocks width n xs = length-first (λ i. list_all (λ b. b) (take width (d
 
 -- the blocks of a window's bits are those of the window
 pub window-blocks :
-    (words : List ℕ) (at len width n : ℕ) (xs : List Bool) → window words at len ≡ xs → width * n ≤ length xs →
+    (words : List ℕ) (at len width n : ℕ) (xs : List Bool) → window at len words ≡ xs → width * n ≤ length xs →
     first_of (block_true width (λ p. bit_of words (at + p))) n ≡ blocks_all width n xs
 window-blocks words at len width n xs e le =
     first_same (block_true width (λ p. bit_of words (at + p))) (λ i. list_all (λ b. b) (take width (drop (width * i) xs))) n

@@ -17,7 +17,7 @@ pub value_is : (f : ℕ → Bool) (n i : ℕ) (xs : List Bool) (d : Bool) → fi
 value_is f n i xs d e lt = sym (ap (λ l. get_or l i d) e) ∙ get_or-first f n i d lt
 
 -- a bit that was read from words
-pub bit-read : (words : List ℕ) (at n i : ℕ) (xs : List Bool) (bit : Bool) → window words at n ≡ xs → i < length xs → bit ≡ bit_of words (at + i) → slice_get xs i ≡ Some bit
+pub bit-read : (words : List ℕ) (at n i : ℕ) (xs : List Bool) (bit : Bool) → window at n words ≡ xs → i < length xs → bit ≡ bit_of words (at + i) → slice_get xs i ≡ Some bit
 bit-read words at n i xs bit e lt read =
     let below : i < n = omega (arith, length_is (λ j. bit_of words (at + j)) n xs e) in
     slice_get-get_or xs i false lt ∙ ap Some (value_is (λ j. bit_of words (at + j)) n i xs false e below ∙ sym read)
@@ -35,8 +35,8 @@ bit_of-cut first count p words lt =
 
 -- a part of a window, in a part of its words
 pub window-cut :
-    (first count by at n k m : ℕ) (words : List ℕ) (xs : List Bool) → window words at n ≡ xs → k + m ≤ length xs → 64 * first + by ≡ at + k → by + m ≤ 64 * count →
-    window (take count (drop first words)) by m ≡ take m (drop k xs)
+    (first count by at n k m : ℕ) (words : List ℕ) (xs : List Bool) → window at n words ≡ xs → k + m ≤ length xs → 64 * first + by ≡ at + k → by + m ≤ 64 * count →
+    window by m (take count (drop first words)) ≡ take m (drop k xs)
 window-cut first count by at n k m words xs e le begin enough =
     let long : length xs ≡ n = length_is (λ i. bit_of words (at + i)) n xs e in
     first_is (λ i. bit_of (take count (drop first words)) (by + i)) m (take m (drop k xs)) (omega (arith, length-take m (drop k xs), length-drop k xs))
@@ -50,7 +50,7 @@ window-cut first count by at n k m words xs e le begin enough =
     ∙ sym (get_or-take m (drop k xs) i d lt))
 
 -- a part of a window, in the same words
-pub window-part : (words : List ℕ) (at n k m : ℕ) (xs : List Bool) → window words at n ≡ xs → k + m ≤ length xs → window words (at + k) m ≡ take m (drop k xs)
+pub window-part : (words : List ℕ) (at n k m : ℕ) (xs : List Bool) → window at n words ≡ xs → k + m ≤ length xs → window (at + k) m words ≡ take m (drop k xs)
 window-part words at n k m xs e le =
     let long : length xs ≡ n = length_is (λ i. bit_of words (at + i)) n xs e in
     first_is (λ i. bit_of words (at + k + i)) m (take m (drop k xs)) (omega (arith, length-take m (drop k xs), length-drop k xs))
@@ -62,7 +62,7 @@ window-part words at n k m xs e le =
     ∙ sym (get_or-take m (drop k xs) i d lt))
 
 -- words of one value
-pub window-replicate : (value : Bool) (count n word : ℕ) → n ≤ 64 * count → ((i : ℕ) → i < 64 → is_bit word i ≡ value) → window (replicate count word) 0 n ≡ replicate n value
+pub window-replicate : (value : Bool) (count n word : ℕ) → n ≤ 64 * count → ((i : ℕ) → i < 64 → is_bit word i ≡ value) → window 0 n (replicate count word) ≡ replicate n value
 window-replicate value count n word le same =
     first_is (λ i. bit_of (replicate count word) (0 + i)) n (replicate n value) (length-replicate n value)
     (λ i d lt.
@@ -76,13 +76,13 @@ window-replicate value count n word le same =
 -- ---- operators
 
 -- words that are read from the first bit on
-pub aligned : (at n : ℕ) (words read : List ℕ) (xs : List Bool) → at ≡ 0 → read ≡ words → window words at n ≡ xs → first_of (λ i. bit_of read i) n ≡ xs
+pub aligned : (at n : ℕ) (words read : List ℕ) (xs : List Bool) → at ≡ 0 → read ≡ words → window at n words ≡ xs → first_of (λ i. bit_of read i) n ≡ xs
 aligned at n words read xs none same e =
     first_same (λ i. bit_of read i) (λ i. bit_of words (at + i)) n (λ i lt. let place : i ≡ at + i = omega arith in ap₂ bit_of same place) ∙ e
 
 -- words that are read from a later bit on
-pub shifted : (at n : ℕ) (words read : List ℕ) (xs : List Bool) → read ≡ words → window words at n ≡ xs → first_of (λ i. bit_of read (at + i)) n ≡ xs
-shifted at n words read xs same e = ap (λ ws. window ws at n) same ∙ e
+pub shifted : (at n : ℕ) (words read : List ℕ) (xs : List Bool) → read ≡ words → window at n words ≡ xs → first_of (λ i. bit_of read (at + i)) n ≡ xs
+shifted at n words read xs same e = ap (λ ws. window at n ws) same ∙ e
 
 pub first-map : (g : Bool → Bool) (f : ℕ → Bool) (n : ℕ) (xs : List Bool) → first_of f n ≡ xs → first_of (λ i. g (f i)) n ≡ map g xs
 first-map g f n xs e =

@@ -8,7 +8,7 @@ use Rattle.polars_arrays_words.specs.Packing.{IsPacked}
 use Rattle.polars_arrays_words.proofs.Firsts.{first_is, first_same}
 
 -- the bits of words that hold the values
-pub window-words : (f : ℕ → Bool) (count n : ℕ) (words : List ℕ) → AreWords f count words → n ≤ 64 * count → window words 0 n ≡ first_of f n
+pub window-words : (f : ℕ → Bool) (count n : ℕ) (words : List ℕ) → AreWords f count words → n ≤ 64 * count → window 0 n words ≡ first_of f n
 window-words f count n words made le =
     first_same (λ i. bit_of words (0 + i)) f n
     (λ i lt.

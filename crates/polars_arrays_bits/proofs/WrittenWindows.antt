@@ -10,18 +10,18 @@ use Rattle.polars_arrays_words.specs.Packing.{AreAppended}
 use Rattle.std.specs.Simd.Lanes.{zip2}
 
 -- a window from the first bit on
-pub front-bit : (words : List ℕ) (n i : ℕ) (xs : List Bool) (d : Bool) → window words 0 n ≡ xs → i < n → bit_of words i ≡ get_or xs i d
+pub front-bit : (words : List ℕ) (n i : ℕ) (xs : List Bool) (d : Bool) → window 0 n words ≡ xs → i < n → bit_of words i ≡ get_or xs i d
 front-bit words n i xs d e lt =
     let place : i ≡ 0 + i = omega arith in
     ap (bit_of words) place ∙ sym (value_is (λ j. bit_of words (0 + j)) n i xs d e lt)
 
 -- a list of n bits that are the first of words
-pub front_is : (words : List ℕ) (n : ℕ) (xs : List Bool) → length xs ≡ n → ((i : ℕ) (d : Bool) → i < n → bit_of words i ≡ get_or xs i d) → window words 0 n ≡ xs
+pub front_is : (words : List ℕ) (n : ℕ) (xs : List Bool) → length xs ≡ n → ((i : ℕ) (d : Bool) → i < n → bit_of words i ≡ get_or xs i d) → window 0 n words ≡ xs
 front_is words n xs long same =
     first_is (λ i. bit_of words (0 + i)) n xs long (λ i d lt. let place : 0 + i ≡ i = omega arith in ap (bit_of words) place ∙ same i d lt)
 
 -- one bit set
-pub window-set : (old new : List ℕ) (n i : ℕ) (value : Bool) (xs : List Bool) → window old 0 n ≡ xs → i < length xs → IsWritten old new i (i + 1) value → window new 0 n ≡ set xs i value
+pub window-set : (old new : List ℕ) (n i : ℕ) (value : Bool) (xs : List Bool) → window 0 n old ≡ xs → i < length xs → IsWritten old new i (i + 1) value → window 0 n new ≡ set xs i value
 window-set old new n i value xs e lt w =
     let long : length xs ≡ n = length_is _ n xs e in
     front_is new n (set xs i value) (length-set xs i value ∙ long)
@@ -35,7 +35,7 @@ window-set old new n i value xs e lt w =
     (cases_eq j i))
 
 -- bits appended
-pub window-append : (old new : List ℕ) (n m : ℕ) (value : Bool) (xs : List Bool) → window old 0 n ≡ xs → IsWritten old new n (n + m) value → window new 0 (n + m) ≡ xs ++ replicate m value
+pub window-append : (old new : List ℕ) (n m : ℕ) (value : Bool) (xs : List Bool) → window 0 n old ≡ xs → IsWritten old new n (n + m) value → window 0 (n + m) new ≡ xs ++ replicate m value
 window-append old new n m value xs e w =
     let long : length xs ≡ n = length_is _ n xs e in
     front_is new (n + m) (xs ++ replicate m value) (omega (arith, length-append xs (replicate m value), length-replicate m value))
@@ -47,8 +47,8 @@ window-append old new n m value xs e w =
 
 -- the window that has the truth values too
 pub window-appended :
-    (old new : List ℕ) (n : ℕ) (values xs : List Bool) → window old 0 n ≡ xs → AreAppended old new n values (length values) →
-    window new 0 (n + length values) ≡ xs ++ values
+    (old new : List ℕ) (n : ℕ) (values xs : List Bool) → window 0 n old ≡ xs → AreAppended old new n values (length values) →
+    window 0 (n + length values) new ≡ xs ++ values
 window-appended old new n values xs e appended =
     let long : length xs ≡ n = length_is _ n xs e in
     front_is new (n + length values) (xs ++ values) (omega (arith, length-append xs values))
@@ -65,8 +65,8 @@ window-appended old new n values xs e appended =
 
 -- words merged one after the other are the bits merged
 pub window-merged :
-    (g : Bool → Bool → Bool) (f : ℕ → Bool) (old mid new : List ℕ) (at to n : ℕ) (xs : List Bool) → window old 0 n ≡ xs → IsMerged g f old mid 0 at → IsMerged g f mid new at to → n ≤ 64 * to →
-    window new 0 n ≡ zip2 g xs (first_of f (length xs))
+    (g : Bool → Bool → Bool) (f : ℕ → Bool) (old mid new : List ℕ) (at to n : ℕ) (xs : List Bool) → window 0 n old ≡ xs → IsMerged g f old mid 0 at → IsMerged g f mid new at to → n ≤ 64 * to →
+    window 0 n new ≡ zip2 g xs (first_of f (length xs))
 window-merged g f old mid new at to n xs e first second le =
     first_same (λ i. bit_of new (0 + i)) (λ i. g (bit_of old (0 + i)) (f i)) n
     (λ i lt.

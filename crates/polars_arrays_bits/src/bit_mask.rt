@@ -28,7 +28,7 @@ impl<'a> Model for BitMask<'a> {
 
     ghost Value = { List Bool };
 
-    ghost view = { λ m. window m.words.now m.at m.len };
+    ghost view = { λ m. window m.at m.len m.words.now };
 
     ghost invariant = { λ m. (m.at < 64) × (m.at + m.len ≤ 64 * length m.words.now) };
 }

@@ -32,7 +32,7 @@ impl Model for Bitmap {
 
     ghost Value = { List Bool };
 
-    ghost view = { λ b. window b.words.items b.at b.len };
+    ghost view = { λ b. window b.at b.len b.words.items };
 
     ghost invariant = { λ b. (b.at < 64) × (b.at + b.len ≤ 64 * length b.words.items) };
 }
@@ -158,7 +158,7 @@ impl Bitmap {
     // The first `len` bits of words.
     pub(crate) fn from_vec(words: Vec<u64>, len: usize) -> Bitmap
         requires { len ≤ 64 * vec_len words }
-        ensures { result ≡ window words.items 0 len }
+        ensures { result ≡ window 0 len words.items }
     {
         let words = Buffer::from_vec(words);
         Bitmap { words, at: 0, len }
@@ -168,7 +168,7 @@ impl Bitmap {
     pub(crate) fn packed(&self) -> (&[u64], usize)
         ensures begin { result.1 < 64 }
         ensures within { result.1 + length self.now ≤ 64 * length result.0.now }
-        ensures bits { window result.0.now result.1 (length self.now) ≡ self.now }
+        ensures bits { window result.1 (length self.now) result.0.now ≡ self.now }
     {
         (self.words.as_slice(), self.at)
     }

@@ -27,7 +27,7 @@ impl Model for BitmapBuilder {
 
     ghost Value = { Draft };
 
-    ghost view = { λ b. record { bits = window b.words.items 0 b.len; room = b.room } };
+    ghost view = { λ b. record { bits = window 0 b.len b.words.items; room = b.room } };
 
     ghost invariant = { λ b. (b.len + b.room ≤ 64 * length b.words.items) × (b.len + b.room < 2 ^ 64) };
 }

@@ -28,7 +28,7 @@ impl Model for MutableBitmap {
 
     ghost Value = { List Bool };
 
-    ghost view = { λ b. window b.words.items 0 b.len };
+    ghost view = { λ b. window 0 b.len b.words.items };
 
     ghost invariant = { λ b. b.len ≤ 64 * length b.words.items };
 }

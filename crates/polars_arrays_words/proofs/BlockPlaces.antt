@@ -13,7 +13,7 @@ block_end width i n lt =
     omega (arith, mul-suc width i, mul-le-mul_left width le)
 
 -- a block of words' bits is a run of them
-pub block_run : (words : List ℕ) (by width i : ℕ) → list_all (λ b. b) (window words (by + width * i) width) ≡ block_true width (λ p. bit_of words (by + p)) i
+pub block_run : (words : List ℕ) (by width i : ℕ) → list_all (λ b. b) (window (by + width * i) width words) ≡ block_true width (λ p. bit_of words (by + p)) i
 block_run words by width i =
     ap (list_all (λ b. b))
     (first_same (λ j. bit_of words (by + width * i + j)) (λ j. bit_of words (by + (width * i + j))) width

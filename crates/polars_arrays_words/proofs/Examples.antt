@@ -9,10 +9,10 @@ use Rattle.polars_arrays_words.specs.Logic.{xor, xnor, and_not, or_not, merged_e
 bit-in_second : bit_of (9 ∷ 1 ∷ []) 64 ≡ true
 bit-in_second = refl
 
-window-inside : window (9 ∷ 1 ∷ []) 3 2 ≡ true ∷ false ∷ []
+window-inside : window 3 2 (9 ∷ 1 ∷ []) ≡ true ∷ false ∷ []
 window-inside = refl
 
-window-across : window (2 ^ 63 ∷ 1 ∷ []) 62 4 ≡ false ∷ true ∷ true ∷ false ∷ []
+window-across : window 62 4 (2 ^ 63 ∷ 1 ∷ []) ≡ false ∷ true ∷ true ∷ false ∷ []
 window-across = refl
 
 -- equal and present, two nulls, a null against a value, unequal

@@ -52,28 +52,28 @@ trailing-tells word n f fits few bits =
 -- a run, and the one behind it
 all-append :
     (words : List ℕ) (begin m n : ℕ) →
-    list_all (λ b. b) (window words begin (m + n)) ≡ (list_all (λ b. b) (window words begin m) && list_all (λ b. b) (window words (begin + m) n))
+    list_all (λ b. b) (window begin (m + n) words) ≡ (list_all (λ b. b) (window begin m words) && list_all (λ b. b) (window (begin + m) n words))
 all-append words begin m n =
-    let same : first_of (λ i. bit_of words (begin + (m + i))) n ≡ window words (begin + m) n =
+    let same : first_of (λ i. bit_of words (begin + (m + i))) n ≡ window (begin + m) n words =
     first_same (λ i. bit_of words (begin + (m + i))) (λ i. bit_of words (begin + m + i)) n
     (λ i lt. let place : begin + (m + i) ≡ begin + m + i = omega arith in ap (bit_of words) place) in
-    ap (list_all (λ b. b)) (first-append (λ i. bit_of words (begin + i)) m n ∙ ap (λ l. window words begin m ++ l) same)
-    ∙ list_all-append (λ b. b) (window words begin m) (window words (begin + m) n)
+    ap (list_all (λ b. b)) (first-append (λ i. bit_of words (begin + i)) m n ∙ ap (λ l. window begin m words ++ l) same)
+    ∙ list_all-append (λ b. b) (window begin m words) (window (begin + m) n words)
 
 -- behind a run that is true, the rest decides
 pub all-more :
-    (words : List ℕ) (by at m n : ℕ) (more : Bool) → list_all (λ b. b) (window words (by + at) m) ≡ true →
-    more ≡ list_all (λ b. b) (window words (by + (at + m)) n) → more ≡ list_all (λ b. b) (window words (by + at) (m + n))
+    (words : List ℕ) (by at m n : ℕ) (more : Bool) → list_all (λ b. b) (window (by + at) m words) ≡ true →
+    more ≡ list_all (λ b. b) (window (by + (at + m)) n words) → more ≡ list_all (λ b. b) (window (by + at) (m + n) words)
 all-more words by at m n more before rest =
     let place : by + (at + m) ≡ by + at + m = omega arith in
     rest
-    ∙ ap (λ p. list_all (λ b. b) (window words p n)) place
-    ∙ sym (all-append words (by + at) m n ∙ ap (λ b. b && list_all (λ b. b) (window words (by + at + m) n)) before)
+    ∙ ap (λ p. list_all (λ b. b) (window p n words)) place
+    ∙ sym (all-append words (by + at) m n ∙ ap (λ b. b && list_all (λ b. b) (window (by + at + m) n words)) before)
 
 -- a run with a false bit, and more behind it
-pub all-fails : (words : List ℕ) (begin m n : ℕ) → list_all (λ b. b) (window words begin m) ≡ false → m ≤ n → list_all (λ b. b) (window words begin n) ≡ false
+pub all-fails : (words : List ℕ) (begin m n : ℕ) → list_all (λ b. b) (window begin m words) ≡ false → m ≤ n → list_all (λ b. b) (window begin n words) ≡ false
 all-fails words begin m n e le =
     let split : n ≡ m + (n - m) = omega arith in
-    ap (λ k. list_all (λ b. b) (window words begin k)) split
+    ap (λ k. list_all (λ b. b) (window begin k words)) split
     ∙ all-append words begin m (n - m)
-    ∙ ap (λ b. b && list_all (λ b. b) (window words (begin + m) (n - m))) e
+    ∙ ap (λ b. b && list_all (λ b. b) (window (begin + m) (n - m) words)) e

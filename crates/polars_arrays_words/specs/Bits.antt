@@ -15,8 +15,8 @@ abbrev pub first_of : (ℕ → Bool) → ℕ → List Bool
 first_of f n = map f (range_with_len 0 n)
 
 -- n bits of words from bit `at` on
-abbrev pub window : List ℕ → ℕ → ℕ → List Bool
-window words at n = first_of (λ i. bit_of words (at + i)) n
+abbrev pub window : ℕ → ℕ → List ℕ → List Bool
+window at n words = first_of (λ i. bit_of words (at + i)) n
 
 -- the bits of a word are 64 values of f, from the k-th 64 on
 pub record IsWord (f : ℕ → Bool) (k word : ℕ) : Type 0 where

@@ -12,7 +12,7 @@ use crate::words::{WORD_BITS, word_from};
 fn few_set(words: &[u64], by: usize, at: usize, n: usize) -> bool
     requires by { by < 64 }
     requires few { n ≤ 64 }
-    ensures { result ≡ list_all (λ b. b) (window words.now (by + at) n) }
+    ensures { result ≡ list_all (λ b. b) (window (by + at) n words.now) }
 {
     n <= word_from(words, by, at).trailing_ones() as usize
 }
@@ -21,7 +21,7 @@ fn few_set(words: &[u64], by: usize, at: usize, n: usize) -> bool
 fn many_set(words: &[u64], by: usize, at: usize, n: usize) -> bool
     requires by { by < 64 }
     requires fits { at + n < 2 ^ 64 }
-    ensures { result ≡ list_all (λ b. b) (window words.now (by + at) n) }
+    ensures { result ≡ list_all (λ b. b) (window (by + at) n words.now) }
 {
     for k in 0..n / WORD_BITS {
         if !few_set(words, by, at + WORD_BITS * k, WORD_BITS) {
@@ -38,7 +38,7 @@ fn many_set(words: &[u64], by: usize, at: usize, n: usize) -> bool
 pub fn all_set(words: &[u64], by: usize, at: usize, n: usize) -> bool
     requires by { by < 64 }
     requires fits { at + n < 2 ^ 64 }
-    ensures { result ≡ list_all (λ b. b) (window words.now (by + at) n) }
+    ensures { result ≡ list_all (λ b. b) (window (by + at) n words.now) }
 {
     if n <= WORD_BITS {
         few_set(words, by, at, n)

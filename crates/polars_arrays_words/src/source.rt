@@ -193,7 +193,7 @@ pub fn count_bits<S: BitSource>(source: &S, len: usize) -> usize
 /// How many of the `len` bits are set that begin `by` bits into the first word.
 pub fn count_window(words: &[u64], by: usize, len: usize) -> usize
     requires { by < 64 }
-    ensures { result ≡ count_by (λ b. b) (window words.now by len) }
+    ensures { result ≡ count_by (λ b. b) (window by len words.now) }
 {
     if by == 0 {
         count_bits(&Aligned { words }, len)

@@ -14,7 +14,7 @@ returns-then-not-few_set c =
 pub loop-k-preserved : goal.loop-k-preserved
 loop-k-preserved c =
     let next : 64 * (c.loop-k.k + 1) ≡ 64 * c.loop-k.k + 64 = omega arith in
-    ap (λ m. list_all (λ b. b) (window c.args.words.now (c.args.by + c.args.at) m)) next
+    ap (λ m. list_all (λ b. b) (window (c.args.by + c.args.at) m c.args.words.now)) next
     ∙ sym (all-more c.args.words.now c.args.by c.args.at (64 * c.loop-k.k) 64 c.few_set.result c.loop-k.invariant c.few_set.ensures)
     ∙ c.if-not-few_set.false
 
@@ -24,6 +24,6 @@ returns c =
     let rest = c.args.n % 64 in
     let done : 64 * c.loop-k.k ≡ c.args.n - rest = omega arith in
     let all : c.args.n - rest + rest ≡ c.args.n = omega arith in
-    let before = sym (ap (λ m. list_all (λ b. b) (window words (c.args.by + c.args.at) m)) done) ∙ c.loop-k.invariant in
+    let before = sym (ap (λ m. list_all (λ b. b) (window (c.args.by + c.args.at) m words)) done) ∙ c.loop-k.invariant in
     all-more words c.args.by c.args.at (c.args.n - rest) rest c.few_set-2.result before c.few_set-2.ensures
-    ∙ ap (λ m. list_all (λ b. b) (window words (c.args.by + c.args.at) m)) all
+    ∙ ap (λ m. list_all (λ b. b) (window (c.args.by + c.args.at) m words)) all

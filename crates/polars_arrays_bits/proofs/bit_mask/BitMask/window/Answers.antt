@@ -22,5 +22,5 @@ invariant_of-result c =
 pub returns : goal.returns
 returns c =
     let place = c.place_of-place.result in
-    ap (λ ws. window ws place.by c.args.n) c.words_of.ensures
+    ap (λ ws. window place.by c.args.n ws) c.words_of.ensures
     ∙ window-cut place.first place.count place.by c.self.inside.at c.self.inside.len c.args.at c.args.n c.self.inside.words.now c.args.self.now c.self.view_is c.requires c.place_of-place.ensures.begin c.place_of-place.ensures.enough

@@ -6,5 +6,5 @@ use Rattle.polars_arrays_bits.proofs.bitmap.Bitmap.new_with_value.Goals as goal
 pub returns : goal.returns
 returns c =
     c.from_vec.ensures
-    ∙ ap (λ ws. window ws 0 c.args.len) (c.in_ok-words.ensures.items_if_clones_equal (λ y same. same))
+    ∙ ap (λ ws. window 0 c.args.len ws) (c.in_ok-words.ensures.items_if_clones_equal (λ y same. same))
     ∙ window-replicate c.args.value c.div_ceil.result c.args.len c.filled_word.result (omega (arith, c.div_ceil.ensures)) c.filled_word.ensures

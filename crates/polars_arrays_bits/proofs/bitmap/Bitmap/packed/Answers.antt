@@ -10,4 +10,4 @@ returns-clause-within c =
 
 pub returns-clause-bits : goal.returns-clause-bits
 returns-clause-bits c =
-    ap₂ (λ ws n. window ws c.self.inside.at n) c.as_slice.ensures (length_is _ c.self.inside.len c.args.self.now c.self.view_is) ∙ c.self.view_is
+    ap₂ (λ ws n. window c.self.inside.at n ws) c.as_slice.ensures (length_is _ c.self.inside.len c.args.self.now c.self.view_is) ∙ c.self.view_is

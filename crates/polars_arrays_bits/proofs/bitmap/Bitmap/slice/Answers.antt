@@ -23,5 +23,5 @@ invariant_of-self c =
 pub returns : goal.returns
 returns c =
     let place = c.place_of-place.result in
-    ap (λ b. window b.items place.by c.args.n) c.slice.ensures
+    ap (λ b. window place.by c.args.n b.items) c.slice.ensures
     ∙ window-cut place.first place.count place.by c.self.inside.at c.self.inside.len c.args.at c.args.n c.self.inside.words.items c.args.self.now c.self.view_is c.requires c.place_of-place.ensures.begin c.place_of-place.ensures.enough

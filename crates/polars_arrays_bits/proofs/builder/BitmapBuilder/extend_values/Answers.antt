@@ -11,6 +11,6 @@ returns g c =
     let values : List Bool = g.V.TruthValues.values c.args.values.now in
     let count = c.len-count.result in
     let new = c.append_values.new.words in
-    ap (λ ws. draft_of (window ws 0 (inside.len + count)) (inside.room - count)) (with_items_is inside.words new (omega arith))
+    ap (λ ws. draft_of (window 0 (inside.len + count) ws) (inside.room - count)) (with_items_is inside.words new (omega arith))
     ∙ draft-appended inside.words.items new inside.len count inside.room values c.args.self.now c.len-count.ensures c.self.view_is
     (subst (λ (ws : List ℕ). AreAppended ws new inside.len values (length values)) c.as_mut_slice.ensures.value c.append_values.ensures)

@@ -7,6 +7,6 @@ use Rattle.polars_arrays_bits.proofs.builder.BitmapBuilder.push_reserved.Goals a
 pub returns : goal.returns
 returns c =
     let inside = c.self.inside in
-    ap (λ ws. draft_of (window ws 0 (inside.len + 1)) (inside.room - 1)) (with_items_is inside.words c.write_bit.new.words (omega arith))
+    ap (λ ws. draft_of (window 0 (inside.len + 1) ws) (inside.room - 1)) (with_items_is inside.words c.write_bit.new.words (omega arith))
     ∙ draft-extended inside.words.items c.write_bit.new.words inside.len 1 inside.room c.args.value c.args.self.now c.self.view_is
     (subst (λ (ws : List ℕ). IsWritten ws c.write_bit.new.words inside.len (inside.len + 1) c.args.value) c.as_mut_slice.ensures.value c.write_bit.ensures)

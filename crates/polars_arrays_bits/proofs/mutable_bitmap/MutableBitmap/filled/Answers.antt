@@ -5,5 +5,5 @@ use Rattle.polars_arrays_bits.proofs.mutable_bitmap.MutableBitmap.filled.Goals a
 
 pub returns : goal.returns
 returns c =
-    ap (λ ws. window ws 0 c.args.n) (c.in_ok-words.ensures.items_if_clones_equal (λ y same. same))
+    ap (λ ws. window 0 c.args.n ws) (c.in_ok-words.ensures.items_if_clones_equal (λ y same. same))
     ∙ window-replicate c.args.value c.div_ceil.result c.args.n _ (omega (arith, c.div_ceil.ensures)) c.filled_word.ensures

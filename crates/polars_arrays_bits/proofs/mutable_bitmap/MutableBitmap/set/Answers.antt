@@ -10,6 +10,6 @@ write_bit-requires c = omega (arith, length_is _ c.self.inside.len c.args.self.n
 
 pub returns : goal.returns
 returns c =
-    ap (λ ws. window ws 0 c.self.inside.len) (with_items_is c.self.inside.words c.write_bit.new.words (omega arith))
+    ap (λ ws. window 0 c.self.inside.len ws) (with_items_is c.self.inside.words c.write_bit.new.words (omega arith))
     ∙ window-set c.self.inside.words.items c.write_bit.new.words c.self.inside.len c.args.i c.args.value c.args.self.now c.self.view_is c.requires
     (subst (λ (ws : List ℕ). IsWritten ws c.write_bit.new.words c.args.i (c.args.i + 1) c.args.value) c.as_mut_slice.ensures.value c.write_bit.ensures)
