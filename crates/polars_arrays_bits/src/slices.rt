@@ -51,7 +51,14 @@ pub fn compare_pairs<L: Copy, R: Copy, E: Comparison<L, R>>(
     requires { length right.now ≡ length left.now }
     ensures { MatchResult result (λ bits. bits ≡ zip2 (E.holds comparison.now) left.now right.now) IsMemory }
 {
-    Bitmap::from_values(alloc, &Pairs { comparison, left, right })
+    Bitmap::from_values(
+        alloc,
+        &Pairs {
+            comparison,
+            left,
+            right,
+        },
+    )
 }
 
 /// The same for windows: `count` elements from place `left_at` on of the left slice, and as many
@@ -114,5 +121,12 @@ pub fn compare_constant<L: Copy, R: Copy, E: Comparison<L, R>>(
 ) -> Result<Bitmap, ComputeError>
     ensures { MatchResult result (λ bits. bits ≡ map (λ l. E.holds comparison.now l right) left.now) IsMemory }
 {
-    Bitmap::from_values(alloc, &Against { comparison, left, right })
+    Bitmap::from_values(
+        alloc,
+        &Against {
+            comparison,
+            left,
+            right,
+        },
+    )
 }

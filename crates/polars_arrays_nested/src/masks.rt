@@ -27,12 +27,7 @@ impl AnyArray {
     /// windows of an array cost no more than their rows. The error is `Memory`.
     #[tactic(auto, using(crate::proofs::Windows::window_bits))]
     #[inline(always)]
-    pub fn window_mask(
-        &self,
-        _alloc: Global,
-        at: usize,
-        n: usize,
-    ) -> Result<Mask<'_>, ComputeError>
+    pub fn window_mask(&self, _alloc: Global, at: usize, n: usize) -> Result<Mask<'_>, ComputeError>
         requires good { IsGood self.now }
         requires within { at + n ≤ len_of self.now }
         ensures mask { MatchResult result (λ present. present ≡ validity_window at n (mask_of self.now)) IsMemory }

@@ -2,8 +2,20 @@ use Rattle.std.proofs.Common.{◌∙◌, refl, ap, sym, subst}
 use Rattle.polars_arrays_flat.specs.DataType.{kinds_of}
 use Rattle.polars_arrays_nested.specs.Clones.{AreClones, IsClone}
 use Rattle.polars_arrays_nested.specs.Parts.{columns}
-use Rattle.polars_arrays_nested.proofs.Clones.{clone-list, clone-struct, clones-more}
+use Rattle.polars_arrays_nested.proofs.Clones.{clone-dictionary, clone-fixed, clone-list, clone-struct, clones-more}
 use Rattle.polars_arrays_nested.proofs.+clones.Goals as goal
+
+pub dictionary::DictionaryArray::clone_array-returns :
+    goal.dictionary::DictionaryArray::clone_array-returns
+dictionary::DictionaryArray::clone_array-returns t c =
+    let item : IsClone c.in_ok-values.values c.args.self.now.values.value = rw c.deref.ensures at c.in_ok-values.ensures in
+    clone-dictionary _ c.args.self.now c.in_ok-keys.ensures (subst (λ v. IsClone v c.args.self.now.values.value) (sym c.in_ok-values-2.ensures.ok) item)
+
+pub fixed_size_list::FixedSizeListArray::clone_array-returns :
+    goal.fixed_size_list::FixedSizeListArray::clone_array-returns
+fixed_size_list::FixedSizeListArray::clone_array-returns t c =
+    let item : IsClone c.in_ok-values.values c.args.self.now.values.value = rw c.deref.ensures at c.in_ok-values.ensures in
+    clone-fixed _ c.args.self.now refl refl (subst (λ v. IsClone v c.args.self.now.values.value) (sym c.in_ok-values-2.ensures.ok) item) c.in_ok-validity.ensures
 
 pub list::ListArray::clone_array-returns : goal.list::ListArray::clone_array-returns
 list::ListArray::clone_array-returns t c =
