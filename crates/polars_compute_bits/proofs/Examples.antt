@@ -1,5 +1,5 @@
 -- Worked examples of the definitions: the check computes both sides of each.
-use Rattle.std.specs.Prelude.{◌≡◌, pos, negsuc, [], ◌∷◌, refl}
+use Rattle.std.specs.Prelude.{◌≡◌, pos, negsuc, false, [], ◌∷◌, refl}
 use Rattle.polars_arrays_flat.specs.Row.{Null, Int}
 use Rattle.polars_arrays_numbers.specs.Ranges.{least_of}
 use Rattle.polars_arrays_numbers.specs.Wrapping.{wrapped}

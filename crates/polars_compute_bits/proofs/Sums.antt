@@ -1,9 +1,8 @@
 -- Sums a row at a time, each wrapped.
-use Rattle.std.proofs.Common.{◌≡◌, ◌<◌, ◌≤◌, ◌+◌, ◌∙◌, ℕ, zero, suc, Bool, true, false, List, [], ◌∷◌, Some, length, take, map, get_or, refl, sym, ap, arith, add-one, slice_index_or}
-use Rattle.std.specs.Prelude.{ℤ, pos, ◌+ℤ◌, slice_get}
+use Rattle.std.proofs.Common.{◌≡◌, ◌<◌, ◌≤◌, ◌+◌, ◌∙◌, ℕ, zero, suc, Bool, false, List, [], ◌∷◌, length, take, get_or, refl, sym, ap, arith, add-one, slice_index_or}
+use Rattle.std.specs.Prelude.{ℤ, ◌+ℤ◌}
 use Rattle.std.proofs.lemmas.Int.{ints}
 use Rattle.std.proofs.lemmas.List.{take_all, length-map, get_or-map}
-use Rattle.std.proofs.lemmas.Option.{get_or_from_slice_get}
 use Rattle.polars_arrays_flat.specs.Row.{Row, Null, Int}
 use Rattle.polars_arrays_flat.specs.StoredRows.{row, kept, masked, number_slots}
 use Rattle.polars_arrays_numbers.specs.Wrapping.{wrapped}
@@ -70,10 +69,3 @@ module _ {A : Type 0} (value : A → ℤ) (bits : List Bool) (xs : List A) (long
       a
       ∙ ap (λ (r : Row). addend (kept (slice_index_or bits i false) r)) (sym stored)
       ∙ ap addend (sym (masked-at bits (number_slots value xs) i (long ∙ sym (length-slots value xs)) below))
-
--- a row whose bit was read adds its number where the bit is set, else nothing
-pub kept-set : (bits : List Bool) (i : ℕ) (n : ℤ) → slice_get bits i ≡ Some true → n ≡ addend (kept (slice_index_or bits i false) (Int n))
-kept-set bits i n e = sym (ap (λ (b : Bool). addend (kept b (Int n))) (get_or_from_slice_get bits i true false e))
-
-pub kept-unset : (bits : List Bool) (i : ℕ) (n : ℤ) → slice_get bits i ≡ Some false → pos 0 ≡ addend (kept (slice_index_or bits i false) (Int n))
-kept-unset bits i n e = sym (ap (λ (b : Bool). addend (kept b (Int n))) (get_or_from_slice_get bits i false false e))

@@ -53,8 +53,8 @@ fn number_or_zero<T: NativeType + Zero>(mask: &BitMask<'_>, i: usize, number: T)
 impl<T: NativeType + WrappingAdd + Zero> WrappingSum for T {
     fn wrapping_sum(vals: &[T]) -> T {
         let mut sum = T::zero();
-        for i in 0..vals.len() {
-            sum = WrappingAdd::wrapping_add(&sum, &vals[i]);
+        for number in vals {
+            sum = WrappingAdd::wrapping_add(&sum, number);
         }
         sum
     }
