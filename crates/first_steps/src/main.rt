@@ -27,12 +27,7 @@ use std::process::ExitCode;
 mod fault;
 
 /// Lists of numbers: list `i` has the items from offset `i` up to offset `i + 1`, and is null where its flag is false.
-fn lists(
-    alloc: Global,
-    offsets: &[i32],
-    items: &[i32],
-    present: &[bool],
-) -> Result<AnyArray, Fault>
+fn lists(alloc: Global, offsets: &[i32], items: &[i32], present: &[bool]) -> Result<AnyArray, Fault>
     ensures { IfOk result (λ array. IsGood array) }
 {
     let offsets = Buffer::from_vec(Vec::from_slice(alloc, offsets)?);
@@ -71,7 +66,7 @@ fn orders(alloc: Global, items: AnyArray, cities: AnyArray) -> Result<AnyArray, 
     let rows = items.len();
     let fields = vec![in alloc;
         field(alloc, "items", items.dtype(alloc)?)?,
-        field(alloc, "city", cities.dtype(alloc)?)?
+        field(alloc, "city", cities.dtype(alloc)?)?,
     ]?;
     let array = StructArray::try_new(fields, rows, vec![in alloc; items, cities]?, None)?;
     Ok(AnyArray::Struct(array))
@@ -92,7 +87,11 @@ fn compare_orders(rt: &(impl Print + AllocGlobal)) -> Result<(), Fault> {
     let mut steps = Steps::new();
     let same = array_tot_eq_missing_kernel_with_steps(alloc, &left, &right, &mut steps)?;
     for i in 0..same.len() {
-        let told = if same.get_bit(i) { "the same" } else { "not the same" };
+        let told = if same.get_bit(i) {
+            "the same"
+        } else {
+            "not the same"
+        };
         println!(rt; "row {i}: {told}")?;
     }
     println!(rt; "{} comparisons of leaves", steps.seen())?;

@@ -48,8 +48,8 @@ pub(crate) fn join_scalar<A: Array>(
     requires one_length { length raw ≡ length (A.slots rows.now) }
     ensures { MatchResult result
         (λ bits. (scalar : Row) → scalar ≢ Null
-            → RawEquality (told relation) ⊤ (A.mask rows.now) None (A.slots rows.now) (replicate (length (A.slots rows.now)) scalar) raw
-            → MissingEquality (told relation) ⊤ (rows_under (A.mask rows.now) (A.slots rows.now)) (replicate (length (A.slots rows.now)) scalar) bits)
+        → RawEquality (told relation) ⊤ (A.mask rows.now) None (A.slots rows.now) (replicate (length (A.slots rows.now)) scalar) raw
+        → MissingEquality (told relation) ⊤ (rows_under (A.mask rows.now) (A.slots rows.now)) (replicate (length (A.slots rows.now)) scalar) bits)
         IsMemory }
 {
     let mask = rows.missing_mask(alloc)?;

@@ -173,7 +173,10 @@ pub fn compare_truth<E: TruthComparison>(
     ensures { MatchResult result (λ bits. bits ≡ map (λ row. E.rows row (Truth right))
         (truth_slots left.now.values)) IsMemory }
 {
-    match (comparison.compare(true, right), comparison.compare(false, right)) {
+    match (
+        comparison.compare(true, right),
+        comparison.compare(false, right),
+    ) {
         (true, true) => Bitmap::new_with_value(alloc, true, left.len()),
         (true, false) => left.values().clone_bitmap(alloc),
         (false, true) => left.values().not(alloc),

@@ -187,7 +187,8 @@ impl<'a, L: ByteRows, E: ByteComparison> TruthValues for StringsAgainst<'a, L, E
 
     #[inline(always)]
     fn value(&self, i: usize) -> bool {
-        self.comparison.compare_constant(self.left.bytes(i), self.right)
+        self.comparison
+            .compare_constant(self.left.bytes(i), self.right)
     }
 
     #[inline(always)]
@@ -206,5 +207,12 @@ pub fn compare_bytes<L: ByteRows, E: ByteComparison>(
     ensures { MatchResult result (λ bits. bits ≡ map (λ row. E.rows row (Bytes right.now))
         (byte_slots (L.strings left.now))) IsMemory }
 {
-    Bitmap::from_values(alloc, &StringsAgainst { comparison, left, right })
+    Bitmap::from_values(
+        alloc,
+        &StringsAgainst {
+            comparison,
+            left,
+            right,
+        },
+    )
 }

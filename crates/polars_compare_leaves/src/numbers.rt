@@ -9,8 +9,8 @@ ghost use Rattle.polars_arrays_flat.specs.Validity.{window};
 
 use crate::row_comparison::RowComparison;
 use polars_arrays_bits::bitmap::Bitmap;
-use polars_arrays_bits::slices::{compare_constant, compare_windows};
 use polars_arrays_bits::error::ComputeError;
+use polars_arrays_bits::slices::{compare_constant, compare_windows};
 use polars_arrays_flat::primitive::PrimitiveArray;
 use polars_arrays_numbers::native_type::NativeType;
 use std::alloc::Global;

@@ -60,16 +60,48 @@ fn run_length(left: &ListArray, a: usize, right: &ListArray, b: usize, n: usize)
 {
     match (left.offsets(), right.offsets()) {
         (ListOffsets::Small(left_offsets), ListOffsets::Small(right_offsets)) => {
-            matching_rows(left, left_offsets.as_slice(), a, right, right_offsets.as_slice(), b, n)
+            matching_rows(
+                left,
+                left_offsets.as_slice(),
+                a,
+                right,
+                right_offsets.as_slice(),
+                b,
+                n,
+            )
         }
         (ListOffsets::Large(left_offsets), ListOffsets::Large(right_offsets)) => {
-            matching_rows(left, left_offsets.as_slice(), a, right, right_offsets.as_slice(), b, n)
+            matching_rows(
+                left,
+                left_offsets.as_slice(),
+                a,
+                right,
+                right_offsets.as_slice(),
+                b,
+                n,
+            )
         }
         (ListOffsets::Small(left_offsets), ListOffsets::Large(right_offsets)) => {
-            matching_rows(left, left_offsets.as_slice(), a, right, right_offsets.as_slice(), b, n)
+            matching_rows(
+                left,
+                left_offsets.as_slice(),
+                a,
+                right,
+                right_offsets.as_slice(),
+                b,
+                n,
+            )
         }
         (ListOffsets::Large(left_offsets), ListOffsets::Small(right_offsets)) => {
-            matching_rows(left, left_offsets.as_slice(), a, right, right_offsets.as_slice(), b, n)
+            matching_rows(
+                left,
+                left_offsets.as_slice(),
+                a,
+                right,
+                right_offsets.as_slice(),
+                b,
+                n,
+            )
         }
     }
 }

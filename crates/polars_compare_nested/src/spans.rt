@@ -62,7 +62,8 @@ fn rows_match<L: Offset, R: Offset>(
 {
     let (_, count) = list_at(left_offsets, i);
     let (_, other) = list_at(right_offsets, j);
-    count == other && (count == 0 || is_present(left.validity(), i) && is_present(right.validity(), j))
+    count == other
+        && (count == 0 || is_present(left.validity(), i) && is_present(right.validity(), j))
 }
 
 /// How many of the `n` lists match before the first pair that doesn't.

@@ -15,11 +15,11 @@ ghost use Rattle.polars_arrays_nested.specs.declared.any_array.AnyArray.{AnyArra
 ghost use Rattle.polars_compare_nested.specs.Bits.{AddsRawBits, RawBits, SameBits, SamePresent};
 ghost use Rattle.polars_compare_nested.specs.Tally.{tally};
 
+use crate::downcast::{as_dictionary, as_fixed_size_list, as_list, as_struct};
 use crate::entries::row_entries;
 use crate::items::item_window;
 use crate::leaf_kernel::LeafKernel;
 use crate::masks::join_windows;
-use crate::downcast::{as_dictionary, as_fixed_size_list, as_list, as_struct};
 use crate::runs::{NextRows, next_rows, push_rows};
 use crate::structs::column_pair;
 use polars_arrays_bits::bit_mask::BitMask;

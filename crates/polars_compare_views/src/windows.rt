@@ -48,7 +48,8 @@ impl<'a, E: ViewComparison> CountedValues for ViewPairs<'a, E> {
     #[inline(always)]
     fn value(&self, i: usize, steps: &mut Steps) -> bool {
         let (left, right) = (self.left, self.right);
-        self.comparison.compare(left, self.a + i, right, self.b + i, steps)
+        self.comparison
+            .compare(left, self.a + i, right, self.b + i, steps)
     }
 }
 
@@ -123,5 +124,12 @@ pub fn compare_view_bytes<E: ViewComparison>(
         (byte_slots (view_strings left.now))) IsMemory }
 {
     let right = ScalarRow::new(right);
-    Bitmap::from_values(alloc, &ViewsAgainst { comparison, left, right })
+    Bitmap::from_values(
+        alloc,
+        &ViewsAgainst {
+            comparison,
+            left,
+            right,
+        },
+    )
 }

@@ -42,19 +42,55 @@ const OPERATIONS: [(&str, Operation); 17] = [
     ("eq", Operation::Compare(Comparison::Equal, Operand::Rows)),
     ("ne", Operation::Compare(Comparison::Unequal, Operand::Rows)),
     ("lt", Operation::Compare(Comparison::Less, Operand::Rows)),
-    ("le", Operation::Compare(Comparison::LessOrEqual, Operand::Rows)),
+    (
+        "le",
+        Operation::Compare(Comparison::LessOrEqual, Operand::Rows),
+    ),
     ("gt", Operation::Compare(Comparison::Greater, Operand::Rows)),
-    ("ge", Operation::Compare(Comparison::GreaterOrEqual, Operand::Rows)),
-    ("eq_missing", Operation::Compare(Comparison::EqualMissing, Operand::Rows)),
-    ("ne_missing", Operation::Compare(Comparison::UnequalMissing, Operand::Rows)),
-    ("eq_broadcast", Operation::Compare(Comparison::Equal, Operand::Scalar)),
-    ("ne_broadcast", Operation::Compare(Comparison::Unequal, Operand::Scalar)),
-    ("lt_broadcast", Operation::Compare(Comparison::Less, Operand::Scalar)),
-    ("le_broadcast", Operation::Compare(Comparison::LessOrEqual, Operand::Scalar)),
-    ("gt_broadcast", Operation::Compare(Comparison::Greater, Operand::Scalar)),
-    ("ge_broadcast", Operation::Compare(Comparison::GreaterOrEqual, Operand::Scalar)),
-    ("eq_missing_broadcast", Operation::Compare(Comparison::EqualMissing, Operand::Scalar)),
-    ("ne_missing_broadcast", Operation::Compare(Comparison::UnequalMissing, Operand::Scalar)),
+    (
+        "ge",
+        Operation::Compare(Comparison::GreaterOrEqual, Operand::Rows),
+    ),
+    (
+        "eq_missing",
+        Operation::Compare(Comparison::EqualMissing, Operand::Rows),
+    ),
+    (
+        "ne_missing",
+        Operation::Compare(Comparison::UnequalMissing, Operand::Rows),
+    ),
+    (
+        "eq_broadcast",
+        Operation::Compare(Comparison::Equal, Operand::Scalar),
+    ),
+    (
+        "ne_broadcast",
+        Operation::Compare(Comparison::Unequal, Operand::Scalar),
+    ),
+    (
+        "lt_broadcast",
+        Operation::Compare(Comparison::Less, Operand::Scalar),
+    ),
+    (
+        "le_broadcast",
+        Operation::Compare(Comparison::LessOrEqual, Operand::Scalar),
+    ),
+    (
+        "gt_broadcast",
+        Operation::Compare(Comparison::Greater, Operand::Scalar),
+    ),
+    (
+        "ge_broadcast",
+        Operation::Compare(Comparison::GreaterOrEqual, Operand::Scalar),
+    ),
+    (
+        "eq_missing_broadcast",
+        Operation::Compare(Comparison::EqualMissing, Operand::Scalar),
+    ),
+    (
+        "ne_missing_broadcast",
+        Operation::Compare(Comparison::UnequalMissing, Operand::Scalar),
+    ),
     ("sum", Operation::Sum),
 ];
 

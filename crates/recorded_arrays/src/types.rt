@@ -83,7 +83,12 @@ impl NamedComparison {
 }
 
 // Whether the types of two arrays stand the test, where fields are tested the first fields of structs.
-fn is_told(alloc: Global, left: &AnyArray, right: &AnyArray, comparison: NamedComparison) -> Result<bool, Fault> {
+fn is_told(
+    alloc: Global,
+    left: &AnyArray,
+    right: &AnyArray,
+    comparison: NamedComparison,
+) -> Result<bool, Fault> {
     let holds = match comparison {
         NamedComparison::SameType => left.same_type(right),
         NamedComparison::HasType => left.has_type(&right.dtype(alloc)?),

@@ -96,7 +96,8 @@ pub fn answer(alloc: Global, call: &str, words: &mut Words) -> Result<Option<Str
 fn truth_comparison(alloc: Global, words: &mut Words) -> Result<String, Fault> {
     let comparison = NamedComparison::read(words)?;
     let (left, right) = (read_truth(words)?, read_truth(words)?);
-    let passes = with_comparison!(comparison, comparison => TruthComparison::compare(comparison, left, right));
+    let passes =
+        with_comparison!(comparison, comparison => TruthComparison::compare(comparison, left, right));
     Ok(passes.to_string(alloc)?)
 }
 
@@ -109,7 +110,8 @@ fn truth_comparison_masks(alloc: Global, words: &mut Words) -> Result<String, Fa
         return Err(Fault::Case);
     }
     let (left, right) = (BitMask::from_bitmap(&left), BitMask::from_bitmap(&right));
-    let bits = with_comparison!(comparison, comparison => comparison.compare_masks(alloc, &left, &right)?);
+    let bits =
+        with_comparison!(comparison, comparison => comparison.compare_masks(alloc, &left, &right)?);
     write_bits(alloc, &bits)
 }
 
@@ -118,7 +120,8 @@ fn byte_comparison(alloc: Global, words: &mut Words) -> Result<String, Fault> {
     let comparison = NamedComparison::read(words)?;
     let left = read_bytes(alloc, words.read()?)?;
     let right = read_bytes(alloc, words.read()?)?;
-    let passes = with_comparison!(comparison, comparison => ByteComparison::compare(comparison, &left, &right));
+    let passes =
+        with_comparison!(comparison, comparison => ByteComparison::compare(comparison, &left, &right));
     Ok(passes.to_string(alloc)?)
 }
 
@@ -127,6 +130,7 @@ fn byte_comparison_constant(alloc: Global, words: &mut Words) -> Result<String, 
     let comparison = NamedComparison::read(words)?;
     let left = read_bytes(alloc, words.read()?)?;
     let right = read_bytes(alloc, words.read()?)?;
-    let passes = with_comparison!(comparison, comparison => ByteComparison::compare_constant(comparison, &left, &right));
+    let passes =
+        with_comparison!(comparison, comparison => ByteComparison::compare_constant(comparison, &left, &right));
     Ok(passes.to_string(alloc)?)
 }

@@ -11,8 +11,8 @@
 
 ghost use Rattle.recorded_text.specs.Cases.{HasGoodArrays};
 
-use crate::named_kinds::{of_kind, of_one_kind};
 use crate::named_comparisons::{NamedComparison, with_comparison};
+use crate::named_kinds::{of_kind, of_one_kind};
 use crate::scalars::read_truth;
 use crate::view_rows::as_views;
 use crate::windows::{Windows, is_within, read_windows};
@@ -84,7 +84,8 @@ fn numbers<T: NativeType>(
     if !is_within(a, n, left.len()) || !is_within(b, n, right.len()) {
         return Err(Fault::Case);
     }
-    let bits = with_comparison!(comparison, comparison => compare_number_windows(alloc, comparison, left, a, right, b, n)?);
+    let bits =
+        with_comparison!(comparison, comparison => compare_number_windows(alloc, comparison, left, a, right, b, n)?);
     write_bits(alloc, &bits)
 }
 
@@ -103,7 +104,8 @@ fn truth_windows(alloc: Global, store: &Store, words: &mut Words) -> Result<Stri
     let (AnyArray::Boolean(left), AnyArray::Boolean(right)) = (left, right) else {
         return Err(Fault::Case);
     };
-    let bits = with_comparison!(comparison, comparison => compare_truth_windows(alloc, comparison, left, a, right, b, n)?);
+    let bits =
+        with_comparison!(comparison, comparison => compare_truth_windows(alloc, comparison, left, a, right, b, n)?);
     write_bits(alloc, &bits)
 }
 
@@ -136,7 +138,8 @@ fn strings<L: ByteRows, R: ByteRows>(
     if !is_within(a, n, left.count()) || !is_within(b, n, right.count()) {
         return Err(Fault::Case);
     }
-    let bits = with_comparison!(comparison, comparison => compare_byte_windows(alloc, comparison, left, a, right, b, n)?);
+    let bits =
+        with_comparison!(comparison, comparison => compare_byte_windows(alloc, comparison, left, a, right, b, n)?);
     write_bits(alloc, &bits)
 }
 
@@ -158,7 +161,8 @@ fn sized_windows(alloc: Global, store: &Store, words: &mut Words) -> Result<Stri
     if !is_within(a, n, left.count()) || !is_within(b, n, right.count()) {
         return Err(Fault::Case);
     }
-    let bits = with_comparison!(comparison, comparison => compare_sized_windows(alloc, comparison, left, a, right, b, n)?);
+    let bits =
+        with_comparison!(comparison, comparison => compare_sized_windows(alloc, comparison, left, a, right, b, n)?);
     write_bits(alloc, &bits)
 }
 
@@ -205,7 +209,8 @@ fn numbers_beside<T: NativeType + FromStr<Err: Drop>>(
     words: &mut Words,
 ) -> Result<String, Fault> {
     let number: T = words.read_number()?;
-    let bits = with_comparison!(comparison, comparison => compare_number(alloc, comparison, numbers, number)?);
+    let bits =
+        with_comparison!(comparison, comparison => compare_number(alloc, comparison, numbers, number)?);
     write_bits(alloc, &bits)
 }
 
@@ -218,7 +223,8 @@ fn truth(alloc: Global, store: &Store, words: &mut Words) -> Result<String, Faul
         return Err(Fault::Case);
     };
     let truth = read_truth(words)?;
-    let bits = with_comparison!(comparison, comparison => compare_truth(alloc, comparison, truths, truth)?);
+    let bits =
+        with_comparison!(comparison, comparison => compare_truth(alloc, comparison, truths, truth)?);
     write_bits(alloc, &bits)
 }
 
@@ -240,7 +246,8 @@ fn strings_beside<L: ByteRows>(
     strings: &L,
     bytes: &[u8],
 ) -> Result<String, Fault> {
-    let bits = with_comparison!(comparison, comparison => compare_bytes(alloc, comparison, strings, bytes)?);
+    let bits =
+        with_comparison!(comparison, comparison => compare_bytes(alloc, comparison, strings, bytes)?);
     write_bits(alloc, &bits)
 }
 
@@ -251,6 +258,7 @@ fn view_bytes(alloc: Global, store: &Store, words: &mut Words) -> Result<String,
     let comparison = NamedComparison::read(words)?;
     let views = as_views(store.read(words)?)?;
     let bytes = read_bytes(alloc, words.read()?)?;
-    let bits = with_comparison!(comparison, comparison => compare_view_bytes(alloc, comparison, views, &bytes)?);
+    let bits =
+        with_comparison!(comparison, comparison => compare_view_bytes(alloc, comparison, views, &bytes)?);
     write_bits(alloc, &bits)
 }

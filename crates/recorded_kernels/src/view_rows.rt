@@ -12,8 +12,8 @@
 ghost use Rattle.std.specs.Prelude.{◌≡◌, ◌<◌, length, IfOk};
 ghost use Rattle.recorded_text.specs.Cases.{HasGoodArrays};
 
-use crate::named_kinds::of_one_kind;
 use crate::named_comparisons::{NamedComparison, with_comparison};
+use crate::named_kinds::of_one_kind;
 use polars_arrays_nested::any_array::AnyArray;
 use polars_arrays_numbers::comparison::{
     Equal, Greater, GreaterOrEqual, Less, LessOrEqual, Unequal,
@@ -120,7 +120,8 @@ fn passes(alloc: Global, store: &Store, words: &mut Words) -> Result<String, Fau
     let (right, j) = read_row(store, words)?;
     let mut steps = Steps::new();
     let followed = &mut steps;
-    let passes = with_comparison!(comparison, comparison => ViewComparison::compare(comparison, left, i, right, j, followed));
+    let passes =
+        with_comparison!(comparison, comparison => ViewComparison::compare(comparison, left, i, right, j, followed));
     write_counted(alloc, passes, &steps)
 }
 
@@ -162,7 +163,8 @@ fn passes_with_bytes(alloc: Global, store: &Store, words: &mut Words) -> Result<
     let (views, i) = read_row(store, words)?;
     let bytes = read_bytes(alloc, words.read()?)?;
     let scalar = ScalarRow::new(&bytes);
-    let passes = with_comparison!(comparison, comparison => ViewComparison::compare_bytes(comparison, views, i, &scalar));
+    let passes =
+        with_comparison!(comparison, comparison => ViewComparison::compare_bytes(comparison, views, i, &scalar));
     Ok(passes.to_string(alloc)?)
 }
 
