@@ -37,60 +37,34 @@ pub enum Operation {
     Sum,
 }
 
+// A line of the table: the name of a comparison, the comparison, and with what it compares the rows of a list.
+macro_rules! compares {
+    ($name:expr, $comparison:ident, $operand:ident) => {
+        (
+            $name,
+            Operation::Compare(Comparison::$comparison, Operand::$operand),
+        )
+    };
+}
+
 /// The operations by their names. A new one is a line here and in `specs/Operations.antt`.
 const OPERATIONS: [(&str, Operation); 17] = [
-    ("eq", Operation::Compare(Comparison::Equal, Operand::Rows)),
-    ("ne", Operation::Compare(Comparison::Unequal, Operand::Rows)),
-    ("lt", Operation::Compare(Comparison::Less, Operand::Rows)),
-    (
-        "le",
-        Operation::Compare(Comparison::LessOrEqual, Operand::Rows),
-    ),
-    ("gt", Operation::Compare(Comparison::Greater, Operand::Rows)),
-    (
-        "ge",
-        Operation::Compare(Comparison::GreaterOrEqual, Operand::Rows),
-    ),
-    (
-        "eq_missing",
-        Operation::Compare(Comparison::EqualMissing, Operand::Rows),
-    ),
-    (
-        "ne_missing",
-        Operation::Compare(Comparison::UnequalMissing, Operand::Rows),
-    ),
-    (
-        "eq_broadcast",
-        Operation::Compare(Comparison::Equal, Operand::Scalar),
-    ),
-    (
-        "ne_broadcast",
-        Operation::Compare(Comparison::Unequal, Operand::Scalar),
-    ),
-    (
-        "lt_broadcast",
-        Operation::Compare(Comparison::Less, Operand::Scalar),
-    ),
-    (
-        "le_broadcast",
-        Operation::Compare(Comparison::LessOrEqual, Operand::Scalar),
-    ),
-    (
-        "gt_broadcast",
-        Operation::Compare(Comparison::Greater, Operand::Scalar),
-    ),
-    (
-        "ge_broadcast",
-        Operation::Compare(Comparison::GreaterOrEqual, Operand::Scalar),
-    ),
-    (
-        "eq_missing_broadcast",
-        Operation::Compare(Comparison::EqualMissing, Operand::Scalar),
-    ),
-    (
-        "ne_missing_broadcast",
-        Operation::Compare(Comparison::UnequalMissing, Operand::Scalar),
-    ),
+    compares!("eq", Equal, Rows),
+    compares!("ne", Unequal, Rows),
+    compares!("lt", Less, Rows),
+    compares!("le", LessOrEqual, Rows),
+    compares!("gt", Greater, Rows),
+    compares!("ge", GreaterOrEqual, Rows),
+    compares!("eq_missing", EqualMissing, Rows),
+    compares!("ne_missing", UnequalMissing, Rows),
+    compares!("eq_broadcast", Equal, Scalar),
+    compares!("ne_broadcast", Unequal, Scalar),
+    compares!("lt_broadcast", Less, Scalar),
+    compares!("le_broadcast", LessOrEqual, Scalar),
+    compares!("gt_broadcast", Greater, Scalar),
+    compares!("ge_broadcast", GreaterOrEqual, Scalar),
+    compares!("eq_missing_broadcast", EqualMissing, Scalar),
+    compares!("ne_missing_broadcast", UnequalMissing, Scalar),
     ("sum", Operation::Sum),
 ];
 
