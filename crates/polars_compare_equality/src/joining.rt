@@ -53,5 +53,6 @@ pub(crate) fn join_scalar<A: Array>(
         IsMemory }
 {
     let mask = rows.missing_mask(alloc)?;
-    join_nulls(alloc, relation, raw, &mask, &Mask::all())
+    let no_mask = Mask::all();
+    join_nulls(alloc, relation, raw, &mask, &no_mask)
 }
