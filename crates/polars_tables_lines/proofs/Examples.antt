@@ -25,7 +25,7 @@ missing-nulls = refl
 ordered-nulls : compared_rows LessOrEqual (Truth true ∷ Truth true ∷ Null ∷ []) (Truth true ∷ Truth false ∷ Truth true ∷ []) ≡ Some true ∷ Some false ∷ None ∷ []
 ordered-nulls = refl
 
-find-first : find ((codes "a", 1) ∷ (codes "b", 2) ∷ (codes "a", 3) ∷ []) (codes "a") ≡ Some 1
+find-first : find {A = ℕ} ((codes "a", 1) ∷ (codes "b", 2) ∷ (codes "a", 3) ∷ []) (codes "a") ≡ Some 1
 find-first = refl
 
 operation-named : operation_of (codes "le_broadcast") ≡ Some (Compare LessOrEqual Scalar)

@@ -38,7 +38,7 @@ pub record ComparesRows (comparison : Comparison) (left right : List Row) (bits 
   pub at_truth : (i : ℕ) (truth : Bool) → i < length left → compared comparison (row left i) (row right i) ≡ Some truth
       → slice_index_or bits i false ≡ truth
 
--- the last two comparisons, for which null is a row of its own
+-- the last two comparisons, in which null is equal to null and to nothing else
 abbrev pub is_missing : Comparison → Bool
 is_missing EqualMissing = true
 is_missing UnequalMissing = true

@@ -49,7 +49,7 @@ answer_of (Compare comparison Rows) lists = of_two lists (rows_answer comparison
 answer_of (Compare comparison Scalar) lists = of_two lists (scalar_answer comparison)
 answer_of Sum lists = of_one lists (λ rows. Ok (signed_decimal (wrapped (least_of true 32) 32 (total rows))))
 
--- what an operation answers to rows of a type and bars
+-- what an operation answers to words that are rows of a type and bars
 abbrev pub rows_meaning : Operation → RowType → List (List ℕ) → Result (List ℕ) LineError
 rows_meaning operation type words =
     if has_type operation type then or_fault (lists_of type words) RowError (answer_of operation) else Err TypeName

@@ -1,4 +1,4 @@
--- The operations: their names, the lists that they take, and the types of rows that they have.
+-- The operations: their names, the lists that they take, and the types of rows that they take.
 use Rattle.std.specs.Prelude.{ℕ, Bool, true, false, List, [], ◌∷◌, codes, Option}
 use Rattle.polars_tables_lines.specs.declared.operation.Comparison.TheVariants.{Equal, Unequal, Less, LessOrEqual, Greater, GreaterOrEqual, EqualMissing, UnequalMissing}
 use Rattle.polars_tables_lines.specs.declared.operation.Operand.TheVariants.{Rows, Scalar}
@@ -33,7 +33,7 @@ operations = (codes "eq", Compare Equal Rows)
 abbrev pub operation_of : List ℕ → Option Operation
 operation_of name = find operations name
 
--- whether an operation has rows of the type: comparisons have every type
+-- whether an operation takes rows of the type: comparisons take every type, and sums 32 bits signed
 abbrev pub has_type : Operation → RowType → Bool
 has_type (Compare comparison operand) type = true
 has_type Sum I32 = true

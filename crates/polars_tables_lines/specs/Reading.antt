@@ -2,7 +2,7 @@
 use Rattle.std.specs.Prelude.{◌≡◌, ◌++◌, ℕ, Bool, IsTrue, List, Option}
 use Rattle.std.specs.Io.KnownBytes.{Consumes, IsAtEnd}
 
--- the bytes that the reader lost, where they are known, stand at the end of the new input, and at the end none is left
+-- the bytes that were read, where those of the reader are known, stand at the end of the new input; a read at the end leaves none
 pub record ReadsOn (before after : Option (List ℕ)) (old new : List ℕ) (ended : Bool) : Type 0 where
   pub taken : (bytes : List ℕ) × (new ≡ old ++ bytes) × Consumes before after bytes
   pub at_end : IsTrue ended → IsAtEnd after

@@ -25,7 +25,7 @@ stored-at f [] i h = absurd (omega arith)
 stored-at f (x ∷ xs) zero h = (x, refl)
 stored-at f (x ∷ xs) (suc i) h = stored-at f xs i (omega arith)
 
--- so of numbers and of truth values
+-- values that are mapped to rows are stored so: numbers and truth values
 pub stores-map : {A : Type 0} (f : A → Row) (xs : List A) → StoresValues f (map f xs)
 stores-map f xs = record { at_each = stored-at f xs }
 

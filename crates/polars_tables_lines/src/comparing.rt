@@ -13,7 +13,7 @@ use polars_arrays_bits::error::ComputeError;
 use std::alloc::Global;
 
 /// A bit for each row, right wherever the comparison of the two rows answers a truth value. The error is
-/// `Memory`: every `RowArray` can be compared with another one as long as it.
+/// `Memory`: any two arrays of one kind and length can be compared, so that no kernel answers `Unsupported`.
 pub fn compare_rows<A: RowArray>(
     alloc: Global,
     comparison: Comparison,

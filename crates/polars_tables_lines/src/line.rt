@@ -27,7 +27,7 @@ pub enum LineError {
     /// There is no word, or the first one names no operation.
     #[error("op")]
     Op,
-    /// There is no second word, or it names no type that the operation has.
+    /// There is no second word, or it names no type that the operation takes.
     #[error("type")]
     TypeName,
     /// A later word is neither a bar nor a row of the type.
@@ -39,7 +39,7 @@ pub enum LineError {
     /// A scalar is null.
     #[error("range")]
     Range,
-    /// A growth was refused. This may come before a later fault is known.
+    /// A growth was refused. This may come before a fault further on in the line is found.
     #[error("memory")]
     Memory,
 }
@@ -60,8 +60,11 @@ impl<T: Drop> From<AllocFailed<T>> for LineError {
     }
 }
 
-/// The answer of a call whose one error is a refused growth, which its contract says: `Unsupported` and
+/// The answer of a call whose contract allows one error alone, a refused growth. So `Unsupported` and
 /// `KeyOutOfRange` never become `LineError::Memory`.
+///
+/// `BitmapBuilder::with_capacity`, `RowArray::from_values` and `Array::missing_mask` only grow. `compare_rows` and
+/// `compare_scalar` call kernels that every `RowArray` has, on arrays that they can compare.
 pub(crate) fn or_memory<X>(answer: Result<X, ComputeError>) -> Result<X, LineError>
     requires { IfErr answer IsMemory }
     ensures answered { IfOk result (λ x. answer ≡ Ok x) }
@@ -74,7 +77,7 @@ pub(crate) fn or_memory<X>(answer: Result<X, ComputeError>) -> Result<X, LineErr
     }
 }
 
-/// What a comparison answers to rows of one kind of array and bars.
+/// What a comparison answers to words that are rows and bars, read as one kind of array.
 fn compare_words<A: RowArray>(
     alloc: Global,
     comparison: Comparison,
@@ -90,7 +93,7 @@ fn compare_words<A: RowArray>(
     answer_comparison(alloc, comparison, operand, &lists)
 }
 
-/// What a comparison answers to rows of a type and bars.
+/// The same, read as the kind of array that keeps rows of the type.
 fn compare_typed(
     alloc: Global,
     comparison: Comparison,
@@ -116,7 +119,7 @@ fn compare_typed(
     }
 }
 
-/// What a sum answers to rows of a type and bars.
+/// What a sum answers to words that are rows and bars.
 fn sum_typed(alloc: Global, row_type: RowType, words: &[&str]) -> Result<String, LineError>
     ensures text { IfOk result (λ text. rows_meaning Operation.Sum row_type (map (λ w. w.now) words.now) ≡ Ok (string_bytes text)) }
     ensures fault { IfErr result (λ e. UnlessMemory e (rows_meaning Operation.Sum row_type (map (λ w. w.now) words.now) ≡ Err e)) }
@@ -130,7 +133,7 @@ fn sum_typed(alloc: Global, row_type: RowType, words: &[&str]) -> Result<String,
     }
 }
 
-/// What an operation answers to the words behind its name: its type, and then rows and bars.
+/// What an operation answers to the words behind its name: a type, and then rows and bars.
 fn answer_typed(alloc: Global, operation: Operation, words: &[&str]) -> Result<String, LineError>
     ensures text { IfOk result (λ text. typed_meaning operation (map (λ w. w.now) words.now) ≡ Ok (string_bytes text)) }
     ensures fault { IfErr result (λ e. UnlessMemory e

@@ -5,8 +5,8 @@ ghost use Rattle.polars_tables_lines.specs.Operations.{operation_of};
 
 use crate::tables::find;
 
-/// A comparison of two rows. In the first six the answer is null where either row is null, and in the
-/// last two null is a row of its own.
+/// A comparison of two rows. The first six answer null where either row is null. The last two always answer a
+/// truth value: null is equal to null, and to nothing else.
 #[derive(Clone, Copy, Debug, PartialEq, Eq)]
 pub enum Comparison {
     Equal,

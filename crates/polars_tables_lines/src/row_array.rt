@@ -23,7 +23,7 @@ use polars_compare_order::kernel::TotalOrdKernel;
 use std::alloc::Global;
 use std::str::FromStr;
 
-/// An array whose rows are values of one type that words write, and which can be compared.
+/// A kind of array that a line can ask for: words are read as its values, and its rows are compared.
 pub trait RowArray: TotalEqKernel<Scalar = <Self as RowArray>::Value>
     + TotalOrdKernel<Scalar = <Self as RowArray>::Value>
     + Drop {
@@ -53,7 +53,7 @@ pub trait RowArray: TotalEqKernel<Scalar = <Self as RowArray>::Value>
         requires { i < length (Self.slots self.now) }
         ensures { row_from value_row result ≡ row (rows_under (Self.mask self.now) (Self.slots self.now)) i };
 
-    // What is parsed of a word is the value that it writes.
+    // To parse a word gives the value that the word writes.
     ghost parse_law: { (word : List ℕ) (r : Result Self.Value Self.Value.Err) → Self.Value.from_str_gives word r
         → option_map value_row (result_ok r) ≡ value_of kind word };
 
@@ -62,12 +62,12 @@ pub trait RowArray: TotalEqKernel<Scalar = <Self as RowArray>::Value>
 
     ghost stored_law: { (a : Self) → StoresValues value_row (Self.slots a) };
 
-    // As a scalar a value is the same row.
+    // A value that is a scalar is the same row as one that is stored.
     ghost eq_scalar_law: { (s : Self.Value) → Self.TotalEqKernel.scalar_row s ≡ value_row s };
 
     ghost ord_scalar_law: { (s : Self.Value) → Self.TotalOrdKernel.scalar_row s ≡ value_row s };
 
-    // Whatever two arrays are as long as each other can be compared, and an array with any scalar.
+    // Any two arrays of one length can be compared, and any array with any scalar.
     ghost comparable_law: { (a b : Self) → length (Self.slots a) ≡ length (Self.slots b) → Self.TotalEqKernel.comparable a b };
 
     ghost fits_law: { (a : Self) (s : Self.Value) → Self.TotalEqKernel.fits a s };

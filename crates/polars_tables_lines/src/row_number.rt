@@ -1,4 +1,4 @@
-//! The numbers of rows.
+//! The types of numbers that a line can name.
 
 ghost use Rattle.std.specs.Prelude.{◌≡◌, ℕ, List, Result, option_map, refl};
 ghost use Rattle.std.specs.Int.{w8, w16, w32, w64};
@@ -12,12 +12,12 @@ ghost use Rattle.polars_tables_lines.specs.Word.{value_of};
 use polars_arrays_numbers::native_type::NativeType;
 use std::str::FromStr;
 
-/// A type of numbers that rows have.
+/// A type of numbers that a line can name.
 pub trait RowNumber: NativeType + FromStr<Err: Drop> + Default {
     // The type of rows of these numbers.
     ghost kind: { RowType };
 
-    // What is parsed of a word is the number that it writes.
+    // To parse a word gives the number that the word writes.
     ghost number_law: { (word : List ℕ) (r : Result Self Self.Err) → Self.from_str_gives word r
         → option_map (λ x. Int (Self.value x)) (result_ok r) ≡ value_of kind word };
 }

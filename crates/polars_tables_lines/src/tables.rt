@@ -3,7 +3,7 @@
 ghost use Rattle.std.specs.Prelude.{◌≡◌, map};
 ghost use Rattle.polars_tables_lines.specs.Tables.{find};
 
-/// What a name stands for: what the first line that has it says, if there is one.
+/// What a name stands for, by the first line of the table that has the name, if there is one.
 pub fn find<T: Copy>(table: &[(&str, T)], name: &str) -> Option<T>
     ensures { result ≡ find (map (λ line. (line.0.now, line.1)) table.now) name.now }
 {

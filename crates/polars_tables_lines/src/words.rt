@@ -44,7 +44,7 @@ fn parse_row<A: RowArray>(word: &str) -> Option<Option<A::Value>>
     parse_value::<A>(word).map(Some)
 }
 
-/// The value that is stored for a row; under a null it means nothing.
+/// The value that is stored for a row. For a null it is any one, since no answer depends on it.
 fn stored_value<V: Copy + Default>(row: Option<V>) -> V
     ensures { IfSome row (λ value. result ≡ value) }
 {

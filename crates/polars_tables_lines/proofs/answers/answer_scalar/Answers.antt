@@ -21,6 +21,6 @@ returns-clause-text g c =
     let one = sym c.count_rows-count.ensures.rows ∙ c.if-count-ne1.false in
     let value = sym (ap (row_from g.A.RowArray.value_row) c.in-Some.is) ∙ c.value.ensures in
     let rows = rw c.in_ok-present.ensures.answered at c.missing_mask-2.ensures.mask in
-    let written = rw (c.null_mask-mask.ensures, rows) at c.in_ok-write_answers.ensures in
+    let written = rw (c.null_mask-mask.ensures, rows, c.all.ensures) at c.in_ok-write_answers.ensures in
     scalar_answer-text c.args.comparison _ _ (g.A.RowArray.value_row c.in-Some.scalar) _ one value (law.values_law.present c.in-Some.scalar)
     (written ∙ ap answer_words (scalar_answers-are g.A.RowArray.value_row law.values_law c.args.comparison _ _ c.in-Some.scalar _ c.missing_mask-2.ensures.bits (law.stored_law c.args.rows.now) (rw c.in_ok-bits.ensures.answered at c.compare_scalar.ensures)))
