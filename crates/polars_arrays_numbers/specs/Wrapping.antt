@@ -12,7 +12,7 @@ pub record IsWrapped (least greatest : ℤ) (width : ℕ) (n x : ℤ) : Type 0 w
   pub to_greatest : x ≤ℤ greatest
   pub congruent : Congruent (2 ^ width) x n
 
--- that number: the least value, and the remainder modulo 2 to the width of how far n lies above it
+-- that number: as far above the least value as n is, less all multiples of 2 to the width
 abbrev pub wrapped : ℤ → ℕ → ℤ → ℤ
 wrapped least width n = least +ℤ int_rem_euclid (n -ℤ least) (pos (2 ^ width))
 
