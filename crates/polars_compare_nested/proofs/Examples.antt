@@ -1,11 +1,15 @@
 -- Worked examples of the definitions: the check computes both sides of each.
-use Rattle.std.specs.Prelude.{◌≡◌, ◌+◌, pos, true, false, [], ◌∷◌, Some, None, refl}
+use Rattle.std.specs.Prelude.{◌≡◌, ◌+◌, pos, true, false, [], ◌∷◌, Some, None, Err, refl}
+use Rattle.std.proofs.Common.{arith}
+use Rattle.polars_arrays_bits.specs.declared.error.ComputeError.TheVariants.{Memory}
 use Rattle.polars_arrays_flat.specs.Kind.{NullKind, Int8Kind, FixedSizeBinaryKind, ListKind, LargeListKind, FixedSizeListKind, StructKind, DictionaryKind, UInt32Kind, no_kinds}
 use Rattle.polars_arrays_flat.specs.Row.{Rows, Int, no_rows, more_rows}
 use Rattle.polars_arrays_nested.specs.declared.any_array.AnyArray.{AnyArray, Int32, List', FixedSizeList', Dictionary', end_of-AnyArray, more_of-AnyArray}
 use Rattle.polars_arrays_nested.specs.declared.any_array.AnyArray.{Null as Nulls}
 use Rattle.polars_arrays_nested.specs.declared.dict_keys.DictKeys.TheVariants.{UInt8}
 use Rattle.polars_arrays_nested.specs.declared.list_offsets.ListOffsets.TheVariants.{Small}
+use Rattle.polars_compare_leaves.specs.Sameness.{same_leaf}
+use Rattle.polars_compare_nested.specs.Bits.{RawBits}
 use Rattle.polars_compare_nested.specs.Broadcasts.{all_rows}
 use Rattle.polars_compare_nested.specs.Headline.{IsEquality}
 use Rattle.polars_compare_nested.specs.KindSorts.{is_dictionary, is_fixed_list, is_list, is_sized, is_struct}
@@ -14,6 +18,7 @@ use Rattle.polars_compare_nested.specs.Runs.{all_items, all_lists, span_between,
 use Rattle.polars_compare_nested.specs.Tally.{tally, tally_across, total_pairs}
 use Rattle.polars_compare_nested.specs.TallyColumns.{columns_tally}
 use Rattle.polars_compare_nested.specs.TallyLaws.{items_in}
+use Rattle.polars_compare_nested.specs.Windows.{AreWindows, Compares}
 
 is_leaf-number : is_leaf Int8Kind ≡ true
 is_leaf-number = refl
@@ -86,6 +91,16 @@ tally-entries : (p q : _) → tally
     (Dictionary' (UInt8 (record { values = 0 ∷ 0 ∷ 0 ∷ []; validity = Some (true ∷ false ∷ true ∷ []); owned = true })) q three) 0 0 3 ≡ 1
 unfolding three
 tally-entries p q = refl
+
+-- rows 1 and 2 of three numbers can be compared with rows 2 and 3 of four
+are_windows-numbers : AreWindows three 1 four 2 2
+unfolding three four
+are_windows-numbers = record { left_good = tt; right_good = tt; one_type = refl; left_in = omega arith; right_in = omega arith }
+
+-- where memory is refused nothing is told of bits, and the count may have risen, here from 5 to 6
+compares-refused : (e : _) → Compares (RawBits same_leaf) three 1 four 2 2 5 6 (Err (Memory e))
+unfolding three four
+compares-refused e = record { told = tt; counted = tt; kept = omega arith }
 
 -- a struct costs those of each column
 tally-columns : tally_across (more_of-AnyArray three (more_of-AnyArray three end_of-AnyArray)) (three ∷ three ∷ []) 0 0 3 ≡ 6

@@ -8,3 +8,4 @@ pub mod Runs
 pub mod Tally
 pub mod TallyColumns
 pub mod TallyLaws
+pub mod Windows

@@ -3,12 +3,11 @@
 ghost use Rattle.std.specs.Prelude.{◌≡◌, ◌+◌, ◌≤◌, ℕ, Bool, IsTrue, IfOk, MatchResult};
 ghost use Rattle.polars_arrays_bits.specs.Errors.{IsMemory};
 ghost use Rattle.polars_arrays_flat.specs.Row.{Row};
-ghost use Rattle.polars_arrays_nested.specs.GoodParts.{IsGood};
-ghost use Rattle.polars_arrays_nested.specs.Lengths.{len_of};
 ghost use Rattle.polars_arrays_nested.specs.Types.{type_of};
 ghost use Rattle.polars_compare_leaves.specs.Sameness.{same_leaf};
 ghost use Rattle.polars_compare_nested.specs.Bits.{LeafBits};
 ghost use Rattle.polars_compare_nested.specs.Leaf.{is_leaf};
+ghost use Rattle.polars_compare_nested.specs.Windows.{AreWindows};
 
 use crate::leaf_windows::leaf_windows;
 use polars_arrays_bits::bitmap::Bitmap;
@@ -40,11 +39,7 @@ pub trait LeafKernel {
         n: usize,
     ) -> Result<Bitmap, ComputeError>
         requires leaves { IsTrue (is_leaf (type_of left.now)) }
-        requires one_type { type_of left.now ≡ type_of right.now }
-        requires left_good { IsGood left.now }
-        requires right_good { IsGood right.now }
-        requires left_in { a + n ≤ len_of left.now }
-        requires right_in { b + n ≤ len_of right.now }
+        requires windows { AreWindows left.now a right.now b n }
         ensures told { MatchResult result (LeafBits agree left.now a right.now b n) IsMemory }
         ensures counted { IfOk result (λ _. count self.new ≡ count self.old + n) }
         ensures kept { count self.old ≤ count self.new };

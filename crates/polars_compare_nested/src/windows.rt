@@ -8,12 +8,10 @@
 
 ghost use Rattle.std.specs.Prelude.{◌≡◌, ◌+◌, ◌-◌, ◌<◌, ◌≤◌, length, IfOk, MatchResult};
 ghost use Rattle.polars_arrays_bits.specs.Errors.{IsMemory};
-ghost use Rattle.polars_arrays_nested.specs.GoodParts.{IsGood};
-ghost use Rattle.polars_arrays_nested.specs.Lengths.{len_of};
-ghost use Rattle.polars_arrays_nested.specs.Types.{type_of};
 ghost use Rattle.polars_arrays_nested.specs.declared.any_array.AnyArray.{AnyArray, List, FixedSizeList, Struct, Dictionary};
 ghost use Rattle.polars_compare_nested.specs.Bits.{AddsRawBits, RawBits, SameBits, SamePresent};
 ghost use Rattle.polars_compare_nested.specs.Tally.{tally};
+ghost use Rattle.polars_compare_nested.specs.Windows.{AreWindows, Compares};
 
 use crate::downcast::{as_dictionary, as_fixed_size_list, as_list, as_struct};
 use crate::entries::row_entries;
@@ -46,14 +44,8 @@ pub fn equal_windows<K: LeafKernel>(
     n: usize,
     steps: &mut K,
 ) -> Result<Bitmap, ComputeError>
-    requires left_good { IsGood left.now }
-    requires right_good { IsGood right.now }
-    requires one_type { type_of left.now ≡ type_of right.now }
-    requires left_in { a + n ≤ len_of left.now }
-    requires right_in { b + n ≤ len_of right.now }
-    ensures told { MatchResult result (SameBits K.agree left.now a right.now b n) IsMemory }
-    ensures counted { IfOk result (λ _. K.count steps.new ≡ K.count steps.old + tally left.now right.now a b n) }
-    ensures kept { K.count steps.old ≤ K.count steps.new }
+    requires { AreWindows left.now a right.now b n }
+    ensures { Compares (SameBits K.agree) left.now a right.now b n (K.count steps.old) (K.count steps.new) result }
 {
     let raw = raw_windows(alloc, left, a, right, b, n, steps)?;
     join_windows(alloc, raw, left, a, right, b)
@@ -71,14 +63,8 @@ fn raw_windows<K: LeafKernel>(
     n: usize,
     steps: &mut K,
 ) -> Result<Bitmap, ComputeError>
-    requires left_good { IsGood left.now }
-    requires right_good { IsGood right.now }
-    requires one_type { type_of left.now ≡ type_of right.now }
-    requires left_in { a + n ≤ len_of left.now }
-    requires right_in { b + n ≤ len_of right.now }
-    ensures told { MatchResult result (RawBits K.agree left.now a right.now b n) IsMemory }
-    ensures counted { IfOk result (λ _. K.count steps.new ≡ K.count steps.old + tally left.now right.now a b n) }
-    ensures kept { K.count steps.old ≤ K.count steps.new }
+    requires { AreWindows left.now a right.now b n }
+    ensures { Compares (RawBits K.agree) left.now a right.now b n (K.count steps.old) (K.count steps.new) result }
 {
     match left {
         AnyArray::Null(_) => Bitmap::new_with_value(alloc, true, n),
@@ -106,14 +92,8 @@ pub fn list_windows<K: LeafKernel>(
     n: usize,
     steps: &mut K,
 ) -> Result<Bitmap, ComputeError>
-    requires left_good { IsGood (List left.now) }
-    requires right_good { IsGood (List right.now) }
-    requires one_type { type_of (List left.now) ≡ type_of (List right.now) }
-    requires left_in { a + n ≤ len_of (List left.now) }
-    requires right_in { b + n ≤ len_of (List right.now) }
-    ensures told { MatchResult result (RawBits K.agree (List left.now) a (List right.now) b n) IsMemory }
-    ensures counted { IfOk result (λ _. K.count steps.new ≡ K.count steps.old + tally (List left.now) (List right.now) a b n) }
-    ensures kept { K.count steps.old ≤ K.count steps.new }
+    requires { AreWindows (List left.now) a (List right.now) b n }
+    ensures { Compares (RawBits K.agree) (List left.now) a (List right.now) b n (K.count steps.old) (K.count steps.new) result }
 {
     // For the proof alone: that both arrays have a length of 64 bits says that the places don't overflow.
     let (_rows, _others) = (left.offsets().len(), right.offsets().len());
@@ -147,12 +127,8 @@ fn push_next<K: LeafKernel>(
     n: usize,
     steps: &mut K,
 ) -> Result<usize, ComputeError>
-    requires left_good { IsGood (List left.now) }
-    requires right_good { IsGood (List right.now) }
-    requires one_type { type_of (List left.now) ≡ type_of (List right.now) }
+    requires windows { AreWindows (List left.now) a (List right.now) b n }
     requires some { 1 ≤ n }
-    requires left_in { a + n ≤ len_of (List left.now) }
-    requires right_in { b + n ≤ len_of (List right.now) }
     requires room { n ≤ bits.old.room }
     ensures some { MatchResult result (λ rows. 1 ≤ rows) IsMemory }
     ensures within { IfOk result (λ rows. rows ≤ n) }
@@ -195,14 +171,8 @@ pub fn fixed_size_list_windows<K: LeafKernel>(
     n: usize,
     steps: &mut K,
 ) -> Result<Bitmap, ComputeError>
-    requires left_good { IsGood (FixedSizeList left.now) }
-    requires right_good { IsGood (FixedSizeList right.now) }
-    requires one_type { type_of (FixedSizeList left.now) ≡ type_of (FixedSizeList right.now) }
-    requires left_in { a + n ≤ len_of (FixedSizeList left.now) }
-    requires right_in { b + n ≤ len_of (FixedSizeList right.now) }
-    ensures told { MatchResult result (RawBits K.agree (FixedSizeList left.now) a (FixedSizeList right.now) b n) IsMemory }
-    ensures counted { IfOk result (λ _. K.count steps.new ≡ K.count steps.old + tally (FixedSizeList left.now) (FixedSizeList right.now) a b n) }
-    ensures kept { K.count steps.old ≤ K.count steps.new }
+    requires { AreWindows (FixedSizeList left.now) a (FixedSizeList right.now) b n }
+    ensures { Compares (RawBits K.agree) (FixedSizeList left.now) a (FixedSizeList right.now) b n (K.count steps.old) (K.count steps.new) result }
 {
     let (left_start, count) = item_window(left, a, n);
     let (right_start, _) = item_window(right, b, n);
@@ -231,14 +201,8 @@ pub fn struct_windows<K: LeafKernel>(
     n: usize,
     steps: &mut K,
 ) -> Result<Bitmap, ComputeError>
-    requires left_good { IsGood (Struct left.now) }
-    requires right_good { IsGood (Struct right.now) }
-    requires one_type { type_of (Struct left.now) ≡ type_of (Struct right.now) }
-    requires left_in { a + n ≤ len_of (Struct left.now) }
-    requires right_in { b + n ≤ len_of (Struct right.now) }
-    ensures told { MatchResult result (RawBits K.agree (Struct left.now) a (Struct right.now) b n) IsMemory }
-    ensures counted { IfOk result (λ _. K.count steps.new ≡ K.count steps.old + tally (Struct left.now) (Struct right.now) a b n) }
-    ensures kept { K.count steps.old ≤ K.count steps.new }
+    requires { AreWindows (Struct left.now) a (Struct right.now) b n }
+    ensures { Compares (RawBits K.agree) (Struct left.now) a (Struct right.now) b n (K.count steps.old) (K.count steps.new) result }
 {
     let mut bits = MutableBitmap::from_len_set(alloc, n)?;
     for i in 0..left.values().len() {
@@ -261,14 +225,8 @@ pub fn dictionary_windows<K: LeafKernel>(
     n: usize,
     steps: &mut K,
 ) -> Result<Bitmap, ComputeError>
-    requires left_good { IsGood (Dictionary left.now) }
-    requires right_good { IsGood (Dictionary right.now) }
-    requires one_type { type_of (Dictionary left.now) ≡ type_of (Dictionary right.now) }
-    requires left_in { a + n ≤ len_of (Dictionary left.now) }
-    requires right_in { b + n ≤ len_of (Dictionary right.now) }
-    ensures told { MatchResult result (RawBits K.agree (Dictionary left.now) a (Dictionary right.now) b n) IsMemory }
-    ensures counted { IfOk result (λ _. K.count steps.new ≡ K.count steps.old + tally (Dictionary left.now) (Dictionary right.now) a b n) }
-    ensures kept { K.count steps.old ≤ K.count steps.new }
+    requires { AreWindows (Dictionary left.now) a (Dictionary right.now) b n }
+    ensures { Compares (RawBits K.agree) (Dictionary left.now) a (Dictionary right.now) b n (K.count steps.old) (K.count steps.new) result }
 {
     // For the proof alone: that both arrays have a length of 64 bits says that the places don't overflow.
     let (_rows, _others) = (left.keys().len(), right.keys().len());
@@ -291,11 +249,7 @@ fn equal_entries<K: LeafKernel>(
     b: usize,
     steps: &mut K,
 ) -> Result<bool, ComputeError>
-    requires left_good { IsGood (Dictionary left.now) }
-    requires right_good { IsGood (Dictionary right.now) }
-    requires one_type { type_of (Dictionary left.now) ≡ type_of (Dictionary right.now) }
-    requires left_in { a < len_of (Dictionary left.now) }
-    requires right_in { b < len_of (Dictionary right.now) }
+    requires { AreWindows (Dictionary left.now) a (Dictionary right.now) b 1 }
     ensures told { MatchResult result (λ bit. SamePresent K.agree (Dictionary left.now) a (Dictionary right.now) b bit) IsMemory }
     ensures counted { IfOk result (λ _. K.count steps.new ≡ K.count steps.old + tally (Dictionary left.now) (Dictionary right.now) a b 1) }
     ensures kept { K.count steps.old ≤ K.count steps.new }

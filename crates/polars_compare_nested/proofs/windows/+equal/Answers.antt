@@ -1,4 +1,4 @@
-use Rattle.std.proofs.Common.{◌≡◌, ◌≤◌, ◌<◌, ◌+◌, ◌∙◌, ℕ, length, sym, ap, subst, arith}
+use Rattle.std.proofs.Common.{◌≡◌, ◌≤◌, ◌<◌, ◌+◌, ◌∙◌, ℕ, length, sym, ap, subst, arith, rules}
 use Rattle.std.specs.Prelude.{IfOk}
 use Rattle.std.proofs.lemmas.Result.{MatchResult-weaker}
 use Rattle.polars_arrays_nested.specs.Parts.{columns}
@@ -10,20 +10,20 @@ use Rattle.polars_compare_nested.proofs.RawRows.{adds_one, entry_bit, entry_coun
 use Rattle.polars_compare_nested.proofs.TallyAdds.{tally-adds}
 use Rattle.polars_compare_nested.proofs.windows.+equal.Goals as goal
 
-pub equal_windows-returns-clause-told : goal.equal_windows-returns-clause-told
-equal_windows-returns-clause-told g t c =
-    MatchResult-weaker c.join_windows.result c.join_windows.ensures
-    (λ bits join. joined _ _ _ _ _ _ _ bits c.in_ok-raw.ensures.told join)
-    (λ e memory. memory)
+pub equal_windows-returns : goal.equal_windows-returns
+equal_windows-returns g t c = record {
+  told =
+      MatchResult-weaker c.join_windows.result c.join_windows.ensures
+      (λ bits join. joined _ _ _ _ _ _ _ bits c.in_ok-raw.ensures.told join)
+      (λ e memory. memory);
+  counted = search rules;
+  kept = c.in_ok-raw.ensures.kept;
+}
 
 pub raw_windows-leaf_eq-requires : goal.raw_windows-leaf_eq-requires
 raw_windows-leaf_eq-requires g t c = record {
   leaves = leaf_case c.args.left.now c.in_default.not-Null c.in_default.not-List c.in_default.not-FixedSizeList c.in_default.not-Struct c.in_default.not-Dictionary;
-  one_type = c.requires.one_type;
-  left_good = c.requires.left_good;
-  right_good = c.requires.right_good;
-  left_in = c.requires.left_in;
-  right_in = c.requires.right_in;
+  windows = c.requires;
 }
 
 pub raw_windows-returns-in_default : goal.raw_windows-returns-in_default
@@ -70,22 +70,26 @@ pub push_next-returns-in_ok-items-in-Run-clause-told :
 push_next-returns-in_ok-items-in-Run-clause-told g t c =
     let run = rw c.in-Run.is at c.next_rows.ensures in
     let items = rw (c.values-left_items.ensures.values, c.values-right_items.ensures.values) at c.in_ok-items-in-Run.ensures.told in
-    run_bits _ c.args.left.now c.args.right.now c.args.a c.args.b c.args.n c.in-Run.run' c.in_ok-items-in-Run.items _ _ c.requires.left_good c.requires.right_good c.requires.left_in c.requires.right_in run items c.push_rows.ensures.bits
+    run_bits _ c.args.left.now c.args.right.now c.args.a c.args.b c.args.n c.in-Run.run' c.in_ok-items-in-Run.items _ _ c.requires.windows.left_good c.requires.windows.right_good c.requires.windows.left_in c.requires.windows.right_in run items c.push_rows.ensures.bits
 
 pub push_next-returns-in_ok-items-in-Run-clause-counted :
     goal.push_next-returns-in_ok-items-in-Run-clause-counted
 push_next-returns-in_ok-items-in-Run-clause-counted g t c =
     let run = rw c.in-Run.is at c.next_rows.ensures in
-    let cost = run_tally c.args.left.now c.args.right.now c.args.a c.args.b c.args.n c.in-Run.run' c.requires.left_good c.requires.right_good c.requires.left_in c.requires.right_in run in
+    let cost = run_tally c.args.left.now c.args.right.now c.args.a c.args.b c.args.n c.in-Run.run' c.requires.windows.left_good c.requires.windows.right_good c.requires.windows.left_in c.requires.windows.right_in run in
     let counted = rw (c.values-left_items.ensures.values, c.values-right_items.ensures.values) at c.in_ok-items-in-Run.ensures.counted in
     counted ∙ ap (λ (k : ℕ). g.K.LeafKernel.count c.args.steps.now + k) (sym cost)
 
-pub fixed_size_list_windows-returns-clause-told : goal.fixed_size_list_windows-returns-clause-told
-fixed_size_list_windows-returns-clause-told g t c =
-    MatchResult-weaker c.all_in_blocks.result (rw c.from_bitmap.ensures at c.all_in_blocks.ensures)
-    (λ bits blocks.
-    fixed_bits _ c.args.left.now c.args.right.now c.args.a c.args.b c.args.n _ _ _ _ _ _ c.in_ok-items.items bits c.values-left_items.ensures.values c.values-right_items.ensures.values c.item_window-left_start.ensures.first c.item_window-right_start.ensures.first c.item_window-left_start.ensures.count c.width.ensures c.requires.one_type c.in_ok-items.ensures.told blocks)
-    (λ e memory. memory)
+pub fixed_size_list_windows-returns : goal.fixed_size_list_windows-returns
+fixed_size_list_windows-returns g t c = record {
+  told =
+      MatchResult-weaker c.all_in_blocks.result (rw c.from_bitmap.ensures at c.all_in_blocks.ensures)
+      (λ bits blocks.
+      fixed_bits _ c.args.left.now c.args.right.now c.args.a c.args.b c.args.n _ _ _ _ _ _ c.in_ok-items.items bits c.values-left_items.ensures.values c.values-right_items.ensures.values c.item_window-left_start.ensures.first c.item_window-right_start.ensures.first c.item_window-left_start.ensures.count c.width.ensures c.requires.one_type c.in_ok-items.ensures.told blocks)
+      (λ e memory. memory);
+  counted = search rules;
+  kept = c.in_ok-items.ensures.kept;
+}
 
 pub struct_windows-loop-i-init : goal.struct_windows-loop-i-init
 struct_windows-loop-i-init g t c = (
@@ -111,22 +115,19 @@ struct_windows-loop-i-preserved g t c =
       c.loop-i.invariant.3,
     )
 
-pub struct_windows-returns-clause-told : goal.struct_windows-returns-clause-told
-struct_windows-returns-clause-told g t c =
+pub struct_windows-returns : goal.struct_windows-returns
+struct_windows-returns g t c =
     let l = c.args.left.now in
     let r = c.args.right.now in
     let many = struct_count l r c.requires.left_good c.requires.right_good c.requires.one_type in
     let all : length (columns l) ≤ c.loop-i.i = omega (arith, c.loop-i.invariant.3) in
-    rw c.freeze.ensures (struct_bits _ l r _ _ _ c.loop-i.i _ all (omega (arith, all, many)) c.loop-i.invariant.0)
-
-pub struct_windows-returns-clause-counted : goal.struct_windows-returns-clause-counted
-struct_windows-returns-clause-counted g t c =
-    let l = c.args.left.now in
-    let r = c.args.right.now in
-    let many = struct_count l r c.requires.left_good c.requires.right_good c.requires.one_type in
-    let all : length (columns l) ≤ c.loop-i.i = omega (arith, c.loop-i.invariant.3) in
-    c.loop-i.invariant.1
-    ∙ ap (λ (k : ℕ). g.K.LeafKernel.count c.args.steps.now + k) (sym (struct_tally l r c.args.a c.args.b c.args.n c.loop-i.i all (omega (arith, all, many))))
+    record {
+      told = rw c.freeze.ensures (struct_bits _ l r _ _ _ c.loop-i.i _ all (omega (arith, all, many)) c.loop-i.invariant.0);
+      counted =
+          c.loop-i.invariant.1
+          ∙ ap (λ (k : ℕ). g.K.LeafKernel.count c.args.steps.now + k) (sym (struct_tally l r c.args.a c.args.b c.args.n c.loop-i.i all (omega (arith, all, many))));
+      kept = c.loop-i.invariant.2;
+    }
 
 pub dictionary_windows-loop-i-init : goal.dictionary_windows-loop-i-init
 dictionary_windows-loop-i-init g t c = (
