@@ -11,7 +11,7 @@ use crate::fault::Fault;
 use polars_arrays::any_array::AnyArray;
 use polars_arrays::bitmap::Bitmap;
 use polars_arrays::buffer::Buffer;
-use polars_arrays::data_type::{ArrowDataType, Field};
+use polars_arrays::data_type::{ArrowDataType, Field, IntegerType};
 use polars_arrays::dict_keys::DictKeys;
 use polars_arrays::dictionary::DictionaryArray;
 use polars_arrays::list::ListArray;
@@ -26,27 +26,42 @@ use std::process::ExitCode;
 
 mod fault;
 
-/// Lists of numbers: list `i` has the items from offset `i` up to offset `i + 1`, and is null where its flag is false.
-fn lists(alloc: Global, offsets: &[i32], items: &[i32], present: &[bool]) -> Result<AnyArray, Fault>
+/// What a column of orders is made of.
+#[derive(Clone, Copy)]
+struct Parts<'a> {
+    /// Order `i` has the items from offset `i` up to offset `i + 1`.
+    offsets: &'a [i32],
+    items: &'a [i32],
+    /// Whether an order has a list of items; else the list is null.
+    present: &'a [bool],
+    /// The number of each order's city.
+    keys: &'a [u8],
+    /// City `k` has the bytes from end `k` up to end `k + 1`.
+    ends: &'a [i32],
+    cities: &'a str,
+}
+
+/// The lists of items.
+fn lists(alloc: Global, parts: &Parts) -> Result<AnyArray, Fault>
     ensures { IfOk result (λ array. IsGood array) }
 {
-    let offsets = Buffer::from_vec(Vec::from_slice(alloc, offsets)?);
-    let items = PrimitiveArray::from_vec(Vec::from_slice(alloc, items)?);
+    let items = PrimitiveArray::from_vec(Vec::from_slice(alloc, parts.items)?);
     let items = Box::new(alloc, AnyArray::Int32(items))?;
-    let validity = Bitmap::from_bools(alloc, present)?;
-    let array = ListArray::try_new(ListOffsets::Small(offsets), items, Some(validity))?;
+    let validity = Bitmap::from_bools(alloc, parts.present)?;
+    let offsets = ListOffsets::Small(Buffer::from_vec(Vec::from_slice(alloc, parts.offsets)?));
+    let array = ListArray::try_new(offsets, items, Some(validity))?;
     Ok(AnyArray::List(array))
 }
 
-/// Rows that name a text each by its number. The texts lie one behind another in `bytes`, between the offsets.
-fn names(alloc: Global, keys: &[u8], offsets: &[i32], bytes: &str) -> Result<AnyArray, Fault>
+/// The cities, each of which a key names.
+fn cities(alloc: Global, parts: &Parts) -> Result<AnyArray, Fault>
     ensures { IfOk result (λ array. IsGood array) }
 {
-    let offsets = Buffer::from_vec(Vec::from_slice(alloc, offsets)?);
-    let bytes = Buffer::from_vec(Vec::from_slice(alloc, bytes.as_bytes())?);
-    let entries = Utf8Array::try_new(offsets, bytes, None)?;
-    let entries = Box::new(alloc, AnyArray::Utf8(entries))?;
-    let keys = PrimitiveArray::from_vec(Vec::from_slice(alloc, keys)?);
+    let ends = Buffer::from_vec(Vec::from_slice(alloc, parts.ends)?);
+    let bytes = Buffer::from_vec(Vec::from_slice(alloc, parts.cities.as_bytes())?);
+    let entries = AnyArray::Utf8(Utf8Array::try_new(ends, bytes, None)?);
+    let entries = Box::new(alloc, entries)?;
+    let keys = PrimitiveArray::from_vec(Vec::from_slice(alloc, parts.keys)?);
     let array = DictionaryArray::try_new(DictKeys::UInt8(keys), entries)?;
     Ok(AnyArray::Dictionary(array))
 }
@@ -57,35 +72,42 @@ fn field(alloc: Global, name: &str, dtype: ArrowDataType) -> Result<Field, Fault
     Ok(Field { name, dtype })
 }
 
-/// Structs of two columns, which have as many rows.
-fn orders(alloc: Global, items: AnyArray, cities: AnyArray) -> Result<AnyArray, Fault>
-    requires items { IsGood items }
-    requires cities { IsGood cities }
+/// The fields of an order: a list of numbers, and a text that a key of one byte names.
+fn fields(alloc: Global) -> Result<Vec<Field>, Fault> {
+    let mut fields = Vec::new(alloc);
+    let items = ArrowDataType::List(Box::new(alloc, ArrowDataType::Int32)?);
+    fields.push(field(alloc, "items", items)?)?;
+    let city = Box::new(alloc, ArrowDataType::Utf8)?;
+    let city = ArrowDataType::Dictionary(IntegerType::UInt8, city);
+    fields.push(field(alloc, "city", city)?)?;
+    Ok(fields)
+}
+
+/// The column of orders that the parts make.
+fn orders(alloc: Global, parts: &Parts) -> Result<AnyArray, Fault>
     ensures { IfOk result (λ array. IsGood array) }
 {
-    let rows = items.len();
-    let fields = vec![in alloc;
-        field(alloc, "items", items.dtype(alloc)?)?,
-        field(alloc, "city", cities.dtype(alloc)?)?,
-    ]?;
-    let array = StructArray::try_new(fields, rows, vec![in alloc; items, cities]?, None)?;
+    let mut columns = Vec::new(alloc);
+    columns.push(lists(alloc, parts)?)?;
+    columns.push(cities(alloc, parts)?)?;
+    let array = StructArray::try_new(fields(alloc)?, parts.keys.len(), columns, None)?;
     Ok(AnyArray::Struct(array))
 }
 
-/// Compares two columns of three orders, and prints for each row whether the two are the same.
-fn compare_orders(rt: &(impl Print + AllocGlobal)) -> Result<(), Fault> {
-    let alloc = rt.alloc();
-    let items = lists(alloc, &[0, 2, 2, 3], &[1, 2, 7], &[true, false, true])?;
-    let cities = names(alloc, &[0, 1, 0], &[0, 4, 10], "OsloBergen")?;
-    let left = orders(alloc, items, cities)?;
-    let items = lists(alloc, &[0, 2, 4, 5], &[1, 2, 9, 9, 8], &[true, false, true])?;
-    let cities = names(alloc, &[1, 0, 1], &[0, 6, 10], "BergenOslo")?;
-    let right = orders(alloc, items, cities)?;
-    if !left.same_type(&right) || left.len() != right.len() {
+/// Prints for each row of two columns whether it is the same, and after how many comparisons that is known.
+fn print_same(
+    rt: &(impl Print + AllocGlobal),
+    left: &AnyArray,
+    right: &AnyArray,
+) -> Result<(), Fault>
+    requires left { IsGood left.now }
+    requires right { IsGood right.now }
+{
+    if !left.same_type(right) || left.len() != right.len() {
         return Err(Fault::Columns);
     }
     let mut steps = Steps::new();
-    let same = array_tot_eq_missing_kernel_with_steps(alloc, &left, &right, &mut steps)?;
+    let same = array_tot_eq_missing_kernel_with_steps(rt.alloc(), left, right, &mut steps)?;
     for i in 0..same.len() {
         let told = if same.get_bit(i) {
             "the same"
@@ -98,13 +120,43 @@ fn compare_orders(rt: &(impl Print + AllocGlobal)) -> Result<(), Fault> {
     Ok(())
 }
 
+/// Three orders, of which the second has no list of items.
+const FIRST: Parts<'static> = Parts {
+    offsets: &[0, 2, 2, 3],
+    items: &[1, 2, 7],
+    present: &[true, false, true],
+    keys: &[0, 1, 0],
+    ends: &[0, 4, 10],
+    cities: "OsloBergen",
+};
+
+/// The same but for the last item, kept in another way.
+const SECOND: Parts<'static> = Parts {
+    offsets: &[0, 2, 4, 5],
+    items: &[1, 2, 9, 9, 8],
+    present: &[true, false, true],
+    keys: &[1, 0, 1],
+    ends: &[0, 6, 10],
+    cities: "BergenOslo",
+};
+
+/// Compares two columns of orders.
+fn compare_orders(rt: &(impl Print + AllocGlobal)) -> Result<(), Fault> {
+    let left = orders(rt.alloc(), &FIRST)?;
+    let right = orders(rt.alloc(), &SECOND)?;
+    print_same(rt, &left, &right)
+}
+
 fn main(rt: HostRuntime) -> ExitCode {
     if let Err(fault) = compare_orders(&rt) {
         let _ = eprintln!(rt; "{fault}");
         return ExitCode::from(1);
     }
-    // a list that would end behind the last item
-    match lists(rt.alloc(), &[0, 3], &[1, 2], &[true]) {
+    let short = Parts {
+        offsets: &[0, 2, 2, 4],
+        ..FIRST
+    };
+    match orders(rt.alloc(), &short) {
         Ok(_) => ExitCode::from(1),
         Err(fault) => match println!(rt; "refused: {fault}") {
             Ok(()) => ExitCode::from(0),
