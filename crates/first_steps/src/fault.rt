@@ -1,6 +1,6 @@
 //! Why there is no answer.
 
-use polars_arrays::error::{ArrayError, ComputeError};
+use polars_arrays_bits::error::{ArrayError, ComputeError};
 use std::alloc::{AllocError, AllocFailed};
 use std::io;
 use thiserror::Error;

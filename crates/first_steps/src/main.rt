@@ -5,22 +5,22 @@
 #![tactic(auto)]
 
 ghost use Rattle.std.specs.Prelude.{IfOk};
-ghost use Rattle.polars_arrays.specs.GoodParts.{IsGood};
+ghost use Rattle.polars_arrays_nested.specs.GoodParts.{IsGood};
 
 use crate::fault::Fault;
-use polars_arrays::any_array::AnyArray;
-use polars_arrays::bitmap::Bitmap;
-use polars_arrays::buffer::Buffer;
-use polars_arrays::data_type::{ArrowDataType, Field, IntegerType};
-use polars_arrays::dict_keys::DictKeys;
-use polars_arrays::dictionary::DictionaryArray;
-use polars_arrays::list::ListArray;
-use polars_arrays::list_offsets::ListOffsets;
-use polars_arrays::primitive::PrimitiveArray;
-use polars_arrays::steps::Steps;
-use polars_arrays::struct_array::StructArray;
-use polars_arrays::text::Utf8Array;
-use polars_compare::dispatch::array_tot_eq_missing_kernel_with_steps;
+use polars_arrays_bits::bitmap::Bitmap;
+use polars_arrays_bits::buffer::Buffer;
+use polars_arrays_bytes::text::Utf8Array;
+use polars_arrays_flat::data_type::{ArrowDataType, Field, IntegerType};
+use polars_arrays_flat::primitive::PrimitiveArray;
+use polars_arrays_nested::any_array::AnyArray;
+use polars_arrays_nested::dict_keys::DictKeys;
+use polars_arrays_nested::dictionary::DictionaryArray;
+use polars_arrays_nested::list::ListArray;
+use polars_arrays_nested::list_offsets::ListOffsets;
+use polars_arrays_nested::struct_array::StructArray;
+use polars_arrays_numbers::steps::Steps;
+use polars_compare_nested::kernels::array_tot_eq_missing_kernel_with_steps;
 use std::alloc::Global;
 use std::process::ExitCode;
 
