@@ -160,7 +160,8 @@ fn list_offsets(alloc: Global, array: &ListArray) -> Result<String, Fault>
     }
     let last = offsets.offset(offsets.len());
     let width = if offsets.is_large() { "large" } else { "small" };
-    Ok(format!(in alloc; "{text}{last} {width}")?)
+    write!(text, "{last} {width}")?;
+    Ok(text)
 }
 
 // The views of byte strings or of texts.
@@ -217,7 +218,8 @@ fn keys(alloc: Global, array: &AnyArray) -> Result<String, Fault> {
         text.push(' ')?;
     }
     let name = key_name(keys.key_type());
-    Ok(format!(in alloc; "{text}{name}, {} null", keys.null_count())?)
+    write!(text, "{name}, {} null", keys.null_count())?;
+    Ok(text)
 }
 
 // The number of the entry of row `i` of a dictionary array.

@@ -7,6 +7,7 @@ ghost use Rattle.recorded_text.specs.Cases.{HasGoodArrays};
 
 use crate::kinds::{of_number_type, of_numbers};
 use num_traits::Zero;
+use polars_arrays_bits::bitmap::Bitmap;
 use polars_arrays_flat::array::Array;
 use polars_arrays_flat::primitive::PrimitiveArray;
 use polars_arrays_flat::validity::has_bits;
@@ -49,23 +50,52 @@ fn write_array<T: NativeType + Display>(
     alloc: Global,
     array: &PrimitiveArray<T>,
 ) -> Result<String, Fault> {
-    let mut rows = String::new(alloc);
-    let mut values = String::new(alloc);
-    for (i, value) in array.values().iter().enumerate() {
-        let value = value.to_string(alloc)?;
-        let row = if is_null(array.validity(), i) {
-            "null"
-        } else {
-            value.as_str()
-        };
-        rows.push_str(row)?;
-        rows.push(' ')?;
-        values.push_str(&value)?;
-        values.push(' ')?;
-    }
-    let nulls = array.null_count();
+    let mut text = String::new(alloc);
+    push_rows(alloc, &mut text, array)?;
+    text.push_str("over ")?;
+    push_values(alloc, &mut text, array.values())?;
     let kept = if array.is_owned() { "owned" } else { "shared" };
-    Ok(format!(in alloc; "{rows}over {values}{nulls} null, {kept}")?)
+    write!(text, "{} null, {kept}", array.null_count())?;
+    Ok(text)
+}
+
+// The rows of an array of numbers.
+fn push_rows<T: NativeType + Display>(
+    alloc: Global,
+    text: &mut String,
+    array: &PrimitiveArray<T>,
+) -> Result<(), Fault> {
+    for (i, value) in array.values().iter().enumerate() {
+        if is_null(array.validity(), i) {
+            text.push_str("null ")?;
+        } else {
+            push_value(alloc, text, value)?;
+        }
+    }
+    Ok(())
+}
+
+// The stored values of an array of numbers, those of null rows too.
+fn push_values<T: NativeType + Display>(
+    alloc: Global,
+    text: &mut String,
+    values: &[T],
+) -> Result<(), Fault> {
+    for value in values {
+        push_value(alloc, text, value)?;
+    }
+    Ok(())
+}
+
+// A number and a space.
+fn push_value<T: NativeType + Display>(
+    alloc: Global,
+    text: &mut String,
+    value: &T,
+) -> Result<(), Fault> {
+    text.push_str(&value.to_string(alloc)?)?;
+    text.push(' ')?;
+    Ok(())
 }
 
 // An array of the numbers that words write.
@@ -101,12 +131,28 @@ fn take_validity<T: NativeType + Display>(
     array: &PrimitiveArray<T>,
 ) -> Result<String, Fault> {
     let mut copy = array.clone_array(alloc)?;
-    let taken = match copy.take_validity() {
-        Some(bits) => write_bits(alloc, &bits)?,
-        None => "none".to_string(alloc)?,
-    };
-    let left = write_array(alloc, &copy)?;
-    Ok(format!(in alloc; "{taken} from {left}")?)
+    let taken = copy.take_validity();
+    write_taken(alloc, &taken, &copy)
+}
+
+// A validity, and the array that it was taken from.
+fn write_taken<T: NativeType + Display>(
+    alloc: Global,
+    taken: &Option<Bitmap>,
+    left: &PrimitiveArray<T>,
+) -> Result<String, Fault> {
+    let mut text = write_validity(alloc, taken)?;
+    text.push_str(" from ")?;
+    text.push_str(&write_array(alloc, left)?)?;
+    Ok(text)
+}
+
+// The bits of a validity, or `none`.
+fn write_validity(alloc: Global, validity: &Option<Bitmap>) -> Result<String, Fault> {
+    match validity {
+        Some(bits) => write_bits(alloc, bits),
+        None => Ok("none".to_string(alloc)?),
+    }
 }
 
 // A clone under the validity that the next word writes.
@@ -116,11 +162,19 @@ fn with_validity<T: NativeType + Display>(
     words: &mut Words,
 ) -> Result<String, Fault> {
     let validity = read_validity(alloc, Kept::Owned, words)?;
-    let copy = array.clone_array(alloc)?;
-    if !has_bits(copy.values().len(), &validity) {
+    under_validity(alloc, array.clone_array(alloc)?, validity)
+}
+
+// An array under another validity.
+fn under_validity<T: NativeType + Display>(
+    alloc: Global,
+    array: PrimitiveArray<T>,
+    validity: Option<Bitmap>,
+) -> Result<String, Fault> {
+    if !has_bits(array.values().len(), &validity) {
         return Err(Fault::Case);
     }
-    write_array(alloc, &copy.with_validity(validity))
+    write_array(alloc, &array.with_validity(validity))
 }
 
 // A clone whose values are all the next word's.
@@ -142,15 +196,24 @@ fn get_mut_values<T: NativeType + Display + FromStr<Err: Drop>>(
 ) -> Result<String, Fault> {
     let value = words.read_number()?;
     let mut copy = array.clone_array(alloc)?;
-    match copy.get_mut_values() {
+    if write_all(&mut copy, value) {
+        write_array(alloc, &copy)
+    } else {
+        Ok("none".to_string(alloc)?)
+    }
+}
+
+// Writes a number into each value that an array lends, and says whether it lends them.
+fn write_all<T: NativeType>(array: &mut PrimitiveArray<T>, value: T) -> bool {
+    match array.get_mut_values() {
         Some(values) => {
             for each in values.iter_mut() {
                 *each = value;
             }
+            true
         }
-        None => return Ok("none".to_string(alloc)?),
+        None => false,
     }
-    write_array(alloc, &copy)
 }
 
 // A clone that owns its values, of which the one at a place is the last word's.
@@ -162,9 +225,19 @@ fn as_mut_values<T: NativeType + Display + FromStr<Err: Drop>>(
     let at: usize = words.read_number()?;
     let value = words.read_number()?;
     let mut copy = array.clone_array(alloc)?;
-    if !copy.is_owned() || at >= copy.values().len() {
+    write_value(&mut copy, at, value)?;
+    write_array(alloc, &copy)
+}
+
+// Writes the value at a place of an array that owns its values, where there is one.
+fn write_value<T: NativeType>(
+    array: &mut PrimitiveArray<T>,
+    at: usize,
+    value: T,
+) -> Result<(), Fault> {
+    if !array.is_owned() || at >= array.values().len() {
         return Err(Fault::Case);
     }
-    copy.as_mut_values()[at] = value;
-    write_array(alloc, &copy)
+    array.as_mut_values()[at] = value;
+    Ok(())
 }

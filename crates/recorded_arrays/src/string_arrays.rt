@@ -10,6 +10,8 @@ use polars_arrays_bytes::offset_type::OffsetType;
 use polars_arrays_bytes::text::Utf8Array;
 use polars_arrays_flat::byte_equality::bytes_equal;
 use polars_arrays_flat::byte_order::{bytes_less, pair_less};
+use polars_arrays_flat::byte_rows::ByteRows;
+use polars_arrays_flat::data_type::ArrowDataType;
 use polars_arrays_nested::any_array::AnyArray;
 use polars_arrays_numbers::offset::Offset;
 use polars_arrays_views::text_view::Utf8ViewArray;
@@ -106,9 +108,7 @@ fn as_binary(alloc: Global, array: &AnyArray) -> Result<String, Fault> {
 // The type and the byte strings of the array that texts are kept in.
 fn binary_of<O: OffsetType>(alloc: Global, array: &Utf8Array<O>) -> Result<String, Fault> {
     let binary = array.as_binary();
-    let dtype = write_type(alloc, &binary.dtype(alloc)?)?;
-    let strings = write_strings(alloc, binary)?;
-    Ok(format!(in alloc; "{dtype}: {strings}")?)
+    write_typed(alloc, &binary.dtype(alloc)?, binary)
 }
 
 // The type and the byte strings of the array that texts by views are kept in.
@@ -117,9 +117,19 @@ fn as_binview(alloc: Global, array: &AnyArray) -> Result<String, Fault> {
         return Err(Fault::Case);
     };
     let binary = array.as_binview();
-    let dtype = write_type(alloc, &binary.dtype(alloc)?)?;
-    let strings = write_strings(alloc, binary)?;
-    Ok(format!(in alloc; "{dtype}: {strings}")?)
+    write_typed(alloc, &binary.dtype(alloc)?, binary)
+}
+
+// A type and byte strings.
+fn write_typed<A: ByteRows>(
+    alloc: Global,
+    dtype: &ArrowDataType,
+    strings: &A,
+) -> Result<String, Fault> {
+    let mut text = write_type(alloc, dtype)?;
+    text.push_str(": ")?;
+    text.push_str(&write_strings(alloc, strings)?)?;
+    Ok(text)
 }
 
 // Whether two byte strings are equal.

@@ -28,11 +28,10 @@ pub fn answer(
 ) -> Result<Option<String>, Fault>
     requires { HasGoodArrays store.now }
 {
-    let answer = match call {
-        "struct_try_new" => try_new(alloc, store, words)?,
-        _ => return Ok(None),
-    };
-    Ok(Some(answer))
+    match call {
+        "struct_try_new" => Ok(Some(try_new(alloc, store, words)?)),
+        _ => Ok(None),
+    }
 }
 
 // The rows of the structs, or why there are none.
@@ -43,7 +42,14 @@ fn try_new(alloc: Global, store: &Store, words: &mut Words) -> Result<String, Fa
     let validity = read_validity(alloc, Kept::Owned, words)?;
     let fields = read_fields(alloc, store, words)?;
     let columns = read_columns(alloc, store, words)?;
-    match StructArray::try_new(fields, len, columns, validity) {
+    write_struct(alloc, StructArray::try_new(fields, len, columns, validity))
+}
+
+// The rows of structs, or why there are none.
+fn write_struct(alloc: Global, made: Result<StructArray, ArrayError>) -> Result<String, Fault>
+    requires { IfOk made (λ array. IsGood (Struct array)) }
+{
+    match made {
         Ok(array) => rows(alloc, array),
         Err(error) => refusal(alloc, &error),
     }

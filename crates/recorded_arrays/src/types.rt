@@ -3,9 +3,10 @@
 ghost use Rattle.recorded_text.specs.Cases.{HasGoodArrays};
 
 use crate::kinds::of_number_type;
+use polars_arrays_bits::error::ComputeError;
 use polars_arrays_bytes::offset_type::OffsetType;
 use polars_arrays_flat::arrow_type::ArrowType;
-use polars_arrays_flat::data_type::{Field, is_struct_of, same_fields};
+use polars_arrays_flat::data_type::{ArrowDataType, Field, is_struct_of, same_fields};
 use polars_arrays_nested::any_array::AnyArray;
 use polars_arrays_nested::data_types::clone_type;
 use recorded_text::fault::Fault;
@@ -24,14 +25,14 @@ pub fn answer(
     requires { HasGoodArrays store.now }
 {
     let answer = match call {
-        "dtype" => dtype(alloc, store.read(words)?)?,
-        "clone_type" => copied_type(alloc, store.read(words)?)?,
-        "arrow_data_type" => of_number_type!(words.read()?, arrow_data_type(alloc))?,
-        "binary_data_type" => binary_data_type(alloc, words.read()?)?,
-        "text_data_type" => text_data_type(alloc, words.read()?)?,
+        "dtype" => dtype(alloc, store.read(words)?),
+        "clone_type" => copied_type(alloc, store.read(words)?),
+        "arrow_data_type" => of_number_type!(words.read()?, arrow_data_type(alloc)),
+        "binary_data_type" => binary_data_type(alloc, words.read()?),
+        "text_data_type" => text_data_type(alloc, words.read()?),
         _ => return answer_test(alloc, call, store, words),
     };
-    Ok(Some(answer))
+    Ok(Some(answer?))
 }
 
 // The answer to a test of two arrays, or None for another call.
@@ -43,11 +44,12 @@ fn answer_test(
 ) -> Result<Option<String>, Fault>
     requires { HasGoodArrays store.now }
 {
-    let comparison = match NamedComparison::from_name(call) {
-        Some(comparison) => comparison,
-        None => return Ok(None),
+    let Some(comparison) = NamedComparison::from_name(call) else {
+        return Ok(None);
     };
-    let holds = is_told(alloc, store.read(words)?, store.read(words)?, comparison)?;
+    let left = store.read(words)?;
+    let right = store.read(words)?;
+    let holds = is_told(alloc, left, right, comparison)?;
     Ok(Some(holds.to_string(alloc)?))
 }
 
@@ -89,17 +91,32 @@ fn is_told(
     right: &AnyArray,
     comparison: NamedComparison,
 ) -> Result<bool, Fault> {
-    let holds = match comparison {
-        NamedComparison::SameType => left.same_type(right),
-        NamedComparison::HasType => left.has_type(&right.dtype(alloc)?),
-        NamedComparison::SameKind => left.dtype(alloc)?.same_kind(&right.dtype(alloc)?),
-        NamedComparison::Equal => left.dtype(alloc)? == right.dtype(alloc)?,
-        NamedComparison::SameFields => same_fields(fields(left)?, fields(right)?),
-        NamedComparison::StructOf => is_struct_of(fields(left)?, &right.dtype(alloc)?),
-        NamedComparison::SameField => first_field(left)?.same_field(first_field(right)?),
-        NamedComparison::EqualField => first_field(left)? == first_field(right)?,
-    };
-    Ok(holds)
+    match comparison {
+        NamedComparison::SameType => Ok(left.same_type(right)),
+        NamedComparison::HasType => Ok(left.has_type(&right.dtype(alloc)?)),
+        NamedComparison::SameKind => same_kinds(&left.dtype(alloc)?, right.dtype(alloc)),
+        NamedComparison::Equal => equal_types(&left.dtype(alloc)?, right.dtype(alloc)),
+        NamedComparison::SameFields => Ok(same_fields(fields(left)?, fields(right)?)),
+        NamedComparison::StructOf => Ok(is_struct_of(fields(left)?, &right.dtype(alloc)?)),
+        NamedComparison::SameField => Ok(first_field(left)?.same_field(first_field(right)?)),
+        NamedComparison::EqualField => Ok(first_field(left)? == first_field(right)?),
+    }
+}
+
+// Whether two types are of one kind.
+fn same_kinds(
+    left: &ArrowDataType,
+    right: Result<ArrowDataType, ComputeError>,
+) -> Result<bool, Fault> {
+    Ok(left.same_kind(&right?))
+}
+
+// Whether two types are equal.
+fn equal_types(
+    left: &ArrowDataType,
+    right: Result<ArrowDataType, ComputeError>,
+) -> Result<bool, Fault> {
+    Ok(*left == right?)
 }
 
 // The fields of structs.

@@ -23,8 +23,9 @@ ghost use Rattle.std.specs.Prelude.{◌↔◌, ◌+◌, ◌≤◌, IsTrue};
 use crate::answer_text::write_found;
 use crate::truth_values::{CostlyBits, SingleBits};
 use polars_arrays_bits::bitmap::Bitmap;
+use polars_arrays_bits::error::ComputeError;
 use polars_arrays_numbers::steps::Steps;
-use recorded_text::bits_text::write_bits;
+use recorded_text::bits_text::{push_bits, write_bits, write_made};
 use recorded_text::fault::Fault;
 use recorded_text::parts::{read_bits, read_numbers};
 use recorded_text::words::Words;
@@ -33,27 +34,21 @@ use std::alloc::Global;
 /// The answer to a call on bitmaps, or None for another one's.
 pub fn answer(alloc: Global, call: &str, words: &mut Words) -> Result<Option<String>, Fault> {
     let answer = match call {
-        "and" | "or" | "xor" | "xnor" | "and_not" | "or_not" => logic(alloc, call, words)?,
-        "merge_eq" | "merge_ne" => merge(alloc, call, words)?,
-        "not" | "bitmap_share" | "clone_bitmap" | "from_values" | "from_wide_values" => {
-            same_length(alloc, call, words)?
+        "not" | "bitmap_share" | "clone_bitmap" | "from_values" | "from_wide_values"
+        | "set_bits" | "unset_bits" | "bitmap_len" | "get_bit" | "bitmap_get" | "bitmap_slice"
+        | "slice_clone" | "meet_shared" | "from_counted" => of_one(alloc, call, words),
+        "and" | "or" | "xor" | "xnor" | "and_not" | "or_not" | "num_intersections_with" => {
+            of_two(alloc, call, words)
         }
-        "set_bits" | "unset_bits" | "bitmap_len" => count(alloc, call, words)?,
-        "num_intersections_with" => intersections(alloc, words)?,
-        "get_bit" => bit(alloc, words)?,
-        "bitmap_get" => bit_or_none(alloc, words)?,
-        "bitmap_slice" => slice(alloc, words)?,
-        "slice_clone" => slice_clone(alloc, words)?,
-        "meet_shared" => meet_shared(alloc, words)?,
-        "new_zeroed" => write_bits(alloc, &Bitmap::new_zeroed(alloc, words.read_number()?)?)?,
-        "new_with_value" => write_bits(alloc, &read_filled(alloc, words)?)?,
-        "set_bits_filled" => read_filled(alloc, words)?.set_bits().to_string(alloc)?,
-        "from_bools" => of_bools(alloc, words)?,
-        "from_words" => of_words(alloc, words)?,
-        "from_counted" => of_counted(alloc, words)?,
+        "merge_eq" | "merge_ne" => of_three(alloc, call, words),
+        "new_zeroed" => write_made(alloc, Bitmap::new_zeroed(alloc, words.read_number()?)),
+        "new_with_value" => write_read(alloc, read_filled(alloc, words)),
+        "set_bits_filled" => count_filled(alloc, words),
+        "from_bools" => write_read(alloc, read_bools(alloc, words)),
+        "from_words" => write_read(alloc, read_words(alloc, words)),
         _ => return Ok(None),
     };
-    Ok(Some(answer))
+    Ok(Some(answer?))
 }
 
 /// Whether there are `n` places from place `at` on.
@@ -83,15 +78,15 @@ pub fn combine(alloc: Global, call: &str, x: &Bitmap, y: &Bitmap) -> Result<Bitm
         return Err(Fault::Case);
     }
     let bits = match call {
-        "and" => x.and(alloc, y)?,
-        "or" => x.or(alloc, y)?,
-        "xor" => x.xor(alloc, y)?,
-        "xnor" => x.xnor(alloc, y)?,
-        "and_not" => x.and_not(alloc, y)?,
-        "or_not" => x.or_not(alloc, y)?,
+        "and" => x.and(alloc, y),
+        "or" => x.or(alloc, y),
+        "xor" => x.xor(alloc, y),
+        "xnor" => x.xnor(alloc, y),
+        "and_not" => x.and_not(alloc, y),
+        "or_not" => x.or_not(alloc, y),
         _ => return Err(Fault::Word),
     };
-    Ok(bits)
+    Ok(bits?)
 }
 
 /// The merge of this name of three bitmaps.
@@ -106,11 +101,11 @@ pub fn combine_three(
         return Err(Fault::Case);
     }
     let bits = match call {
-        "merge_eq" => Bitmap::merge_eq(alloc, q, l, r)?,
-        "merge_ne" => Bitmap::merge_ne(alloc, q, l, r)?,
+        "merge_eq" => Bitmap::merge_eq(alloc, q, l, r),
+        "merge_ne" => Bitmap::merge_ne(alloc, q, l, r),
         _ => return Err(Fault::Word),
     };
-    Ok(bits)
+    Ok(bits?)
 }
 
 /// How many bits are true in both bitmaps.
@@ -130,141 +125,201 @@ pub fn keep(bits: &mut Bitmap, at: usize, n: usize) -> Result<(), Fault> {
     Ok(())
 }
 
-fn logic(alloc: Global, call: &str, words: &mut Words) -> Result<String, Fault> {
-    let x = read_bitmap(alloc, words)?;
-    let y = read_bitmap(alloc, words)?;
-    write_bits(alloc, &combine(alloc, call, &x, &y)?)
+/// A window of a bitmap, where it has one, as a clone.
+pub fn cut(alloc: Global, bits: &Bitmap, at: usize, n: usize) -> Result<Bitmap, Fault> {
+    let mut window = bits.clone_bitmap(alloc)?;
+    keep(&mut window, at, n)?;
+    Ok(window)
 }
 
-fn merge(alloc: Global, call: &str, words: &mut Words) -> Result<String, Fault> {
-    let q = read_bitmap(alloc, words)?;
-    let l = read_bitmap(alloc, words)?;
-    let r = read_bitmap(alloc, words)?;
-    write_bits(alloc, &combine_three(alloc, call, &q, &l, &r)?)
+/// The text of bits, where they could be read or found.
+pub fn write_read(alloc: Global, bits: Result<Bitmap, Fault>) -> Result<String, Fault> {
+    write_bits(alloc, &bits?)
 }
 
-// A bitmap that is as long as the given one.
-fn same_length(alloc: Global, call: &str, words: &mut Words) -> Result<String, Fault> {
+/// The text of a number.
+pub fn write_number(alloc: Global, number: usize) -> Result<String, Fault> {
+    Ok(number.to_string(alloc)?)
+}
+
+// The answer to a call on one bitmap.
+fn of_one(alloc: Global, call: &str, words: &mut Words) -> Result<String, Fault> {
     let x = read_bitmap(alloc, words)?;
-    let bits = match call {
-        "not" => x.not(alloc)?,
-        "bitmap_share" => x.share(alloc)?,
-        "clone_bitmap" => x.clone_bitmap(alloc)?,
-        "from_values" => one_by_one(alloc, &x, false)?,
-        "from_wide_values" => one_by_one(alloc, &x, true)?,
-        _ => return Err(Fault::Word),
-    };
-    write_bits(alloc, &bits)
+    ask_one(alloc, call, &x, words)
+}
+
+// What is asked of one bitmap.
+fn ask_one(alloc: Global, call: &str, x: &Bitmap, words: &mut Words) -> Result<String, Fault> {
+    match call {
+        "not" => write_made(alloc, x.not(alloc)),
+        "clone_bitmap" => write_made(alloc, x.clone_bitmap(alloc)),
+        "bitmap_share" => write_read(alloc, share(alloc, x)),
+        "from_values" => write_made(alloc, one_by_one(alloc, x, false)),
+        "from_wide_values" => write_made(alloc, one_by_one(alloc, x, true)),
+        "set_bits" => write_number(alloc, x.set_bits()),
+        "unset_bits" => write_number(alloc, x.unset_bits()),
+        "bitmap_len" => write_number(alloc, x.len()),
+        "get_bit" => bit(alloc, x, words.read_number()?),
+        "bitmap_get" => write_found(alloc, x.get(words.read_number()?)),
+        "bitmap_slice" => {
+            let (at, n) = (words.read_number()?, words.read_number()?);
+            write_read(alloc, cut(alloc, x, at, n))
+        }
+        _ => ask_clones(alloc, call, x, words),
+    }
+}
+
+// What is asked of a bitmap and of clones of it.
+fn ask_clones(alloc: Global, call: &str, x: &Bitmap, words: &mut Words) -> Result<String, Fault> {
+    match call {
+        "slice_clone" => {
+            let (at, n) = (words.read_number()?, words.read_number()?);
+            let shared = share(alloc, x)?;
+            slice_clone(alloc, &shared, at, n)
+        }
+        "meet_shared" => {
+            let (p, q) = (words.read_number()?, words.read_number()?);
+            let n = words.read_number()?;
+            let shared = share(alloc, x)?;
+            meet(alloc, &shared, p, q, n)
+        }
+        "from_counted" => of_counted(alloc, x, words),
+        _ => Err(Fault::Word),
+    }
+}
+
+// A clone of a bitmap that shares its words with later clones.
+fn share(alloc: Global, bits: &Bitmap) -> Result<Bitmap, Fault> {
+    Ok(bits.clone_bitmap(alloc)?.share(alloc)?)
 }
 
 // The bits of a bitmap, packed one by one.
-fn one_by_one(alloc: Global, bits: &Bitmap, wide: bool) -> Result<Bitmap, Fault> {
-    Ok(Bitmap::from_values(alloc, &SingleBits { bits, wide })?)
+fn one_by_one(alloc: Global, bits: &Bitmap, wide: bool) -> Result<Bitmap, ComputeError> {
+    Bitmap::from_values(alloc, &SingleBits { bits, wide })
 }
 
-fn count(alloc: Global, call: &str, words: &mut Words) -> Result<String, Fault> {
-    let x = read_bitmap(alloc, words)?;
-    let counted = match call {
-        "set_bits" => x.set_bits(),
-        "unset_bits" => x.unset_bits(),
-        "bitmap_len" => x.len(),
-        _ => return Err(Fault::Word),
-    };
-    Ok(counted.to_string(alloc)?)
-}
-
-fn intersections(alloc: Global, words: &mut Words) -> Result<String, Fault> {
-    let x = read_bitmap(alloc, words)?;
-    let y = read_bitmap(alloc, words)?;
-    Ok(count_both(&x, &y)?.to_string(alloc)?)
-}
-
-fn bit(alloc: Global, words: &mut Words) -> Result<String, Fault> {
-    let x = read_bitmap(alloc, words)?;
-    let i = words.read_number()?;
+// Bit `i`, where there is one.
+fn bit(alloc: Global, x: &Bitmap, i: usize) -> Result<String, Fault> {
     if i >= x.len() {
         return Err(Fault::Case);
     }
     Ok(x.get_bit(i).to_string(alloc)?)
 }
 
-fn bit_or_none(alloc: Global, words: &mut Words) -> Result<String, Fault> {
+// A window of a clone, and then the bitmap itself.
+fn slice_clone(alloc: Global, x: &Bitmap, at: usize, n: usize) -> Result<String, Fault> {
+    let mut text = write_read(alloc, cut(alloc, x, at, n))?;
+    text.push(' ')?;
+    push_bits(&mut text, x)?;
+    Ok(text)
+}
+
+// How many of `n` bits are true in two windows of a bitmap.
+fn meet(alloc: Global, x: &Bitmap, p: usize, q: usize, n: usize) -> Result<String, Fault> {
+    let left = cut(alloc, x, p, n)?;
+    let right = cut(alloc, x, q, n)?;
+    write_count(alloc, count_both(&left, &right))
+}
+
+// The text of a count, where there is one.
+fn write_count(alloc: Global, count: Result<usize, Fault>) -> Result<String, Fault> {
+    write_number(alloc, count?)
+}
+
+// The answer to a call on two bitmaps.
+fn of_two(alloc: Global, call: &str, words: &mut Words) -> Result<String, Fault> {
     let x = read_bitmap(alloc, words)?;
-    let i = words.read_number()?;
-    write_found(alloc, x.get(i))
+    let y = read_bitmap(alloc, words)?;
+    ask_two(alloc, call, &x, &y)
 }
 
-fn slice(alloc: Global, words: &mut Words) -> Result<String, Fault> {
-    let mut x = read_bitmap(alloc, words)?;
-    keep(&mut x, words.read_number()?, words.read_number()?)?;
-    write_bits(alloc, &x)
+// What is asked of two bitmaps.
+fn ask_two(alloc: Global, call: &str, x: &Bitmap, y: &Bitmap) -> Result<String, Fault> {
+    match call {
+        "num_intersections_with" => write_count(alloc, count_both(x, y)),
+        _ => write_read(alloc, combine(alloc, call, x, y)),
+    }
 }
 
-fn slice_clone(alloc: Global, words: &mut Words) -> Result<String, Fault> {
-    let x = read_bitmap(alloc, words)?.share(alloc)?;
-    let mut copy = x.clone_bitmap(alloc)?;
-    keep(&mut copy, words.read_number()?, words.read_number()?)?;
-    let (copy, x) = (write_bits(alloc, &copy)?, write_bits(alloc, &x)?);
-    Ok(format!(in alloc; "{copy} {x}")?)
+// The answer to a call on three bitmaps.
+fn of_three(alloc: Global, call: &str, words: &mut Words) -> Result<String, Fault> {
+    let q = read_bitmap(alloc, words)?;
+    let l = read_bitmap(alloc, words)?;
+    with_third(alloc, call, &q, &l, words)
 }
 
-fn meet_shared(alloc: Global, words: &mut Words) -> Result<String, Fault> {
-    let mut left = read_bitmap(alloc, words)?.share(alloc)?;
-    let mut right = left.clone_bitmap(alloc)?;
-    let (p, q, n) = (
-        words.read_number()?,
-        words.read_number()?,
-        words.read_number()?,
-    );
-    keep(&mut left, p, n)?;
-    keep(&mut right, q, n)?;
-    Ok(count_both(&left, &right)?.to_string(alloc)?)
+// The answer to a call on three bitmaps, of which the last is not read yet.
+fn with_third(
+    alloc: Global,
+    call: &str,
+    q: &Bitmap,
+    l: &Bitmap,
+    words: &mut Words,
+) -> Result<String, Fault> {
+    let r = read_bitmap(alloc, words)?;
+    write_read(alloc, combine_three(alloc, call, q, l, &r))
 }
 
 // As many bits as the next words say, of one value.
 fn read_filled(alloc: Global, words: &mut Words) -> Result<Bitmap, Fault> {
     let value = read_truth(words)?;
-    Ok(Bitmap::new_with_value(alloc, value, words.read_number()?)?)
+    let n = words.read_number()?;
+    Ok(Bitmap::new_with_value(alloc, value, n)?)
 }
 
-fn of_bools(alloc: Global, words: &mut Words) -> Result<String, Fault> {
+// How many of these bits are true.
+fn count_filled(alloc: Global, words: &mut Words) -> Result<String, Fault> {
+    let bits = read_filled(alloc, words)?;
+    write_number(alloc, bits.set_bits())
+}
+
+// The bits of truth values.
+fn read_bools(alloc: Global, words: &mut Words) -> Result<Bitmap, Fault> {
     let count: usize = words.read_number()?;
     let mut values = Vec::new(alloc);
     for _ in 0..count {
         values.push(read_truth(words)?)?;
     }
-    write_bits(alloc, &Bitmap::from_bools(alloc, &values)?)
+    Ok(Bitmap::from_bools(alloc, &values)?)
 }
 
-fn of_words(alloc: Global, words: &mut Words) -> Result<String, Fault> {
+// The bits of words from a bit on.
+fn read_words(alloc: Global, words: &mut Words) -> Result<Bitmap, Fault> {
     let numbers = read_numbers::<u64>(alloc, words)?;
     let (at, n) = (words.read_number()?, words.read_number()?);
-    let Some(all) = numbers.len().checked_mul(64) else {
-        return Err(Fault::Case);
-    };
-    if !is_within(at, n, all) {
-        return Err(Fault::Case);
+    match numbers.len().checked_mul(64) {
+        Some(all) if is_within(at, n, all) => Ok(Bitmap::from_words(numbers, at, n)),
+        _ => Err(Fault::Case),
     }
-    write_bits(alloc, &Bitmap::from_words(numbers, at, n))
 }
 
-fn of_counted(alloc: Global, words: &mut Words) -> Result<String, Fault> {
-    let bits = read_bitmap(alloc, words)?;
+// The bits of a bitmap, packed one by one, and what a counter shows that rises by the cost of each.
+fn of_counted(alloc: Global, bits: &Bitmap, words: &mut Words) -> Result<String, Fault> {
+    let costs = read_costs(alloc, words)?;
+    if costs.len() != bits.len() {
+        return Err(Fault::Case);
+    }
+    let values = CostlyBits {
+        bits,
+        costs: &costs,
+    };
+    write_counted(alloc, &values)
+}
+
+// What each bit costs.
+fn read_costs(alloc: Global, words: &mut Words) -> Result<Vec<usize>, Fault> {
     let count: usize = words.read_number()?;
     let mut costs = Vec::new(alloc);
     for _ in 0..count {
         costs.push(words.read_number()?)?;
     }
-    if costs.len() != bits.len() {
-        return Err(Fault::Case);
-    }
+    Ok(costs)
+}
+
+// Bits that are packed one by one, and what they cost.
+fn write_counted(alloc: Global, values: &CostlyBits) -> Result<String, Fault> {
     let mut steps = Steps::new();
-    let values = CostlyBits {
-        bits: &bits,
-        costs: &costs,
-    };
-    let packed = Bitmap::from_counted(alloc, &values, &mut steps)?;
-    let packed = write_bits(alloc, &packed)?;
-    let seen = steps.seen();
-    Ok(format!(in alloc; "{packed} {seen}")?)
+    let mut text = write_made(alloc, Bitmap::from_counted(alloc, values, &mut steps))?;
+    write!(text, " {}", steps.seen())?;
+    Ok(text)
 }

@@ -16,7 +16,7 @@ use polars_arrays_numbers::comparison::{
     Comparison, Equal, Greater, GreaterOrEqual, Less, LessOrEqual, Unequal,
 };
 use polars_arrays_numbers::native_type::NativeType;
-use recorded_text::bits_text::write_bits;
+use recorded_text::bits_text::write_made;
 use recorded_text::fault::Fault;
 use recorded_text::parts::read_numbers;
 use recorded_text::words::Words;
@@ -72,6 +72,7 @@ fn ask<T: NativeType + FromStr<Err: Drop>, E: Comparison<T, T>>(
     }
 }
 
+// Which pairs of two lists pass.
 fn pairs<T: NativeType + FromStr<Err: Drop>, E: Comparison<T, T>>(
     alloc: Global,
     comparison: &E,
@@ -79,13 +80,23 @@ fn pairs<T: NativeType + FromStr<Err: Drop>, E: Comparison<T, T>>(
 ) -> Result<String, Fault> {
     let left = read_numbers::<T>(alloc, words)?;
     let right = read_numbers::<T>(alloc, words)?;
+    write_pairs(alloc, comparison, left.as_slice(), right.as_slice())
+}
+
+// Which pairs pass, where the lists are of one length.
+fn write_pairs<T: NativeType, E: Comparison<T, T>>(
+    alloc: Global,
+    comparison: &E,
+    left: &[T],
+    right: &[T],
+) -> Result<String, Fault> {
     if left.len() != right.len() {
         return Err(Fault::Case);
     }
-    let bits = compare_pairs(alloc, comparison, left.as_slice(), right.as_slice())?;
-    write_bits(alloc, &bits)
+    write_made(alloc, compare_pairs(alloc, comparison, left, right))
 }
 
+// Which pairs of two windows pass.
 fn windows<T: NativeType + FromStr<Err: Drop>, E: Comparison<T, T>>(
     alloc: Global,
     comparison: &E,
@@ -93,17 +104,28 @@ fn windows<T: NativeType + FromStr<Err: Drop>, E: Comparison<T, T>>(
 ) -> Result<String, Fault> {
     let left = read_numbers::<T>(alloc, words)?;
     let left_at = words.read_number()?;
+    with_right(alloc, comparison, left.as_slice(), left_at, words)
+}
+
+// The same, of which the right window is not read yet.
+fn with_right<T: NativeType + FromStr<Err: Drop>, E: Comparison<T, T>>(
+    alloc: Global,
+    comparison: &E,
+    left: &[T],
+    left_at: usize,
+    words: &mut Words,
+) -> Result<String, Fault> {
     let right = read_numbers::<T>(alloc, words)?;
-    let right_at = words.read_number()?;
-    let count = words.read_number()?;
+    let (right_at, count) = (words.read_number()?, words.read_number()?);
     if !is_within(left_at, count, left.len()) || !is_within(right_at, count, right.len()) {
         return Err(Fault::Case);
     }
-    let (left, right) = (left.as_slice(), right.as_slice());
-    let bits = compare_windows(alloc, comparison, left, left_at, right, right_at, count)?;
-    write_bits(alloc, &bits)
+    let right = right.as_slice();
+    let bits = compare_windows(alloc, comparison, left, left_at, right, right_at, count);
+    write_made(alloc, bits)
 }
 
+// Which numbers pass with the last one.
 fn constant<T: NativeType + FromStr<Err: Drop>, E: Comparison<T, T>>(
     alloc: Global,
     comparison: &E,
@@ -111,6 +133,5 @@ fn constant<T: NativeType + FromStr<Err: Drop>, E: Comparison<T, T>>(
 ) -> Result<String, Fault> {
     let left = read_numbers::<T>(alloc, words)?;
     let right = words.read_number()?;
-    let bits = compare_constant(alloc, comparison, left.as_slice(), right)?;
-    write_bits(alloc, &bits)
+    write_made(alloc, compare_constant(alloc, comparison, left.as_slice(), right))
 }

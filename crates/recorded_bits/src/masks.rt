@@ -15,10 +15,10 @@
 
 ghost use Rattle.std.specs.Prelude.{◌≡◌, length, IfOk};
 
-use crate::bits::{is_within, read_bitmap};
+use crate::bits::{is_within, read_bitmap, write_number, write_read};
 use polars_arrays_bits::bit_mask::BitMask;
 use polars_arrays_bits::bitmap::Bitmap;
-use recorded_text::bits_text::write_bits;
+use recorded_text::bits_text::write_made;
 use recorded_text::fault::Fault;
 use recorded_text::words::Words;
 use std::alloc::Global;
@@ -26,19 +26,15 @@ use std::alloc::Global;
 /// The answer to a call on masks, or None for another one's.
 pub fn answer(alloc: Global, call: &str, words: &mut Words) -> Result<Option<String>, Fault> {
     let answer = match call {
+        "mask_not" | "to_bitmap" | "window" | "mask_len" | "mask_unset_bits" | "mask_get"
+        | "all_set" | "all_in_blocks" => of_one(alloc, call, words),
         "mask_and" | "mask_or" | "mask_xor" | "mask_xnor" | "mask_and_not" | "mask_or_not" => {
-            logic(alloc, call, words)?
+            of_two(alloc, call, words)
         }
-        "mask_merge_eq" | "mask_merge_ne" => merge(alloc, call, words)?,
-        "mask_not" | "to_bitmap" => same_length(alloc, call, words)?,
-        "window" => window(alloc, words)?,
-        "mask_len" | "mask_unset_bits" => count(alloc, call, words)?,
-        "mask_get" => bit(alloc, words)?,
-        "all_set" => all_set(alloc, words)?,
-        "all_in_blocks" => blocks(alloc, words)?,
+        "mask_merge_eq" | "mask_merge_ne" => of_three(alloc, call, words),
         _ => return Ok(None),
     };
-    Ok(Some(answer))
+    Ok(Some(answer?))
 }
 
 /// A window of bits, where they have one.
@@ -68,15 +64,15 @@ pub fn combine(
         return Err(Fault::Case);
     }
     let bits = match call {
-        "mask_and" => x.and(alloc, y)?,
-        "mask_or" => x.or(alloc, y)?,
-        "mask_xor" => x.xor(alloc, y)?,
-        "mask_xnor" => x.xnor(alloc, y)?,
-        "mask_and_not" => x.and_not(alloc, y)?,
-        "mask_or_not" => x.or_not(alloc, y)?,
+        "mask_and" => x.and(alloc, y),
+        "mask_or" => x.or(alloc, y),
+        "mask_xor" => x.xor(alloc, y),
+        "mask_xnor" => x.xnor(alloc, y),
+        "mask_and_not" => x.and_not(alloc, y),
+        "mask_or_not" => x.or_not(alloc, y),
         _ => return Err(Fault::Word),
     };
-    Ok(bits)
+    Ok(bits?)
 }
 
 /// The merge of this name of three windows.
@@ -91,11 +87,11 @@ pub fn combine_three(
         return Err(Fault::Case);
     }
     let bits = match call {
-        "mask_merge_eq" => BitMask::merge_eq(alloc, q, l, r)?,
-        "mask_merge_ne" => BitMask::merge_ne(alloc, q, l, r)?,
+        "mask_merge_eq" => BitMask::merge_eq(alloc, q, l, r),
+        "mask_merge_ne" => BitMask::merge_ne(alloc, q, l, r),
         _ => return Err(Fault::Word),
     };
-    Ok(bits)
+    Ok(bits?)
 }
 
 /// Whether the `n` bits of a window from place `at` on are all true.
@@ -119,77 +115,99 @@ pub fn fold_blocks(
     }
 }
 
-fn logic(alloc: Global, call: &str, words: &mut Words) -> Result<String, Fault> {
-    let left = read_bitmap(alloc, words)?;
-    let x = read_window(&left, words)?;
-    let right = read_bitmap(alloc, words)?;
-    let y = read_window(&right, words)?;
-    write_bits(alloc, &combine(alloc, call, &x, &y)?)
-}
-
-fn merge(alloc: Global, call: &str, words: &mut Words) -> Result<String, Fault> {
-    let values = read_bitmap(alloc, words)?;
-    let q = read_window(&values, words)?;
-    let left = read_bitmap(alloc, words)?;
-    let l = read_window(&left, words)?;
-    let right = read_bitmap(alloc, words)?;
-    let r = read_window(&right, words)?;
-    write_bits(alloc, &combine_three(alloc, call, &q, &l, &r)?)
-}
-
-// A bitmap that is as long as a window.
-fn same_length(alloc: Global, call: &str, words: &mut Words) -> Result<String, Fault> {
+// The answer to a call on one window.
+fn of_one(alloc: Global, call: &str, words: &mut Words) -> Result<String, Fault> {
     let bits = read_bitmap(alloc, words)?;
     let mask = read_window(&bits, words)?;
-    let bits = match call {
-        "mask_not" => mask.not(alloc)?,
-        "to_bitmap" => mask.to_bitmap(alloc)?,
-        _ => return Err(Fault::Word),
-    };
-    write_bits(alloc, &bits)
+    ask_one(alloc, call, &mask, words)
 }
 
-fn window(alloc: Global, words: &mut Words) -> Result<String, Fault> {
-    let bits = read_bitmap(alloc, words)?;
-    let mask = read_window(&bits, words)?;
-    let (at, n) = (words.read_number()?, words.read_number()?);
+// What is asked of one window.
+fn ask_one(
+    alloc: Global,
+    call: &str,
+    mask: &BitMask<'_>,
+    words: &mut Words,
+) -> Result<String, Fault> {
+    match call {
+        "mask_not" => write_made(alloc, mask.not(alloc)),
+        "to_bitmap" => write_made(alloc, mask.to_bitmap(alloc)),
+        "mask_len" => write_number(alloc, mask.len()),
+        "mask_unset_bits" => write_number(alloc, mask.unset_bits()),
+        "mask_get" => bit(alloc, mask, words.read_number()?),
+        _ => ask_part(alloc, call, mask, words.read_number()?, words.read_number()?),
+    }
+}
+
+// What is asked of a window and of two numbers: a place and how many bits, or the width and the number of blocks.
+fn ask_part(
+    alloc: Global,
+    call: &str,
+    mask: &BitMask<'_>,
+    first: usize,
+    second: usize,
+) -> Result<String, Fault> {
+    match call {
+        "window" => part(alloc, mask, first, second),
+        "all_set" => Ok(is_all_set(mask, first, second)?.to_string(alloc)?),
+        "all_in_blocks" => write_read(alloc, fold_blocks(alloc, mask, first, second)),
+        _ => Err(Fault::Word),
+    }
+}
+
+// A part of a window, where it has one.
+fn part(alloc: Global, mask: &BitMask<'_>, at: usize, n: usize) -> Result<String, Fault> {
     if !is_within(at, n, mask.len()) {
         return Err(Fault::Case);
     }
-    write_bits(alloc, &mask.window(at, n).to_bitmap(alloc)?)
+    write_made(alloc, mask.window(at, n).to_bitmap(alloc))
 }
 
-fn count(alloc: Global, call: &str, words: &mut Words) -> Result<String, Fault> {
-    let bits = read_bitmap(alloc, words)?;
-    let mask = read_window(&bits, words)?;
-    let counted = match call {
-        "mask_len" => mask.len(),
-        "mask_unset_bits" => mask.unset_bits(),
-        _ => return Err(Fault::Word),
-    };
-    Ok(counted.to_string(alloc)?)
-}
-
-fn bit(alloc: Global, words: &mut Words) -> Result<String, Fault> {
-    let bits = read_bitmap(alloc, words)?;
-    let mask = read_window(&bits, words)?;
-    let i = words.read_number()?;
+// Bit `i`, where there is one.
+fn bit(alloc: Global, mask: &BitMask<'_>, i: usize) -> Result<String, Fault> {
     if i >= mask.len() {
         return Err(Fault::Case);
     }
     Ok(mask.get(i).to_string(alloc)?)
 }
 
-fn all_set(alloc: Global, words: &mut Words) -> Result<String, Fault> {
-    let bits = read_bitmap(alloc, words)?;
-    let mask = read_window(&bits, words)?;
-    let all = is_all_set(&mask, words.read_number()?, words.read_number()?)?;
-    Ok(all.to_string(alloc)?)
+// The answer to a call on two windows.
+fn of_two(alloc: Global, call: &str, words: &mut Words) -> Result<String, Fault> {
+    let left = read_bitmap(alloc, words)?;
+    let x = read_window(&left, words)?;
+    with_second(alloc, call, &x, words)
 }
 
-fn blocks(alloc: Global, words: &mut Words) -> Result<String, Fault> {
-    let bits = read_bitmap(alloc, words)?;
-    let mask = read_window(&bits, words)?;
-    let (width, n) = (words.read_number()?, words.read_number()?);
-    write_bits(alloc, &fold_blocks(alloc, &mask, width, n)?)
+// The answer to a call on two windows, of which the last is not read yet.
+fn with_second(
+    alloc: Global,
+    call: &str,
+    x: &BitMask<'_>,
+    words: &mut Words,
+) -> Result<String, Fault> {
+    let right = read_bitmap(alloc, words)?;
+    let y = read_window(&right, words)?;
+    write_read(alloc, combine(alloc, call, x, &y))
+}
+
+// The answer to a call on three windows.
+fn of_three(alloc: Global, call: &str, words: &mut Words) -> Result<String, Fault> {
+    let values = read_bitmap(alloc, words)?;
+    let q = read_window(&values, words)?;
+    let left = read_bitmap(alloc, words)?;
+    let l = read_window(&left, words)?;
+    with_third(alloc, call, &q, &l, words)
+}
+
+// The answer to a call on three windows, of which the last is not read yet.
+fn with_third(
+    alloc: Global,
+    call: &str,
+    q: &BitMask<'_>,
+    l: &BitMask<'_>,
+    words: &mut Words,
+) -> Result<String, Fault> {
+    let right = read_bitmap(alloc, words)?;
+    let r = read_window(&right, words)?;
+    write_read(alloc, combine_three(alloc, call, q, l, &r))
 }

@@ -68,8 +68,8 @@ fn change(
 ) -> Result<(), Fault> {
     match operation {
         "set" => set(bits, words.read_number()?, read_truth(words)?),
-        "or" => or_assign(alloc, bits, &read_bitmap(alloc, words)?),
-        "and" => and_assign(bits, &read_bitmap(alloc, words)?),
+        "or" => or_assign(bits, read_mutable(alloc, words)),
+        "and" => and_assign(bits, read_bitmap(alloc, words)),
         _ => Err(Fault::Word),
     }
 }
@@ -91,6 +91,12 @@ fn set(bits: &mut MutableBitmap, i: usize, value: bool) -> Result<(), Fault> {
     Ok(())
 }
 
+// The bits that the next word writes, to be changed.
+fn read_mutable(alloc: Global, words: &mut Words) -> Result<MutableBitmap, Fault> {
+    let bits = read_bitmap(alloc, words)?;
+    to_mutable(alloc, &bits)
+}
+
 // The bits of a bitmap, to be changed.
 fn to_mutable(alloc: Global, bits: &Bitmap) -> Result<MutableBitmap, Fault> {
     let mut copy = MutableBitmap::from_len_zeroed(alloc, bits.len())?;
@@ -100,9 +106,12 @@ fn to_mutable(alloc: Global, bits: &Bitmap) -> Result<MutableBitmap, Fault> {
     Ok(copy)
 }
 
-// Each bit becomes true where the other bitmap's is, where they are as long.
-fn or_assign(alloc: Global, bits: &mut MutableBitmap, other: &Bitmap) -> Result<(), Fault> {
-    let other = to_mutable(alloc, other)?;
+// Each bit becomes true where the other's is, where they are as many.
+fn or_assign(
+    bits: &mut MutableBitmap,
+    other: Result<MutableBitmap, Fault>,
+) -> Result<(), Fault> {
+    let other = other?;
     if other.len() != bits.len() {
         return Err(Fault::Case);
     }
@@ -110,11 +119,12 @@ fn or_assign(alloc: Global, bits: &mut MutableBitmap, other: &Bitmap) -> Result<
     Ok(())
 }
 
-// Each bit stays true where the other bitmap's is, where they are as long.
-fn and_assign(bits: &mut MutableBitmap, other: &Bitmap) -> Result<(), Fault> {
+// Each bit stays true where the other's is, where they are as many.
+fn and_assign(bits: &mut MutableBitmap, other: Result<Bitmap, Fault>) -> Result<(), Fault> {
+    let other = other?;
     if other.len() != bits.len() {
         return Err(Fault::Case);
     }
-    bits.and_assign(other);
+    bits.and_assign(&other);
     Ok(())
 }

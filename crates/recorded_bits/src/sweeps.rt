@@ -15,6 +15,7 @@ use crate::{bits, masks};
 use polars_arrays_bits::bit_mask::BitMask;
 use polars_arrays_bits::bitmap::Bitmap;
 use polars_arrays_bits::builder::BitmapBuilder;
+use polars_arrays_bits::error::ComputeError;
 use recorded_text::fault::Fault;
 use recorded_text::words::Words;
 use std::alloc::Global;
@@ -51,6 +52,24 @@ impl Sum {
             self.add(u64::from(bits.get_bit(i)));
         }
     }
+
+    /// Adds the bits that a call made.
+    fn add_made(&mut self, bits: Result<Bitmap, ComputeError>) -> Result<(), Fault> {
+        self.add_bits(&bits?);
+        Ok(())
+    }
+
+    /// Adds bits, where there are some.
+    fn add_found(&mut self, bits: Result<Bitmap, Fault>) -> Result<(), Fault> {
+        self.add_bits(&bits?);
+        Ok(())
+    }
+
+    /// Adds a count.
+    fn add_count(&mut self, count: usize) -> Result<(), Fault> {
+        self.add(count as u64);
+        Ok(())
+    }
 }
 
 /// Bit `i` of a long list with no pattern that words would have.
@@ -82,15 +101,27 @@ fn surrounded(alloc: Global, list: usize, at: usize, n: usize) -> Result<Bitmap,
 
 /// The first `n` bits of a list at each place.
 fn at_each_place(alloc: Global, list: usize, n: usize) -> Result<Places, Fault> {
-    let (mut around, mut cut) = (Vec::new(alloc), Vec::new(alloc));
-    for at in 0..PLACES {
-        let bits = surrounded(alloc, list, at, n)?;
-        let mut window = bits.clone_bitmap(alloc)?;
-        bits::keep(&mut window, at, n)?;
-        around.push(bits)?;
-        cut.push(window)?;
-    }
+    let around = surrounded_each(alloc, list, n)?;
+    let cut = cut_each(alloc, &around, n)?;
     Ok(Places { around, cut })
+}
+
+/// A list in the bitmaps around it.
+fn surrounded_each(alloc: Global, list: usize, n: usize) -> Result<Vec<Bitmap>, Fault> {
+    let mut around = Vec::new(alloc);
+    for at in 0..PLACES {
+        around.push(surrounded(alloc, list, at, n)?)?;
+    }
+    Ok(around)
+}
+
+/// A list cut out of the bitmaps around it.
+fn cut_each(alloc: Global, around: &[Bitmap], n: usize) -> Result<Vec<Bitmap>, Fault> {
+    let mut windows = Vec::new(alloc);
+    for (at, bits) in around.iter().enumerate() {
+        windows.push(bits::cut(alloc, bits, at, n)?)?;
+    }
+    Ok(windows)
 }
 
 /// Three lists of `n` bits, each of them at each place.
@@ -184,15 +215,14 @@ fn add_answer(
     let (x, y, z) = lists.bitmaps(p, q)?;
     match call {
         "and" | "or" | "xor" | "xnor" | "and_not" | "or_not" => {
-            sum.add_bits(&bits::combine(alloc, call, x, y)?);
+            sum.add_found(bits::combine(alloc, call, x, y))
         }
-        "not" => sum.add_bits(&x.not(alloc)?),
-        "merge_eq" | "merge_ne" => sum.add_bits(&bits::combine_three(alloc, call, x, y, z)?),
-        "set_bits" => sum.add(x.set_bits() as u64),
-        "num_intersections_with" => sum.add(bits::count_both(x, y)? as u64),
-        _ => add_mask_answer(alloc, call, lists, p, q, sum)?,
+        "not" => sum.add_made(x.not(alloc)),
+        "merge_eq" | "merge_ne" => sum.add_found(bits::combine_three(alloc, call, x, y, z)),
+        "set_bits" => sum.add_count(x.set_bits()),
+        "num_intersections_with" => sum.add_count(bits::count_both(x, y)?),
+        _ => add_mask_answer(alloc, call, lists, p, q, sum),
     }
-    Ok(())
 }
 
 /// The same for a call on masks.
@@ -206,15 +236,14 @@ fn add_mask_answer(
 ) -> Result<(), Fault> {
     let (x, y, z) = lists.masks(p, q)?;
     match call {
-        "mask_not" => sum.add_bits(&x.not(alloc)?),
-        "to_bitmap" => sum.add_bits(&x.to_bitmap(alloc)?),
-        "mask_unset_bits" => sum.add(x.unset_bits() as u64),
+        "mask_not" => sum.add_made(x.not(alloc)),
+        "to_bitmap" => sum.add_made(x.to_bitmap(alloc)),
+        "mask_unset_bits" => sum.add_count(x.unset_bits()),
         "mask_merge_eq" | "mask_merge_ne" => {
-            sum.add_bits(&masks::combine_three(alloc, call, &x, &y, &z)?);
+            sum.add_found(masks::combine_three(alloc, call, &x, &y, &z))
         }
-        _ => sum.add_bits(&masks::combine(alloc, call, &x, &y)?),
+        _ => sum.add_found(masks::combine(alloc, call, &x, &y)),
     }
-    Ok(())
 }
 
 /// A pattern of 200 truth values with few false ones, in no step with words.
@@ -243,14 +272,19 @@ fn sweep_appended(alloc: Global, n: usize, wide: bool) -> Result<Sum, Fault> {
     bits::keep(&mut values, 0, n)?;
     let mut sum = Sum::new();
     for at in 0..PLACES {
-        let capacity = at.saturating_add(n).saturating_add(1);
-        let mut builder = BitmapBuilder::with_capacity(alloc, capacity)?;
-        fill(&mut builder, at, true)?;
-        push_all(&mut builder, &values, wide)?;
-        push(&mut builder, false)?;
-        sum.add_bits(&builder.freeze());
+        sum.add_found(appended(alloc, at, &values, wide))?;
     }
     Ok(sum)
+}
+
+/// These values behind `at` true ones and before a false one.
+fn appended(alloc: Global, at: usize, values: &Bitmap, wide: bool) -> Result<Bitmap, Fault> {
+    let capacity = at.saturating_add(values.len()).saturating_add(1);
+    let mut builder = BitmapBuilder::with_capacity(alloc, capacity)?;
+    fill(&mut builder, at, true)?;
+    push_all(&mut builder, values, wide)?;
+    push(&mut builder, false)?;
+    Ok(builder.freeze())
 }
 
 /// The blocks of the pattern from each place on.
@@ -260,7 +294,7 @@ fn sweep_blocks(alloc: Global, width: usize, n: usize) -> Result<Sum, Fault> {
     let mut sum = Sum::new();
     for at in 0..PLACES {
         let mask = masks::window_of(&bits, at, len)?;
-        sum.add_bits(&masks::fold_blocks(alloc, &mask, width, n)?);
+        sum.add_found(masks::fold_blocks(alloc, &mask, width, n))?;
     }
     Ok(sum)
 }

@@ -14,7 +14,7 @@ use polars_arrays_flat::array::Array;
 use polars_arrays_nested::any_array::AnyArray;
 use polars_compare_equality::borrowed::{BytesEqKernel, TextEqKernel};
 use polars_compare_order::borrowed::{BytesOrdKernel, TextOrdKernel};
-use recorded_text::bits_text::{write_bits, write_present};
+use recorded_text::bits_text::write_made_present;
 use recorded_text::fault::Fault;
 use recorded_text::parts::read_bytes;
 use recorded_text::store::Store;
@@ -36,20 +36,20 @@ pub fn answer(
     };
     let answer = if let Some(name) = call.strip_prefix("bytes_") {
         match (Equality::named(name), Order::named(name)) {
-            (Some(kernel), _) => bytes_equality(alloc, store, words, kernel)?,
-            (_, Some(kernel)) => bytes_order(alloc, store, words, kernel)?,
+            (Some(kernel), _) => bytes_equality(alloc, store, words, kernel),
+            (_, Some(kernel)) => bytes_order(alloc, store, words, kernel),
             _ => return Ok(None),
         }
     } else if let Some(name) = call.strip_prefix("text_") {
         match (Equality::named(name), Order::named(name)) {
-            (Some(kernel), _) => text_equality(alloc, store, words, kernel)?,
-            (_, Some(kernel)) => text_order(alloc, store, words, kernel)?,
+            (Some(kernel), _) => text_equality(alloc, store, words, kernel),
+            (_, Some(kernel)) => text_order(alloc, store, words, kernel),
             _ => return Ok(None),
         }
     } else {
         return Ok(None);
     };
-    Ok(Some(answer))
+    Ok(Some(answer?))
 }
 
 // Where the rows of an array of byte strings are equal to the one that words write.
@@ -77,16 +77,12 @@ fn equal_to_bytes<A: BytesEqKernel>(
     requires { A.good rows.now }
 {
     let bits = match kernel {
-        Equality::Equal => rows.tot_eq_kernel_broadcast(alloc, bytes)?,
-        Equality::Unequal => rows.tot_ne_kernel_broadcast(alloc, bytes)?,
-        Equality::EqualMissing => {
-            return write_bits(alloc, &rows.tot_eq_missing_kernel_broadcast(alloc, bytes)?);
-        }
-        Equality::UnequalMissing => {
-            return write_bits(alloc, &rows.tot_ne_missing_kernel_broadcast(alloc, bytes)?);
-        }
+        Equality::Equal => rows.tot_eq_kernel_broadcast(alloc, bytes),
+        Equality::Unequal => rows.tot_ne_kernel_broadcast(alloc, bytes),
+        Equality::EqualMissing => rows.tot_eq_missing_kernel_broadcast(alloc, bytes),
+        Equality::UnequalMissing => rows.tot_ne_missing_kernel_broadcast(alloc, bytes),
     };
-    write_present(alloc, &bits, rows.validity(), None)
+    kernel.write(alloc, bits, rows.validity(), None)
 }
 
 // How the rows of an array of byte strings stand to the one that words write.
@@ -114,12 +110,12 @@ fn ordered_beside_bytes<A: BytesOrdKernel>(
     requires { A.good rows.now }
 {
     let bits = match kernel {
-        Order::Less => rows.tot_lt_kernel_broadcast(alloc, bytes)?,
-        Order::LessOrEqual => rows.tot_le_kernel_broadcast(alloc, bytes)?,
-        Order::Greater => rows.tot_gt_kernel_broadcast(alloc, bytes)?,
-        Order::GreaterOrEqual => rows.tot_ge_kernel_broadcast(alloc, bytes)?,
+        Order::Less => rows.tot_lt_kernel_broadcast(alloc, bytes),
+        Order::LessOrEqual => rows.tot_le_kernel_broadcast(alloc, bytes),
+        Order::Greater => rows.tot_gt_kernel_broadcast(alloc, bytes),
+        Order::GreaterOrEqual => rows.tot_ge_kernel_broadcast(alloc, bytes),
     };
-    write_present(alloc, &bits, rows.validity(), None)
+    write_made_present(alloc, bits, rows.validity(), None)
 }
 
 // Where the rows of an array of texts are equal to the one that words write.
@@ -149,16 +145,12 @@ fn equal_to_text<A: TextEqKernel>(
     requires { A.good rows.now }
 {
     let bits = match kernel {
-        Equality::Equal => rows.tot_eq_kernel_broadcast(alloc, text)?,
-        Equality::Unequal => rows.tot_ne_kernel_broadcast(alloc, text)?,
-        Equality::EqualMissing => {
-            return write_bits(alloc, &rows.tot_eq_missing_kernel_broadcast(alloc, text)?);
-        }
-        Equality::UnequalMissing => {
-            return write_bits(alloc, &rows.tot_ne_missing_kernel_broadcast(alloc, text)?);
-        }
+        Equality::Equal => rows.tot_eq_kernel_broadcast(alloc, text),
+        Equality::Unequal => rows.tot_ne_kernel_broadcast(alloc, text),
+        Equality::EqualMissing => rows.tot_eq_missing_kernel_broadcast(alloc, text),
+        Equality::UnequalMissing => rows.tot_ne_missing_kernel_broadcast(alloc, text),
     };
-    write_present(alloc, &bits, rows.validity(), None)
+    kernel.write(alloc, bits, rows.validity(), None)
 }
 
 // How the rows of an array of texts stand to the one that words write.
@@ -188,10 +180,10 @@ fn ordered_beside_text<A: TextOrdKernel>(
     requires { A.good rows.now }
 {
     let bits = match kernel {
-        Order::Less => rows.tot_lt_kernel_broadcast(alloc, text)?,
-        Order::LessOrEqual => rows.tot_le_kernel_broadcast(alloc, text)?,
-        Order::Greater => rows.tot_gt_kernel_broadcast(alloc, text)?,
-        Order::GreaterOrEqual => rows.tot_ge_kernel_broadcast(alloc, text)?,
+        Order::Less => rows.tot_lt_kernel_broadcast(alloc, text),
+        Order::LessOrEqual => rows.tot_le_kernel_broadcast(alloc, text),
+        Order::Greater => rows.tot_gt_kernel_broadcast(alloc, text),
+        Order::GreaterOrEqual => rows.tot_ge_kernel_broadcast(alloc, text),
     };
-    write_present(alloc, &bits, rows.validity(), None)
+    write_made_present(alloc, bits, rows.validity(), None)
 }

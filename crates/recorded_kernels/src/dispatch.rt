@@ -16,7 +16,7 @@ ghost use Rattle.polars_arrays_nested.specs.Lengths.{len_of};
 ghost use Rattle.polars_arrays_nested.specs.Types.{type_of};
 ghost use Rattle.recorded_text.specs.Cases.{HasGoodArrays};
 
-use crate::leaf_kernels::{Always, Never, SeenKernel};
+use crate::leaf_kernels::{Always, Never, SeenKernel, write_seen};
 use polars_arrays_nested::any_array::AnyArray;
 use polars_arrays_numbers::steps::Steps;
 use polars_compare_leaves::joining::Relation;
@@ -27,7 +27,7 @@ use polars_compare_nested::kernels::{
     array_tot_ne_missing_kernel_counted,
 };
 use polars_compare_nested::laws::{law_steps, law_tally};
-use recorded_text::bits_text::write_bits;
+use recorded_text::bits_text::write_made;
 use recorded_text::fault::Fault;
 use recorded_text::store::Store;
 use recorded_text::words::Words;
@@ -50,17 +50,20 @@ pub fn answer(
         "array_tot_eq_missing_kernel_with_steps" => with_steps(alloc, store, words),
         "list_broadcast" => lists(alloc, store, words),
         "fixed_size_list_broadcast" => fixed_size_lists(alloc, store, words),
-        "law_tally" => {
-            law_tally();
-            Ok("holds".to_string(alloc)?)
-        }
-        "law_steps" => {
-            law_steps();
-            Ok("holds".to_string(alloc)?)
-        }
+        "law_tally" | "law_steps" => law(alloc, call),
         _ => return Ok(None),
     };
     Ok(Some(answer?))
+}
+
+// A law, which holds as it is called.
+fn law(alloc: Global, call: &str) -> Result<String, Fault> {
+    if call == "law_tally" {
+        law_tally();
+    } else {
+        law_steps();
+    }
+    Ok("holds".to_string(alloc)?)
 }
 
 // Whether two arrays are of one type and length, as the kernels ask.
@@ -85,11 +88,10 @@ fn missing(
     if !can_compare(left, right) {
         return Err(Fault::Case);
     }
-    let bits = match relation {
-        Relation::Equal => array_tot_eq_missing_kernel(alloc, left, right)?,
-        Relation::Unequal => array_tot_ne_missing_kernel(alloc, left, right)?,
-    };
-    write_bits(alloc, &bits)
+    match relation {
+        Relation::Equal => write_made(alloc, array_tot_eq_missing_kernel(alloc, left, right)),
+        Relation::Unequal => write_made(alloc, array_tot_ne_missing_kernel(alloc, left, right)),
+    }
 }
 
 // The same, and how many comparisons the kernel of leaves made that a last word may name.
@@ -127,13 +129,10 @@ fn counted_by<K: SeenKernel + Drop>(
     }
     let mut kernel = K::new();
     let bits = match relation {
-        Relation::Equal => { array_tot_eq_missing_kernel_counted(alloc, left, right, &mut kernel)? }
-        Relation::Unequal => {
-            array_tot_ne_missing_kernel_counted(alloc, left, right, &mut kernel)?
-        }
+        Relation::Equal => array_tot_eq_missing_kernel_counted(alloc, left, right, &mut kernel),
+        Relation::Unequal => array_tot_ne_missing_kernel_counted(alloc, left, right, &mut kernel),
     };
-    let bits = write_bits(alloc, &bits)?;
-    Ok(format!(in alloc; "{bits} in {} comparisons", kernel.seen())?)
+    write_seen(alloc, bits, kernel.seen())
 }
 
 // The same by the call that takes a counter.
@@ -146,9 +145,8 @@ fn with_steps(alloc: Global, store: &Store, words: &mut Words) -> Result<String,
         return Err(Fault::Case);
     }
     let mut steps = Steps::new();
-    let bits = array_tot_eq_missing_kernel_with_steps(alloc, left, right, &mut steps)?;
-    let bits = write_bits(alloc, &bits)?;
-    Ok(format!(in alloc; "{bits} in {} comparisons", steps.seen())?)
+    let bits = array_tot_eq_missing_kernel_with_steps(alloc, left, right, &mut steps);
+    write_seen(alloc, bits, steps.seen())
 }
 
 // Where lists have for items all rows of an array, in order.
@@ -159,7 +157,7 @@ fn lists(alloc: Global, store: &Store, words: &mut Words) -> Result<String, Faul
     let items = store.read(words)?;
     match lists {
         AnyArray::List(lists) if lists.values().same_type(items) => {
-            write_bits(alloc, &list_broadcast(alloc, lists, items)?)
+            write_made(alloc, list_broadcast(alloc, lists, items))
         }
         _ => Err(Fault::Case),
     }
@@ -173,7 +171,7 @@ fn fixed_size_lists(alloc: Global, store: &Store, words: &mut Words) -> Result<S
     let items = store.read(words)?;
     match lists {
         AnyArray::FixedSizeList(lists) if lists.values().same_type(items) => {
-            write_bits(alloc, &fixed_size_list_broadcast(alloc, lists, items)?)
+            write_made(alloc, fixed_size_list_broadcast(alloc, lists, items))
         }
         _ => Err(Fault::Case),
     }

@@ -12,7 +12,7 @@ use polars_arrays_bits::bitmap::Bitmap;
 use polars_arrays_flat::mask::Mask;
 use polars_arrays_flat::validity::has_bits;
 use polars_compare_leaves::joining::{Relation, join_masks, join_nulls};
-use recorded_text::bits_text::write_bits;
+use recorded_text::bits_text::write_made;
 use recorded_text::fault::Fault;
 use recorded_text::parts::{Kept, read_bits, read_validity};
 use recorded_text::words::Words;
@@ -20,12 +20,10 @@ use std::alloc::Global;
 
 /// The answer to a call of this subject, or None for another one's.
 pub fn answer(alloc: Global, call: &str, words: &mut Words) -> Result<Option<String>, Fault> {
-    let answer = match call {
-        "join_nulls" => nulls(alloc, words),
-        "join_masks" => masks(alloc, words),
-        _ => return Ok(None),
-    };
-    Ok(Some(answer?))
+    match call {
+        "join_nulls" | "join_masks" => Ok(Some(join(alloc, call, words)?)),
+        _ => Ok(None),
+    }
 }
 
 // What the next word says that bits tell.
@@ -47,29 +45,43 @@ fn lent(validity: &Option<Bitmap>) -> Option<BitMask<'_>>
     }
 }
 
-// Raw bits joined with whole validities.
-fn nulls(alloc: Global, words: &mut Words) -> Result<String, Fault> {
+// Raw bits joined with two validities.
+fn join(alloc: Global, call: &str, words: &mut Words) -> Result<String, Fault> {
     let relation = read_relation(words)?;
     let raw = read_bits(alloc, words.read()?)?;
     let left = read_validity(alloc, Kept::Owned, words)?;
     let right = read_validity(alloc, Kept::Owned, words)?;
-    if !has_bits(raw.len(), &left) || !has_bits(raw.len(), &right) {
+    match call {
+        "join_nulls" => nulls(alloc, relation, raw, &left, &right),
+        _ => masks(alloc, relation, raw, &left, &right),
+    }
+}
+
+// Raw bits joined with whole validities.
+fn nulls(
+    alloc: Global,
+    relation: Relation,
+    raw: Bitmap,
+    left: &Option<Bitmap>,
+    right: &Option<Bitmap>,
+) -> Result<String, Fault> {
+    if !has_bits(raw.len(), left) || !has_bits(raw.len(), right) {
         return Err(Fault::Case);
     }
     let (left, right) = (Mask::lent(left.as_ref()), Mask::lent(right.as_ref()));
-    let bits = join_nulls(alloc, relation, raw, &left, &right)?;
-    write_bits(alloc, &bits)
+    write_made(alloc, join_nulls(alloc, relation, raw, &left, &right))
 }
 
 // Raw bits joined with windows of validities.
-fn masks(alloc: Global, words: &mut Words) -> Result<String, Fault> {
-    let relation = read_relation(words)?;
-    let raw = read_bits(alloc, words.read()?)?;
-    let left = read_validity(alloc, Kept::Owned, words)?;
-    let right = read_validity(alloc, Kept::Owned, words)?;
-    if !has_bits(raw.len(), &left) || !has_bits(raw.len(), &right) {
+fn masks(
+    alloc: Global,
+    relation: Relation,
+    raw: Bitmap,
+    left: &Option<Bitmap>,
+    right: &Option<Bitmap>,
+) -> Result<String, Fault> {
+    if !has_bits(raw.len(), left) || !has_bits(raw.len(), right) {
         return Err(Fault::Case);
     }
-    let bits = join_masks(alloc, relation, raw, lent(&left), lent(&right))?;
-    write_bits(alloc, &bits)
+    write_made(alloc, join_masks(alloc, relation, raw, lent(left), lent(right)))
 }

@@ -1,5 +1,11 @@
 //! The kernels of rows, by their names.
 
+use polars_arrays_bits::bitmap::Bitmap;
+use polars_arrays_bits::error::ComputeError;
+use recorded_text::bits_text::{write_made, write_made_present};
+use recorded_text::fault::Fault;
+use std::alloc::Global;
+
 /// A kernel that says where rows are equal, or where they are not; the missing ones decide nulls too.
 #[derive(Clone, Copy)]
 pub enum Equality {
@@ -18,6 +24,20 @@ impl Equality {
             "tot_eq_missing_kernel" => Some(Equality::EqualMissing),
             "tot_ne_missing_kernel" => Some(Equality::UnequalMissing),
             _ => None,
+        }
+    }
+
+    /// The text of its bits. A raw bit is shown where both rows are present.
+    pub fn write(
+        self,
+        alloc: Global,
+        bits: Result<Bitmap, ComputeError>,
+        left: Option<&Bitmap>,
+        right: Option<&Bitmap>,
+    ) -> Result<String, Fault> {
+        match self {
+            Equality::Equal | Equality::Unequal => write_made_present(alloc, bits, left, right),
+            Equality::EqualMissing | Equality::UnequalMissing => write_made(alloc, bits),
         }
     }
 }

@@ -14,7 +14,7 @@ use polars_arrays_flat::array::Array;
 use polars_arrays_nested::any_array::AnyArray;
 use polars_compare_equality::kernel::TotalEqKernel;
 use polars_compare_order::kernel::TotalOrdKernel;
-use recorded_text::bits_text::{write_bits, write_present};
+use recorded_text::bits_text::write_made_present;
 use recorded_text::fault::Fault;
 use recorded_text::store::Store;
 use recorded_text::words::Words;
@@ -30,15 +30,15 @@ pub fn answer(
     requires { HasGoodArrays store.now }
 {
     let answer = if call == "can_compare" {
-        can_compare(alloc, store, words)?
+        can_compare(alloc, store, words)
     } else if let Some(kernel) = Equality::named(call) {
-        equality(alloc, store, words, kernel)?
+        equality(alloc, store, words, kernel)
     } else if let Some(kernel) = Order::named(call) {
-        order(alloc, store, words, kernel)?
+        order(alloc, store, words, kernel)
     } else {
         return Ok(None);
     };
-    Ok(Some(answer))
+    Ok(Some(answer?))
 }
 
 // Whether two arrays of one kind can be compared.
@@ -47,10 +47,18 @@ fn can_compare(alloc: Global, store: &Store, words: &mut Words) -> Result<String
 {
     let these = store.read(words)?;
     let those = store.read(words)?;
-    of_one_kind!(these, those, left, right => Ok(left.can_compare(right).to_string(alloc)?),
+    of_one_kind!(these, those, left, right => write_comparable(alloc, left, right),
         Null Boolean Int8 Int16 Int32 Int64 Int128 UInt8 UInt16 UInt32 UInt64 UInt128
         Binary LargeBinary Utf8 LargeUtf8 BinaryView Utf8View FixedSizeBinary
         List FixedSizeList Struct Dictionary)
+}
+
+// The text of whether two arrays can be compared.
+fn write_comparable<A: TotalEqKernel>(alloc: Global, left: &A, right: &A) -> Result<String, Fault>
+    requires good_left { A.good left.now }
+    requires good_right { A.good right.now }
+{
+    Ok(left.can_compare(right).to_string(alloc)?)
 }
 
 // Where the rows of two arrays of one kind are equal.
@@ -84,16 +92,12 @@ fn equal_rows<A: TotalEqKernel>(
         return Err(Fault::Case);
     }
     let bits = match kernel {
-        Equality::Equal => left.tot_eq_kernel(alloc, right)?,
-        Equality::Unequal => left.tot_ne_kernel(alloc, right)?,
-        Equality::EqualMissing => {
-            return write_bits(alloc, &left.tot_eq_missing_kernel(alloc, right)?);
-        }
-        Equality::UnequalMissing => {
-            return write_bits(alloc, &left.tot_ne_missing_kernel(alloc, right)?);
-        }
+        Equality::Equal => left.tot_eq_kernel(alloc, right),
+        Equality::Unequal => left.tot_ne_kernel(alloc, right),
+        Equality::EqualMissing => left.tot_eq_missing_kernel(alloc, right),
+        Equality::UnequalMissing => left.tot_ne_missing_kernel(alloc, right),
     };
-    write_present(alloc, &bits, left.validity(), right.validity())
+    kernel.write(alloc, bits, left.validity(), right.validity())
 }
 
 // How the rows of two arrays of one kind are ordered.
@@ -121,10 +125,10 @@ fn ordered_rows<A: TotalOrdKernel>(
         return Err(Fault::Case);
     }
     let bits = match kernel {
-        Order::Less => left.tot_lt_kernel(alloc, right)?,
-        Order::LessOrEqual => left.tot_le_kernel(alloc, right)?,
-        Order::Greater => left.tot_gt_kernel(alloc, right)?,
-        Order::GreaterOrEqual => left.tot_ge_kernel(alloc, right)?,
+        Order::Less => left.tot_lt_kernel(alloc, right),
+        Order::LessOrEqual => left.tot_le_kernel(alloc, right),
+        Order::Greater => left.tot_gt_kernel(alloc, right),
+        Order::GreaterOrEqual => left.tot_ge_kernel(alloc, right),
     };
-    write_present(alloc, &bits, left.validity(), right.validity())
+    write_made_present(alloc, bits, left.validity(), right.validity())
 }

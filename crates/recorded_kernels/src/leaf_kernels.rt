@@ -7,6 +7,8 @@ use polars_arrays_bits::error::ComputeError;
 use polars_arrays_nested::any_array::AnyArray;
 use polars_arrays_numbers::steps::Steps;
 use polars_compare_nested::leaf_kernel::LeafKernel;
+use recorded_text::bits_text::write_made;
+use recorded_text::fault::Fault;
 use std::alloc::Global;
 
 /// A kernel of leaves that begins with nothing counted.
@@ -101,4 +103,15 @@ impl SeenKernel for Never {
     fn seen(&self) -> u64 {
         self.steps.seen()
     }
+}
+
+/// The text of bits, and how many comparisons were counted for them.
+pub fn write_seen(
+    alloc: Global,
+    bits: Result<Bitmap, ComputeError>,
+    seen: u64,
+) -> Result<String, Fault> {
+    let mut text = write_made(alloc, bits)?;
+    write!(text, " in {seen} comparisons")?;
+    Ok(text)
 }

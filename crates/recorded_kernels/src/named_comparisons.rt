@@ -14,7 +14,7 @@ use polars_arrays_numbers::comparison::{
 };
 use polars_compare_leaves::booleans::TruthComparison;
 use polars_compare_leaves::bytes::ByteComparison;
-use recorded_text::bits_text::write_bits;
+use recorded_text::bits_text::write_made;
 use recorded_text::fault::Fault;
 use recorded_text::parts::{read_bits, read_bytes};
 use recorded_text::words::Words;
@@ -110,9 +110,10 @@ fn truth_comparison_masks(alloc: Global, words: &mut Words) -> Result<String, Fa
         return Err(Fault::Case);
     }
     let (left, right) = (BitMask::from_bitmap(&left), BitMask::from_bitmap(&right));
-    let bits =
-        with_comparison!(comparison, comparison => comparison.compare_masks(alloc, &left, &right)?);
-    write_bits(alloc, &bits)
+    write_made(
+        alloc,
+        with_comparison!(comparison, comparison => comparison.compare_masks(alloc, &left, &right)),
+    )
 }
 
 // Whether two byte strings pass.

@@ -9,21 +9,25 @@
 //!
 //! A kind that has no broadcast answers `refused: not supported`.
 
+ghost use Rattle.polars_arrays_nested.specs.GoodParts.{IsGood};
 ghost use Rattle.recorded_text.specs.Cases.{HasGoodArrays};
 
 use crate::kernel_names::{Equality, Order};
+use crate::named_kinds::of_kind;
 use polars_arrays_bits::error::ComputeError;
 use polars_arrays_flat::array::Array;
+use polars_arrays_flat::primitive::PrimitiveArray;
 use polars_arrays_nested::any_array::AnyArray;
+use polars_arrays_numbers::native_type::NativeType;
 use polars_compare_equality::kernel::TotalEqKernel;
 use polars_compare_order::kernel::TotalOrdKernel;
-use recorded_text::bits_text::{write_bits, write_present};
+use recorded_text::bits_text::write_made_present;
 use recorded_text::fault::Fault;
 use recorded_text::parts::read_bytes;
 use recorded_text::store::Store;
 use recorded_text::words::Words;
 use std::alloc::Global;
-use std::str::from_utf8;
+use std::str::{FromStr, from_utf8};
 
 /// The answer to a call of this subject, or None for another one's.
 pub fn answer(
@@ -34,20 +38,26 @@ pub fn answer(
 ) -> Result<Option<String>, Fault>
     requires { HasGoodArrays store.now }
 {
-    if call == "can_broadcast" {
-        return Ok(Some(can_broadcast(alloc, store, words)?));
-    }
     let Some(name) = call.strip_suffix("_broadcast") else {
         return Ok(None);
     };
-    let answer = if let Some(kernel) = Equality::named(name) {
-        equality(alloc, store, words, kernel)?
+    let answer = if name == "can" {
+        of_equality(alloc, store, words, Question::CanBroadcast)
+    } else if let Some(kernel) = Equality::named(name) {
+        of_equality(alloc, store, words, Question::Kernel(kernel))
     } else if let Some(kernel) = Order::named(name) {
-        order(alloc, store, words, kernel)?
+        of_order(alloc, store, words, kernel)
     } else {
         return Ok(None);
     };
-    Ok(Some(answer))
+    Ok(Some(answer?))
+}
+
+// What is asked of the rows of an array and a scalar that has an equality.
+#[derive(Clone, Copy)]
+enum Question {
+    CanBroadcast,
+    Kernel(Equality),
 }
 
 // The text that the next word writes by its bytes.
@@ -68,53 +78,109 @@ pub fn read_truth(words: &mut Words) -> Result<bool, Fault> {
     }
 }
 
-// What is asked of an array and of the scalar that is read as its kind wants it, or of another kind of array.
-macro_rules! beside_scalar {
-    ($any:expr, $rows:ident, $scalar:ident => $each:expr,
-        $($read:expr => $($kind:ident)+,)+ $(else $other:expr)?) => {
-        match $any {
-            $($(AnyArray::$kind($rows) => {
-                let $scalar = $read;
-                $each
-            })+)+
-            $(_ => $other,)?
-        }
-    };
-}
-
-// Whether an array can be set against the scalar that words write or name.
-fn can_broadcast(alloc: Global, store: &Store, words: &mut Words) -> Result<String, Fault>
-    requires { HasGoodArrays store.now }
-{
-    let array = store.read(words)?;
-    beside_scalar!(array, rows, scalar => Ok(rows.can_broadcast(scalar).to_string(alloc)?),
-        &read_truth(words)? => Boolean,
-        &words.read_number()? => Int8 Int16 Int32 Int64 Int128 UInt8 UInt16 UInt32 UInt64 UInt128,
-        &read_bytes(alloc, words.read()?)? => Binary LargeBinary BinaryView FixedSizeBinary,
-        &read_text(alloc, words)? => Utf8 LargeUtf8 Utf8View,
-        store.read(words)? => Null List FixedSizeList Struct Dictionary,)
-}
-
-// Where the rows of an array are equal to the scalar that words write or name.
-fn equality(
+// What is asked of an array and of the scalar that words write as its kind wants it, or name.
+fn of_equality(
     alloc: Global,
     store: &Store,
     words: &mut Words,
-    kernel: Equality,
+    question: Question,
 ) -> Result<String, Fault>
     requires { HasGoodArrays store.now }
 {
     let array = store.read(words)?;
-    beside_scalar!(array, rows, scalar => equal_to_scalar(alloc, rows, scalar, kernel),
-        &read_truth(words)? => Boolean,
-        &words.read_number()? => Int8 Int16 Int32 Int64 Int128 UInt8 UInt16 UInt32 UInt64 UInt128,
-        &read_bytes(alloc, words.read()?)? => Binary LargeBinary BinaryView FixedSizeBinary,
-        &read_text(alloc, words)? => Utf8 LargeUtf8 Utf8View,
-        store.read(words)? => Null List FixedSizeList Struct Dictionary,)
+    match array {
+        AnyArray::Boolean(rows) => equal_to_scalar(alloc, rows, &read_truth(words)?, question),
+        AnyArray::Binary(_)
+        | AnyArray::LargeBinary(_)
+        | AnyArray::BinaryView(_)
+        | AnyArray::FixedSizeBinary(_) => equal_to_bytes(alloc, array, words, question),
+        AnyArray::Utf8(_) | AnyArray::LargeUtf8(_) | AnyArray::Utf8View(_) => {
+            equal_to_text(alloc, array, words, question)
+        }
+        AnyArray::Null(_)
+        | AnyArray::List(_)
+        | AnyArray::FixedSizeList(_)
+        | AnyArray::Struct(_)
+        | AnyArray::Dictionary(_) => {
+            equal_to_array(alloc, array, store.read(words)?, question)
+        }
+        _ => of_kind!(array, rows => equal_to_number(alloc, rows, words, question),
+            Int8 Int16 Int32 Int64 Int128 UInt8 UInt16 UInt32 UInt64 UInt128),
+    }
 }
 
-// Where rows are equal to a scalar. A raw bit is shown where the row is present.
+// What is asked of numbers of one type.
+fn equal_to_number<T: NativeType + FromStr<Err: Drop>>(
+    alloc: Global,
+    rows: &PrimitiveArray<T>,
+    words: &mut Words,
+    question: Question,
+) -> Result<String, Fault> {
+    let number: T = words.read_number()?;
+    equal_to_scalar(alloc, rows, &number, question)
+}
+
+// What is asked of byte strings.
+fn equal_to_bytes(
+    alloc: Global,
+    array: &AnyArray,
+    words: &mut Words,
+    question: Question,
+) -> Result<String, Fault>
+    requires { IsGood array.now }
+{
+    let bytes = read_bytes(alloc, words.read()?)?;
+    of_kind!(array, rows => equal_to_scalar(alloc, rows, &bytes, question),
+        Binary LargeBinary BinaryView FixedSizeBinary)
+}
+
+// What is asked of texts.
+fn equal_to_text(
+    alloc: Global,
+    array: &AnyArray,
+    words: &mut Words,
+    question: Question,
+) -> Result<String, Fault>
+    requires { IsGood array.now }
+{
+    let text = read_text(alloc, words)?;
+    of_kind!(array, rows => equal_to_scalar(alloc, rows, &text, question), Utf8 LargeUtf8 Utf8View)
+}
+
+// What is asked of lists of each kind, of structs, dictionaries and nulls.
+fn equal_to_array(
+    alloc: Global,
+    array: &AnyArray,
+    scalar: &AnyArray,
+    question: Question,
+) -> Result<String, Fault>
+    requires good { IsGood array.now }
+    requires good_scalar { IsGood scalar.now }
+{
+    of_kind!(array, rows => equal_to_scalar(alloc, rows, scalar, question),
+        Null List FixedSizeList Struct Dictionary)
+}
+
+// What is asked of rows and a scalar.
 fn equal_to_scalar<A: TotalEqKernel>(
+    alloc: Global,
+    rows: &A,
+    scalar: &A::Scalar,
+    question: Question,
+) -> Result<String, Fault>
+    requires good { A.good rows.now }
+    requires good_scalar { A.good_scalar scalar.now }
+{
+    let can = rows.can_broadcast(scalar);
+    match question {
+        Question::CanBroadcast => Ok(can.to_string(alloc)?),
+        Question::Kernel(kernel) if can => equal_rows(alloc, rows, scalar, kernel),
+        Question::Kernel(_) => Err(Fault::Case),
+    }
+}
+
+// Where rows are equal to a scalar.
+fn equal_rows<A: TotalEqKernel>(
     alloc: Global,
     rows: &A,
     scalar: &A::Scalar,
@@ -122,22 +188,17 @@ fn equal_to_scalar<A: TotalEqKernel>(
 ) -> Result<String, Fault>
     requires good { A.good rows.now }
     requires good_scalar { A.good_scalar scalar.now }
+    requires fits { A.fits rows.now scalar.now }
 {
-    if !rows.can_broadcast(scalar) {
-        return Err(Fault::Case);
-    }
     let bits = match kernel {
         Equality::Equal => rows.tot_eq_kernel_broadcast(alloc, scalar),
         Equality::Unequal => rows.tot_ne_kernel_broadcast(alloc, scalar),
         Equality::EqualMissing => rows.tot_eq_missing_kernel_broadcast(alloc, scalar),
         Equality::UnequalMissing => rows.tot_ne_missing_kernel_broadcast(alloc, scalar),
     };
-    match (kernel, bits) {
-        (_, Err(refused)) => why_refused(alloc, refused),
-        (Equality::Equal | Equality::Unequal, Ok(bits)) => {
-            write_present(alloc, &bits, rows.validity(), None)
-        }
-        (_, Ok(bits)) => write_bits(alloc, &bits),
+    match bits {
+        Err(refused) => why_refused(alloc, refused),
+        bits => kernel.write(alloc, bits, rows.validity(), None),
     }
 }
 
@@ -150,16 +211,63 @@ fn why_refused(alloc: Global, refused: ComputeError) -> Result<String, Fault> {
 }
 
 // How the rows of an array stand to the scalar that words write.
-fn order(alloc: Global, store: &Store, words: &mut Words, kernel: Order) -> Result<String, Fault>
+fn of_order(
+    alloc: Global,
+    store: &Store,
+    words: &mut Words,
+    kernel: Order,
+) -> Result<String, Fault>
     requires { HasGoodArrays store.now }
 {
     let array = store.read(words)?;
-    beside_scalar!(array, rows, scalar => ordered_beside(alloc, rows, scalar, kernel),
-        &read_truth(words)? => Boolean,
-        &words.read_number()? => Int8 Int16 Int32 Int64 Int128 UInt8 UInt16 UInt32 UInt64 UInt128,
-        &read_bytes(alloc, words.read()?)? => Binary LargeBinary BinaryView,
-        &read_text(alloc, words)? => Utf8 LargeUtf8 Utf8View,
-        else Err(Fault::Case))
+    match array {
+        AnyArray::Boolean(rows) => ordered_beside(alloc, rows, &read_truth(words)?, kernel),
+        AnyArray::Binary(_) | AnyArray::LargeBinary(_) | AnyArray::BinaryView(_) => {
+            ordered_beside_bytes(alloc, array, words, kernel)
+        }
+        AnyArray::Utf8(_) | AnyArray::LargeUtf8(_) | AnyArray::Utf8View(_) => {
+            ordered_beside_text(alloc, array, words, kernel)
+        }
+        _ => of_kind!(array, rows => ordered_beside_number(alloc, rows, words, kernel),
+            Int8 Int16 Int32 Int64 Int128 UInt8 UInt16 UInt32 UInt64 UInt128),
+    }
+}
+
+// How numbers of one type stand to the one that words write.
+fn ordered_beside_number<T: NativeType + FromStr<Err: Drop>>(
+    alloc: Global,
+    rows: &PrimitiveArray<T>,
+    words: &mut Words,
+    kernel: Order,
+) -> Result<String, Fault> {
+    let number: T = words.read_number()?;
+    ordered_beside(alloc, rows, &number, kernel)
+}
+
+// How byte strings stand to the one that words write.
+fn ordered_beside_bytes(
+    alloc: Global,
+    array: &AnyArray,
+    words: &mut Words,
+    kernel: Order,
+) -> Result<String, Fault>
+    requires { IsGood array.now }
+{
+    let bytes = read_bytes(alloc, words.read()?)?;
+    of_kind!(array, rows => ordered_beside(alloc, rows, &bytes, kernel), Binary LargeBinary BinaryView)
+}
+
+// How texts stand to the one that words write.
+fn ordered_beside_text(
+    alloc: Global,
+    array: &AnyArray,
+    words: &mut Words,
+    kernel: Order,
+) -> Result<String, Fault>
+    requires { IsGood array.now }
+{
+    let text = read_text(alloc, words)?;
+    of_kind!(array, rows => ordered_beside(alloc, rows, &text, kernel), Utf8 LargeUtf8 Utf8View)
 }
 
 // How rows stand to a scalar. A bit is shown where the row is present.
@@ -172,10 +280,10 @@ fn ordered_beside<A: TotalOrdKernel>(
     requires { A.good rows.now }
 {
     let bits = match kernel {
-        Order::Less => rows.tot_lt_kernel_broadcast(alloc, scalar)?,
-        Order::LessOrEqual => rows.tot_le_kernel_broadcast(alloc, scalar)?,
-        Order::Greater => rows.tot_gt_kernel_broadcast(alloc, scalar)?,
-        Order::GreaterOrEqual => rows.tot_ge_kernel_broadcast(alloc, scalar)?,
+        Order::Less => rows.tot_lt_kernel_broadcast(alloc, scalar),
+        Order::LessOrEqual => rows.tot_le_kernel_broadcast(alloc, scalar),
+        Order::Greater => rows.tot_gt_kernel_broadcast(alloc, scalar),
+        Order::GreaterOrEqual => rows.tot_ge_kernel_broadcast(alloc, scalar),
     };
-    write_present(alloc, &bits, rows.validity(), None)
+    write_made_present(alloc, bits, rows.validity(), None)
 }

@@ -14,7 +14,7 @@ ghost use Rattle.recorded_text.specs.Cases.{HasGoodArrays};
 use crate::named_comparisons::{NamedComparison, with_comparison};
 use crate::named_kinds::{of_kind, of_one_kind};
 use crate::scalars::read_truth;
-use crate::view_rows::as_views;
+use crate::view_rows::{as_views, write_followed};
 use crate::windows::{Windows, is_within, read_windows};
 use polars_arrays_flat::array::Array;
 use polars_arrays_flat::byte_rows::ByteRows;
@@ -30,7 +30,7 @@ use polars_compare_leaves::bytes::{compare_byte_windows, compare_bytes};
 use polars_compare_leaves::numbers::{compare_number, compare_number_windows};
 use polars_compare_nested::sized::compare_sized_windows;
 use polars_compare_views::windows::{compare_view_bytes, compare_view_windows};
-use recorded_text::bits_text::write_bits;
+use recorded_text::bits_text::write_made;
 use recorded_text::fault::Fault;
 use recorded_text::parts::read_bytes;
 use recorded_text::store::Store;
@@ -84,9 +84,7 @@ fn numbers<T: NativeType>(
     if !is_within(a, n, left.len()) || !is_within(b, n, right.len()) {
         return Err(Fault::Case);
     }
-    let bits =
-        with_comparison!(comparison, comparison => compare_number_windows(alloc, comparison, left, a, right, b, n)?);
-    write_bits(alloc, &bits)
+    write_made(alloc, with_comparison!(comparison, comparison => compare_number_windows(alloc, comparison, left, a, right, b, n)))
 }
 
 // Which truth values of two windows pass.
@@ -104,9 +102,7 @@ fn truth_windows(alloc: Global, store: &Store, words: &mut Words) -> Result<Stri
     let (AnyArray::Boolean(left), AnyArray::Boolean(right)) = (left, right) else {
         return Err(Fault::Case);
     };
-    let bits =
-        with_comparison!(comparison, comparison => compare_truth_windows(alloc, comparison, left, a, right, b, n)?);
-    write_bits(alloc, &bits)
+    write_made(alloc, with_comparison!(comparison, comparison => compare_truth_windows(alloc, comparison, left, a, right, b, n)))
 }
 
 // Which byte strings of two windows pass. Those of a binary array may be set against text views too.
@@ -138,9 +134,7 @@ fn strings<L: ByteRows, R: ByteRows>(
     if !is_within(a, n, left.count()) || !is_within(b, n, right.count()) {
         return Err(Fault::Case);
     }
-    let bits =
-        with_comparison!(comparison, comparison => compare_byte_windows(alloc, comparison, left, a, right, b, n)?);
-    write_bits(alloc, &bits)
+    write_made(alloc, with_comparison!(comparison, comparison => compare_byte_windows(alloc, comparison, left, a, right, b, n)))
 }
 
 // Which byte strings of one size each pass, in two windows.
@@ -161,9 +155,7 @@ fn sized_windows(alloc: Global, store: &Store, words: &mut Words) -> Result<Stri
     if !is_within(a, n, left.count()) || !is_within(b, n, right.count()) {
         return Err(Fault::Case);
     }
-    let bits =
-        with_comparison!(comparison, comparison => compare_sized_windows(alloc, comparison, left, a, right, b, n)?);
-    write_bits(alloc, &bits)
+    write_made(alloc, with_comparison!(comparison, comparison => compare_sized_windows(alloc, comparison, left, a, right, b, n)))
 }
 
 // Which byte strings kept by views pass, in two windows, and how many pairs are looked up in buffers.
@@ -185,10 +177,9 @@ fn view_windows(alloc: Global, store: &Store, words: &mut Words) -> Result<Strin
     let mut steps = Steps::new();
     let followed = &mut steps;
     let bits = with_comparison!(comparison, comparison => {
-        compare_view_windows(alloc, comparison, left, a, right, b, n, followed)?
+        compare_view_windows(alloc, comparison, left, a, right, b, n, followed)
     });
-    let bits = write_bits(alloc, &bits)?;
-    Ok(format!(in alloc; "{bits} in {}", steps.seen())?)
+    write_followed(alloc, bits, &steps)
 }
 
 // Which numbers of an array pass with the one that words write.
@@ -209,9 +200,7 @@ fn numbers_beside<T: NativeType + FromStr<Err: Drop>>(
     words: &mut Words,
 ) -> Result<String, Fault> {
     let number: T = words.read_number()?;
-    let bits =
-        with_comparison!(comparison, comparison => compare_number(alloc, comparison, numbers, number)?);
-    write_bits(alloc, &bits)
+    write_made(alloc, with_comparison!(comparison, comparison => compare_number(alloc, comparison, numbers, number)))
 }
 
 // Which truth values of an array pass with the one that words write.
@@ -223,9 +212,7 @@ fn truth(alloc: Global, store: &Store, words: &mut Words) -> Result<String, Faul
         return Err(Fault::Case);
     };
     let truth = read_truth(words)?;
-    let bits =
-        with_comparison!(comparison, comparison => compare_truth(alloc, comparison, truths, truth)?);
-    write_bits(alloc, &bits)
+    write_made(alloc, with_comparison!(comparison, comparison => compare_truth(alloc, comparison, truths, truth)))
 }
 
 // Which byte strings of an array pass with the one that words write.
@@ -246,9 +233,7 @@ fn strings_beside<L: ByteRows>(
     strings: &L,
     bytes: &[u8],
 ) -> Result<String, Fault> {
-    let bits =
-        with_comparison!(comparison, comparison => compare_bytes(alloc, comparison, strings, bytes)?);
-    write_bits(alloc, &bits)
+    write_made(alloc, with_comparison!(comparison, comparison => compare_bytes(alloc, comparison, strings, bytes)))
 }
 
 // Which byte strings kept by views pass with the one that words write.
@@ -258,7 +243,5 @@ fn view_bytes(alloc: Global, store: &Store, words: &mut Words) -> Result<String,
     let comparison = NamedComparison::read(words)?;
     let views = as_views(store.read(words)?)?;
     let bytes = read_bytes(alloc, words.read()?)?;
-    let bits =
-        with_comparison!(comparison, comparison => compare_view_bytes(alloc, comparison, views, &bytes)?);
-    write_bits(alloc, &bits)
+    write_made(alloc, with_comparison!(comparison, comparison => compare_view_bytes(alloc, comparison, views, &bytes)))
 }

@@ -14,6 +14,8 @@ ghost use Rattle.recorded_text.specs.Cases.{HasGoodArrays};
 
 use crate::named_comparisons::{NamedComparison, with_comparison};
 use crate::named_kinds::of_one_kind;
+use polars_arrays_bits::bitmap::Bitmap;
+use polars_arrays_bits::error::ComputeError;
 use polars_arrays_nested::any_array::AnyArray;
 use polars_arrays_numbers::comparison::{
     Equal, Greater, GreaterOrEqual, Less, LessOrEqual, Unequal,
@@ -26,7 +28,7 @@ use polars_arrays_views::rows::{
 use polars_arrays_views::scalar::ScalarRow;
 use polars_compare_views::followed::FollowedKernel;
 use polars_compare_views::view_comparison::ViewComparison;
-use recorded_text::bits_text::write_bits;
+use recorded_text::bits_text::write_made;
 use recorded_text::fault::Fault;
 use recorded_text::parts::read_bytes;
 use recorded_text::store::Store;
@@ -87,6 +89,17 @@ fn read_row<'a>(store: &'a Store, words: &mut Words) -> Result<(&'a BinaryViewAr
 // A truth value, and how many pairs were looked up for it.
 fn write_counted(alloc: Global, truth: bool, steps: &Steps) -> Result<String, Fault> {
     Ok(format!(in alloc; "{truth} in {}", steps.seen())?)
+}
+
+/// The text of bits, and how many pairs were looked up for them.
+pub fn write_followed(
+    alloc: Global,
+    bits: Result<Bitmap, ComputeError>,
+    steps: &Steps,
+) -> Result<String, Fault> {
+    let mut text = write_made(alloc, bits)?;
+    write!(text, " in {}", steps.seen())?;
+    Ok(text)
 }
 
 // Whether two rows are equal.
@@ -183,9 +196,8 @@ fn equal_rows<A: FollowedKernel>(alloc: Global, left: &A, right: &A) -> Result<S
         return Err(Fault::Case);
     }
     let mut steps = Steps::new();
-    let bits = left.tot_eq_kernel_followed(alloc, right, &mut steps)?;
-    let bits = write_bits(alloc, &bits)?;
-    Ok(format!(in alloc; "{bits} in {}", steps.seen())?)
+    let bits = left.tot_eq_kernel_followed(alloc, right, &mut steps);
+    write_followed(alloc, bits, &steps)
 }
 
 // Where the stored rows of an array are less than those of another.
@@ -203,9 +215,8 @@ fn less_rows<A: FollowedKernel>(alloc: Global, left: &A, right: &A) -> Result<St
         return Err(Fault::Case);
     }
     let mut steps = Steps::new();
-    let bits = left.tot_lt_kernel_followed(alloc, right, &mut steps)?;
-    let bits = write_bits(alloc, &bits)?;
-    Ok(format!(in alloc; "{bits} in {}", steps.seen())?)
+    let bits = left.tot_lt_kernel_followed(alloc, right, &mut steps);
+    write_followed(alloc, bits, &steps)
 }
 
 // How many pairs equality and order look up.

@@ -14,14 +14,15 @@ ghost use Rattle.polars_compare_nested.specs.Leaf.{is_leaf};
 ghost use Rattle.recorded_text.specs.Cases.{HasGoodArrays};
 ghost use Rattle.recorded_kernels.specs.Windows.{AreWindows};
 
-use crate::leaf_kernels::{Always, Never, SeenKernel};
+use crate::leaf_kernels::{Always, Never, SeenKernel, write_seen};
 use polars_arrays_bits::bitmap::Bitmap;
+use polars_arrays_bits::error::ComputeError;
 use polars_arrays_nested::any_array::AnyArray;
 use polars_arrays_numbers::steps::Steps;
 use polars_compare_nested::windows::{
     dictionary_windows, equal_windows, fixed_size_list_windows, list_windows, struct_windows,
 };
-use recorded_text::bits_text::{is_null, write_bits};
+use recorded_text::bits_text::is_null;
 use recorded_text::fault::Fault;
 use recorded_text::store::Store;
 use recorded_text::words::Words;
@@ -77,13 +78,13 @@ pub fn answer(
     };
     let windows = read_windows(store, words)?;
     let answer = if words.take("always") {
-        compare::<Always>(alloc, call, windows)?
+        compare::<Always>(alloc, call, windows)
     } else if words.take("never") {
-        compare::<Never>(alloc, call, windows)?
+        compare::<Never>(alloc, call, windows)
     } else {
-        compare::<Steps>(alloc, call, windows)?
+        compare::<Steps>(alloc, call, windows)
     };
-    Ok(Some(answer))
+    Ok(Some(answer?))
 }
 
 /// The windows that words write, which lie within the arrays that they name.
@@ -137,27 +138,40 @@ fn compare<K: SeenKernel + Drop>(
     let mut kernel = K::new();
     let steps = &mut kernel;
     let bits = match (call, left, right) {
-        (Call::Equal, _, _) => equal_windows(alloc, left, a, right, b, n, steps)?,
-        (Call::Leaf, _, _) if has_leaves(left) => steps.leaf_eq(alloc, left, a, right, b, n)?,
+        (Call::Equal, _, _) => equal_windows(alloc, left, a, right, b, n, steps),
+        (Call::Leaf, _, _) if has_leaves(left) => steps.leaf_eq(alloc, left, a, right, b, n),
         (Call::List, AnyArray::List(left), AnyArray::List(right)) => {
-            list_windows(alloc, left, a, right, b, n, steps)?
+            list_windows(alloc, left, a, right, b, n, steps)
         }
         (Call::FixedSizeList, AnyArray::FixedSizeList(left), AnyArray::FixedSizeList(right)) => {
-            fixed_size_list_windows(alloc, left, a, right, b, n, steps)?
+            fixed_size_list_windows(alloc, left, a, right, b, n, steps)
         }
         (Call::Struct, AnyArray::Struct(left), AnyArray::Struct(right)) => {
-            struct_windows(alloc, left, a, right, b, n, steps)?
+            struct_windows(alloc, left, a, right, b, n, steps)
         }
         (Call::Dictionary, AnyArray::Dictionary(left), AnyArray::Dictionary(right)) => {
-            dictionary_windows(alloc, left, a, right, b, n, steps)?
+            dictionary_windows(alloc, left, a, right, b, n, steps)
         }
         _ => return Err(Fault::Case),
     };
-    let bits = match call {
-        Call::Equal => write_bits(alloc, &bits)?,
-        _ => write_raw(alloc, &bits, windows)?,
-    };
-    Ok(format!(in alloc; "{bits} in {} comparisons", kernel.seen())?)
+    match call {
+        Call::Equal => write_seen(alloc, bits, kernel.seen()),
+        _ => write_raw_seen(alloc, bits, windows, kernel.seen()),
+    }
+}
+
+// The text of raw bits of two windows, and how many comparisons were counted for them.
+fn write_raw_seen(
+    alloc: Global,
+    bits: Result<Bitmap, ComputeError>,
+    windows: Windows,
+    seen: u64,
+) -> Result<String, Fault>
+    requires { AreWindows windows }
+{
+    let mut text = write_raw(alloc, &bits?, windows)?;
+    write!(text, " in {seen} comparisons")?;
+    Ok(text)
 }
 
 // Whether an array has leaves for rows.

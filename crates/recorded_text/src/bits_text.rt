@@ -2,6 +2,7 @@
 
 use crate::fault::Fault;
 use polars_arrays_bits::bitmap::Bitmap;
+use polars_arrays_bits::error::ComputeError;
 use std::alloc::Global;
 
 /// A bit as a digit.
@@ -20,11 +21,22 @@ pub fn is_null(validity: Option<&Bitmap>, i: usize) -> bool {
 /// The text of bits: `b0:` and a digit for each.
 pub fn write_bits(alloc: Global, bits: &Bitmap) -> Result<String, Fault> {
     let mut text = String::new(alloc);
+    push_bits(&mut text, bits)?;
+    Ok(text)
+}
+
+/// The text of the bits that a call made.
+pub fn write_made(alloc: Global, bits: Result<Bitmap, ComputeError>) -> Result<String, Fault> {
+    write_bits(alloc, &bits?)
+}
+
+/// Adds the text of bits to a text.
+pub fn push_bits(text: &mut String, bits: &Bitmap) -> Result<(), Fault> {
     text.push_str("b0:")?;
     for i in 0..bits.len() {
         text.push(digit(bits.get_bit(i)))?;
     }
-    Ok(text)
+    Ok(())
 }
 
 /// The text of bits that say something only where no validity masks the row: `b0:` and a digit for each, or
@@ -38,11 +50,23 @@ pub fn write_present(
     let mut text = String::new(alloc);
     text.push_str("b0:")?;
     for i in 0..bits.len() {
-        if is_null(left, i) || is_null(right, i) {
-            text.push('x')?;
-        } else {
-            text.push(digit(bits.get_bit(i)))?;
-        }
+        let masked = is_null(left, i) || is_null(right, i);
+        text.push(digit_or_mask(bits.get_bit(i), masked))?;
     }
     Ok(text)
+}
+
+/// A bit as a digit, or `x` for a masked row.
+fn digit_or_mask(bit: bool, masked: bool) -> char {
+    if masked { 'x' } else { digit(bit) }
+}
+
+/// The same of the bits that a call made.
+pub fn write_made_present(
+    alloc: Global,
+    bits: Result<Bitmap, ComputeError>,
+    left: Option<&Bitmap>,
+    right: Option<&Bitmap>,
+) -> Result<String, Fault> {
+    write_present(alloc, &bits?, left, right)
 }

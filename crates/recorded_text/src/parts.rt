@@ -100,8 +100,12 @@ pub fn read_validity(
     if word == "-" {
         return Ok(None);
     }
-    let bits = kept.bits(alloc, read_bits(alloc, word)?)?;
-    Ok(Some(bits))
+    Ok(Some(read_kept(alloc, kept, word)?))
+}
+
+/// The bits that a word writes, kept so.
+pub fn read_kept(alloc: Global, kept: Kept, word: &str) -> Result<Bitmap, Fault> {
+    kept.bits(alloc, read_bits(alloc, word)?)
 }
 
 /// What a hexadecimal digit is worth.
