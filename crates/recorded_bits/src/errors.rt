@@ -9,15 +9,21 @@ use polars_arrays_bits::error::{ArrayError, ComputeError};
 use recorded_text::fault::Fault;
 use recorded_text::words::Words;
 use std::alloc::{AllocError, Global};
+use std::fmt::Display;
 
 /// The answer to a call on errors, or None for another one's.
 pub fn answer(alloc: Global, call: &str, words: &mut Words) -> Result<Option<String>, Fault> {
     let text = match call {
-        "compute_error" => read_compute_error(words)?.to_string(alloc)?,
-        "array_error" => read_array_error(words)?.to_string(alloc)?,
+        "compute_error" => write_error(alloc, read_compute_error(words)),
+        "array_error" => write_error(alloc, read_array_error(words)),
         _ => return Ok(None),
     };
-    Ok(Some(text))
+    Ok(Some(text?))
+}
+
+// The text of an error, where the words name one.
+fn write_error<E: Display + Drop>(alloc: Global, error: Result<E, Fault>) -> Result<String, Fault> {
+    Ok(error?.to_string(alloc)?)
 }
 
 fn read_compute_error(words: &mut Words) -> Result<ComputeError, Fault> {

@@ -28,15 +28,33 @@ pub fn answer(
     words: &mut Words,
 ) -> Result<Option<String>, Fault> {
     let answer = match call {
-        "line" => answer_text(alloc, text)?,
-        "line_bytes" => answer_bytes(alloc, words)?,
-        "run" => answer_run(alloc, words)?,
-        "command" => command_name(command(&split_arguments(alloc, text)?)).to_string(alloc)?,
-        "exit_status" => exit_status(&read_outcome(words)?).to_string(alloc)?,
-        "fault_text" => fault_text(&read_fault(words.read()?)?).to_string(alloc)?,
+        "line" => answer_text(alloc, text),
+        "line_bytes" => answer_bytes(alloc, words),
+        "run" => answer_run(alloc, words),
+        "command" => answer_command(alloc, text),
+        "exit_status" => answer_status(alloc, words),
+        "fault_text" => answer_fault(alloc, words),
         _ => return Ok(None),
     };
-    Ok(Some(answer))
+    Ok(Some(answer?))
+}
+
+/// What arguments ask for.
+fn answer_command(alloc: Global, text: &str) -> Result<String, Fault> {
+    let arguments = split_arguments(alloc, text)?;
+    Ok(command_name(command(&arguments)).to_string(alloc)?)
+}
+
+/// The status after a run.
+fn answer_status(alloc: Global, words: &mut Words) -> Result<String, Fault> {
+    let outcome = read_outcome(words)?;
+    Ok(exit_status(&outcome).to_string(alloc)?)
+}
+
+/// What is printed where a run stopped.
+fn answer_fault(alloc: Global, words: &mut Words) -> Result<String, Fault> {
+    let fault = read_fault(words.read()?)?;
+    Ok(fault_text(&fault).to_string(alloc)?)
 }
 
 /// What a line is answered.
@@ -62,21 +80,27 @@ fn answer_bytes(alloc: Global, words: &mut Words) -> Result<String, Fault> {
 fn answer_run(alloc: Global, words: &mut Words) -> Result<String, Fault> {
     let input = read_bytes(alloc, words.read()?)?;
     let mut written = Vec::new(alloc);
-    let Ok(report) = run(alloc, &mut input.as_slice(), &mut written) else {
-        return Err(Fault::Memory);
-    };
-    let written = hexadecimal(alloc, &written)?;
+    match run(alloc, &mut input.as_slice(), &mut written) {
+        Ok(report) => write_run(alloc, report, &written),
+        Err(_) => Err(Fault::Memory),
+    }
+}
+
+/// What a run reports, and the bytes that it wrote.
+fn write_run(alloc: Global, report: Report, written: &[u8]) -> Result<String, Fault> {
     let Report { lines, refused } = report;
-    Ok(format!(in alloc; "lines {lines} refused {refused} x{written}")?)
+    let mut text = String::new(alloc);
+    write!(text, "lines {lines} refused {refused} x")?;
+    push_hexadecimal(&mut text, written)?;
+    Ok(text)
 }
 
 /// Two hexadecimal digits for each byte.
-fn hexadecimal(alloc: Global, bytes: &[u8]) -> Result<String, AllocError> {
-    let mut text = String::new(alloc);
+fn push_hexadecimal(text: &mut String, bytes: &[u8]) -> Result<(), AllocError> {
     for byte in bytes {
         write!(text, "{byte:02x}")?;
     }
-    Ok(text)
+    Ok(())
 }
 
 /// The arguments that a text has, parted by one space.

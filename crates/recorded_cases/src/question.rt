@@ -25,11 +25,24 @@ pub fn answer_line(alloc: Global, store: &mut Store, line: &str) -> Result<Optio
     }
     let words: Vec<&str> = line.split(' ').collect(alloc)?;
     let mut words = Words::new(&words);
+    answer_words(alloc, store, line, &mut words)
+}
+
+// The answer to a line of these words.
+fn answer_words(
+    alloc: Global,
+    store: &mut Store,
+    line: &str,
+    words: &mut Words,
+) -> Result<Option<String>, Fault>
+    requires { HasGoodArrays store.old }
+    ensures { HasGoodArrays store.new }
+{
     let first = words.read()?;
     if words.take("=") {
-        return define(alloc, store, first, &mut words);
+        return define(alloc, store, first, words);
     }
-    let answer = answer_question(alloc, store, line, first, &mut words)?;
+    let answer = answer_question(alloc, store, line, first, words)?;
     Ok(Some(format!(in alloc; "{line} -> {answer}")?))
 }
 
