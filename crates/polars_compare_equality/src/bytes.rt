@@ -4,7 +4,7 @@ ghost use Rattle.std.specs.Prelude.{◌≡◌, ◌*◌, true, length, ⊤};
 ghost use Rattle.polars_arrays_bytes.specs.OffsetStrings.{offset_strings};
 ghost use Rattle.polars_arrays_bytes.specs.SizedStrings.{sized_strings};
 ghost use Rattle.polars_arrays_flat.specs.Row.{Bytes};
-ghost use Rattle.polars_compare_equality.specs.Slots.{byte_slots-as_long};
+ghost use Rattle.polars_compare_equality.specs.SlotsLaws.{byte_slots-as_long};
 
 use crate::borrowed::BytesEqKernel;
 use crate::kernel::TotalEqKernel;

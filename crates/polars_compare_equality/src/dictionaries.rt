@@ -5,7 +5,7 @@ ghost use Rattle.polars_arrays_nested.specs.Lengths.{len_of};
 ghost use Rattle.polars_arrays_nested.specs.StoredRows.{stored_entry};
 ghost use Rattle.polars_arrays_nested.specs.Types.{type_of};
 ghost use Rattle.polars_arrays_nested.specs.declared.any_array.AnyArray.{Dictionary};
-ghost use Rattle.polars_compare_equality.specs.Slots.{listed-as_long};
+ghost use Rattle.polars_compare_equality.specs.SlotsLaws.{listed-as_long};
 ghost use Rattle.polars_compare_nested.specs.Broadcasts.{all_rows};
 
 use crate::kernel::TotalEqKernel;

@@ -7,7 +7,7 @@ ghost use Rattle.polars_arrays_nested.specs.Parts.{fixed_values};
 ghost use Rattle.polars_arrays_nested.specs.StoredRows.{stored_fixed_list};
 ghost use Rattle.polars_arrays_nested.specs.Types.{type_of};
 ghost use Rattle.polars_arrays_nested.specs.declared.any_array.AnyArray.{FixedSizeList};
-ghost use Rattle.polars_compare_equality.specs.Slots.{listed-as_long};
+ghost use Rattle.polars_compare_equality.specs.SlotsLaws.{listed-as_long};
 ghost use Rattle.polars_compare_nested.specs.Broadcasts.{all_rows};
 
 use crate::kernel::TotalEqKernel;

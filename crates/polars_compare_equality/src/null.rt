@@ -1,7 +1,7 @@
 //! Equality of arrays of nulls.
 
 ghost use Rattle.std.specs.Prelude.{◌≡◌, false, ⊤};
-ghost use Rattle.polars_compare_equality.specs.Slots.{null_slots-as_long};
+ghost use Rattle.polars_compare_equality.specs.SlotsLaws.{null_slots-as_long};
 ghost use Rattle.polars_compare_nested.specs.Broadcasts.{all_rows};
 
 use crate::kernel::TotalEqKernel;

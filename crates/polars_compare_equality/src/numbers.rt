@@ -2,7 +2,7 @@
 
 ghost use Rattle.std.specs.Prelude.{◌≡◌, true, length, ⊤};
 ghost use Rattle.polars_arrays_flat.specs.Row.{Int};
-ghost use Rattle.polars_compare_equality.specs.Slots.{number_slots-as_long};
+ghost use Rattle.polars_compare_equality.specs.SlotsLaws.{number_slots-as_long};
 
 use crate::kernel::TotalEqKernel;
 use polars_arrays_bits::bitmap::Bitmap;

@@ -4,7 +4,7 @@ ghost use Rattle.std.specs.Prelude.{◌≡◌, false, ⊤};
 ghost use Rattle.polars_arrays_nested.specs.Lengths.{len_of};
 ghost use Rattle.polars_arrays_nested.specs.StoredRows.{stored_struct};
 ghost use Rattle.polars_arrays_nested.specs.declared.any_array.AnyArray.{Struct};
-ghost use Rattle.polars_compare_equality.specs.Slots.{listed-as_long};
+ghost use Rattle.polars_compare_equality.specs.SlotsLaws.{listed-as_long};
 ghost use Rattle.polars_compare_nested.specs.Broadcasts.{all_rows};
 
 use crate::kernel::TotalEqKernel;

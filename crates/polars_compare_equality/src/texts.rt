@@ -3,7 +3,7 @@
 ghost use Rattle.std.specs.Prelude.{◌≡◌, true, length, string_bytes, ⊤};
 ghost use Rattle.polars_arrays_bytes.specs.OffsetStrings.{offset_strings};
 ghost use Rattle.polars_arrays_flat.specs.Row.{Bytes};
-ghost use Rattle.polars_compare_equality.specs.Slots.{byte_slots-as_long};
+ghost use Rattle.polars_compare_equality.specs.SlotsLaws.{byte_slots-as_long};
 
 use crate::borrowed::TextEqKernel;
 use crate::kernel::TotalEqKernel;

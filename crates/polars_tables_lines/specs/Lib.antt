@@ -1,8 +1,9 @@
 pub mod Tables
 pub mod Types
 pub mod Word
-pub mod Parsing
+pub mod ParsingLaws
 pub mod Stored
+pub mod StoredLaws
 pub mod Operations
 pub mod Comparing
 pub mod Faults

@@ -7,8 +7,9 @@ ghost use Rattle.polars_arrays_flat.specs.Row.{Row, Int, Truth};
 ghost use Rattle.polars_arrays_flat.specs.StoredRows.{masked, number_slots, row, rows_under, truth_slots};
 ghost use Rattle.polars_tables_lines.specs.declared.row_type.RowType.{RowType};
 ghost use Rattle.polars_tables_lines.specs.declared.row_type.RowType.TheVariants.{Boolean};
-ghost use Rattle.polars_tables_lines.specs.Parsing.{truth_row};
-ghost use Rattle.polars_tables_lines.specs.Stored.{AreValues, StoresValues, as_long, numbers_are_values, stores-map, truths_are_values};
+ghost use Rattle.polars_tables_lines.specs.ParsingLaws.{truth_row};
+ghost use Rattle.polars_tables_lines.specs.Stored.{AreValues, StoresValues};
+ghost use Rattle.polars_tables_lines.specs.StoredLaws.{as_long, numbers_are_values, stores-map, truths_are_values};
 ghost use Rattle.polars_tables_lines.specs.Word.{row_from, value_of};
 
 use crate::row_number::RowNumber;

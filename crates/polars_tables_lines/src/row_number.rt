@@ -6,7 +6,7 @@ ghost use Rattle.std.specs.Result.{result_ok};
 ghost use Rattle.polars_arrays_flat.specs.Row.{Int};
 ghost use Rattle.polars_tables_lines.specs.declared.row_type.RowType.{RowType};
 ghost use Rattle.polars_tables_lines.specs.declared.row_type.RowType.TheVariants.{I8, I16, I32, I64, U8, U16, U32, U64};
-ghost use Rattle.polars_tables_lines.specs.Parsing.{signed_row, unsigned_row};
+ghost use Rattle.polars_tables_lines.specs.ParsingLaws.{signed_row, unsigned_row};
 ghost use Rattle.polars_tables_lines.specs.Word.{value_of};
 
 use polars_arrays_numbers::native_type::NativeType;

@@ -1,5 +1,5 @@
 use Rattle.std.proofs.lemmas.Result.{MatchResult-weaker}
-use Rattle.polars_compare_equality.specs.Slots.{truth_slots-as_long}
+use Rattle.polars_compare_equality.specs.SlotsLaws.{truth_slots-as_long}
 use Rattle.polars_compare_equality.proofs.Raw.{equal-windows}
 use Rattle.polars_compare_equality.proofs.booleans.BooleanArrayTotalEqKernel.tot_eq_kernel.Goals as goal
 

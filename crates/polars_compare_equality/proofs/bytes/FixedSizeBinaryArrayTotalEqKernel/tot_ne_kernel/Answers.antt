@@ -3,7 +3,7 @@ use Rattle.std.proofs.lemmas.List.{length-map}
 use Rattle.std.proofs.lemmas.Result.{MatchResult-weaker}
 use Rattle.polars_arrays_bytes.specs.SizedStrings.{sized_strings}
 use Rattle.polars_arrays_flat.specs.Row.{Bytes}
-use Rattle.polars_compare_equality.specs.Slots.{byte_slots-as_long}
+use Rattle.polars_compare_equality.specs.SlotsLaws.{byte_slots-as_long}
 use Rattle.polars_compare_equality.proofs.Raw.{unequal-windows}
 use Rattle.polars_compare_equality.proofs.Sized.{sized-raw}
 use Rattle.polars_compare_equality.proofs.bytes.FixedSizeBinaryArrayTotalEqKernel.tot_ne_kernel.Goals as goal

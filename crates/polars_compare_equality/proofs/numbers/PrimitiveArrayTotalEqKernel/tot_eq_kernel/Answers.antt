@@ -1,5 +1,5 @@
 use Rattle.std.proofs.lemmas.Result.{MatchResult-weaker}
-use Rattle.polars_compare_equality.specs.Slots.{number_slots-as_long}
+use Rattle.polars_compare_equality.specs.SlotsLaws.{number_slots-as_long}
 use Rattle.polars_compare_equality.proofs.Raw.{equal-windows}
 use Rattle.polars_compare_equality.proofs.numbers.PrimitiveArrayTotalEqKernel.tot_eq_kernel.Goals as goal
 

@@ -3,7 +3,7 @@ use Rattle.std.proofs.Common.{◌∙◌, sym}
 use Rattle.std.proofs.lemmas.List.{length-map}
 use Rattle.polars_arrays_bytes.specs.OffsetStrings.{offset_strings}
 use Rattle.polars_arrays_flat.specs.Row.{Bytes}
-use Rattle.polars_compare_equality.specs.Slots.{byte_slots-as_long}
+use Rattle.polars_compare_equality.specs.SlotsLaws.{byte_slots-as_long}
 use Rattle.polars_compare_equality.proofs.Raw.{equal-windows}
 use Rattle.polars_compare_equality.proofs.texts.Utf8ArrayTotalEqKernel.tot_eq_kernel.Goals as goal
 
