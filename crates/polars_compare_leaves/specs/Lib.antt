@@ -1,4 +1,5 @@
 pub mod Equality
 pub mod Joining
 pub mod Order
+pub mod OrderLaws
 pub mod Sameness

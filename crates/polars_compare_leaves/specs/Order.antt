@@ -1,7 +1,5 @@
 -- The order of rows.
-use Rattle.std.specs.Prelude.{◌≡◌, ◌<◌, ℕ, suc, leb, ltb, ℤ, pos, negsuc, Bool, true, false, not, ◌&&◌, IsTrue, List, Option, length, int_lt, int_le, slice_index_or, refl}
-use Rattle.std.proofs.Common.{◌∙◌, sym, ap, inl, inr, arith}
-use Rattle.std.proofs.lemmas.Bool.Decides.{leb_tells}
+use Rattle.std.specs.Prelude.{◌≡◌, ◌<◌, ℕ, Bool, false, not, ◌&&◌, IsTrue, List, Option, length, int_lt, slice_index_or}
 use Rattle.std.specs.Ordering.{nat_cmp, is_lt}
 use Rattle.std.specs.Cmp.Lexicographic.{slice_cmp}
 use Rattle.polars_arrays_flat.specs.Row.{Row, Int, Truth, Bytes}
@@ -32,17 +30,3 @@ pub record RawOrder (test : Row → Row → Bool) (left_mask right_mask : Option
   pub size : length bits ≡ length left
   pub at_present : (i : ℕ) → i < length left → IsTrue (is_present left_mask i) → IsTrue (is_present right_mask i)
       → slice_index_or bits i false ≡ test (row left i) (row right i)
-
--- of two naturals the one is at most the other where the other is not less
-at_most-not_less : (m n : ℕ) → leb m n ≡ not (ltb n m)
-at_most-not_less m n = elim (leb_tells m n) [
-  | inl p ↦ elim (leb_tells (suc n) m) [ inl q ↦ absurd (omega (arith, p.1, q.1)) | inr q ↦ p.0 ∙ sym (ap not q.0) ]
-  | inr p ↦ elim (leb_tells (suc n) m) [ inl q ↦ p.0 ∙ sym (ap not q.0) | inr q ↦ absurd (omega (arith, p.1, q.1)) ]
-]
-
--- so of two whole numbers
-pub int_le-not_less : (m n : ℤ) → int_le m n ≡ not (int_lt n m)
-int_le-not_less (pos m) (pos n) = at_most-not_less m n
-int_le-not_less (pos m) (negsuc n) = refl
-int_le-not_less (negsuc m) (pos n) = refl
-int_le-not_less (negsuc m) (negsuc n) = at_most-not_less n m

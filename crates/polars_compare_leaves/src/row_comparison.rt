@@ -2,7 +2,8 @@
 
 ghost use Rattle.std.specs.Prelude.{◌≡◌, Bool, refl};
 ghost use Rattle.polars_arrays_flat.specs.Row.{Row, Int};
-ghost use Rattle.polars_compare_leaves.specs.Order.{int_le-not_less, row_at_least, row_at_most, row_greater, row_less};
+ghost use Rattle.polars_compare_leaves.specs.Order.{row_at_least, row_at_most, row_greater, row_less};
+ghost use Rattle.polars_compare_leaves.specs.OrderLaws.{int_le-not_less};
 ghost use Rattle.polars_compare_leaves.specs.Sameness.{other_row, same_row};
 
 use polars_arrays_numbers::comparison::{
