@@ -34,9 +34,20 @@ use std::alloc::Global;
 /// The answer to a call on bitmaps, or None for another one's.
 pub fn answer(alloc: Global, call: &str, words: &mut Words) -> Result<Option<String>, Fault> {
     let answer = match call {
-        "not" | "bitmap_share" | "clone_bitmap" | "from_values" | "from_wide_values"
-        | "set_bits" | "unset_bits" | "bitmap_len" | "get_bit" | "bitmap_get" | "bitmap_slice"
-        | "slice_clone" | "meet_shared" | "from_counted" => of_one(alloc, call, words),
+        "not"
+        | "bitmap_share"
+        | "clone_bitmap"
+        | "from_values"
+        | "from_wide_values"
+        | "set_bits"
+        | "unset_bits"
+        | "bitmap_len"
+        | "get_bit"
+        | "bitmap_get"
+        | "bitmap_slice"
+        | "slice_clone"
+        | "meet_shared"
+        | "from_counted" => of_one(alloc, call, words),
         "and" | "or" | "xor" | "xnor" | "and_not" | "or_not" | "num_intersections_with" => {
             of_two(alloc, call, words)
         }

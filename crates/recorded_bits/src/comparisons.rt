@@ -133,5 +133,8 @@ fn constant<T: NativeType + FromStr<Err: Drop>, E: Comparison<T, T>>(
 ) -> Result<String, Fault> {
     let left = read_numbers::<T>(alloc, words)?;
     let right = words.read_number()?;
-    write_made(alloc, compare_constant(alloc, comparison, left.as_slice(), right))
+    write_made(
+        alloc,
+        compare_constant(alloc, comparison, left.as_slice(), right),
+    )
 }

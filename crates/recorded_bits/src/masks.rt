@@ -26,8 +26,14 @@ use std::alloc::Global;
 /// The answer to a call on masks, or None for another one's.
 pub fn answer(alloc: Global, call: &str, words: &mut Words) -> Result<Option<String>, Fault> {
     let answer = match call {
-        "mask_not" | "to_bitmap" | "window" | "mask_len" | "mask_unset_bits" | "mask_get"
-        | "all_set" | "all_in_blocks" => of_one(alloc, call, words),
+        "mask_not"
+        | "to_bitmap"
+        | "window"
+        | "mask_len"
+        | "mask_unset_bits"
+        | "mask_get"
+        | "all_set"
+        | "all_in_blocks" => of_one(alloc, call, words),
         "mask_and" | "mask_or" | "mask_xor" | "mask_xnor" | "mask_and_not" | "mask_or_not" => {
             of_two(alloc, call, words)
         }
@@ -135,7 +141,13 @@ fn ask_one(
         "mask_len" => write_number(alloc, mask.len()),
         "mask_unset_bits" => write_number(alloc, mask.unset_bits()),
         "mask_get" => bit(alloc, mask, words.read_number()?),
-        _ => ask_part(alloc, call, mask, words.read_number()?, words.read_number()?),
+        _ => ask_part(
+            alloc,
+            call,
+            mask,
+            words.read_number()?,
+            words.read_number()?,
+        ),
     }
 }
 

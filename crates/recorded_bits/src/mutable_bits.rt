@@ -107,10 +107,7 @@ fn to_mutable(alloc: Global, bits: &Bitmap) -> Result<MutableBitmap, Fault> {
 }
 
 // Each bit becomes true where the other's is, where they are as many.
-fn or_assign(
-    bits: &mut MutableBitmap,
-    other: Result<MutableBitmap, Fault>,
-) -> Result<(), Fault> {
+fn or_assign(bits: &mut MutableBitmap, other: Result<MutableBitmap, Fault>) -> Result<(), Fault> {
     let other = other?;
     if other.len() != bits.len() {
         return Err(Fault::Case);

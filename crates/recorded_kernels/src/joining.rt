@@ -83,5 +83,8 @@ fn masks(
     if !has_bits(raw.len(), left) || !has_bits(raw.len(), right) {
         return Err(Fault::Case);
     }
-    write_made(alloc, join_masks(alloc, relation, raw, lent(left), lent(right)))
+    write_made(
+        alloc,
+        join_masks(alloc, relation, raw, lent(left), lent(right)),
+    )
 }

@@ -101,9 +101,7 @@ fn of_equality(
         | AnyArray::List(_)
         | AnyArray::FixedSizeList(_)
         | AnyArray::Struct(_)
-        | AnyArray::Dictionary(_) => {
-            equal_to_array(alloc, array, store.read(words)?, question)
-        }
+        | AnyArray::Dictionary(_) => { equal_to_array(alloc, array, store.read(words)?, question) }
         _ => of_kind!(array, rows => equal_to_number(alloc, rows, words, question),
             Int8 Int16 Int32 Int64 Int128 UInt8 UInt16 UInt32 UInt64 UInt128),
     }
@@ -211,12 +209,7 @@ fn why_refused(alloc: Global, refused: ComputeError) -> Result<String, Fault> {
 }
 
 // How the rows of an array stand to the scalar that words write.
-fn of_order(
-    alloc: Global,
-    store: &Store,
-    words: &mut Words,
-    kernel: Order,
-) -> Result<String, Fault>
+fn of_order(alloc: Global, store: &Store, words: &mut Words, kernel: Order) -> Result<String, Fault>
     requires { HasGoodArrays store.now }
 {
     let array = store.read(words)?;

@@ -84,7 +84,10 @@ fn numbers<T: NativeType>(
     if !is_within(a, n, left.len()) || !is_within(b, n, right.len()) {
         return Err(Fault::Case);
     }
-    write_made(alloc, with_comparison!(comparison, comparison => compare_number_windows(alloc, comparison, left, a, right, b, n)))
+    write_made(
+        alloc,
+        with_comparison!(comparison, comparison => compare_number_windows(alloc, comparison, left, a, right, b, n)),
+    )
 }
 
 // Which truth values of two windows pass.
@@ -102,7 +105,10 @@ fn truth_windows(alloc: Global, store: &Store, words: &mut Words) -> Result<Stri
     let (AnyArray::Boolean(left), AnyArray::Boolean(right)) = (left, right) else {
         return Err(Fault::Case);
     };
-    write_made(alloc, with_comparison!(comparison, comparison => compare_truth_windows(alloc, comparison, left, a, right, b, n)))
+    write_made(
+        alloc,
+        with_comparison!(comparison, comparison => compare_truth_windows(alloc, comparison, left, a, right, b, n)),
+    )
 }
 
 // Which byte strings of two windows pass. Those of a binary array may be set against text views too.
@@ -134,7 +140,10 @@ fn strings<L: ByteRows, R: ByteRows>(
     if !is_within(a, n, left.count()) || !is_within(b, n, right.count()) {
         return Err(Fault::Case);
     }
-    write_made(alloc, with_comparison!(comparison, comparison => compare_byte_windows(alloc, comparison, left, a, right, b, n)))
+    write_made(
+        alloc,
+        with_comparison!(comparison, comparison => compare_byte_windows(alloc, comparison, left, a, right, b, n)),
+    )
 }
 
 // Which byte strings of one size each pass, in two windows.
@@ -155,7 +164,10 @@ fn sized_windows(alloc: Global, store: &Store, words: &mut Words) -> Result<Stri
     if !is_within(a, n, left.count()) || !is_within(b, n, right.count()) {
         return Err(Fault::Case);
     }
-    write_made(alloc, with_comparison!(comparison, comparison => compare_sized_windows(alloc, comparison, left, a, right, b, n)))
+    write_made(
+        alloc,
+        with_comparison!(comparison, comparison => compare_sized_windows(alloc, comparison, left, a, right, b, n)),
+    )
 }
 
 // Which byte strings kept by views pass, in two windows, and how many pairs are looked up in buffers.
@@ -200,7 +212,10 @@ fn numbers_beside<T: NativeType + FromStr<Err: Drop>>(
     words: &mut Words,
 ) -> Result<String, Fault> {
     let number: T = words.read_number()?;
-    write_made(alloc, with_comparison!(comparison, comparison => compare_number(alloc, comparison, numbers, number)))
+    write_made(
+        alloc,
+        with_comparison!(comparison, comparison => compare_number(alloc, comparison, numbers, number)),
+    )
 }
 
 // Which truth values of an array pass with the one that words write.
@@ -212,7 +227,10 @@ fn truth(alloc: Global, store: &Store, words: &mut Words) -> Result<String, Faul
         return Err(Fault::Case);
     };
     let truth = read_truth(words)?;
-    write_made(alloc, with_comparison!(comparison, comparison => compare_truth(alloc, comparison, truths, truth)))
+    write_made(
+        alloc,
+        with_comparison!(comparison, comparison => compare_truth(alloc, comparison, truths, truth)),
+    )
 }
 
 // Which byte strings of an array pass with the one that words write.
@@ -233,7 +251,10 @@ fn strings_beside<L: ByteRows>(
     strings: &L,
     bytes: &[u8],
 ) -> Result<String, Fault> {
-    write_made(alloc, with_comparison!(comparison, comparison => compare_bytes(alloc, comparison, strings, bytes)))
+    write_made(
+        alloc,
+        with_comparison!(comparison, comparison => compare_bytes(alloc, comparison, strings, bytes)),
+    )
 }
 
 // Which byte strings kept by views pass with the one that words write.
@@ -243,5 +264,8 @@ fn view_bytes(alloc: Global, store: &Store, words: &mut Words) -> Result<String,
     let comparison = NamedComparison::read(words)?;
     let views = as_views(store.read(words)?)?;
     let bytes = read_bytes(alloc, words.read()?)?;
-    write_made(alloc, with_comparison!(comparison, comparison => compare_view_bytes(alloc, comparison, views, &bytes)))
+    write_made(
+        alloc,
+        with_comparison!(comparison, comparison => compare_view_bytes(alloc, comparison, views, &bytes)),
+    )
 }

@@ -74,12 +74,7 @@ fn read_whole(alloc: Global, kept: Kept, words: &mut Words, depth: usize) -> Res
 }
 
 // An array of byte strings or of texts.
-fn read_strings(
-    alloc: Global,
-    kept: Kept,
-    words: &mut Words,
-    kind: &str,
-) -> Result<AnyArray, Fault>
+fn read_strings(alloc: Global, kept: Kept, words: &mut Words, kind: &str) -> Result<AnyArray, Fault>
     ensures { IfOk result (λ a. IsGood a) }
 {
     match kind {
