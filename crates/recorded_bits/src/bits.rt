@@ -185,14 +185,11 @@ fn ask_clones(alloc: Global, call: &str, x: &Bitmap, words: &mut Words) -> Resul
     match call {
         "slice_clone" => {
             let (at, n) = (words.read_number()?, words.read_number()?);
-            let shared = share(alloc, x)?;
-            slice_clone(alloc, &shared, at, n)
+            slice_clone(alloc, share(alloc, x), at, n)
         }
         "meet_shared" => {
             let (p, q) = (words.read_number()?, words.read_number()?);
-            let n = words.read_number()?;
-            let shared = share(alloc, x)?;
-            meet(alloc, &shared, p, q, n)
+            meet(alloc, share(alloc, x), p, q, words.read_number()?)
         }
         "from_counted" => of_counted(alloc, x, words),
         _ => Err(Fault::Word),
@@ -218,18 +215,42 @@ fn bit(alloc: Global, x: &Bitmap, i: usize) -> Result<String, Fault> {
 }
 
 // A window of a clone, and then the bitmap itself.
-fn slice_clone(alloc: Global, x: &Bitmap, at: usize, n: usize) -> Result<String, Fault> {
-    let mut text = write_read(alloc, cut(alloc, x, at, n))?;
+fn slice_clone(
+    alloc: Global,
+    x: Result<Bitmap, Fault>,
+    at: usize,
+    n: usize,
+) -> Result<String, Fault> {
+    let x = x?;
+    let mut text = write_read(alloc, cut(alloc, &x, at, n))?;
     text.push(' ')?;
-    push_bits(&mut text, x)?;
+    push_bits(&mut text, &x)?;
     Ok(text)
 }
 
 // How many of `n` bits are true in two windows of a bitmap.
-fn meet(alloc: Global, x: &Bitmap, p: usize, q: usize, n: usize) -> Result<String, Fault> {
-    let left = cut(alloc, x, p, n)?;
+fn meet(
+    alloc: Global,
+    x: Result<Bitmap, Fault>,
+    p: usize,
+    q: usize,
+    n: usize,
+) -> Result<String, Fault> {
+    let x = x?;
+    let left = cut(alloc, &x, p, n)?;
+    write_count(alloc, count_shared(alloc, &left, &x, q, n))
+}
+
+// How many bits are true in a bitmap and in a window of another.
+fn count_shared(
+    alloc: Global,
+    left: &Bitmap,
+    x: &Bitmap,
+    q: usize,
+    n: usize,
+) -> Result<usize, Fault> {
     let right = cut(alloc, x, q, n)?;
-    write_count(alloc, count_both(&left, &right))
+    count_both(left, &right)
 }
 
 // The text of a count, where there is one.

@@ -65,10 +65,19 @@ fn extend(
     match operation {
         "push" => push(builder, read_truth(words)?),
         "fill" => fill(builder, words.read_number()?, read_truth(words)?),
-        "values" => push_all(builder, &read_bitmap(alloc, words)?, false),
-        "wide_values" => push_all(builder, &read_bitmap(alloc, words)?, true),
+        "values" => push_read(builder, read_bitmap(alloc, words), false),
+        "wide_values" => push_read(builder, read_bitmap(alloc, words), true),
         _ => Err(Fault::Word),
     }
+}
+
+// Pushes the bits that were read, packed one by one.
+fn push_read(
+    builder: &mut BitmapBuilder,
+    bits: Result<Bitmap, Fault>,
+    wide: bool,
+) -> Result<(), Fault> {
+    push_all(builder, &bits?, wide)
 }
 
 /// Pushes one bit, where there is room for it.

@@ -57,34 +57,22 @@ fn read_whole(alloc: Global, kept: Kept, words: &mut Words, depth: usize) -> Res
 {
     let kind = words.read()?;
     match kind {
-        "list" | "largelist" | "fixedlist" | "struct" | "dict" => {
-            if depth == 0 {
-                return Err(Fault::Word);
-            }
-            read_holder(alloc, kept, words, kind, depth - 1)
-        }
-        "binary" | "largebinary" | "utf8" | "largeutf8" | "binaryview" | "utf8view" => {
-            read_strings(alloc, kept, words, kind)
-        }
         "null" => Ok(AnyArray::Null(NullArray::new(words.read_number()?))),
         "bool" => Ok(AnyArray::Boolean(read_booleans(alloc, kept, words)?)),
-        "fixedbinary" => Ok(AnyArray::FixedSizeBinary(read_sized(alloc, kept, words)?)),
-        _ => read_number_array(alloc, kept, words, kind),
-    }
-}
-
-// An array of byte strings or of texts.
-fn read_strings(alloc: Global, kept: Kept, words: &mut Words, kind: &str) -> Result<AnyArray, Fault>
-    ensures { IfOk result (λ a. IsGood a) }
-{
-    match kind {
         "binary" => Ok(AnyArray::Binary(read_binary(alloc, kept, words)?)),
         "largebinary" => Ok(AnyArray::LargeBinary(read_binary(alloc, kept, words)?)),
         "utf8" => Ok(AnyArray::Utf8(read_text(alloc, kept, words)?)),
         "largeutf8" => Ok(AnyArray::LargeUtf8(read_text(alloc, kept, words)?)),
         "binaryview" => Ok(AnyArray::BinaryView(read_binary_view(alloc, kept, words)?)),
         "utf8view" => Ok(AnyArray::Utf8View(read_text_view(alloc, kept, words)?)),
-        _ => Err(Fault::Word),
+        "fixedbinary" => Ok(AnyArray::FixedSizeBinary(read_sized(alloc, kept, words)?)),
+        "list" | "largelist" | "fixedlist" | "struct" | "dict" => {
+            if depth == 0 {
+                return Err(Fault::Word);
+            }
+            read_holder(alloc, kept, words, kind, depth - 1)
+        }
+        _ => read_number_array(alloc, kept, words, kind),
     }
 }
 
@@ -192,41 +180,19 @@ fn read_struct(
     ensures { IfOk result (λ a. IsGood (Struct a)) }
 {
     let len = words.read_number()?;
-    let count = words.read_number()?;
+    let count: usize = words.read_number()?;
     let validity = read_validity(alloc, kept, words)?;
     let mut fields = Vec::new(alloc);
-    let values = read_columns(alloc, kept, words, depth, count, &mut fields)?;
+    let mut values = Vec::new(alloc);
+    for _ in 0..count {
+        let name = words.read()?.to_string(alloc)?;
+        let column = read_array(alloc, kept, words, depth)?;
+        let dtype = column.dtype(alloc)?;
+        fields.push(Field { name, dtype })?;
+        values.push(column)?;
+    }
     let array = StructArray::try_new(fields, len, values, validity)?;
     Ok(array)
-}
-
-// The columns of structs. Their fields are pushed.
-#[cycle(read)]
-fn read_columns(
-    alloc: Global,
-    kept: Kept,
-    words: &mut Words,
-    depth: usize,
-    count: usize,
-    fields: &mut Vec<Field>,
-) -> Result<Vec<AnyArray>, Fault>
-    ensures { IfOk result (λ columns. All IsGood columns.items) }
-{
-    let mut columns = Vec::new(alloc);
-    for _ in 0..count {
-        let name = words.read()?;
-        let column = read_array(alloc, kept, words, depth)?;
-        fields.push(field_of(alloc, name, &column)?)?;
-        columns.push(column)?;
-    }
-    Ok(columns)
-}
-
-// The field of a column of that name.
-fn field_of(alloc: Global, name: &str, column: &AnyArray) -> Result<Field, Fault> {
-    let dtype = column.dtype(alloc)?;
-    let name = name.to_string(alloc)?;
-    Ok(Field { name, dtype })
 }
 
 // A dictionary array: the type of its keys, the keys, their validity, and the entries.

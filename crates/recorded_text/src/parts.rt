@@ -6,6 +6,7 @@ use crate::fault::Fault;
 use crate::words::Words;
 use polars_arrays_bits::bitmap::Bitmap;
 use polars_arrays_bits::buffer::Buffer;
+use polars_arrays_bits::error::ComputeError;
 use polars_arrays_numbers::native_type::NativeType;
 use polars_arrays_views::view::View;
 use std::alloc::Global;
@@ -56,15 +57,26 @@ pub fn read_bits(alloc: Global, word: &str) -> Result<Bitmap, Fault> {
     let Some((at, digits)) = word.split_once(':') else {
         return Err(Fault::Word);
     };
-    let at: usize = match at.strip_prefix('b') {
-        Some(at) => read_place(at)?,
-        None => return Err(Fault::Word),
+    let Some(at) = at.strip_prefix('b') else {
+        return Err(Fault::Word);
     };
+    let at = read_place(at)?;
+    let bools = read_bools(alloc, digits)?;
+    from_place(Bitmap::from_bools(alloc, &bools), at)
+}
+
+/// The bits that digits write.
+fn read_bools(alloc: Global, digits: &str) -> Result<Vec<bool>, Fault> {
     let mut bools = Vec::new(alloc);
     for digit in digits.as_bytes() {
         bools.push(read_bit(*digit)?)?;
     }
-    let mut bits = Bitmap::from_bools(alloc, &bools)?;
+    Ok(bools)
+}
+
+/// The bits from place `at` on.
+fn from_place(bits: Result<Bitmap, ComputeError>, at: usize) -> Result<Bitmap, Fault> {
+    let mut bits = bits?;
     if at > bits.len() {
         return Err(Fault::Word);
     }
