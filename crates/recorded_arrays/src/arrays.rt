@@ -19,13 +19,13 @@ pub fn answer(
     requires { HasGoodArrays store.now }
 {
     let answer = match call {
-        "rows" => rows(alloc, store, words),
-        "copy" => copy(alloc, store, words),
-        "array_slice" => slice(alloc, store, words),
-        "leaves" => leaves(alloc, store, words),
+        "rows" => rows(alloc, store, words)?,
+        "copy" => copy(alloc, store, words)?,
+        "array_slice" => slice(alloc, store, words)?,
+        "leaves" => leaves(alloc, store, words)?,
         _ => return Ok(None),
     };
-    Ok(Some(answer?))
+    Ok(Some(answer))
 }
 
 // The rows of an array.
@@ -47,12 +47,11 @@ fn copy(alloc: Global, store: &Store, words: &mut Words) -> Result<String, Fault
 fn slice(alloc: Global, store: &Store, words: &mut Words) -> Result<String, Fault>
     requires { HasGoodArrays store.now }
 {
-    let array = store.read(words)?;
+    let mut array = store.read(words)?.clone_array(alloc)?;
     let (at, n): (usize, usize) = (words.read_number()?, words.read_number()?);
     if at > array.len() || n > array.len() - at {
         return Err(Fault::Case);
     }
-    let mut array = array.clone_array(alloc)?;
     array.slice(at, n);
     write_rows(alloc, &array)
 }
