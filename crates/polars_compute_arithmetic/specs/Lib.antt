@@ -1,0 +1,7 @@
+pub mod Maps
+pub mod Operations
+pub mod Quotients
+pub mod Reciprocal
+pub mod Results
+pub mod Zeros
+pub mod WrapLaws

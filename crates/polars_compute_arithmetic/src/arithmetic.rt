@@ -1,0 +1,270 @@
+//! Arithmetic on arrays of numbers.
+
+ghost use Rattle.std.specs.Prelude.{◌≡◌, ℕ, ℤ, Bool, IsOk, IsTrue, MatchResult, length};
+ghost use Rattle.num_traits.specs.Laws.{bit_len};
+ghost use Rattle.polars_arrays_bits.specs.Errors.{IsMemory};
+ghost use Rattle.polars_arrays_flat.specs.StoredRows.{rows_under};
+ghost use Rattle.polars_compute_arithmetic.specs.Operations.{answer_rows, difference_of, floor_division, magnitude_of, modulo, negation_of, product_of, result_rows, sum_of, truncated_division};
+
+pub mod divisor;
+pub mod kernel;
+pub mod pl_num;
+pub mod reciprocals;
+pub mod signed_divisors;
+mod zeros;
+
+pub use crate::arithmetic::kernel::PrimitiveArithmeticKernelImpl;
+use polars_arrays_bits::error::ComputeError;
+use polars_arrays_flat::array::Array;
+use polars_arrays_flat::primitive::PrimitiveArray;
+use polars_arrays_numbers::native_type::NativeType;
+use std::alloc::Global;
+
+/// Every type of numbers on whose arrays there is arithmetic.
+pub trait HasPrimitiveArithmeticKernel: NativeType + PrimitiveArithmeticKernelImpl {}
+
+impl<T: NativeType + PrimitiveArithmeticKernelImpl> HasPrimitiveArithmeticKernel for T {}
+
+/// Arithmetic on the rows of arrays, wrapped to their type. A row is null where an operand is null or a divisor is 0. A scalar
+/// stands for as many present rows. All calls consume their arrays, and write over what an array owns. The error is `Memory`.
+pub trait ArithmeticKernel: Sized + Array {
+    /// A number that stands for as many rows.
+    type Scalar;
+
+    // The least number of the type, and how many bits it has.
+    ghost least: { ℤ };
+
+    ghost width: { ℕ };
+
+    // The number that a scalar is.
+    ghost number: { Self.Scalar → ℤ };
+
+    // Whether no other array holds the stored values.
+    ghost owns: { Self → Bool };
+
+    /// How far the numbers are from 0.
+    fn wrapping_abs(self, alloc: Global) -> Result<Self, ComputeError>
+        ensures answers { MatchResult result (λ a. rows_under (Self.mask a) (Self.slots a) ≡ answer_rows least width magnitude_of (rows_under (Self.mask self) (Self.slots self))) IsMemory }
+        ensures in_place { IsTrue (owns self) → IsOk result };
+
+    /// The numbers negated.
+    fn wrapping_neg(self, alloc: Global) -> Result<Self, ComputeError>
+        ensures answers { MatchResult result (λ a. rows_under (Self.mask a) (Self.slots a) ≡ answer_rows least width negation_of (rows_under (Self.mask self) (Self.slots self))) IsMemory }
+        ensures in_place { IsTrue (owns self) → IsOk result };
+
+    /// The sums.
+    fn wrapping_add(self, alloc: Global, rhs: Self) -> Result<Self, ComputeError>
+        requires { length (Self.slots self) ≡ length (Self.slots rhs) }
+        ensures { MatchResult result (λ a. rows_under (Self.mask a) (Self.slots a) ≡ result_rows least width sum_of (rows_under (Self.mask self) (Self.slots self)) (rows_under (Self.mask rhs) (Self.slots rhs))) IsMemory };
+
+    /// The differences.
+    fn wrapping_sub(self, alloc: Global, rhs: Self) -> Result<Self, ComputeError>
+        requires { length (Self.slots self) ≡ length (Self.slots rhs) }
+        ensures { MatchResult result (λ a. rows_under (Self.mask a) (Self.slots a) ≡ result_rows least width difference_of (rows_under (Self.mask self) (Self.slots self)) (rows_under (Self.mask rhs) (Self.slots rhs))) IsMemory };
+
+    /// The products.
+    fn wrapping_mul(self, alloc: Global, rhs: Self) -> Result<Self, ComputeError>
+        requires { length (Self.slots self) ≡ length (Self.slots rhs) }
+        ensures { MatchResult result (λ a. rows_under (Self.mask a) (Self.slots a) ≡ result_rows least width product_of (rows_under (Self.mask self) (Self.slots self)) (rows_under (Self.mask rhs) (Self.slots rhs))) IsMemory };
+
+    /// The quotients, rounded down.
+    fn wrapping_floor_div(self, alloc: Global, rhs: Self) -> Result<Self, ComputeError>
+        requires { length (Self.slots self) ≡ length (Self.slots rhs) }
+        ensures { MatchResult result (λ a. rows_under (Self.mask a) (Self.slots a) ≡ result_rows least width floor_division (rows_under (Self.mask self) (Self.slots self)) (rows_under (Self.mask rhs) (Self.slots rhs))) IsMemory };
+
+    /// The quotients, rounded toward 0.
+    fn wrapping_trunc_div(self, alloc: Global, rhs: Self) -> Result<Self, ComputeError>
+        requires { length (Self.slots self) ≡ length (Self.slots rhs) }
+        ensures { MatchResult result (λ a. rows_under (Self.mask a) (Self.slots a) ≡ result_rows least width truncated_division (rows_under (Self.mask self) (Self.slots self)) (rows_under (Self.mask rhs) (Self.slots rhs))) IsMemory };
+
+    /// What the quotients that are rounded down leave.
+    fn wrapping_mod(self, alloc: Global, rhs: Self) -> Result<Self, ComputeError>
+        requires { length (Self.slots self) ≡ length (Self.slots rhs) }
+        ensures { MatchResult result (λ a. rows_under (Self.mask a) (Self.slots a) ≡ result_rows least width modulo (rows_under (Self.mask self) (Self.slots self)) (rows_under (Self.mask rhs) (Self.slots rhs))) IsMemory };
+
+    /// The sums with a number.
+    fn wrapping_add_scalar(self, alloc: Global, rhs: Self::Scalar) -> Result<Self, ComputeError>
+        ensures answers { MatchResult result (λ a. rows_under (Self.mask a) (Self.slots a) ≡ answer_rows least width (λ n. sum_of n (number rhs)) (rows_under (Self.mask self) (Self.slots self))) IsMemory }
+        ensures in_place { IsTrue (owns self) → IsOk result };
+
+    /// The differences, a number taken away.
+    fn wrapping_sub_scalar(self, alloc: Global, rhs: Self::Scalar) -> Result<Self, ComputeError>
+        ensures answers { MatchResult result (λ a. rows_under (Self.mask a) (Self.slots a) ≡ answer_rows least width (λ n. difference_of n (number rhs)) (rows_under (Self.mask self) (Self.slots self))) IsMemory }
+        ensures in_place { IsTrue (owns self) → IsOk result };
+
+    /// The differences, taken away from a number.
+    fn wrapping_sub_scalar_lhs(
+        alloc: Global,
+        lhs: Self::Scalar,
+        rhs: Self,
+    ) -> Result<Self, ComputeError>
+        ensures answers { MatchResult result (λ a. rows_under (Self.mask a) (Self.slots a) ≡ answer_rows least width (difference_of (number lhs)) (rows_under (Self.mask rhs) (Self.slots rhs))) IsMemory }
+        ensures in_place { IsTrue (owns rhs) → IsOk result };
+
+    /// The products with a number.
+    fn wrapping_mul_scalar(self, alloc: Global, rhs: Self::Scalar) -> Result<Self, ComputeError>
+        ensures answers { MatchResult result (λ a. rows_under (Self.mask a) (Self.slots a) ≡ answer_rows least width (λ n. product_of n (number rhs)) (rows_under (Self.mask self) (Self.slots self))) IsMemory }
+        ensures in_place { IsTrue (owns self) → IsOk result };
+
+    /// The quotients by a number, rounded down.
+    fn wrapping_floor_div_scalar(
+        self,
+        alloc: Global,
+        rhs: Self::Scalar,
+    ) -> Result<Self, ComputeError>
+        ensures { MatchResult result (λ a. rows_under (Self.mask a) (Self.slots a) ≡ answer_rows least width (λ n. floor_division n (number rhs)) (rows_under (Self.mask self) (Self.slots self))) IsMemory };
+
+    /// The quotients of a number, rounded down.
+    fn wrapping_floor_div_scalar_lhs(
+        alloc: Global,
+        lhs: Self::Scalar,
+        rhs: Self,
+    ) -> Result<Self, ComputeError>
+        ensures { MatchResult result (λ a. rows_under (Self.mask a) (Self.slots a) ≡ answer_rows least width (floor_division (number lhs)) (rows_under (Self.mask rhs) (Self.slots rhs))) IsMemory };
+
+    /// The quotients by a number, rounded toward 0.
+    fn wrapping_trunc_div_scalar(
+        self,
+        alloc: Global,
+        rhs: Self::Scalar,
+    ) -> Result<Self, ComputeError>
+        ensures { MatchResult result (λ a. rows_under (Self.mask a) (Self.slots a) ≡ answer_rows least width (λ n. truncated_division n (number rhs)) (rows_under (Self.mask self) (Self.slots self))) IsMemory };
+
+    /// The quotients of a number, rounded toward 0.
+    fn wrapping_trunc_div_scalar_lhs(
+        alloc: Global,
+        lhs: Self::Scalar,
+        rhs: Self,
+    ) -> Result<Self, ComputeError>
+        ensures { MatchResult result (λ a. rows_under (Self.mask a) (Self.slots a) ≡ answer_rows least width (truncated_division (number lhs)) (rows_under (Self.mask rhs) (Self.slots rhs))) IsMemory };
+
+    /// What the quotients by a number, rounded down, leave.
+    fn wrapping_mod_scalar(self, alloc: Global, rhs: Self::Scalar) -> Result<Self, ComputeError>
+        ensures { MatchResult result (λ a. rows_under (Self.mask a) (Self.slots a) ≡ answer_rows least width (λ n. modulo n (number rhs)) (rows_under (Self.mask self) (Self.slots self))) IsMemory };
+
+    /// What the quotients of a number, rounded down, leave.
+    fn wrapping_mod_scalar_lhs(
+        alloc: Global,
+        lhs: Self::Scalar,
+        rhs: Self,
+    ) -> Result<Self, ComputeError>
+        ensures { MatchResult result (λ a. rows_under (Self.mask a) (Self.slots a) ≡ answer_rows least width (modulo (number lhs)) (rows_under (Self.mask rhs) (Self.slots rhs))) IsMemory };
+
+    /// The quotients, rounded down: another name of `wrapping_floor_div`.
+    final fn legacy_div(self, alloc: Global, rhs: Self) -> Result<Self, ComputeError>
+        requires { length (Self.slots self) ≡ length (Self.slots rhs) }
+        ensures { MatchResult result (λ a. rows_under (Self.mask a) (Self.slots a) ≡ result_rows least width floor_division (rows_under (Self.mask self) (Self.slots self)) (rows_under (Self.mask rhs) (Self.slots rhs))) IsMemory }
+    {
+        self.wrapping_floor_div(alloc, rhs)
+    }
+
+    /// The quotients by a number, rounded down: another name of `wrapping_floor_div_scalar`.
+    final fn legacy_div_scalar(self, alloc: Global, rhs: Self::Scalar) -> Result<Self, ComputeError>
+        ensures { MatchResult result (λ a. rows_under (Self.mask a) (Self.slots a) ≡ answer_rows least width (λ n. floor_division n (number rhs)) (rows_under (Self.mask self) (Self.slots self))) IsMemory }
+    {
+        self.wrapping_floor_div_scalar(alloc, rhs)
+    }
+
+    /// The quotients of a number, rounded down: another name of `wrapping_floor_div_scalar_lhs`.
+    final fn legacy_div_scalar_lhs(
+        alloc: Global,
+        lhs: Self::Scalar,
+        rhs: Self,
+    ) -> Result<Self, ComputeError>
+        ensures { MatchResult result (λ a. rows_under (Self.mask a) (Self.slots a) ≡ answer_rows least width (floor_division (number lhs)) (rows_under (Self.mask rhs) (Self.slots rhs))) IsMemory }
+    {
+        Self::wrapping_floor_div_scalar_lhs(alloc, lhs, rhs)
+    }
+}
+
+impl<T: HasPrimitiveArithmeticKernel> ArithmeticKernel for PrimitiveArray<T> {
+    type Scalar = T;
+
+    ghost least = { T.low };
+
+    ghost width = { bit_len T.width };
+
+    ghost number = { λ s. T.value s };
+
+    ghost owns = { λ a. a.owned };
+
+    fn wrapping_abs(self, alloc: Global) -> Result<Self, ComputeError> {
+        T::prim_wrapping_abs(alloc, self)
+    }
+
+    fn wrapping_neg(self, alloc: Global) -> Result<Self, ComputeError> {
+        T::prim_wrapping_neg(alloc, self)
+    }
+
+    fn wrapping_add(self, alloc: Global, rhs: Self) -> Result<Self, ComputeError> {
+        T::prim_wrapping_add(alloc, self, rhs)
+    }
+
+    fn wrapping_sub(self, alloc: Global, rhs: Self) -> Result<Self, ComputeError> {
+        T::prim_wrapping_sub(alloc, self, rhs)
+    }
+
+    fn wrapping_mul(self, alloc: Global, rhs: Self) -> Result<Self, ComputeError> {
+        T::prim_wrapping_mul(alloc, self, rhs)
+    }
+
+    fn wrapping_floor_div(self, alloc: Global, rhs: Self) -> Result<Self, ComputeError> {
+        T::prim_wrapping_floor_div(alloc, self, rhs)
+    }
+
+    fn wrapping_trunc_div(self, alloc: Global, rhs: Self) -> Result<Self, ComputeError> {
+        T::prim_wrapping_trunc_div(alloc, self, rhs)
+    }
+
+    fn wrapping_mod(self, alloc: Global, rhs: Self) -> Result<Self, ComputeError> {
+        T::prim_wrapping_mod(alloc, self, rhs)
+    }
+
+    fn wrapping_add_scalar(self, alloc: Global, rhs: T) -> Result<Self, ComputeError> {
+        T::prim_wrapping_add_scalar(alloc, self, rhs)
+    }
+
+    fn wrapping_sub_scalar(self, alloc: Global, rhs: T) -> Result<Self, ComputeError> {
+        T::prim_wrapping_sub_scalar(alloc, self, rhs)
+    }
+
+    fn wrapping_sub_scalar_lhs(alloc: Global, lhs: T, rhs: Self) -> Result<Self, ComputeError> {
+        T::prim_wrapping_sub_scalar_lhs(alloc, lhs, rhs)
+    }
+
+    fn wrapping_mul_scalar(self, alloc: Global, rhs: T) -> Result<Self, ComputeError> {
+        T::prim_wrapping_mul_scalar(alloc, self, rhs)
+    }
+
+    fn wrapping_floor_div_scalar(self, alloc: Global, rhs: T) -> Result<Self, ComputeError> {
+        T::prim_wrapping_floor_div_scalar(alloc, self, rhs)
+    }
+
+    fn wrapping_floor_div_scalar_lhs(
+        alloc: Global,
+        lhs: T,
+        rhs: Self,
+    ) -> Result<Self, ComputeError> {
+        T::prim_wrapping_floor_div_scalar_lhs(alloc, lhs, rhs)
+    }
+
+    fn wrapping_trunc_div_scalar(self, alloc: Global, rhs: T) -> Result<Self, ComputeError> {
+        T::prim_wrapping_trunc_div_scalar(alloc, self, rhs)
+    }
+
+    fn wrapping_trunc_div_scalar_lhs(
+        alloc: Global,
+        lhs: T,
+        rhs: Self,
+    ) -> Result<Self, ComputeError> {
+        T::prim_wrapping_trunc_div_scalar_lhs(alloc, lhs, rhs)
+    }
+
+    fn wrapping_mod_scalar(self, alloc: Global, rhs: T) -> Result<Self, ComputeError> {
+        T::prim_wrapping_mod_scalar(alloc, self, rhs)
+    }
+
+    fn wrapping_mod_scalar_lhs(alloc: Global, lhs: T, rhs: Self) -> Result<Self, ComputeError> {
+        T::prim_wrapping_mod_scalar_lhs(alloc, lhs, rhs)
+    }
+}

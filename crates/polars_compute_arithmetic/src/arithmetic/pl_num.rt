@@ -1,0 +1,233 @@
+//! Arithmetic on single numbers.
+
+ghost use Rattle.std.specs.Prelude.{◌≡◌, ◌≢◌, pos, int_rem};
+ghost use Rattle.num_traits.specs.Laws.{bit_len};
+ghost use Rattle.polars_arrays_numbers.specs.Wrapping.{wrapped};
+ghost use Rattle.polars_compute_arithmetic.specs.Operations.{difference_of, floor_division, magnitude_of, modulo, negation_of, or_zero, product_of, sum_of, truncated_division};
+ghost use Rattle.polars_compute_arithmetic.specs.Quotients.{across, is_below};
+
+use crate::arithmetic::divisor::DivisorNumber;
+use num_traits::{One, WrappingAdd, WrappingMul, WrappingNeg, WrappingSub, Zero};
+use polars_compute_bits::wrapping::WrappingNumber;
+
+/// Arithmetic on single numbers that wraps around at the ends of the type. By 0 both divisions and the
+/// modulus are 0.
+pub trait PlNumArithmetic: DivisorNumber
+    + WrappingNumber
+    + Zero
+    + One
+    + WrappingAdd
+    + WrappingSub
+    + WrappingMul
+    + WrappingNeg {
+    /// How far the number is from 0. The least number of a signed type stays.
+    fn wrapping_abs(self) -> Self
+        ensures { Self.value result ≡ wrapped Self.low (bit_len Self.width) (or_zero (magnitude_of (Self.value self))) };
+
+    /// The quotient, rounded toward 0, and 0 by 0.
+    fn wrapping_trunc_div(self, rhs: Self) -> Self
+        ensures { Self.value result ≡ wrapped Self.low (bit_len Self.width) (or_zero (truncated_division (Self.value self) (Self.value rhs))) };
+
+    /// The number negated.
+    #[inline(always)]
+    final fn wrapping_neg(self) -> Self
+        ensures { Self.value result ≡ wrapped Self.low (bit_len Self.width) (or_zero (negation_of (Self.value self))) }
+    {
+        WrappingNeg::wrapping_neg(&self)
+    }
+
+    /// The sum.
+    #[inline(always)]
+    final fn wrapping_add(self, rhs: Self) -> Self
+        ensures { Self.value result ≡ wrapped Self.low (bit_len Self.width) (or_zero (sum_of (Self.value self) (Self.value rhs))) }
+    {
+        WrappingAdd::wrapping_add(&self, &rhs)
+    }
+
+    /// The difference.
+    #[inline(always)]
+    final fn wrapping_sub(self, rhs: Self) -> Self
+        ensures { Self.value result ≡ wrapped Self.low (bit_len Self.width) (or_zero (difference_of (Self.value self) (Self.value rhs))) }
+    {
+        WrappingSub::wrapping_sub(&self, &rhs)
+    }
+
+    /// The product.
+    #[inline(always)]
+    final fn wrapping_mul(self, rhs: Self) -> Self
+        ensures { Self.value result ≡ wrapped Self.low (bit_len Self.width) (or_zero (product_of (Self.value self) (Self.value rhs))) }
+    {
+        WrappingMul::wrapping_mul(&self, &rhs)
+    }
+
+    /// The quotient, rounded down, and 0 by 0.
+    #[inline(always)]
+    final fn wrapping_floor_div(self, rhs: Self) -> Self
+        ensures { Self.value result ≡ wrapped Self.low (bit_len Self.width) (or_zero (floor_division (Self.value self) (Self.value rhs))) }
+    {
+        if rhs.is_zero() {
+            return Self::zero();
+        }
+        let quotient = self.wrapping_trunc_div(rhs);
+        if is_across(remainder(self, rhs, quotient), rhs) {
+            PlNumArithmetic::wrapping_sub(quotient, Self::one())
+        } else {
+            quotient
+        }
+    }
+
+    /// What the quotient that is rounded down leaves of the number, and 0 by 0.
+    #[inline(always)]
+    final fn wrapping_mod(self, rhs: Self) -> Self
+        ensures { Self.value result ≡ wrapped Self.low (bit_len Self.width) (or_zero (modulo (Self.value self) (Self.value rhs))) }
+    {
+        if rhs.is_zero() {
+            return Self::zero();
+        }
+        let quotient = self.wrapping_trunc_div(rhs);
+        let rest = remainder(self, rhs, quotient);
+        if is_across(rest, rhs) {
+            PlNumArithmetic::wrapping_add(rest, rhs)
+        } else {
+            rest
+        }
+    }
+
+    /// The quotient, rounded down, and 0 by 0: another name of `wrapping_floor_div`.
+    #[inline(always)]
+    final fn legacy_div(self, rhs: Self) -> Self
+        ensures { Self.value result ≡ wrapped Self.low (bit_len Self.width) (or_zero (floor_division (Self.value self) (Self.value rhs))) }
+    {
+        self.wrapping_floor_div(rhs)
+    }
+}
+
+// What the quotient that is rounded toward 0 leaves of a number.
+#[inline(always)]
+fn remainder<T: PlNumArithmetic>(number: T, divisor: T, quotient: T) -> T
+    requires some { T.value divisor ≢ pos 0 }
+    requires quotient { T.value quotient ≡ wrapped T.low (bit_len T.width) (or_zero (truncated_division (T.value number) (T.value divisor))) }
+    ensures rest { T.value result ≡ int_rem (T.value number) (T.value divisor) }
+    ensures wraps { T.value result ≡ wrapped T.low (bit_len T.width) (T.value result) }
+{
+    number.law_ends();
+    T::zero().law_ends();
+    let product = PlNumArithmetic::wrapping_mul(quotient, divisor);
+    PlNumArithmetic::wrapping_sub(number, product)
+}
+
+// Whether a number lies below 0.
+#[inline(always)]
+fn is_negative<T: PlNumArithmetic>(number: T) -> bool
+    ensures { result ≡ is_below (T.value number) }
+{
+    number < T::zero()
+}
+
+// Whether a remainder and its divisor lie on different sides of 0.
+#[inline(always)]
+fn is_across<T: PlNumArithmetic>(rest: T, divisor: T) -> bool
+    ensures { result ≡ across (T.value rest) (T.value divisor) }
+{
+    if is_negative(divisor) {
+        !is_negative(rest) && !rest.is_zero()
+    } else {
+        is_negative(rest)
+    }
+}
+
+impl PlNumArithmetic for i8 {
+    #[inline(always)]
+    fn wrapping_abs(self) -> i8 {
+        self.wrapping_abs()
+    }
+
+    #[inline(always)]
+    fn wrapping_trunc_div(self, rhs: i8) -> i8 {
+        if rhs == 0 { 0 } else { self.wrapping_div(rhs) }
+    }
+}
+
+impl PlNumArithmetic for i16 {
+    #[inline(always)]
+    fn wrapping_abs(self) -> i16 {
+        self.wrapping_abs()
+    }
+
+    #[inline(always)]
+    fn wrapping_trunc_div(self, rhs: i16) -> i16 {
+        if rhs == 0 { 0 } else { self.wrapping_div(rhs) }
+    }
+}
+
+impl PlNumArithmetic for i32 {
+    #[inline(always)]
+    fn wrapping_abs(self) -> i32 {
+        self.wrapping_abs()
+    }
+
+    #[inline(always)]
+    fn wrapping_trunc_div(self, rhs: i32) -> i32 {
+        if rhs == 0 { 0 } else { self.wrapping_div(rhs) }
+    }
+}
+
+impl PlNumArithmetic for i64 {
+    #[inline(always)]
+    fn wrapping_abs(self) -> i64 {
+        self.wrapping_abs()
+    }
+
+    #[inline(always)]
+    fn wrapping_trunc_div(self, rhs: i64) -> i64 {
+        if rhs == 0 { 0 } else { self.wrapping_div(rhs) }
+    }
+}
+
+impl PlNumArithmetic for u8 {
+    #[inline(always)]
+    fn wrapping_abs(self) -> u8 {
+        self
+    }
+
+    #[inline(always)]
+    fn wrapping_trunc_div(self, rhs: u8) -> u8 {
+        if rhs == 0 { 0 } else { self / rhs }
+    }
+}
+
+impl PlNumArithmetic for u16 {
+    #[inline(always)]
+    fn wrapping_abs(self) -> u16 {
+        self
+    }
+
+    #[inline(always)]
+    fn wrapping_trunc_div(self, rhs: u16) -> u16 {
+        if rhs == 0 { 0 } else { self / rhs }
+    }
+}
+
+impl PlNumArithmetic for u32 {
+    #[inline(always)]
+    fn wrapping_abs(self) -> u32 {
+        self
+    }
+
+    #[inline(always)]
+    fn wrapping_trunc_div(self, rhs: u32) -> u32 {
+        if rhs == 0 { 0 } else { self / rhs }
+    }
+}
+
+impl PlNumArithmetic for u64 {
+    #[inline(always)]
+    fn wrapping_abs(self) -> u64 {
+        self
+    }
+
+    #[inline(always)]
+    fn wrapping_trunc_div(self, rhs: u64) -> u64 {
+        if rhs == 0 { 0 } else { self / rhs }
+    }
+}

@@ -1,0 +1,41 @@
+//! Divisors that are 0.
+
+ghost use Rattle.std.specs.Prelude.{◌≡◌, length, replicate, false, Some, MatchResult};
+ghost use Rattle.polars_arrays_bits.specs.Errors.{IsMemory};
+ghost use Rattle.polars_arrays_flat.specs.Validity.{HasBits};
+ghost use Rattle.polars_compute_arithmetic.specs.Zeros.{MasksZeros};
+
+use crate::arity::join_validities;
+use num_traits::Zero;
+use polars_arrays_bits::bitmap::Bitmap;
+use polars_arrays_bits::error::ComputeError;
+use polars_arrays_flat::array::Array;
+use polars_arrays_flat::primitive::PrimitiveArray;
+use polars_arrays_numbers::native_type::NativeType;
+use polars_compare_equality::kernel::TotalEqKernel;
+use std::alloc::Global;
+
+// The same array, of which the rows that are 0 are null. The error is `Memory`.
+pub(crate) fn mask_zeros<T: NativeType + Zero>(
+    alloc: Global,
+    divisors: PrimitiveArray<T>,
+) -> Result<PrimitiveArray<T>, ComputeError>
+    ensures { MatchResult result (MasksZeros T.value divisors) IsMemory }
+{
+    let mut divisors = divisors;
+    let nonzero = divisors.tot_ne_kernel_broadcast(alloc, &T::zero())?;
+    let validity = join_validities(alloc, divisors.take_validity(), Some(nonzero))?;
+    Ok(divisors.with_validity(validity))
+}
+
+// An array of as many nulls. The error is `Memory`.
+pub(crate) fn mask_all<T: NativeType>(
+    alloc: Global,
+    array: PrimitiveArray<T>,
+) -> Result<PrimitiveArray<T>, ComputeError>
+    ensures masked { MatchResult result (λ masked. masked ≡ record array { validity = Some (replicate (length array.values) false) }) IsMemory }
+    ensures bits { HasBits (length array.values) array.validity }
+{
+    let none = Bitmap::new_zeroed(alloc, array.len())?;
+    Ok(array.with_validity(Some(none)))
+}

@@ -1,0 +1,175 @@
+//! A function applied to the stored values of arrays. Stored values of masked rows are given to it too.
+
+ghost use Rattle.std.specs.Prelude.{◌≡◌, All, IfOk, IsOk, IsTrue, MatchResult, length};
+ghost use Rattle.std.specs.List.{AllZip};
+ghost use Rattle.polars_arrays_bits.specs.Errors.{IsMemory};
+ghost use Rattle.polars_compute_arithmetic.specs.Maps.{AllPairs, AsLong, MapsEach, MapsPairs, TakesPairs, joined_validity};
+
+use polars_arrays_bits::bitmap::Bitmap;
+use polars_arrays_bits::error::ComputeError;
+use polars_arrays_flat::primitive::PrimitiveArray;
+use polars_arrays_numbers::native_type::NativeType;
+use std::alloc::{AllocError, Global};
+
+// What `op` answers at each value, in a new vector.
+fn map_values<I: Copy, O: Copy, F: Fn(I) -> O>(
+    alloc: Global,
+    values: &[I],
+    op: F,
+) -> Result<Vec<O>, AllocError>
+    requires { All (F.pre op) values.now }
+    ensures { IfOk result (λ mapped. AllZip (F.post op) values.now mapped.items) }
+{
+    let mut mapped = Vec::with_capacity(alloc, values.len())?;
+    for value in values {
+        mapped.push_reserved(op(*value));
+    }
+    Ok(mapped)
+}
+
+// What `op` answers at each value, written over it.
+fn map_in_place<T: Copy, F: Fn(T) -> T>(values: &mut [T], op: F)
+    requires { All (F.pre op) values.old }
+    ensures { AllZip (F.post op) values.old values.new }
+{
+    for value in values.iter_mut() {
+        *value = op(*value);
+    }
+}
+
+/// The array of what `op` answers at each stored value. Nulls are kept. The error is `Memory`.
+pub fn prim_unary_values<I: NativeType, O: NativeType, F: Fn(I) -> O>(
+    alloc: Global,
+    arr: PrimitiveArray<I>,
+    op: F,
+) -> Result<PrimitiveArray<O>, ComputeError>
+    requires callable { All (F.pre op) arr.values }
+    ensures mapped { MatchResult result (MapsEach (F.post op) arr) IsMemory }
+{
+    let mut arr = arr;
+    let values = map_values(alloc, arr.values(), op)?;
+    Ok(PrimitiveArray::from_vec(values).with_validity(arr.take_validity()))
+}
+
+/// The same array with what `op` answers written over each stored value, where the array owns them: then
+/// it takes no memory. Shared values stay as they are, and new ones are made; the error is then `Memory`.
+pub fn prim_unary_in_place<T: NativeType, F: Fn(T) -> T>(
+    alloc: Global,
+    arr: PrimitiveArray<T>,
+    op: F,
+) -> Result<PrimitiveArray<T>, ComputeError>
+    requires callable { All (F.pre op) arr.values }
+    ensures mapped { MatchResult result (MapsEach (F.post op) arr) IsMemory }
+    ensures in_place { IsTrue arr.owned → IsOk result }
+{
+    let mut arr = arr;
+    if !arr.is_owned() {
+        return prim_unary_values(alloc, arr, op);
+    }
+    map_in_place(arr.as_mut_values(), op);
+    Ok(arr)
+}
+
+// What `op` answers at each pair of values at one place, in a new vector.
+fn map_pairs<L: Copy, R: Copy, O: Copy, F: Fn(L, R) -> O>(
+    alloc: Global,
+    left: &[L],
+    right: &[R],
+    op: F,
+) -> Result<Vec<O>, AllocError>
+    requires same_length { length left.now ≡ length right.now }
+    requires callable { TakesPairs (F.pre op) left.now right.now }
+    ensures { IfOk result (λ mapped. AllPairs (F.post op) left.now right.now mapped.items) }
+{
+    let mut mapped = Vec::with_capacity(alloc, left.len())?;
+    for i in 0..left.len() {
+        mapped.push_reserved(op(left[i], right[i]));
+    }
+    Ok(mapped)
+}
+
+// What `op` answers at each pair of values at one place, written over the left one.
+fn map_over_left<T: Copy, R: Copy, F: Fn(T, R) -> T>(left: &mut [T], right: &[R], op: F)
+    requires same_length { length left.old ≡ length right.now }
+    requires callable { TakesPairs (F.pre op) left.old right.now }
+    ensures { AllPairs (F.post op) left.old right.now left.new }
+{
+    for i in 0..left.len() {
+        left[i] = op(left[i], right[i]);
+    }
+}
+
+// What `op` answers at each pair of values at one place, written over the right one.
+fn map_over_right<L: Copy, T: Copy, F: Fn(L, T) -> T>(left: &[L], right: &mut [T], op: F)
+    requires same_length { length left.now ≡ length right.old }
+    requires callable { TakesPairs (F.pre op) left.now right.old }
+    ensures { AllPairs (F.post op) left.now right.old right.new }
+{
+    for i in 0..right.len() {
+        right[i] = op(left[i], right[i]);
+    }
+}
+
+/// Two validities joined: a row is present where both say so. The error is `Memory`.
+pub(crate) fn join_validities(
+    alloc: Global,
+    left: Option<Bitmap>,
+    right: Option<Bitmap>,
+) -> Result<Option<Bitmap>, ComputeError>
+    requires { AsLong left right }
+    ensures { MatchResult result (λ joined. joined ≡ joined_validity left right) IsMemory }
+{
+    match (left, right) {
+        (Some(left), Some(right)) => {
+            let joined = left.and(alloc, &right)?;
+            Ok(Some(joined))
+        }
+        (None, right) => Ok(right),
+        (left, None) => Ok(left),
+    }
+}
+
+/// The array of what `op` answers at each pair of stored values. A row is null where one of the two is. The
+/// error is `Memory`.
+pub fn prim_binary_values<L: NativeType, R: NativeType, O: NativeType, F: Fn(L, R) -> O>(
+    alloc: Global,
+    lhs: PrimitiveArray<L>,
+    rhs: PrimitiveArray<R>,
+    op: F,
+) -> Result<PrimitiveArray<O>, ComputeError>
+    requires same_length { length lhs.values ≡ length rhs.values }
+    requires callable { TakesPairs (F.pre op) lhs.values rhs.values }
+    ensures { MatchResult result (MapsPairs (F.post op) lhs rhs) IsMemory }
+{
+    let (mut lhs, mut rhs) = (lhs, rhs);
+    let values = map_pairs(alloc, lhs.values(), rhs.values(), op)?;
+    let validity = join_validities(alloc, lhs.take_validity(), rhs.take_validity())?;
+    Ok(PrimitiveArray::from_vec(values).with_validity(validity))
+}
+
+/// The left or the right array with what `op` answers at each pair of stored values written over its own,
+/// where it owns them; else shared values stay as they are, and new ones are made. A row is null where one of
+/// the two is. The error is `Memory`.
+pub fn prim_binary_in_place<T: NativeType, F: Fn(T, T) -> T>(
+    alloc: Global,
+    lhs: PrimitiveArray<T>,
+    rhs: PrimitiveArray<T>,
+    op: F,
+) -> Result<PrimitiveArray<T>, ComputeError>
+    requires same_length { length lhs.values ≡ length rhs.values }
+    requires callable { TakesPairs (F.pre op) lhs.values rhs.values }
+    ensures { MatchResult result (MapsPairs (F.post op) lhs rhs) IsMemory }
+{
+    let (mut lhs, mut rhs) = (lhs, rhs);
+    if !lhs.is_owned() && !rhs.is_owned() {
+        return prim_binary_values(alloc, lhs, rhs, op);
+    }
+    let validity = join_validities(alloc, lhs.take_validity(), rhs.take_validity())?;
+    if lhs.is_owned() {
+        map_over_left(lhs.as_mut_values(), rhs.values(), op);
+        Ok(lhs.with_validity(validity))
+    } else {
+        map_over_right(lhs.values(), rhs.as_mut_values(), op);
+        Ok(rhs.with_validity(validity))
+    }
+}
