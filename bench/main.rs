@@ -5,12 +5,14 @@
 //! To add a kernel: its entry and its arm in `crates/polars_bench`, the same entry of the enum here, its peer
 //! in `plain.rs`, `plain_strings.rs` or `plain_nested.rs`, and a line where its group hands out its kernels.
 
+mod arithmetic;
 mod arrays;
 mod bitmaps;
 mod nested;
 mod nested_rows;
 mod operands;
 mod plain;
+mod plain_arithmetic;
 mod plain_nested;
 mod plain_strings;
 mod slices;
@@ -55,6 +57,7 @@ fn rows_agree() {
 fn main() {
     rows_agree();
     bitmaps::agree();
+    arithmetic::agree();
     let mut bench = Bench {
         words: std::env::args().skip(1).collect(),
         over: 0,
@@ -70,5 +73,8 @@ fn main() {
         bitmaps::compare(&mut bench, run);
     }
     nested::compare(&mut bench);
+    for run in 0..RUNS.len() {
+        arithmetic::compare(&mut bench, run);
+    }
     println!("{} over what is asked for", bench.over);
 }

@@ -25,6 +25,11 @@ pub enum NumberType {
     I32,
     I64,
     I128,
+    I16,
+    U8,
+    U16,
+    U32,
+    U64,
 }
 
 /// Numbers that look random, the same in each run of the program.

@@ -50,6 +50,20 @@ pub const RUNS: [Run; 2] = [
     },
 ];
 
+/// The same for kernels of which there are many.
+pub const SHORT_RUNS: [Run; 2] = [
+    Run {
+        count: RUNS[0].count,
+        times: 60,
+        least: Duration::from_micros(500),
+    },
+    Run {
+        count: RUNS[1].count,
+        times: 12,
+        least: Duration::from_millis(10),
+    },
+];
+
 impl Run {
     /// That of a kernel which is timed at numbers of rows of its own.
     pub fn of(count: usize) -> Run {

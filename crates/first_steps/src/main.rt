@@ -144,7 +144,8 @@ const SECOND: Parts<'static> = Parts {
 fn compare_orders(rt: &(impl Print + AllocGlobal)) -> Result<(), Fault> {
     let left = orders(rt.alloc(), &FIRST)?;
     let right = orders(rt.alloc(), &SECOND)?;
-    print_same(rt, &left, &right)
+    print_same(rt, &left, &right)?;
+    Ok(())
 }
 
 fn main(rt: HostRuntime) -> ExitCode {

@@ -32,6 +32,18 @@ macro_rules! at_number_type {
     };
 }
 
+/// Calls a function at the type of numbers with arithmetic whose number is given. The checksum is 0 where
+/// there is none.
+macro_rules! at_integer_type {
+    ($number:expr, $called:ident $arguments:tt) => {
+        at_type!(
+            $number,
+            NumberType: I8 = i8, I16 = i16, I32 = i32, I64 = i64, U8 = u8, U16 = u16, U32 = u32, U64 = u64;
+            $called $arguments
+        )
+    };
+}
+
 /// Calls a function at the type that stands beside the entry of an enum whose number is given. The checksum
 /// is 0 where there is none.
 macro_rules! at_type {
@@ -43,6 +55,7 @@ macro_rules! at_type {
     };
 }
 
+mod arithmetic;
 mod bitmaps;
 mod booleans;
 mod columns;

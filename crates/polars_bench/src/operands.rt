@@ -23,6 +23,11 @@ pub(crate) enum NumberType {
     I32,
     I64,
     I128,
+    I16,
+    U8,
+    U16,
+    U32,
+    U64,
 }
 
 /// Two slices of numbers of one length, and a number.

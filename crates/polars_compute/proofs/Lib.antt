@@ -1,1 +1,2 @@
 pub mod ArithmeticRows
+pub mod SumsOfParts

@@ -1,10 +1,12 @@
-//! What holds of the answers of arithmetic, over the definitions of their contracts alone. A law is a function that does nothing,
+//! What holds of the answers of arithmetic and of sums, over the definitions of their contracts alone. A law is a function that does nothing,
 //! and its clauses are what is proved.
 
 ghost use Rattle.num_traits.specs.Laws.{bit_len};
 ghost use Rattle.polars_compute.specs.ArithmeticLaws.{AnswersByRows, DividesBack, NumberOnLeft, NumberOnRight, ResultsByRows};
+ghost use Rattle.polars_compute.specs.SumLaw.{SumsJoin};
 
 use polars_compute_arithmetic::arithmetic::pl_num::PlNumArithmetic;
+use polars_compute_bits::wrapping::WrappingNumber;
 
 /// Arrays with the same rows get the same rows, however they are stored and masked.
 pub fn law_3<T: PlNumArithmetic>()
@@ -22,4 +24,9 @@ pub fn law_4<T: PlNumArithmetic>()
 pub fn law_5<T: PlNumArithmetic>()
     ensures right { NumberOnRight T.low (bit_len T.width) }
     ensures left { NumberOnLeft T.low (bit_len T.width) }
+{}
+
+/// The sum of rows one behind another, wrapped, is the sum of the sums of its parts, wrapped.
+pub fn law_6<T: WrappingNumber>()
+    ensures { SumsJoin T.low (bit_len T.width) }
 {}

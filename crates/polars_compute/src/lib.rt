@@ -1,10 +1,10 @@
 //! Computations on columns, under one roof. A caller lists this crate alone, and writes `polars_compute::arithmetic::ArithmeticKernel`
 //! for arithmetic on arrays of numbers, `polars_compute::arithmetic::pl_num::PlNumArithmetic` for arithmetic on single ones,
-//! `polars_compute::arity` for functions of its own on stored values, and `polars_compute::sum` for sums. `laws` has what holds of
-//! every answer.
+//! `polars_compute::arity` for functions of its own on stored values, `polars_compute::bitwise::BitwiseKernel` for counts and reductions of
+//! bits, and `polars_compute::sum` for sums. `laws` has what holds of every answer.
 #![tactic(auto)]
 
 pub use polars_compute_arithmetic::{arithmetic, arity};
-pub use polars_compute_bits::sum;
+pub use polars_compute_bits::{bitwise, sum};
 
 pub mod laws;

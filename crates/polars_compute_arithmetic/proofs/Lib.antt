@@ -1,6 +1,7 @@
 pub mod Zips
 pub mod Joined
 pub mod Quotient
+pub mod Moved
 pub mod Rounding
 pub mod Places
 pub mod Nonzero

@@ -35,28 +35,6 @@ by_reciprocal a d p hp hd small =
     omega arith in
     between (a * (c + 1)) p q low (lt_of_mul-lt-mul_left d high)
 
--- the same of a number and a divisor of w bits, by the fraction of 2 ^ (2 * w)
-pub quotient_by : (a d p h f x : ℕ) → h * h ≡ p → 0 < h → a < h → 2 ≤ d → d < h → f ≡ reciprocal p d → x ≡ d → a * f / p ≡ a / x
-quotient_by a d p h f x whole hp ha hd hh ef ex =
-    let small : a * (d - 1) < p =
-    let t : a * (d - 1) ≤ (h - 1) * (h - 1) = mul-le a (d - 1) (h - 1) (h - 1) (omega arith) (omega arith) in
-    let u : (h - 1 + 1) * (h - 1 + 1) ≡ h * h = ap (λ (y : ℕ). y * y) (omega arith) in
-    omega arith in
-    let pos_p : 0 < p = omega arith in
-    ap (λ (y : ℕ). a * y / p) ef ∙ by_reciprocal a d p pos_p (omega arith) small ∙ ap (λ (y : ℕ). a / y) (sym ex)
-
--- a product with a number of two digits, in two steps
-two_steps : (a h l b : ℕ) → 0 < b → (a * h + a * l / b) / b ≡ a * (h * b + l) / (b * b)
-two_steps a h l b hb =
-    let e : a * (h * b + l) ≡ a * l + b * (a * h) = omega arith in
-    let f : (a * l + b * (a * h)) / b ≡ a * l / b + a * h = add-mul-div_left (a * l) (a * h) hb in
-    let g : a * h + a * l / b ≡ (a * l + b * (a * h)) / b = omega arith in
-    ap (λ (x : ℕ). x / b) g ∙ div-div-eq-div-mul (a * l + b * (a * h)) b b ∙ ap (λ (x : ℕ). x / (b * b)) (sym e)
-
-pub quotient_in_steps : (a d b h l x : ℕ) → 0 < b → a < b → 2 ≤ d → d < b → h * b + l ≡ reciprocal (b * b) d → x ≡ d → (a * h + a * l / b) / b ≡ a / x
-quotient_in_steps a d b h l x hb ha hd hh ef ex =
-    two_steps a h l b hb ∙ quotient_by a d (b * b) b (h * b + l) x refl hb ha hd hh ef ex
-
 -- a factor below 2 ^ 32, for a number up to 2 ^ 31
 pub quotient_shifted : (a d s f x : ℕ) → a ≤ 2147483648 → 2 ≤ d → d ≤ 2 * 2 ^ s → f ≡ reciprocal (4294967296 * 2 ^ s) d → x ≡ d → a * f / 4294967296 / 2 ^ s ≡ a / x
 quotient_shifted a d s f x ha hd hh ef ex =
@@ -68,6 +46,51 @@ quotient_shifted a d s f x ha hd hh ef ex =
     ∙ ap (λ (y : ℕ). a * y / (4294967296 * 2 ^ s)) ef
     ∙ by_reciprocal a d (4294967296 * 2 ^ s) (omega arith) (omega arith) small
     ∙ ap (λ (y : ℕ). a / y) (sym ex)
+
+-- a factor below 2 ^ 64, for a number up to 2 ^ 63
+pub quotient_shifted-wide : (a d s f x : ℕ) → a ≤ 9223372036854775808 → 2 ≤ d → d ≤ 2 * 2 ^ s → f ≡ reciprocal (18446744073709551616 * 2 ^ s) d → x ≡ d → a * f / 18446744073709551616 / 2 ^ s ≡ a / x
+quotient_shifted-wide a d s f x ha hd hh ef ex =
+    let one : 0 < 2 ^ s = pow_pos s in
+    let small : a * (d - 1) < 18446744073709551616 * 2 ^ s =
+    let t : a * (d - 1) ≤ 9223372036854775808 * (2 * 2 ^ s - 1) = mul-le a (d - 1) 9223372036854775808 (2 * 2 ^ s - 1) ha (omega arith) in
+    omega arith in
+    div-div-eq-div-mul (a * f) 18446744073709551616 (2 ^ s)
+    ∙ ap (λ (y : ℕ). a * y / (18446744073709551616 * 2 ^ s)) ef
+    ∙ by_reciprocal a d (18446744073709551616 * 2 ^ s) (omega arith) (omega arith) small
+    ∙ ap (λ (y : ℕ). a / y) (sym ex)
+
+-- a factor from w up to 2 * w, of which f is what it has above w, for a number below w
+pub quotient_carried : (a d s f w x : ℕ) → 0 < w → a < w → 2 ≤ d → d ≤ 2 * 2 ^ s → w + f ≡ reciprocal (w * (2 * 2 ^ s)) d → x ≡ d → (a + a * f / w) / 2 / 2 ^ s ≡ a / x
+quotient_carried a d s f w x hw ha hd hh ef ex =
+    let one : 0 < 2 ^ s = pow_pos s in
+    let whole : a * (w + f) ≡ a * f + w * a = omega arith in
+    let sum : a + a * f / w ≡ a * (w + f) / w =
+    omega (arith, add-mul-div_left (a * f) a hw, ap (λ (y : ℕ). y / w) whole) in
+    let below : a * (d - 1) ≤ a * (2 * 2 ^ s) = mul-le a (d - 1) a (2 * 2 ^ s) (omega arith) (omega arith) in
+    let above : (a + 1) * (2 * 2 ^ s) ≤ w * (2 * 2 ^ s) = mul-le (a + 1) (2 * 2 ^ s) w (2 * 2 ^ s) (omega arith) (omega arith) in
+    let small : a * (d - 1) < w * (2 * 2 ^ s) = omega arith in
+    ap (λ (y : ℕ). y / 2 / 2 ^ s) sum
+    ∙ div-div-eq-div-mul (a * (w + f) / w) 2 (2 ^ s)
+    ∙ div-div-eq-div-mul (a * (w + f)) w (2 * 2 ^ s)
+    ∙ ap (λ (y : ℕ). a * y / (w * (2 * 2 ^ s))) ef
+    ∙ by_reciprocal a d (w * (2 * 2 ^ s)) (omega arith) (omega arith) small
+    ∙ ap (λ (y : ℕ). a / y) (sym ex)
+
+-- what a reciprocal has above v + 1, and that it is at most v
+pub carried : (d v p q : ℕ) → p ≡ q → q ≤ d - 1 → d ≤ 2 * q → 2 ≤ d → q ≤ v + 1
+    → (v + 1 + (((v + 1) * p - 1 + (v + 1) * p) / d - v) ≡ reciprocal ((v + 1) * (2 * q)) d) × (((v + 1) * p - 1 + (v + 1) * p) / d - v < v + 1)
+carried d v p q e low high two small =
+    let x : ℕ = (v + 1) * (2 * q) - 1 in
+    let some : 1 * 1 ≤ (v + 1) * q = mul-le 1 1 (v + 1) q (omega arith) (omega arith) in
+    let same : (v + 1) * p - 1 + (v + 1) * p ≡ x = ap (λ (y : ℕ). (v + 1) * y - 1 + (v + 1) * y) e ∙ omega arith in
+    let parts : x / d * d + x % d ≡ x = div-add-mod' x d in
+    let rest : x % d < d = mod-lt x (omega arith) in
+    let wide : (v + 1) * d ≤ (v + 1) * (2 * q) = mul-le (v + 1) d (v + 1) (2 * q) (omega arith) high in
+    let least : v < x / d + 1 = lt_of_mul-lt-mul_left d (omega arith) in
+    let more : (2 * v + 1) * (q + 1) ≤ (2 * v + 1) * d = mul-le (2 * v + 1) (q + 1) (2 * v + 1) d (omega arith) (omega arith) in
+    let greatest : x / d < 2 * v + 1 = lt_of_mul-lt-mul_left d (omega arith) in
+    let t : ((v + 1) * p - 1 + (v + 1) * p) / d ≡ x / d = ap (λ (y : ℕ). y / d) same in
+    (ap (λ (y : ℕ). v + 1 + (y - v)) t ∙ omega arith, omega arith)
 
 -- by 2 or more it is at most half of the number
 pub half-quotient : (a d q : ℕ) → 2 ≤ d → q ≡ a / d → 2 * q ≤ a

@@ -1,1 +1,4 @@
+pub mod BitLaws
+pub mod Bitwise
 pub mod Sum
+pub mod SumLaws

@@ -1,6 +1,7 @@
 -- The sum of rows.
-use Rattle.std.specs.Prelude.{◌+ℤ◌, ℤ, pos, List, [], ◌∷◌}
+use Rattle.std.specs.Prelude.{◌+ℤ◌, ℕ, ℤ, pos, List, [], ◌∷◌}
 use Rattle.polars_arrays_flat.specs.Row.{Row, Int}
+use Rattle.polars_arrays_numbers.specs.Wrapping.{wrapped}
 
 -- what a row adds to a sum: a number itself, and any other row nothing
 abbrev pub addend : Row → ℤ
@@ -11,3 +12,7 @@ addend row = pos 0
 abbrev pub total : List Row → ℤ
 total [] = pos 0
 total (row ∷ more) = addend row +ℤ total more
+
+-- two numbers added, wrapped
+abbrev pub wrapped_sum : ℤ → ℕ → ℤ → ℤ → ℤ
+wrapped_sum least width a b = wrapped least width (a +ℤ b)

@@ -1,18 +1,19 @@
 //! Sums that wrap.
 
-ghost use Rattle.std.specs.Prelude.{◌≡◌, ◌<◌, ◌+ℤ◌, length, slice_index_or, false};
+ghost use Rattle.std.specs.Prelude.{◌≡◌, ◌+ℤ◌, length};
 ghost use Rattle.num_traits.specs.Laws.{bit_len};
 ghost use Rattle.polars_arrays_flat.specs.ArrayRows.{number_rows};
-ghost use Rattle.polars_arrays_flat.specs.Row.{Int};
-ghost use Rattle.polars_arrays_flat.specs.StoredRows.{kept, masked, number_slots};
+ghost use Rattle.polars_arrays_flat.specs.StoredRows.{masked, number_slots};
 ghost use Rattle.polars_arrays_numbers.specs.Wrapping.{wrapped};
-ghost use Rattle.polars_compute_bits.specs.Sum.{addend, total};
+ghost use Rattle.polars_compute_bits.specs.Sum.{total};
 
 use crate::wrapping::WrappingNumber;
 use num_traits::Zero;
 use polars_arrays_bits::bit_mask::BitMask;
 use polars_arrays_flat::array::Array;
 use polars_arrays_flat::primitive::PrimitiveArray;
+use polars_arrays_folds::fold::{fold_all, fold_present};
+use polars_arrays_folds::operator::Operator;
 use polars_arrays_numbers::native_type::NativeType;
 
 /// Addition that wraps around at the ends of the type.
@@ -41,31 +42,41 @@ pub trait WrappingSum: NativeType {
         ensures { Self.value result ≡ wrapped Self.low (bit_len Self.width) (total (masked mask.now (number_slots Self.value vals.now))) };
 }
 
-/// The number where its bit is 1, else 0.
-#[inline(always)]
-fn number_or_zero<T: NativeType + Zero>(mask: &BitMask<'_>, i: usize, number: T) -> T
-    requires { i < length mask.now }
-    ensures { T.value result ≡ addend (kept (slice_index_or mask.now i false) (Int (T.value number))) }
-{
-    if mask.get(i) { number } else { T::zero() }
+/// Numbers are folded to their sum, wrapped.
+#[derive(Drop)]
+pub struct Sum;
+
+impl<T: NativeType + WrappingAdd + Zero> Operator<T> for Sum {
+    ghost use Rattle.std.specs.Prelude.{pos};
+    ghost use Rattle.num_traits.specs.Laws.{bit_len};
+    ghost use Rattle.polars_arrays_numbers.specs.Wrapping.{wrapped};
+    ghost use Rattle.polars_compute_bits.specs.Sum.{wrapped_sum};
+    ghost use Rattle.polars_compute_bits.specs.SumLaws.{sum_folds};
+
+    ghost joined = { wrapped_sum T.low (bit_len T.width) };
+
+    ghost neutral = { wrapped T.low (bit_len T.width) (pos 0) };
+
+    ghost folds_law = { sum_folds T.low (bit_len T.width) };
+
+    #[inline(always)]
+    fn start(&self) -> T {
+        T::zero()
+    }
+
+    #[inline(always)]
+    fn join(&self, left: T, right: T) -> T {
+        WrappingAdd::wrapping_add(&left, &right)
+    }
 }
 
 impl<T: NativeType + WrappingAdd + Zero> WrappingSum for T {
     fn wrapping_sum(vals: &[T]) -> T {
-        let mut sum = T::zero();
-        for number in vals {
-            sum = WrappingAdd::wrapping_add(&sum, number);
-        }
-        sum
+        fold_all(&Sum, vals)
     }
 
     fn wrapping_sum_with_validity(vals: &[T], mask: &BitMask<'_>) -> T {
-        let mut sum = T::zero();
-        for i in 0..vals.len() {
-            let addend = number_or_zero(mask, i, vals[i]);
-            sum = WrappingAdd::wrapping_add(&sum, &addend);
-        }
-        sum
+        fold_present(&Sum, vals, mask)
     }
 }
 

@@ -40,7 +40,8 @@ fn copy(alloc: Global, store: &Store, words: &mut Words) -> Result<String, Fault
     requires { HasGoodArrays store.now }
 {
     let copy = store.read(words)?.clone_array(alloc)?;
-    write_rows(alloc, &copy)
+    let text = write_rows(alloc, &copy)?;
+    Ok(text)
 }
 
 // The rows that a slice of a clone of an array has.
@@ -53,7 +54,8 @@ fn slice(alloc: Global, store: &Store, words: &mut Words) -> Result<String, Faul
         return Err(Fault::Case);
     }
     array.slice(at, n);
-    write_rows(alloc, &array)
+    let text = write_rows(alloc, &array)?;
+    Ok(text)
 }
 
 // How many leaf slots each of two arrays has.

@@ -38,7 +38,7 @@ pub fn answer(
         "array_len" => len(alloc, store.read(words)?),
         "null_count" => null_count(alloc, store.read(words)?),
         "validity" => validity(alloc, store.read(words)?),
-        "array_is_owned" => of_numbers!(store.read(words)?, a => is_owned(alloc, a)),
+        "array_is_owned" => is_owned(alloc, store.read(words)?),
         "values" => values(alloc, store.read(words)?),
         "offsets" => offsets(alloc, store.read(words)?),
         "views" => views(alloc, store.read(words)?),
@@ -77,8 +77,9 @@ fn validity(alloc: Global, array: &AnyArray) -> Result<String, Fault>
 }
 
 // Whether an array of numbers owns its values.
-fn is_owned<T: NativeType>(alloc: Global, array: &PrimitiveArray<T>) -> Result<String, Fault> {
-    Ok(array.is_owned().to_string(alloc)?)
+fn is_owned(alloc: Global, array: &AnyArray) -> Result<String, Fault> {
+    let owned: Result<bool, Fault> = of_numbers!(array, a => Ok(a.is_owned()));
+    Ok(owned?.to_string(alloc)?)
 }
 
 // Numbers, parted by spaces.

@@ -34,15 +34,68 @@ pub fn answer(
     let answer = match call {
         "from_vec" => of_number_type!(words.read()?, from_vec(alloc, words)),
         "full_null" => of_number_type!(words.read()?, full_null(alloc, words)),
-        "array_share" => of_numbers!(store.read(words)?, a => share(alloc, a)),
-        "take_validity" => of_numbers!(store.read(words)?, a => take_validity(alloc, a)),
-        "with_validity" => of_numbers!(store.read(words)?, a => with_validity(alloc, a, words)),
-        "fill_with" => of_numbers!(store.read(words)?, a => fill_with(alloc, a, words)),
-        "get_mut_values" => of_numbers!(store.read(words)?, a => get_mut_values(alloc, a, words)),
-        "as_mut_values" => of_numbers!(store.read(words)?, a => as_mut_values(alloc, a, words)),
-        _ => return Ok(None),
+        _ => return answer_change(alloc, call, store, words),
     };
     Ok(Some(answer?))
+}
+
+// What is done to a clone of an array of numbers.
+#[derive(Clone, Copy)]
+enum Change {
+    Share,
+    TakeValidity,
+    WithValidity,
+    FillWith,
+    GetMutValues,
+    AsMutValues,
+}
+
+impl Change {
+    fn named(call: &str) -> Option<Change> {
+        match call {
+            "array_share" => Some(Change::Share),
+            "take_validity" => Some(Change::TakeValidity),
+            "with_validity" => Some(Change::WithValidity),
+            "fill_with" => Some(Change::FillWith),
+            "get_mut_values" => Some(Change::GetMutValues),
+            "as_mut_values" => Some(Change::AsMutValues),
+            _ => None,
+        }
+    }
+}
+
+// The answer to a call that changes a clone of an array, or None for another call.
+fn answer_change(
+    alloc: Global,
+    call: &str,
+    store: &Store,
+    words: &mut Words,
+) -> Result<Option<String>, Fault>
+    requires { HasGoodArrays store.now }
+{
+    let Some(change) = Change::named(call) else {
+        return Ok(None);
+    };
+    let array = store.read(words)?;
+    let answer = of_numbers!(array, a => change_array(alloc, change, a, words));
+    Ok(Some(answer?))
+}
+
+// What a clone of an array becomes.
+fn change_array<T: NativeType + Display + FromStr<Err: Drop>>(
+    alloc: Global,
+    change: Change,
+    array: &PrimitiveArray<T>,
+    words: &mut Words,
+) -> Result<String, Fault> {
+    match change {
+        Change::Share => share(alloc, array),
+        Change::TakeValidity => take_validity(alloc, array),
+        Change::WithValidity => with_validity(alloc, array, words),
+        Change::FillWith => fill_with(alloc, array, words),
+        Change::GetMutValues => get_mut_values(alloc, array, words),
+        Change::AsMutValues => as_mut_values(alloc, array, words),
+    }
 }
 
 // An array of numbers: its rows, the stored values, and whether it owns these.

@@ -59,7 +59,8 @@ fn write_struct(alloc: Global, made: Result<StructArray, ArrayError>) -> Result<
 fn rows(alloc: Global, array: StructArray) -> Result<String, Fault>
     requires { IsGood (Struct array) }
 {
-    write_rows(alloc, &AnyArray::Struct(array))
+    let text = write_rows(alloc, &AnyArray::Struct(array))?;
+    Ok(text)
 }
 
 // Why there are no structs.

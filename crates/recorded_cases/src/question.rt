@@ -132,6 +132,7 @@ fn answer_call(alloc: Global, store: &Store, call: &str, words: &mut Words) -> R
         recorded_bits::answer(alloc, call, words),
         recorded_arrays::answer(alloc, call, store, words),
         recorded_kernels::answer(alloc, call, store, words),
+        recorded_arithmetic::answer(alloc, call, store, words),
     );
     Err(Fault::Word)
 }

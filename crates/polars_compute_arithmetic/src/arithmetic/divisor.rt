@@ -4,7 +4,7 @@ ghost use Rattle.std.specs.Prelude.{◌≡◌, ◌↔◌, ◌≤◌, ◌≤ℤ�
 ghost use Rattle.polars_compute_arithmetic.specs.Quotients.{floor_quotient, truncated_quotient};
 
 use crate::arithmetic::reciprocals::{Reciprocal32, Reciprocal64, ShortReciprocal};
-use crate::arithmetic::signed_divisors::{SignedDivisor32, SignedDivisor64};
+use crate::arithmetic::signed_divisors::{SignedDivisor16, SignedDivisor32, SignedDivisor64};
 use polars_arrays_numbers::native_type::NativeType;
 
 /// A type of numbers that divide many. A divisor that stays is kept with its reciprocal, so that each quotient is a product.
@@ -35,50 +35,50 @@ pub trait DivisorNumber: NativeType {
 }
 
 impl DivisorNumber for i8 {
-    type Divisor = SignedDivisor32;
+    type Divisor = SignedDivisor16;
 
     ghost divisor = { λ d. d };
 
-    fn to_divisor(self) -> Option<SignedDivisor32> {
+    fn to_divisor(self) -> Option<SignedDivisor16> {
         if self.unsigned_abs() < 2 {
             return None;
         }
-        Some(SignedDivisor32::new(i32::from(self)))
+        Some(SignedDivisor16::new(i16::from(self)))
     }
 
     #[inline(always)]
-    fn floor_by(self, by: &SignedDivisor32) -> i8 {
-        by.divide_floor(i32::from(self)) as i8
+    fn floor_by(self, by: &SignedDivisor16) -> i8 {
+        by.divide_floor(i16::from(self)) as i8
     }
 
     #[inline(always)]
-    fn truncated_by(self, by: &SignedDivisor32) -> i8 {
-        by.divide_truncated(i32::from(self)) as i8
+    fn truncated_by(self, by: &SignedDivisor16) -> i8 {
+        by.divide_truncated(i16::from(self)) as i8
     }
 
     fn law_ends(self) {}
 }
 
 impl DivisorNumber for i16 {
-    type Divisor = SignedDivisor32;
+    type Divisor = SignedDivisor16;
 
     ghost divisor = { λ d. d };
 
-    fn to_divisor(self) -> Option<SignedDivisor32> {
+    fn to_divisor(self) -> Option<SignedDivisor16> {
         if self.unsigned_abs() < 2 {
             return None;
         }
-        Some(SignedDivisor32::new(i32::from(self)))
+        Some(SignedDivisor16::new(self))
     }
 
     #[inline(always)]
-    fn floor_by(self, by: &SignedDivisor32) -> i16 {
-        by.divide_floor(i32::from(self)) as i16
+    fn floor_by(self, by: &SignedDivisor16) -> i16 {
+        by.divide_floor(self) as i16
     }
 
     #[inline(always)]
-    fn truncated_by(self, by: &SignedDivisor32) -> i16 {
-        by.divide_truncated(i32::from(self)) as i16
+    fn truncated_by(self, by: &SignedDivisor16) -> i16 {
+        by.divide_truncated(self) as i16
     }
 
     fn law_ends(self) {}

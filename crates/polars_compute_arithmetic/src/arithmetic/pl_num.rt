@@ -129,11 +129,7 @@ fn is_negative<T: PlNumArithmetic>(number: T) -> bool
 fn is_across<T: PlNumArithmetic>(rest: T, divisor: T) -> bool
     ensures { result ≡ across (T.value rest) (T.value divisor) }
 {
-    if is_negative(divisor) {
-        !is_negative(rest) && !rest.is_zero()
-    } else {
-        is_negative(rest)
-    }
+    (is_negative(rest) != is_negative(divisor)) & !rest.is_zero()
 }
 
 impl PlNumArithmetic for i8 {

@@ -49,11 +49,56 @@ impl ShortReciprocal {
     }
 }
 
-/// A divisor of 32 bits, for numbers of 32 bits. Clauses read it as the divisor.
+/// A divisor of up to 2^63, for numbers of up to 2^63. Clauses read it as the divisor.
+#[derive(Drop)]
+pub struct ShortReciprocal64 {
+    divisor: u64,
+    factor: u64,
+    shift: u32,
+}
+
+impl Model for ShortReciprocal64 {
+    ghost Value = { ℕ };
+
+    ghost view = { λ r. r.divisor };
+
+    ghost invariant = { λ r. (2 ≤ r.divisor) × (r.divisor ≤ 2 ^ 63) × (r.shift < 63) × (r.divisor ≤ 2 * 2 ^ r.shift) × (r.factor ≡ reciprocal (2 ^ 64 * 2 ^ r.shift) r.divisor) × (r.factor < 2 ^ 64) };
+}
+
+impl ShortReciprocal64 {
+    /// The divisor with its reciprocal.
+    pub fn new(divisor: u64) -> ShortReciprocal64
+        requires some { 2 ≤ divisor }
+        requires within { divisor ≤ 2 ^ 63 }
+        ensures { result ≡ divisor }
+    {
+        let shift = (divisor - 1).ilog2();
+        let whole = (1u128 << 64) * (1u128 << shift);
+        ShortReciprocal64 {
+            divisor,
+            factor: ((whole - 1) / divisor as u128 + 1) as u64,
+            shift,
+        }
+    }
+
+    /// The quotient, rounded down.
+    #[inline(always)]
+    pub fn divide(&self, a: u64) -> u64
+        requires { a ≤ 2 ^ 63 }
+        ensures quotient { result ≡ a / self.now }
+        ensures half { 2 * result ≤ a }
+    {
+        high_product(a, self.factor) >> self.shift
+    }
+}
+
+/// A divisor of 32 bits, for numbers of 32 bits. Clauses read it as the divisor. Of the reciprocal, which has 33
+/// bits, it keeps all but the highest one, which is 1, so that its products have 64 bits.
 #[derive(Drop)]
 pub struct Reciprocal32 {
     divisor: u32,
-    factor: u64,
+    factor: u32,
+    shift: u32,
 }
 
 impl Model for Reciprocal32 {
@@ -61,7 +106,7 @@ impl Model for Reciprocal32 {
 
     ghost view = { λ r. r.divisor };
 
-    ghost invariant = { λ r. (2 ≤ r.divisor) × (r.divisor < 2 ^ 32) × (r.factor ≡ reciprocal (2 ^ 64) r.divisor) };
+    ghost invariant = { λ r. (2 ≤ r.divisor) × (r.divisor < 2 ^ 32) × (r.shift < 32) × (r.divisor ≤ 2 * 2 ^ r.shift) × (2 ^ 32 + r.factor ≡ reciprocal (2 ^ 32 * (2 * 2 ^ r.shift)) r.divisor) × (r.factor < 2 ^ 32) };
 }
 
 impl Reciprocal32 {
@@ -70,9 +115,13 @@ impl Reciprocal32 {
         requires { 2 ≤ divisor }
         ensures { result ≡ divisor }
     {
+        let shift = (divisor - 1).ilog2();
+        let half = (1u64 << 32) * (1u64 << shift);
+        let quotient = (half - 1 + half) / divisor as u64;
         Reciprocal32 {
             divisor,
-            factor: u64::MAX / divisor as u64 + 1,
+            factor: (quotient - u32::MAX as u64) as u32,
+            shift,
         }
     }
 
@@ -81,16 +130,18 @@ impl Reciprocal32 {
     pub fn divide(&self, a: u32) -> u32
         ensures { result ≡ a / self.now }
     {
-        ((a as u128 * self.factor as u128) >> 64) as u32
+        let sum = a as u64 + ((a as u64 * self.factor as u64) >> 32);
+        ((sum >> 1) >> self.shift) as u32
     }
 }
 
-/// A divisor of 64 bits, for numbers of 64 bits. Clauses read it as the divisor.
+/// A divisor of 64 bits, for numbers of 64 bits. Clauses read it as the divisor. Of the reciprocal, which has 65
+/// bits, it keeps all but the highest one, which is 1.
 #[derive(Drop)]
 pub struct Reciprocal64 {
     divisor: u64,
-    high: u64,
-    low: u64,
+    factor: u64,
+    shift: u32,
 }
 
 impl Model for Reciprocal64 {
@@ -98,7 +149,7 @@ impl Model for Reciprocal64 {
 
     ghost view = { λ r. r.divisor };
 
-    ghost invariant = { λ r. (2 ≤ r.divisor) × (r.divisor < 2 ^ 64) × (r.high * 2 ^ 64 + r.low ≡ reciprocal (2 ^ 128) r.divisor) × (r.high < 2 ^ 64) × (r.low < 2 ^ 64) };
+    ghost invariant = { λ r. (2 ≤ r.divisor) × (r.divisor < 2 ^ 64) × (r.shift < 64) × (r.divisor ≤ 2 * 2 ^ r.shift) × (2 ^ 64 + r.factor ≡ reciprocal (2 ^ 64 * (2 * 2 ^ r.shift)) r.divisor) × (r.factor < 2 ^ 64) };
 }
 
 impl Reciprocal64 {
@@ -107,21 +158,39 @@ impl Reciprocal64 {
         requires { 2 ≤ divisor }
         ensures { result ≡ divisor }
     {
-        let factor = u128::MAX / divisor as u128 + 1;
+        let shift = (divisor - 1).ilog2();
+        let half = (1u128 << 64) * (1u128 << shift);
+        let quotient = (half - 1 + half) / divisor as u128;
         Reciprocal64 {
             divisor,
-            high: (factor >> 64) as u64,
-            low: (factor % (1 << 64)) as u64,
+            factor: (quotient - u64::MAX as u128) as u64,
+            shift,
         }
     }
 
     /// The quotient, rounded down.
     #[inline(always)]
     pub fn divide(&self, a: u64) -> u64
-        ensures quotient { result ≡ a / self.now }
-        ensures half { 2 * result ≤ a }
+        ensures { result ≡ a / self.now }
     {
-        let carried = (a as u128 * self.low as u128) >> 64;
-        ((a as u128 * self.high as u128 + carried) >> 64) as u64
+        half_sum(a, high_product(a, self.factor)) >> self.shift
     }
+}
+
+// The upper 64 bits of a product.
+#[inline(always)]
+fn high_product(a: u64, factor: u64) -> u64
+    ensures product { result ≡ a * factor / 2 ^ 64 }
+    ensures within { result ≤ a }
+{
+    ((a as u128 * factor as u128) >> 64) as u64
+}
+
+// Half of the sum of two numbers, rounded down. The sum itself may have more than 64 bits.
+#[inline(always)]
+fn half_sum(a: u64, b: u64) -> u64
+    requires { b ≤ a }
+    ensures { result ≡ (a + b) / 2 }
+{
+    ((a - b) >> 1) + b
 }

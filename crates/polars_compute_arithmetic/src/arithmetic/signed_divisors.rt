@@ -1,11 +1,73 @@
 //! Signed numbers that divide many, over the reciprocals of their magnitudes.
 
-ghost use Rattle.std.specs.Prelude.{◌≡◌, ℤ, ℕ, ◌+◌, ◌*◌, ◌≤◌, ◌<◌, ◌^◌, unsigned_abs, FitsSigned};
-ghost use Rattle.std.specs.Int.{w32, w64};
-ghost use Rattle.polars_compute_arithmetic.specs.Quotients.{floor_quotient, truncated_quotient};
+ghost use Rattle.std.specs.Prelude.{◌≡◌, ℤ, pos, ℕ, ◌+◌, ◌*◌, ◌≤◌, ◌<◌, ◌^◌, unsigned_abs, FitsSigned};
+ghost use Rattle.std.specs.Int.{w16, w32, w64};
+ghost use Rattle.polars_compute_arithmetic.specs.Quotients.{floor_by, floor_quotient, truncated_quotient};
 
-use crate::arithmetic::reciprocals::{Reciprocal64, ShortReciprocal};
+use crate::arithmetic::reciprocals::{ShortReciprocal, ShortReciprocal64};
 use std::marker::Model;
+
+/// A divisor of 16 bits. Clauses read it as the divisor.
+#[derive(Drop)]
+pub struct SignedDivisor16 {
+    divisor: i16,
+    offset: i32,
+    magnitude: ShortReciprocal,
+}
+
+impl Model for SignedDivisor16 {
+    ghost Value = { ℤ };
+
+    ghost view = { λ r. r.divisor };
+
+    ghost invariant = { λ r. (2 ≤ unsigned_abs r.divisor) × FitsSigned w16 r.divisor × (r.offset ≡ pos (2 ^ 15 * unsigned_abs r.divisor)) × (r.magnitude ≡ unsigned_abs r.divisor) };
+}
+
+impl SignedDivisor16 {
+    /// The divisor with the reciprocal of its magnitude.
+    pub fn new(divisor: i16) -> SignedDivisor16
+        requires { 2 ≤ unsigned_abs divisor }
+        ensures { result ≡ divisor }
+    {
+        let magnitude = u32::from(divisor.unsigned_abs());
+        SignedDivisor16 {
+            divisor,
+            offset: ((1 << 15) * magnitude) as i32,
+            magnitude: ShortReciprocal::new(magnitude),
+        }
+    }
+
+    /// The quotient, rounded down.
+    #[inline(always)]
+    pub fn divide_floor(&self, x: i16) -> i32
+        ensures quotient { result ≡ floor_quotient x self.now }
+        ensures half { 2 * unsigned_abs result ≤ unsigned_abs x + 1 }
+    {
+        let x = i32::from(x);
+        self.divide_by_magnitude(if self.divisor > 0 { x } else { -x })
+    }
+
+    // The quotient by the divisor's magnitude, rounded down. What is divided is not below 0: 2^15 times the magnitude
+    // is added, so that the quotient is greater by 2^15.
+    #[inline(always)]
+    fn divide_by_magnitude(&self, x: i32) -> i32
+        requires { unsigned_abs x ≤ 2 ^ 15 }
+        ensures quotient { result ≡ floor_by x (unsigned_abs self.now) }
+        ensures half { 2 * unsigned_abs result ≤ unsigned_abs x + 1 }
+    {
+        self.magnitude.divide((x + self.offset) as u32) as i32 - (1 << 15)
+    }
+
+    /// The quotient, rounded toward 0.
+    #[inline(always)]
+    pub fn divide_truncated(&self, x: i16) -> i32
+        ensures quotient { result ≡ truncated_quotient x self.now }
+        ensures half { 2 * unsigned_abs result ≤ unsigned_abs x }
+    {
+        let q = self.magnitude.divide(u32::from(x.unsigned_abs())) as i32;
+        if (x < 0) == (self.divisor < 0) { q } else { -q }
+    }
+}
 
 /// A divisor of 32 bits. Clauses read it as the divisor.
 #[derive(Drop)]
@@ -40,21 +102,10 @@ impl SignedDivisor32 {
         ensures quotient { result ≡ floor_quotient x self.now }
         ensures half { 2 * unsigned_abs result ≤ unsigned_abs x + 1 }
     {
-        if self.divisor > 0 {
-            let below = x < 0;
-            let a = if below { -1 - x } else { x };
-            let q = self.magnitude.divide(a as u32) as i32;
-            if below { -1 - q } else { q }
-        } else {
-            let below = x > 0;
-            let a = if below {
-                (x - 1) as u32
-            } else {
-                x.unsigned_abs()
-            };
-            let q = self.magnitude.divide(a) as i32;
-            if below { -1 - q } else { q }
-        }
+        let below = if self.divisor > 0 { x < 0 } else { x > 0 };
+        let a = x.unsigned_abs() - u32::from(below);
+        let q = self.magnitude.divide(a) as i32;
+        if below { -1 - q } else { q }
     }
 
     /// The quotient, rounded toward 0.
@@ -72,7 +123,7 @@ impl SignedDivisor32 {
 #[derive(Drop)]
 pub struct SignedDivisor64 {
     divisor: i64,
-    magnitude: Reciprocal64,
+    magnitude: ShortReciprocal64,
 }
 
 impl Model for SignedDivisor64 {
@@ -91,7 +142,7 @@ impl SignedDivisor64 {
     {
         SignedDivisor64 {
             divisor,
-            magnitude: Reciprocal64::new(divisor.unsigned_abs()),
+            magnitude: ShortReciprocal64::new(divisor.unsigned_abs()),
         }
     }
 
@@ -100,21 +151,10 @@ impl SignedDivisor64 {
     pub fn divide_floor(&self, x: i64) -> i64
         ensures { result ≡ floor_quotient x self.now }
     {
-        if self.divisor > 0 {
-            let below = x < 0;
-            let a = if below { -1 - x } else { x };
-            let q = self.magnitude.divide(a as u64) as i64;
-            if below { -1 - q } else { q }
-        } else {
-            let below = x > 0;
-            let a = if below {
-                (x - 1) as u64
-            } else {
-                x.unsigned_abs()
-            };
-            let q = self.magnitude.divide(a) as i64;
-            if below { -1 - q } else { q }
-        }
+        let below = if self.divisor > 0 { x < 0 } else { x > 0 };
+        let a = x.unsigned_abs() - u64::from(below);
+        let q = self.magnitude.divide(a) as i64;
+        if below { -1 - q } else { q }
     }
 
     /// The quotient, rounded toward 0.

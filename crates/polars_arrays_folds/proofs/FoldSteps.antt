@@ -1,0 +1,192 @@
+-- Folds that grow row by row and block by block.
+use Rattle.std.proofs.Common.{◌≡◌, ◌<◌, ◌≤◌, ◌+◌, ◌∙◌, ℕ, zero, suc, Bool, true, false, List, [], ◌∷◌, ◌++◌, length, take, drop, get_or, refl, sym, ap, ap₂, arith, slice_index_or}
+use Rattle.std.proofs.Math.ListN.{set}
+use Rattle.std.specs.Prelude.{ℤ, Option, None, Some, cond, eqb, slice_get}
+use Rattle.std.specs.List.{list_all}
+use Rattle.std.proofs.lemmas.List.{take_all, take_more, take_more_set, length-drop, length-map, length-take-le, get_or-map, take-map, drop-map}
+use Rattle.std.proofs.lemmas.Bool.Decides.{nat_tests}
+use Rattle.std.proofs.lemmas.Option.{get_or_from_slice_get}
+use Rattle.std.proofs.Math.Seq.{take-add}
+use Rattle.polars_arrays_flat.specs.ArrayRows.{null_total}
+use Rattle.polars_arrays_flat.specs.Row.{Row, Null, Int, Truth, Bytes, Rows, Fields, Entry}
+use Rattle.polars_arrays_flat.specs.StoredRows.{row, kept, masked, number_slots, rows_under}
+use Rattle.polars_arrays_flat.specs.Validity.{HasBits}
+use Rattle.polars_arrays_folds.specs.Folds.{Folds, folded, folded_if_any, number_or, row_joined}
+
+module _ (joined : ℤ → ℤ → ℤ) (neutral : ℤ) (law : Folds joined neutral) where
+  row-groups : (row : Row) (a b : ℤ) → joined (row_joined joined row a) b ≡ row_joined joined row (joined a b)
+  row-groups (Int n) a b = law.any_groups n a b
+  row-groups Null a b = refl
+  row-groups (Truth x) a b = refl
+  row-groups (Bytes x) a b = refl
+  row-groups (Rows x) a b = refl
+  row-groups (Fields x) a b = refl
+  row-groups (Entry x) a b = refl
+
+  row-neutral : (row : Row) (rest : ℤ) → joined neutral rest ≡ rest → joined neutral (row_joined joined row rest) ≡ row_joined joined row rest
+  row-neutral (Int n) rest e = law.of_joined n rest
+  row-neutral Null rest e = e
+  row-neutral (Truth x) rest e = e
+  row-neutral (Bytes x) rest e = e
+  row-neutral (Rows x) rest e = e
+  row-neutral (Fields x) rest e = e
+  row-neutral (Entry x) rest e = e
+
+  folded-neutral : (rows : List Row) → joined neutral (folded joined neutral rows) ≡ folded joined neutral rows
+  folded-neutral [] = law.of_none
+  folded-neutral (row ∷ rows) = row-neutral row (folded joined neutral rows) (folded-neutral rows)
+
+  -- rows and the rows behind them
+  pub folded-append : (rows more : List Row) → folded joined neutral (rows ++ more) ≡ joined (folded joined neutral rows) (folded joined neutral more)
+  folded-append [] more = sym (folded-neutral more)
+  folded-append (row ∷ rows) more =
+      ap (row_joined joined row) (folded-append rows more)
+      ∙ sym (row-groups row (folded joined neutral rows) (folded joined neutral more))
+
+  one-number : (total n : ℤ) → joined total (joined n neutral) ≡ joined total n
+  one-number total n =
+      sym (law.any_groups total n neutral) ∙ law.any_order (joined total n) neutral ∙ law.of_joined total n
+
+  one-row : (row : Row) (total : ℤ) → joined total (folded joined neutral (row ∷ [])) ≡ joined total (number_or neutral row)
+  one-row (Int n) total = one-number total n
+  one-row Null total = refl
+  one-row (Truth x) total = refl
+  one-row (Bytes x) total = refl
+  one-row (Rows x) total = refl
+  one-row (Fields x) total = refl
+  one-row (Entry x) total = refl
+
+  -- a row more
+  pub fold_more : (rows : List Row) (i : ℕ) (total add next : ℤ) → i < length rows → total ≡ folded joined neutral (take i rows) → add ≡ number_or neutral (row rows i) → next ≡ joined total add → next ≡ folded joined neutral (take (i + 1) rows)
+  fold_more rows i total add next h e a n =
+      n
+      ∙ ap (joined total) a
+      ∙ sym (one-row (row rows i) total)
+      ∙ ap (λ (t : ℤ). joined t (folded joined neutral (row rows i ∷ []))) e
+      ∙ sym (folded-append (take i rows) (row rows i ∷ []))
+      ∙ ap (folded joined neutral) (sym (take_more rows i Null h))
+
+  -- a block of rows more
+  pub fold_block_more : (rows : List Row) (at n : ℕ) (total block next : ℤ) → total ≡ folded joined neutral (take at rows) → block ≡ folded joined neutral (take n (drop at rows)) → next ≡ joined total block → next ≡ folded joined neutral (take (at + n) rows)
+  fold_block_more rows at n total block next e b f =
+      f
+      ∙ ap (joined total) b
+      ∙ ap (λ (t : ℤ). joined t (folded joined neutral (take n (drop at rows)))) e
+      ∙ sym (folded-append (take at rows) (take n (drop at rows)))
+      ∙ ap (folded joined neutral) (sym (take-add at n rows))
+
+  -- past the last row the fold is that of all
+  pub fold_end : (rows : List Row) (i : ℕ) (total : ℤ) → length rows ≤ i → total ≡ folded joined neutral (take i rows) → total ≡ folded joined neutral rows
+  fold_end rows i total h e = e ∙ ap (folded joined neutral) (take_all i rows h)
+
+length-masked : (bits : List Bool) (rows : List Row) → length bits ≡ length rows → length (masked bits rows) ≡ length rows
+length-masked [] [] e = refl
+length-masked [] (x ∷ rows) e = absurd (omega arith)
+length-masked (b ∷ bits) [] e = absurd (omega arith)
+length-masked (b ∷ bits) (x ∷ rows) e = ap suc (length-masked bits rows (omega arith))
+
+row-masked : (bits : List Bool) (rows : List Row) (i : ℕ) → length bits ≡ length rows → i < length rows → row (masked bits rows) i ≡ kept (slice_index_or bits i false) (row rows i)
+row-masked [] [] i e h = absurd (omega arith)
+row-masked [] (x ∷ rows) i e h = absurd (omega arith)
+row-masked (b ∷ bits) [] i e h = absurd (omega arith)
+row-masked (b ∷ bits) (x ∷ rows) zero e h = refl
+row-masked (b ∷ bits) (x ∷ rows) (suc i) e h = row-masked bits rows i (omega arith) (omega arith)
+
+masked-no_rows : (bits : List Bool) → masked bits [] ≡ []
+masked-no_rows [] = refl
+masked-no_rows (bit ∷ bits) = refl
+
+drop-masked : (k : ℕ) (bits : List Bool) (rows : List Row) → drop k (masked bits rows) ≡ masked (drop k bits) (drop k rows)
+drop-masked zero bits rows = refl
+drop-masked (suc k) [] rows = refl
+drop-masked (suc k) (bit ∷ bits) [] = sym (masked-no_rows (drop k bits))
+drop-masked (suc k) (bit ∷ bits) (row ∷ rows) = drop-masked k bits rows
+
+take-masked : (k : ℕ) (bits : List Bool) (rows : List Row) → take k (masked bits rows) ≡ masked (take k bits) (take k rows)
+take-masked zero bits rows = refl
+take-masked (suc k) [] rows = refl
+take-masked (suc k) (bit ∷ bits) [] = refl
+take-masked (suc k) (bit ∷ bits) (row ∷ rows) = ap (λ rest. kept bit row ∷ rest) (take-masked k bits rows)
+
+-- where all bits are 1 no row is masked
+pub masked-all : (bits : List Bool) (rows : List Row) → length bits ≡ length rows → list_all (λ b. b) bits ≡ true → masked bits rows ≡ rows
+masked-all [] [] e all = refl
+masked-all [] (x ∷ rows) e all = absurd (omega arith)
+masked-all (b ∷ bits) [] e all = absurd (omega arith)
+masked-all (true ∷ bits) (x ∷ rows) e all = ap (λ rest. x ∷ rest) (masked-all bits rows (omega arith) all)
+masked-all (false ∷ bits) (x ∷ rows) e all = cc
+
+-- a flag more
+pub flag_more : (flags bits : List Bool) (i : ℕ) (bit : Bool) → i < length flags → i < length bits → take i flags ≡ take i bits → slice_get bits i ≡ Some bit → take (i + 1) (set flags i bit) ≡ take (i + 1) bits
+flag_more flags bits i bit within below e is =
+    take_more_set flags i bit within
+    ∙ ap (λ front. front ++ bit ∷ []) e
+    ∙ ap (λ b. take i bits ++ b ∷ []) (sym (get_or_from_slice_get bits i bit false is))
+    ∙ sym (take_more bits i false below)
+
+-- a window has as many elements as are asked for
+pub length-window : {A : Type 0} (xs : List A) (at n : ℕ) → at + n ≤ length xs → length (take n (drop at xs)) ≡ n
+length-window xs at n h = length-take-le n (drop at xs) (omega (arith, length-drop at xs))
+
+module _ {A : Type 0} (value : A → ℤ) (xs : List A) where
+  -- stored numbers are as many rows
+  pub length-slots : length (number_slots value xs) ≡ length xs
+  length-slots = length-map xs (λ (x : A). Int (value x))
+
+  row-slots : (i : ℕ) (x : A) → i < length xs → x ≡ get_or xs i x → row (number_slots value xs) i ≡ Int (value x)
+  row-slots i x h e = get_or-map (λ (y : A). Int (value y)) xs i x Null h ∙ ap (λ (y : A). Int (value y)) (sym e)
+
+  -- each row has its number
+  pub slot-number : (neutral : ℤ) (i : ℕ) (x : A) → i < length xs → x ≡ get_or xs i x → value x ≡ number_or neutral (row (number_slots value xs) i)
+  slot-number neutral i x h e = sym (ap (number_or neutral) (row-slots i x h e))
+
+  module _ (bits : List Bool) (long : length bits ≡ length xs) where
+    as-long : length bits ≡ length (number_slots value xs)
+    as-long = long ∙ sym length-slots
+
+    -- under a mask they are as many
+    pub length-masked_slots : length (masked bits (number_slots value xs)) ≡ length xs
+    length-masked_slots = length-masked bits (number_slots value xs) as-long ∙ length-slots
+
+    -- and each row has its number where its bit is set
+    pub masked_slot-number : (neutral : ℤ) (i : ℕ) (x : A) (add : ℤ) → i < length xs → x ≡ get_or xs i x → add ≡ number_or neutral (kept (slice_index_or bits i false) (Int (value x))) → add ≡ number_or neutral (row (masked bits (number_slots value xs)) i)
+    masked_slot-number neutral i x add h e a =
+        let below : i < length (number_slots value xs) = omega (arith, length-slots) in
+        a
+        ∙ ap (λ (r : Row). number_or neutral (kept (slice_index_or bits i false) r)) (sym (row-slots i x h e))
+        ∙ ap (number_or neutral) (sym (row-masked bits (number_slots value xs) i as-long below))
+
+  -- a window of rows under a mask is what the windows of both are
+  pub masked_slots-window : (bits : List Bool) (at n : ℕ) → masked (take n (drop at bits)) (number_slots value (take n (drop at xs))) ≡ take n (drop at (masked bits (number_slots value xs)))
+  masked_slots-window bits at n =
+      let slots : number_slots value (take n (drop at xs)) ≡ take n (drop at (number_slots value xs)) = sym (ap (take n) (drop-map (λ (y : A). Int (value y)) at xs) ∙ take-map (λ (y : A). Int (value y)) n (drop at xs)) in
+      ap (masked (take n (drop at bits))) slots
+      ∙ sym (ap (take n) (drop-masked at bits (number_slots value xs)) ∙ take-masked n (drop at bits) (drop at (number_slots value xs)))
+
+  -- the same where the windows are given
+  pub block_rows : (bits part : List Bool) (at n m : ℕ) → part ≡ take n (drop at bits) → m ≡ n → masked part (number_slots value (take m (drop at xs))) ≡ take n (drop at (masked bits (number_slots value xs)))
+  block_rows bits part at n m e f =
+      ap (λ b. masked b (number_slots value (take m (drop at xs)))) e
+      ∙ ap (λ k. masked (take n (drop at bits)) (number_slots value (take k (drop at xs)))) f
+      ∙ masked_slots-window bits at n
+
+-- there are as many rows as stored ones
+pub length-rows : (validity : Option (List Bool)) (slots : List Row) → HasBits (length slots) validity → length (rows_under validity slots) ≡ length slots
+length-rows None slots bits = refl
+length-rows (Some bits) slots long = length-masked bits slots long
+
+equal_test : (a b : ℕ) → a ≡ b → eqb a b ≡ true
+equal_test a b e = grind (arith, nat_tests)
+
+unequal_test : (a b : ℕ) → (a ≡ b → ⊥) → eqb a b ≡ false
+unequal_test a b e = grind (arith, nat_tests)
+
+-- a fold is given where not all rows are null
+module _ (joined : ℤ → ℤ → ℤ) (neutral : ℤ) (rows : List Row) (nulls len : ℕ) (is_nulls : nulls ≡ null_total rows) (is_len : len ≡ length rows) where
+  pub no_fold : nulls ≡ len → None ≡ folded_if_any joined neutral rows
+  no_fold e = sym (ap (λ b. cond b None (Some (folded joined neutral rows))) (ap₂ eqb (sym is_nulls) (sym is_len) ∙ equal_test nulls len e))
+
+  pub some_fold : (x : ℤ) → (nulls ≡ len → ⊥) → x ≡ folded joined neutral rows → Some x ≡ folded_if_any joined neutral rows
+  some_fold x e f =
+      ap (λ (y : ℤ). Some y) f
+      ∙ sym (ap (λ b. cond b None (Some (folded joined neutral rows))) (ap₂ eqb (sym is_nulls) (sym is_len) ∙ unequal_test nulls len e))

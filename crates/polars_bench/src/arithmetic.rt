@@ -1,0 +1,323 @@
+//! Arithmetic on arrays of numbers, written over an array that owns its values or into new ones.
+
+use crate::operands::{NumberType, number_array, windows};
+use num_traits::AsPrimitive;
+use polars_arrays_bits::bitmap::Bitmap;
+use polars_arrays_bits::buffer::Buffer;
+use polars_arrays_bits::error::ComputeError;
+use polars_arrays_flat::array::Array;
+use polars_arrays_flat::primitive::PrimitiveArray;
+use polars_arrays_flat::validity::clone_validity;
+use polars_arrays_numbers::native_type::NativeType;
+use polars_compute_arithmetic::arithmetic::{ArithmeticKernel, HasPrimitiveArithmeticKernel};
+use std::alloc::Global;
+
+/// What `row_of` answers where there is no number.
+const NO_NUMBER: u64 = 0x5555_5555_5555_5555;
+
+/// An operation on two arrays.
+#[derive(Clone, Copy)]
+pub(crate) enum PairOperation {
+    Add,
+    Sub,
+    Mul,
+    FloorDiv,
+    TruncDiv,
+    Mod,
+}
+
+/// An operation on one array, or on one and a number.
+#[derive(Clone, Copy)]
+pub(crate) enum LoneOperation {
+    Abs,
+    Neg,
+    Add,
+    Sub,
+    Mul,
+    FloorDiv,
+    TruncDiv,
+    Mod,
+}
+
+/// What stands beside the array that an operation consumes.
+trait Beside<T: NativeType> {
+    /// The operations on both.
+    type Operation: Copy;
+
+    /// Runs an operation once.
+    fn run(
+        &self,
+        alloc: Global,
+        operation: Self::Operation,
+        array: PrimitiveArray<T>,
+    ) -> Result<PrimitiveArray<T>, ComputeError>;
+}
+
+// A second array, whose values the operation shares.
+impl<T: HasPrimitiveArithmeticKernel> Beside<T> for PrimitiveArray<T> {
+    type Operation = PairOperation;
+
+    #[inline(always)]
+    fn run(
+        &self,
+        alloc: Global,
+        operation: PairOperation,
+        array: PrimitiveArray<T>,
+    ) -> Result<PrimitiveArray<T>, ComputeError> {
+        if array.len() != self.len() {
+            return Err(ComputeError::Unsupported);
+        }
+        let right = self.clone_array(alloc)?;
+        match operation {
+            PairOperation::Add => array.wrapping_add(alloc, right),
+            PairOperation::Sub => array.wrapping_sub(alloc, right),
+            PairOperation::Mul => array.wrapping_mul(alloc, right),
+            PairOperation::FloorDiv => array.wrapping_floor_div(alloc, right),
+            PairOperation::TruncDiv => array.wrapping_trunc_div(alloc, right),
+            PairOperation::Mod => array.wrapping_mod(alloc, right),
+        }
+    }
+}
+
+/// A number for all rows.
+#[derive(Drop)]
+struct Scalar<T: NativeType> {
+    number: T,
+}
+
+impl<T: HasPrimitiveArithmeticKernel> Beside<T> for Scalar<T> {
+    type Operation = LoneOperation;
+
+    #[inline(always)]
+    fn run(
+        &self,
+        alloc: Global,
+        operation: LoneOperation,
+        array: PrimitiveArray<T>,
+    ) -> Result<PrimitiveArray<T>, ComputeError> {
+        let number = self.number;
+        match operation {
+            LoneOperation::Abs => array.wrapping_abs(alloc),
+            LoneOperation::Neg => array.wrapping_neg(alloc),
+            LoneOperation::Add => array.wrapping_add_scalar(alloc, number),
+            LoneOperation::Sub => array.wrapping_sub_scalar(alloc, number),
+            LoneOperation::Mul => array.wrapping_mul_scalar(alloc, number),
+            LoneOperation::FloorDiv => array.wrapping_floor_div_scalar(alloc, number),
+            LoneOperation::TruncDiv => array.wrapping_trunc_div_scalar(alloc, number),
+            LoneOperation::Mod => array.wrapping_mod_scalar(alloc, number),
+        }
+    }
+}
+
+// The number of row `i`.
+#[inline(always)]
+fn row_of<T: NativeType + AsPrimitive<u64>>(array: &PrimitiveArray<T>, i: usize) -> u64 {
+    let present = match array.validity() {
+        Some(bits) => bits.get(i).unwrap_or(false),
+        None => true,
+    };
+    match array.values().get(i) {
+        Some(value) if present => value.as_(),
+        _ => NO_NUMBER,
+    }
+}
+
+// A copy of an array that owns its values.
+fn owned_copy<T: NativeType>(
+    alloc: Global,
+    array: &PrimitiveArray<T>,
+) -> Result<PrimitiveArray<T>, ComputeError> {
+    let values = Buffer::from_vec(Vec::from_slice(alloc, array.values())?);
+    let mut copy = array.clone_array(alloc)?;
+    match PrimitiveArray::try_new(values, copy.take_validity()) {
+        Ok(owned) => Ok(owned),
+        Err(_) => Err(ComputeError::Unsupported),
+    }
+}
+
+// Runs an operation so many times on what the last run made, which owns its values.
+#[inline(always)]
+fn repeat_in_place<T: NativeType + AsPrimitive<u64>, B: Beside<T>>(
+    alloc: Global,
+    operation: B::Operation,
+    array: &PrimitiveArray<T>,
+    beside: &B,
+    repeats: usize,
+) -> Result<u64, ComputeError> {
+    let mut array = owned_copy(alloc, array)?;
+    let mut checksum: u64 = 0;
+    for round in 0..repeats {
+        array = beside.run(alloc, operation, array)?;
+        checksum = checksum
+            .wrapping_mul(31)
+            .wrapping_add(row_of(&array, round));
+    }
+    Ok(checksum)
+}
+
+// Runs an operation so many times on a clone of one array, which shares its values.
+#[inline(always)]
+fn repeat_anew<T: NativeType + AsPrimitive<u64>, B: Beside<T>>(
+    alloc: Global,
+    operation: B::Operation,
+    array: &PrimitiveArray<T>,
+    beside: &B,
+    repeats: usize,
+) -> Result<u64, ComputeError> {
+    let mut checksum: u64 = 0;
+    for round in 0..repeats {
+        let made = beside.run(alloc, operation, array.clone_array(alloc)?)?;
+        checksum = checksum.wrapping_mul(31).wrapping_add(row_of(&made, round));
+    }
+    Ok(checksum)
+}
+
+// Runs an operation in place or into new values.
+#[inline(always)]
+fn repeat<T: NativeType + AsPrimitive<u64>, B: Beside<T>>(
+    alloc: Global,
+    operation: B::Operation,
+    array: &PrimitiveArray<T>,
+    beside: &B,
+    in_place: bool,
+    repeats: usize,
+) -> Result<u64, ComputeError> {
+    if in_place {
+        repeat_in_place(alloc, operation, array, beside, repeats)
+    } else {
+        repeat_anew(alloc, operation, array, beside, repeats)
+    }
+}
+
+// Two validities of `len` bits: windows of the words, the second one a word later. None where there are
+// no words.
+fn validities(
+    alloc: Global,
+    words: &[u64],
+    len: usize,
+) -> Result<(Option<Bitmap>, Option<Bitmap>), ComputeError> {
+    if words.is_empty() {
+        return Ok((None, None));
+    }
+    let (early, late) = windows(alloc, words, 0, len)?;
+    Ok((Some(early), Some(late)))
+}
+
+// Runs an operation on two arrays.
+fn choose_pairs<T: HasPrimitiveArithmeticKernel + AsPrimitive<u64>>(
+    alloc: Global,
+    left: &PrimitiveArray<T>,
+    right: &PrimitiveArray<T>,
+    operation: u32,
+    in_place: bool,
+    repeats: usize,
+) -> Result<u64, ComputeError> {
+    by_number!(
+        operation,
+        PairOperation: Add Sub Mul FloorDiv TruncDiv Mod,
+        |chosen| repeat(alloc, chosen, left, right, in_place, repeats),
+        Ok(0)
+    )
+}
+
+// Runs an operation on one array, or on one and a number.
+fn choose_lone<T: HasPrimitiveArithmeticKernel + AsPrimitive<u64>>(
+    alloc: Global,
+    array: &PrimitiveArray<T>,
+    scalar: &Scalar<T>,
+    operation: u32,
+    in_place: bool,
+    repeats: usize,
+) -> Result<u64, ComputeError> {
+    by_number!(
+        operation,
+        LoneOperation: Abs Neg Add Sub Mul FloorDiv TruncDiv Mod,
+        |chosen| repeat(alloc, chosen, array, scalar, in_place, repeats),
+        Ok(0)
+    )
+}
+
+// Makes two arrays of one type, and runs an operation on them.
+fn time_pairs<T: HasPrimitiveArithmeticKernel + AsPrimitive<u64>>(
+    alloc: Global,
+    left: &[i64],
+    right: &[i64],
+    words: &[u64],
+    operation: u32,
+    in_place: bool,
+    repeats: usize,
+) -> Result<u64, ComputeError>
+where
+    i64: AsPrimitive<T>,
+{
+    let (early, late) = validities(alloc, words, left.len())?;
+    let left = number_array::<i64, T>(alloc, left, early)?;
+    let right = number_array::<i64, T>(alloc, right, late)?;
+    choose_pairs(alloc, &left, &right, operation, in_place, repeats)
+}
+
+// Makes an array of one type, and runs an operation on it and on the number.
+fn time_lone<T: HasPrimitiveArithmeticKernel + AsPrimitive<u64>>(
+    alloc: Global,
+    values: &[i64],
+    words: &[u64],
+    scalar: i64,
+    operation: u32,
+    in_place: bool,
+    repeats: usize,
+) -> Result<u64, ComputeError>
+where
+    i64: AsPrimitive<T>,
+{
+    let (early, _) = validities(alloc, words, values.len())?;
+    let array = number_array::<i64, T>(alloc, values, early)?;
+    let number = scalar.as_();
+    choose_lone(
+        alloc,
+        &array,
+        &Scalar { number },
+        operation,
+        in_place,
+        repeats,
+    )
+}
+
+/// Runs an operation on arrays of these numbers, cut or widened to the type, of which the right one shares
+/// its values. Their validities are windows of the words, the right one a word later; with no words none
+/// is null. In place the left array owns its values, and each run is given what the last one made.
+#[unsafe(no_mangle)]
+pub extern "C" fn polars_time_pairs(
+    alloc: Global,
+    left: &[i64],
+    right: &[i64],
+    words: &[u64],
+    operation: u32,
+    number_type: u32,
+    in_place: bool,
+    repeats: usize,
+) -> u64 {
+    let checksum = at_integer_type!(
+        number_type,
+        time_pairs(alloc, left, right, words, operation, in_place, repeats)
+    );
+    checksum.unwrap_or(0)
+}
+
+/// Runs an operation on an array of these numbers and on a number, as `polars_time_pairs` does.
+#[unsafe(no_mangle)]
+pub extern "C" fn polars_time_lone(
+    alloc: Global,
+    values: &[i64],
+    words: &[u64],
+    scalar: i64,
+    operation: u32,
+    number_type: u32,
+    in_place: bool,
+    repeats: usize,
+) -> u64 {
+    let checksum = at_integer_type!(
+        number_type,
+        time_lone(alloc, values, words, scalar, operation, in_place, repeats)
+    );
+    checksum.unwrap_or(0)
+}

@@ -1,0 +1,6 @@
+pub mod Extremes
+pub mod Places
+pub mod Preference
+pub mod PreferenceLaws
+pub mod Scalars
+pub mod Truths

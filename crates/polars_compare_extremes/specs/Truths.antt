@@ -1,0 +1,14 @@
+-- What the extremes of truth values are counted from.
+use Rattle.std.specs.Prelude.{Bool, false, not}
+use Rattle.std.specs.Bool.{beq}
+use Rattle.polars_arrays_flat.specs.ArrayRows.{is_null}
+use Rattle.polars_arrays_flat.specs.Row.{Row, Truth}
+
+-- whether a row is present
+abbrev pub is_there : Row → Bool
+is_there row = not (is_null row)
+
+-- whether a row is a truth value
+abbrev pub is_truth : Bool → Row → Bool
+is_truth value (Truth bit) = beq value bit
+is_truth value row = false

@@ -1,0 +1,116 @@
+//! The least and the greatest of rows that are byte strings or texts, lent by their array.
+
+ghost use Rattle.std.specs.Prelude.{MatchOption};
+ghost use Rattle.polars_arrays_flat.specs.Row.{Bytes};
+ghost use Rattle.polars_arrays_flat.specs.StoredRows.{rows_under};
+ghost use Rattle.polars_compare_extremes.specs.Extremes.{IsGreatest, IsLeast, NonePresent};
+
+use polars_arrays_flat::byte_rows::ByteRows;
+
+/// The extremes of an array of byte strings, called by path beside `MinMaxKernel`. There are none that are no number, so that
+/// the two ways to treat such are one. No memory is taken.
+pub trait BytesMinMaxKernel: ByteRows {
+    /// The least present row, and None where none is present.
+    fn min_ignore_nan_kernel(&self) -> Option<&[u8]>
+        ensures { MatchOption result
+            (NonePresent (rows_under (Self.mask self.now) (Self.slots self.now)))
+            (λ bytes. IsLeast (rows_under (Self.mask self.now) (Self.slots self.now)) (Bytes bytes.now)) };
+
+    /// The greatest present row, and None where none is present.
+    fn max_ignore_nan_kernel(&self) -> Option<&[u8]>
+        ensures { MatchOption result
+            (NonePresent (rows_under (Self.mask self.now) (Self.slots self.now)))
+            (λ bytes. IsGreatest (rows_under (Self.mask self.now) (Self.slots self.now)) (Bytes bytes.now)) };
+
+    /// The least and the greatest present row, and None where none is present.
+    final fn min_max_ignore_nan_kernel(&self) -> Option<(&[u8], &[u8])>
+        ensures { MatchOption result
+            (NonePresent (rows_under (Self.mask self.now) (Self.slots self.now)))
+            (λ pair. IsLeast (rows_under (Self.mask self.now) (Self.slots self.now)) (Bytes pair.0.now) × IsGreatest (rows_under (Self.mask self.now) (Self.slots self.now)) (Bytes pair.1.now)) }
+    {
+        let least = self.min_ignore_nan_kernel()?;
+        let greatest = self.max_ignore_nan_kernel()?;
+        Some((least, greatest))
+    }
+
+    /// The same as `min_ignore_nan_kernel`.
+    final fn min_propagate_nan_kernel(&self) -> Option<&[u8]>
+        ensures { MatchOption result
+            (NonePresent (rows_under (Self.mask self.now) (Self.slots self.now)))
+            (λ bytes. IsLeast (rows_under (Self.mask self.now) (Self.slots self.now)) (Bytes bytes.now)) }
+    {
+        self.min_ignore_nan_kernel()
+    }
+
+    /// The same as `max_ignore_nan_kernel`.
+    final fn max_propagate_nan_kernel(&self) -> Option<&[u8]>
+        ensures { MatchOption result
+            (NonePresent (rows_under (Self.mask self.now) (Self.slots self.now)))
+            (λ bytes. IsGreatest (rows_under (Self.mask self.now) (Self.slots self.now)) (Bytes bytes.now)) }
+    {
+        self.max_ignore_nan_kernel()
+    }
+
+    /// The same as `min_max_ignore_nan_kernel`.
+    final fn min_max_propagate_nan_kernel(&self) -> Option<(&[u8], &[u8])>
+        ensures { MatchOption result
+            (NonePresent (rows_under (Self.mask self.now) (Self.slots self.now)))
+            (λ pair. IsLeast (rows_under (Self.mask self.now) (Self.slots self.now)) (Bytes pair.0.now) × IsGreatest (rows_under (Self.mask self.now) (Self.slots self.now)) (Bytes pair.1.now)) }
+    {
+        self.min_max_ignore_nan_kernel()
+    }
+}
+
+/// The extremes of an array of texts, called by path beside `MinMaxKernel`. There are none that are no number, so that
+/// the two ways to treat such are one. No memory is taken.
+pub trait TextMinMaxKernel: ByteRows {
+    /// The least present row, and None where none is present.
+    fn min_ignore_nan_kernel(&self) -> Option<&str>
+        ensures { MatchOption result
+            (NonePresent (rows_under (Self.mask self.now) (Self.slots self.now)))
+            (λ text. IsLeast (rows_under (Self.mask self.now) (Self.slots self.now)) (Bytes text.now)) };
+
+    /// The greatest present row, and None where none is present.
+    fn max_ignore_nan_kernel(&self) -> Option<&str>
+        ensures { MatchOption result
+            (NonePresent (rows_under (Self.mask self.now) (Self.slots self.now)))
+            (λ text. IsGreatest (rows_under (Self.mask self.now) (Self.slots self.now)) (Bytes text.now)) };
+
+    /// The least and the greatest present row, and None where none is present.
+    final fn min_max_ignore_nan_kernel(&self) -> Option<(&str, &str)>
+        ensures { MatchOption result
+            (NonePresent (rows_under (Self.mask self.now) (Self.slots self.now)))
+            (λ pair. IsLeast (rows_under (Self.mask self.now) (Self.slots self.now)) (Bytes pair.0.now) × IsGreatest (rows_under (Self.mask self.now) (Self.slots self.now)) (Bytes pair.1.now)) }
+    {
+        let least = self.min_ignore_nan_kernel()?;
+        let greatest = self.max_ignore_nan_kernel()?;
+        Some((least, greatest))
+    }
+
+    /// The same as `min_ignore_nan_kernel`.
+    final fn min_propagate_nan_kernel(&self) -> Option<&str>
+        ensures { MatchOption result
+            (NonePresent (rows_under (Self.mask self.now) (Self.slots self.now)))
+            (λ text. IsLeast (rows_under (Self.mask self.now) (Self.slots self.now)) (Bytes text.now)) }
+    {
+        self.min_ignore_nan_kernel()
+    }
+
+    /// The same as `max_ignore_nan_kernel`.
+    final fn max_propagate_nan_kernel(&self) -> Option<&str>
+        ensures { MatchOption result
+            (NonePresent (rows_under (Self.mask self.now) (Self.slots self.now)))
+            (λ text. IsGreatest (rows_under (Self.mask self.now) (Self.slots self.now)) (Bytes text.now)) }
+    {
+        self.max_ignore_nan_kernel()
+    }
+
+    /// The same as `min_max_ignore_nan_kernel`.
+    final fn min_max_propagate_nan_kernel(&self) -> Option<(&str, &str)>
+        ensures { MatchOption result
+            (NonePresent (rows_under (Self.mask self.now) (Self.slots self.now)))
+            (λ pair. IsLeast (rows_under (Self.mask self.now) (Self.slots self.now)) (Bytes pair.0.now) × IsGreatest (rows_under (Self.mask self.now) (Self.slots self.now)) (Bytes pair.1.now)) }
+    {
+        self.min_max_ignore_nan_kernel()
+    }
+}

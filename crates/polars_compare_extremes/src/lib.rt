@@ -1,0 +1,14 @@
+//! The least and the greatest of the present rows of an array.
+#![tactic(auto)]
+
+mod booleans;
+pub mod borrowed;
+mod bytes;
+pub mod dispatch;
+mod extreme;
+pub mod kernel;
+mod numbers;
+pub mod places;
+pub mod preference;
+pub mod scalar;
+mod views;

@@ -1,0 +1,90 @@
+//! Where the best of the present byte strings stands.
+
+ghost use Rattle.std.specs.Prelude.{◌≡◌, ◌<◌, ℕ, true, false, length, IfSome, MatchOption};
+ghost use Rattle.std.specs.Option.{option_copied};
+ghost use Rattle.polars_arrays_flat.specs.Row.{Bytes};
+ghost use Rattle.polars_arrays_flat.specs.StoredRows.{byte_slots, rows_under};
+ghost use Rattle.polars_arrays_flat.specs.Validity.{HasBits, is_present};
+ghost use Rattle.polars_compare_extremes.specs.Extremes.{FindsBest, IsBest, NonePresent};
+ghost use Rattle.polars_compare_extremes.specs.Places.{IsBestSlot, IsFirstPresent, string_row};
+
+use crate::preference::Preference;
+use polars_arrays_bits::bitmap::Bitmap;
+use polars_arrays_flat::byte_rows::ByteRows;
+use polars_arrays_flat::validity::is_present;
+
+// The first present of `n` rows.
+pub(crate) fn first_present(present: Option<&Bitmap>, n: usize) -> Option<usize>
+    requires { HasBits n (option_copied present) }
+    ensures { MatchOption result
+        ((k : ℕ) → k < n → is_present (option_copied present.entry) k ≡ false)
+        (IsFirstPresent n (option_copied present.entry)) }
+{
+    for i in 0..n {
+        if is_present(present, i) {
+            return Some(i);
+        }
+    }
+    None
+}
+
+// The first of the best present byte strings, where `first` is the first present one.
+fn best_from<P: Preference, R: ByteRows>(
+    preference: &P,
+    rows: &R,
+    present: Option<&Bitmap>,
+    first: usize,
+) -> usize
+    requires bits { HasBits (length (R.strings rows.now)) (option_copied present) }
+    requires first { IsFirstPresent (length (R.strings rows.now)) (option_copied present) first }
+    ensures { IsBestSlot P.rows (string_row (R.strings rows.now)) (option_copied present.entry) (length (R.strings rows.now)) result }
+{
+    let n = rows.count();
+    let mut place = first;
+    let mut best = rows.bytes(first);
+    for i in first + 1..n {
+        let bytes = rows.bytes(i);
+        if is_present(present, i) && preference.compare(bytes, best) {
+            place = i;
+            best = bytes;
+        }
+    }
+    place
+}
+
+/// The place of the first of the best present byte strings, where `present` has a bit for each, or None where none
+/// is present.
+pub fn best_place<P: Preference, R: ByteRows>(
+    preference: &P,
+    rows: &R,
+    present: Option<&Bitmap>,
+) -> Option<usize>
+    requires { HasBits (length (R.strings rows.now)) (option_copied present) }
+    ensures best { MatchOption result
+        (NonePresent (rows_under (option_copied present.entry) (byte_slots (R.strings rows.now))))
+        (IsBest P.rows (rows_under (option_copied present.entry) (byte_slots (R.strings rows.now)))) }
+    ensures within { IfSome result (λ place. place < length (R.strings rows.now)) }
+    ensures found { IfSome result (λ place. FindsBest P.rows (rows_under (option_copied present.entry) (byte_slots (R.strings rows.now))) (string_row (R.strings rows.now) place)) }
+{
+    match first_present(present, rows.count()) {
+        Some(first) => Some(best_from(preference, rows, present, first)),
+        None => None,
+    }
+}
+
+/// The first of the best present byte strings, lent, where `present` has a bit for each, or None where none is present.
+pub fn best_string<'a, P: Preference, R: ByteRows>(
+    preference: &P,
+    rows: &'a R,
+    present: Option<&Bitmap>,
+) -> Option<&'a [u8]>
+    requires { HasBits (length (R.strings rows.now)) (option_copied present) }
+    ensures { MatchOption result
+        (NonePresent (rows_under (option_copied present.entry) (byte_slots (R.strings rows.now))))
+        (λ bytes. FindsBest P.rows (rows_under (option_copied present.entry) (byte_slots (R.strings rows.now))) (Bytes bytes.now)) }
+{
+    match best_place(preference, rows, present) {
+        Some(place) => Some(rows.bytes(place)),
+        None => None,
+    }
+}

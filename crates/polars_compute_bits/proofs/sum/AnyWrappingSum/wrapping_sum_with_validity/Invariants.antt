@@ -1,9 +1,0 @@
-use Rattle.std.proofs.Common.{◌≡◌, take}
-use Rattle.num_traits.specs.Laws.{bit_len}
-use Rattle.polars_arrays_flat.specs.StoredRows.{masked, number_slots}
-use Rattle.polars_arrays_numbers.specs.Wrapping.{wrapped}
-use Rattle.polars_compute_bits.specs.Sum.{total}
-use Rattle.polars_compute_bits.proofs.sum.AnyWrappingSum.wrapping_sum_with_validity.Given as goal
-
-abbrev pub invariant-loop-i : goal.invariant-loop-i
-invariant-loop-i g l = g.T.Number.value l.sum ≡ wrapped g.T.Bounded.low (bit_len g.T.FixedWidth.width) (total (take l.i (masked l.mask (number_slots g.T.Number.value l.vals))))

@@ -1,0 +1,211 @@
+//! Operations on arrays of numbers, of a type of 8 to 64 bits.
+//!
+//! | Call | Answer |
+//! |---|---|
+//! | `wrapping_abs A`, `wrapping_neg A` | the rows of what the function makes of the array |
+//! | `wrapping_add A B`, and so of `sub`, `mul`, `floor_div`, `trunc_div` and `mod`, `legacy_div A B` | the rows of what the operation makes of two arrays of one type and length |
+//! | `wrapping_add_scalar A NUMBER` and so on | the same of an array and a number |
+//! | `wrapping_sub_scalar_lhs NUMBER A`, and so of `floor_div`, `trunc_div` and `mod`, `legacy_div_scalar_lhs NUMBER A` | the same of a number and an array |
+
+ghost use Rattle.std.specs.Prelude.{◌≡◌, IfOk, length};
+ghost use Rattle.polars_arrays_nested.specs.GoodParts.{IsGood};
+ghost use Rattle.recorded_text.specs.Cases.{HasGoodArrays};
+
+use crate::number_kinds::{made_of, made_of_two};
+use crate::operands::{number_of, read_array};
+use crate::operations::{Function, Operation};
+use polars_arrays_bits::error::ComputeError;
+use polars_arrays_flat::array::Array;
+use polars_arrays_flat::primitive::PrimitiveArray;
+use polars_arrays_nested::any_array::AnyArray;
+use polars_compute_arithmetic::arithmetic::{ArithmeticKernel, HasPrimitiveArithmeticKernel};
+use recorded_text::fault::Fault;
+use recorded_text::row_text::write_rows;
+use recorded_text::store::Store;
+use recorded_text::words::Words;
+use std::alloc::Global;
+use std::str::FromStr;
+
+/// The answer to a call of this subject, or None for another one's.
+pub fn answer(
+    alloc: Global,
+    call: &str,
+    store: &Store,
+    words: &mut Words,
+) -> Result<Option<String>, Fault>
+    requires { HasGoodArrays store.now }
+{
+    let made = if let Some(function) = Function::named(call) {
+        of_array(alloc, function, store, words)
+    } else if let Some(operation) = Operation::named(call) {
+        of_arrays(alloc, operation, store, words)
+    } else if let Some(operation) = Operation::named_scalar(call) {
+        of_array_and_number(alloc, operation, store, words)
+    } else if let Some(operation) = Operation::named_scalar_lhs(call) {
+        of_number_and_array(alloc, operation, store, words)
+    } else {
+        return Ok(None);
+    };
+    Ok(Some(write_rows(alloc, &made?)?))
+}
+
+// What a function makes of an array.
+fn of_array(
+    alloc: Global,
+    function: Function,
+    store: &Store,
+    words: &mut Words,
+) -> Result<AnyArray, Fault>
+    requires { HasGoodArrays store.now }
+    ensures { IfOk result (λ a. IsGood a) }
+{
+    let these = read_array(alloc, store, words)?;
+    made_of!(these, array => apply(alloc, function, array))
+}
+
+// What a function makes of the numbers of one type.
+fn apply<T: HasPrimitiveArithmeticKernel>(
+    alloc: Global,
+    function: Function,
+    array: PrimitiveArray<T>,
+) -> Result<PrimitiveArray<T>, ComputeError> {
+    match function {
+        Function::Abs => array.wrapping_abs(alloc),
+        Function::Neg => array.wrapping_neg(alloc),
+    }
+}
+
+// What an operation makes of two arrays.
+fn of_arrays(
+    alloc: Global,
+    operation: Operation,
+    store: &Store,
+    words: &mut Words,
+) -> Result<AnyArray, Fault>
+    requires { HasGoodArrays store.now }
+    ensures { IfOk result (λ a. IsGood a) }
+{
+    let these = read_array(alloc, store, words)?;
+    let those = read_array(alloc, store, words)?;
+    made_of_two!(these, those, left, right => operate(alloc, operation, left, right))
+}
+
+// What an operation makes of numbers of one type on both sides, of which there must be as many.
+fn operate<T: HasPrimitiveArithmeticKernel>(
+    alloc: Global,
+    operation: Operation,
+    left: PrimitiveArray<T>,
+    right: PrimitiveArray<T>,
+) -> Result<PrimitiveArray<T>, Fault> {
+    if left.len() != right.len() {
+        return Err(Fault::Case);
+    }
+    Ok(operate_in_pairs(alloc, operation, left, right)?)
+}
+
+// What an operation makes of as many numbers on both sides.
+fn operate_in_pairs<T: HasPrimitiveArithmeticKernel>(
+    alloc: Global,
+    operation: Operation,
+    left: PrimitiveArray<T>,
+    right: PrimitiveArray<T>,
+) -> Result<PrimitiveArray<T>, ComputeError>
+    requires { length left.values ≡ length right.values }
+{
+    match operation {
+        Operation::Add => left.wrapping_add(alloc, right),
+        Operation::Sub => left.wrapping_sub(alloc, right),
+        Operation::Mul => left.wrapping_mul(alloc, right),
+        Operation::FloorDiv => left.wrapping_floor_div(alloc, right),
+        Operation::TruncDiv => left.wrapping_trunc_div(alloc, right),
+        Operation::Mod => left.wrapping_mod(alloc, right),
+        Operation::LegacyDiv => left.legacy_div(alloc, right),
+    }
+}
+
+// What an operation makes of an array and a number.
+fn of_array_and_number(
+    alloc: Global,
+    operation: Operation,
+    store: &Store,
+    words: &mut Words,
+) -> Result<AnyArray, Fault>
+    requires { HasGoodArrays store.now }
+    ensures { IfOk result (λ a. IsGood a) }
+{
+    let these = read_array(alloc, store, words)?;
+    let word = words.read()?;
+    made_of!(these, left => operate_by_word(alloc, operation, left, word))
+}
+
+// What an operation makes of numbers of one type and the one that a word writes.
+fn operate_by_word<T: HasPrimitiveArithmeticKernel + FromStr<Err: Drop>>(
+    alloc: Global,
+    operation: Operation,
+    left: PrimitiveArray<T>,
+    word: &str,
+) -> Result<PrimitiveArray<T>, Fault> {
+    let right = number_of(word)?;
+    Ok(operate_by(alloc, operation, left, right)?)
+}
+
+// What an operation makes of numbers and one more.
+fn operate_by<T: HasPrimitiveArithmeticKernel>(
+    alloc: Global,
+    operation: Operation,
+    left: PrimitiveArray<T>,
+    right: T,
+) -> Result<PrimitiveArray<T>, ComputeError> {
+    match operation {
+        Operation::Add => left.wrapping_add_scalar(alloc, right),
+        Operation::Sub => left.wrapping_sub_scalar(alloc, right),
+        Operation::Mul => left.wrapping_mul_scalar(alloc, right),
+        Operation::FloorDiv => left.wrapping_floor_div_scalar(alloc, right),
+        Operation::TruncDiv => left.wrapping_trunc_div_scalar(alloc, right),
+        Operation::Mod => left.wrapping_mod_scalar(alloc, right),
+        Operation::LegacyDiv => left.legacy_div_scalar(alloc, right),
+    }
+}
+
+// What an operation makes of a number and an array.
+fn of_number_and_array(
+    alloc: Global,
+    operation: Operation,
+    store: &Store,
+    words: &mut Words,
+) -> Result<AnyArray, Fault>
+    requires { HasGoodArrays store.now }
+    ensures { IfOk result (λ a. IsGood a) }
+{
+    let word = words.read()?;
+    let those = read_array(alloc, store, words)?;
+    made_of!(those, right => operate_from_word(alloc, operation, word, right))
+}
+
+// What an operation makes of the number that a word writes and numbers of its type.
+fn operate_from_word<T: HasPrimitiveArithmeticKernel + FromStr<Err: Drop>>(
+    alloc: Global,
+    operation: Operation,
+    word: &str,
+    right: PrimitiveArray<T>,
+) -> Result<PrimitiveArray<T>, Fault> {
+    let left = number_of(word)?;
+    Ok(operate_from(alloc, operation, left, right)?)
+}
+
+// What an operation makes of a number and more of them. Sums and products have no such form.
+fn operate_from<T: HasPrimitiveArithmeticKernel>(
+    alloc: Global,
+    operation: Operation,
+    left: T,
+    right: PrimitiveArray<T>,
+) -> Result<PrimitiveArray<T>, ComputeError> {
+    match operation {
+        Operation::Sub => PrimitiveArray::wrapping_sub_scalar_lhs(alloc, left, right),
+        Operation::FloorDiv => PrimitiveArray::wrapping_floor_div_scalar_lhs(alloc, left, right),
+        Operation::TruncDiv => PrimitiveArray::wrapping_trunc_div_scalar_lhs(alloc, left, right),
+        Operation::Mod => PrimitiveArray::wrapping_mod_scalar_lhs(alloc, left, right),
+        Operation::LegacyDiv => PrimitiveArray::legacy_div_scalar_lhs(alloc, left, right),
+        Operation::Add | Operation::Mul => Err(ComputeError::Unsupported),
+    }
+}
