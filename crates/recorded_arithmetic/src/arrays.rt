@@ -7,23 +7,22 @@
 //! | `wrapping_add_scalar A NUMBER` and so on | the same of an array and a number |
 //! | `wrapping_sub_scalar_lhs NUMBER A`, and so of `floor_div`, `trunc_div` and `mod`, `legacy_div_scalar_lhs NUMBER A` | the same of a number and an array |
 
-ghost use Rattle.std.specs.Prelude.{◌≡◌, IfOk, length};
-ghost use Rattle.polars_arrays_nested.specs.GoodParts.{IsGood};
+ghost use Rattle.std.specs.Prelude.{◌≡◌, length};
 ghost use Rattle.recorded_text.specs.Cases.{HasGoodArrays};
 
-use crate::number_kinds::{made_of, made_of_two};
-use crate::operands::{number_of, read_array};
+use crate::made::write_made;
+use crate::number_kinds::{of_numbers, of_one_kind};
+use crate::operands::{Part, clone_part, clone_parts, number_of, read_operand};
 use crate::operations::{Function, Operation};
 use polars_arrays_bits::error::ComputeError;
-use polars_arrays_flat::array::Array;
 use polars_arrays_flat::primitive::PrimitiveArray;
 use polars_arrays_nested::any_array::AnyArray;
 use polars_compute_arithmetic::arithmetic::{ArithmeticKernel, HasPrimitiveArithmeticKernel};
 use recorded_text::fault::Fault;
-use recorded_text::row_text::write_rows;
 use recorded_text::store::Store;
 use recorded_text::words::Words;
 use std::alloc::Global;
+use std::fmt::Display;
 use std::str::FromStr;
 
 /// The answer to a call of this subject, or None for another one's.
@@ -35,7 +34,7 @@ pub fn answer(
 ) -> Result<Option<String>, Fault>
     requires { HasGoodArrays store.now }
 {
-    let made = if let Some(function) = Function::named(call) {
+    let answer = if let Some(function) = Function::named(call) {
         of_array(alloc, function, store, words)
     } else if let Some(operation) = Operation::named(call) {
         of_arrays(alloc, operation, store, words)
@@ -46,7 +45,7 @@ pub fn answer(
     } else {
         return Ok(None);
     };
-    Ok(Some(write_rows(alloc, &made?)?))
+    Ok(Some(answer?))
 }
 
 // What a function makes of an array.
@@ -55,15 +54,26 @@ fn of_array(
     function: Function,
     store: &Store,
     words: &mut Words,
-) -> Result<AnyArray, Fault>
+) -> Result<String, Fault>
     requires { HasGoodArrays store.now }
-    ensures { IfOk result (λ a. IsGood a) }
 {
-    let these = read_array(alloc, store, words)?;
-    made_of!(these, array => apply(alloc, function, array))
+    let these = read_operand(store, words)?;
+    of_numbers!(these.array, array => write_applied(alloc, function, array, these.part))
 }
 
 // What a function makes of the numbers of one type.
+fn write_applied<T: HasPrimitiveArithmeticKernel + Display>(
+    alloc: Global,
+    function: Function,
+    array: &PrimitiveArray<T>,
+    part: Part,
+) -> Result<String, Fault> {
+    let array = clone_part(alloc, array, part)?;
+    let made = apply(alloc, function, array);
+    write_made(alloc, made)
+}
+
+// What a function makes of numbers.
 fn apply<T: HasPrimitiveArithmeticKernel>(
     alloc: Global,
     function: Function,
@@ -81,30 +91,32 @@ fn of_arrays(
     operation: Operation,
     store: &Store,
     words: &mut Words,
-) -> Result<AnyArray, Fault>
+) -> Result<String, Fault>
     requires { HasGoodArrays store.now }
-    ensures { IfOk result (λ a. IsGood a) }
 {
-    let these = read_array(alloc, store, words)?;
-    let those = read_array(alloc, store, words)?;
-    made_of_two!(these, those, left, right => operate(alloc, operation, left, right))
+    let these = read_operand(store, words)?;
+    let those = read_operand(store, words)?;
+    let parts = (these.part, those.part);
+    of_one_kind!(these.array, those.array, left, right
+            => write_operated(alloc, operation, left, right, parts),
+        Int8 Int16 Int32 Int64 UInt8 UInt16 UInt32 UInt64)
 }
 
-// What an operation makes of numbers of one type on both sides, of which there must be as many.
-fn operate<T: HasPrimitiveArithmeticKernel>(
+// What an operation makes of numbers of one type on both sides.
+fn write_operated<T: HasPrimitiveArithmeticKernel + Display>(
     alloc: Global,
     operation: Operation,
-    left: PrimitiveArray<T>,
-    right: PrimitiveArray<T>,
-) -> Result<PrimitiveArray<T>, Fault> {
-    if left.len() != right.len() {
-        return Err(Fault::Case);
-    }
-    Ok(operate_in_pairs(alloc, operation, left, right)?)
+    left: &PrimitiveArray<T>,
+    right: &PrimitiveArray<T>,
+    parts: (Part, Part),
+) -> Result<String, Fault> {
+    let (left, right) = clone_parts(alloc, left, right, parts)?;
+    let made = operate(alloc, operation, left, right);
+    write_made(alloc, made)
 }
 
 // What an operation makes of as many numbers on both sides.
-fn operate_in_pairs<T: HasPrimitiveArithmeticKernel>(
+fn operate<T: HasPrimitiveArithmeticKernel>(
     alloc: Global,
     operation: Operation,
     left: PrimitiveArray<T>,
@@ -129,24 +141,26 @@ fn of_array_and_number(
     operation: Operation,
     store: &Store,
     words: &mut Words,
-) -> Result<AnyArray, Fault>
+) -> Result<String, Fault>
     requires { HasGoodArrays store.now }
-    ensures { IfOk result (λ a. IsGood a) }
 {
-    let these = read_array(alloc, store, words)?;
+    let these = read_operand(store, words)?;
     let word = words.read()?;
-    made_of!(these, left => operate_by_word(alloc, operation, left, word))
+    of_numbers!(these.array, left => write_operated_by(alloc, operation, left, these.part, word))
 }
 
 // What an operation makes of numbers of one type and the one that a word writes.
-fn operate_by_word<T: HasPrimitiveArithmeticKernel + FromStr<Err: Drop>>(
+fn write_operated_by<T: HasPrimitiveArithmeticKernel + Display + FromStr<Err: Drop>>(
     alloc: Global,
     operation: Operation,
-    left: PrimitiveArray<T>,
+    left: &PrimitiveArray<T>,
+    part: Part,
     word: &str,
-) -> Result<PrimitiveArray<T>, Fault> {
+) -> Result<String, Fault> {
     let right = number_of(word)?;
-    Ok(operate_by(alloc, operation, left, right)?)
+    let left = clone_part(alloc, left, part)?;
+    let made = operate_by(alloc, operation, left, right);
+    write_made(alloc, made)
 }
 
 // What an operation makes of numbers and one more.
@@ -173,24 +187,26 @@ fn of_number_and_array(
     operation: Operation,
     store: &Store,
     words: &mut Words,
-) -> Result<AnyArray, Fault>
+) -> Result<String, Fault>
     requires { HasGoodArrays store.now }
-    ensures { IfOk result (λ a. IsGood a) }
 {
     let word = words.read()?;
-    let those = read_array(alloc, store, words)?;
-    made_of!(those, right => operate_from_word(alloc, operation, word, right))
+    let those = read_operand(store, words)?;
+    of_numbers!(those.array, right => write_operated_from(alloc, operation, word, right, those.part))
 }
 
 // What an operation makes of the number that a word writes and numbers of its type.
-fn operate_from_word<T: HasPrimitiveArithmeticKernel + FromStr<Err: Drop>>(
+fn write_operated_from<T: HasPrimitiveArithmeticKernel + Display + FromStr<Err: Drop>>(
     alloc: Global,
     operation: Operation,
     word: &str,
-    right: PrimitiveArray<T>,
-) -> Result<PrimitiveArray<T>, Fault> {
+    right: &PrimitiveArray<T>,
+    part: Part,
+) -> Result<String, Fault> {
     let left = number_of(word)?;
-    Ok(operate_from(alloc, operation, left, right)?)
+    let right = clone_part(alloc, right, part)?;
+    let made = operate_from(alloc, operation, left, right);
+    write_made(alloc, made)
 }
 
 // What an operation makes of a number and more of them. Sums and products have no such form.

@@ -9,6 +9,7 @@ ghost use Rattle.recorded_text.specs.Cases.{HasGoodArrays};
 
 mod arrays;
 mod functions;
+mod made;
 mod number_kinds;
 mod operands;
 mod operations;

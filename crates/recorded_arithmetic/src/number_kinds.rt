@@ -1,6 +1,6 @@
 //! The kinds of arrays of numbers on which there is arithmetic, and their types.
 
-/// What is asked of the numbers inside an array.
+/// What is asked of the numbers inside an array. One of another kind has no answer.
 macro_rules! of_numbers {
     ($any:expr, $array:ident => $each:expr) => {
         match $any {
@@ -19,36 +19,17 @@ macro_rules! of_numbers {
 
 pub(crate) use of_numbers;
 
-/// The array that is made of the numbers inside another one of its kind.
-macro_rules! made_of {
-    ($any:expr, $array:ident => $made:expr) => {
-        made_of!($any, $array => $made, Int8 Int16 Int32 Int64 UInt8 UInt16 UInt32 UInt64)
-    };
-    ($any:expr, $array:ident => $made:expr, $($kind:ident)+) => {
-        match $any {
-            $(AnyArray::$kind($array) => Ok(AnyArray::$kind($made?)),)+
-            _ => Err(Fault::Case),
-        }
-    };
-}
-
-pub(crate) use made_of;
-
-/// The array that is made of the numbers inside two others of its kind.
-macro_rules! made_of_two {
-    ($these:expr, $those:expr, $left:ident, $right:ident => $made:expr) => {
-        made_of_two!($these, $those, $left, $right => $made,
-            Int8 Int16 Int32 Int64 UInt8 UInt16 UInt32 UInt64)
-    };
-    ($these:expr, $those:expr, $left:ident, $right:ident => $made:expr, $($kind:ident)+) => {
+/// What is asked of the numbers inside two arrays of one kind. It has an answer for the kinds that are named alone.
+macro_rules! of_one_kind {
+    ($these:expr, $those:expr, $left:ident, $right:ident => $each:expr, $($kind:ident)+) => {
         match ($these, $those) {
-            $((AnyArray::$kind($left), AnyArray::$kind($right)) => Ok(AnyArray::$kind($made?)),)+
+            $((AnyArray::$kind($left), AnyArray::$kind($right)) => $each,)+
             _ => Err(Fault::Case),
         }
     };
 }
 
-pub(crate) use made_of_two;
+pub(crate) use of_one_kind;
 
 /// What a function answers at the type of numbers whose name a word is.
 macro_rules! at_number_type {

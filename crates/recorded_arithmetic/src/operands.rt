@@ -1,42 +1,88 @@
-//! Arrays and numbers that calls are given.
+//! Arrays and numbers that calls are given. The store lends an array, and a call is given a clone of the rows that are meant.
 
-ghost use Rattle.std.specs.Prelude.{IfOk};
-ghost use Rattle.polars_arrays_nested.specs.GoodParts.{IsGood};
+ghost use Rattle.std.specs.Prelude.{◌≡◌, IfOk, length};
 ghost use Rattle.recorded_text.specs.Cases.{HasGoodArrays};
 
+use polars_arrays_flat::array::Array;
+use polars_arrays_flat::primitive::PrimitiveArray;
 use polars_arrays_nested::any_array::AnyArray;
+use polars_arrays_numbers::native_type::NativeType;
 use recorded_text::fault::Fault;
 use recorded_text::store::Store;
 use recorded_text::words::Words;
 use std::alloc::Global;
 use std::str::FromStr;
 
-/// A clone of the array that the next word names, or after the word `slice` of those of its rows that two more words tell.
-pub fn read_array(alloc: Global, store: &Store, words: &mut Words) -> Result<AnyArray, Fault>
-    requires { HasGoodArrays store.now }
-    ensures { IfOk result (λ a. IsGood a) }
-{
-    let is_slice = words.take("slice");
-    let copy = store.read(words)?.clone_array(alloc)?;
-    if is_slice {
-        slice(copy, words)
-    } else {
-        Ok(copy)
-    }
+/// Which rows of an array are meant.
+#[derive(Clone, Copy)]
+pub enum Part {
+    /// All of them.
+    Whole,
+    /// `n` rows from row `at` on.
+    Slice { at: usize, n: usize },
 }
 
-// The rows of an array from the place that the next word tells, as many as the word behind it tells.
-fn slice(array: AnyArray, words: &mut Words) -> Result<AnyArray, Fault>
-    requires { IsGood array }
-    ensures { IfOk result (λ a. IsGood a) }
+/// An array of the store, and which of its rows are meant.
+#[derive(Clone, Copy)]
+pub struct Operand<'a> {
+    pub array: &'a AnyArray,
+    pub part: Part,
+}
+
+/// The array that the next word names, or after the word `slice` those of its rows that two more words tell.
+pub fn read_operand<'a>(store: &'a Store, words: &mut Words) -> Result<Operand<'a>, Fault>
+    requires { HasGoodArrays store.now }
 {
-    let mut array = array;
-    let (at, n): (usize, usize) = (words.read_number()?, words.read_number()?);
-    if at > array.len() || n > array.len() - at {
-        return Err(Fault::Case);
+    let is_slice = words.take("slice");
+    let array = store.read(words)?;
+    let part = if is_slice {
+        let at = words.read_number()?;
+        let n = words.read_number()?;
+        Part::Slice { at, n }
+    } else {
+        Part::Whole
+    };
+    Ok(Operand { array, part })
+}
+
+/// A clone of the rows that are meant, which owns its values exactly where the array does.
+pub fn clone_part<T: NativeType>(
+    alloc: Global,
+    array: &PrimitiveArray<T>,
+    part: Part,
+) -> Result<PrimitiveArray<T>, Fault> {
+    let mut copy = array.clone_array(alloc)?;
+    cut(&mut copy, part)?;
+    Ok(copy)
+}
+
+// Leaves the rows that are meant. The error is `Case`, where the array does not have them.
+fn cut<T: NativeType>(array: &mut PrimitiveArray<T>, part: Part) -> Result<(), Fault> {
+    if let Part::Slice { at, n } = part {
+        if at > array.len() || n > array.len() - at {
+            return Err(Fault::Case);
+        }
+        array.slice(at, n);
     }
-    array.slice(at, n);
-    Ok(array)
+    Ok(())
+}
+
+/// Clones of the rows that are meant of two arrays, which must be as many of both.
+pub fn clone_parts<L: NativeType, R: NativeType>(
+    alloc: Global,
+    left: &PrimitiveArray<L>,
+    right: &PrimitiveArray<R>,
+    parts: (Part, Part),
+) -> Result<(PrimitiveArray<L>, PrimitiveArray<R>), Fault>
+    ensures { IfOk result (λ clones. length clones.0.values ≡ length clones.1.values) }
+{
+    let left = clone_part(alloc, left, parts.0)?;
+    let right = clone_part(alloc, right, parts.1)?;
+    if left.len() == right.len() {
+        Ok((left, right))
+    } else {
+        Err(Fault::Case)
+    }
 }
 
 /// The number that a word writes.

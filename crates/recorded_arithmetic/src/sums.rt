@@ -10,8 +10,9 @@
 ghost use Rattle.recorded_text.specs.Cases.{HasGoodArrays};
 
 use crate::number_kinds::{at_number_type, of_numbers};
-use crate::operands::read_array;
+use crate::operands::{Operand, Part, clone_part, read_operand};
 use polars_arrays_bits::bit_mask::BitMask;
+use polars_arrays_bits::bitmap::Bitmap;
 use polars_arrays_flat::primitive::PrimitiveArray;
 use polars_arrays_nested::any_array::AnyArray;
 use polars_compute_bits::sum::{WrappingAdd, WrappingSum, wrapping_sum_arr};
@@ -46,51 +47,78 @@ pub fn answer(
 fn of_rows(alloc: Global, store: &Store, words: &mut Words) -> Result<String, Fault>
     requires { HasGoodArrays store.now }
 {
-    let these = read_array(alloc, store, words)?;
-    of_numbers!(&these, array => add_rows(alloc, array))
+    let these = read_operand(store, words)?;
+    of_numbers!(these.array, array => add_rows(alloc, array, these.part))
 }
 
 // The sum of the present rows of an array of one type.
 fn add_rows<T: WrappingSum + Display>(
     alloc: Global,
     array: &PrimitiveArray<T>,
+    part: Part,
 ) -> Result<String, Fault> {
-    Ok(wrapping_sum_arr(array).to_string(alloc)?)
+    let array = clone_part(alloc, array, part)?;
+    let text = wrapping_sum_arr(&array).to_string(alloc)?;
+    Ok(text)
 }
 
 // The sum of the stored values of an array.
 fn of_values(alloc: Global, store: &Store, words: &mut Words) -> Result<String, Fault>
     requires { HasGoodArrays store.now }
 {
-    let these = read_array(alloc, store, words)?;
-    of_numbers!(&these, array => add_values(alloc, array.values()))
+    let these = read_operand(store, words)?;
+    of_numbers!(these.array, array => add_values(alloc, array, these.part))
 }
 
-// The sum of numbers.
-fn add_values<T: WrappingSum + Display>(alloc: Global, values: &[T]) -> Result<String, Fault> {
-    Ok(T::wrapping_sum(values).to_string(alloc)?)
+// The sum of the stored values of an array of one type.
+fn add_values<T: WrappingSum + Display>(
+    alloc: Global,
+    array: &PrimitiveArray<T>,
+    part: Part,
+) -> Result<String, Fault> {
+    let array = clone_part(alloc, array, part)?;
+    let text = T::wrapping_sum(array.values()).to_string(alloc)?;
+    Ok(text)
 }
 
 // The sum of the stored values of an array whose bit is 1.
 fn of_masked_values(alloc: Global, store: &Store, words: &mut Words) -> Result<String, Fault>
     requires { HasGoodArrays store.now }
 {
-    let these = read_array(alloc, store, words)?;
+    let these = read_operand(store, words)?;
     let bits = read_bits(alloc, words.read()?)?;
-    let mask = BitMask::from_bitmap(&bits);
-    of_numbers!(&these, array => add_masked(alloc, array.values(), &mask))
+    let text = add_masked_rows(alloc, these, &bits)?;
+    Ok(text)
+}
+
+// The sum of the stored values that are meant and whose bit is 1.
+fn add_masked_rows(alloc: Global, these: Operand<'_>, bits: &Bitmap) -> Result<String, Fault> {
+    of_numbers!(these.array, array => add_masked(alloc, array, these.part, bits))
+}
+
+// The same of an array of one type.
+fn add_masked<T: WrappingSum + Display>(
+    alloc: Global,
+    array: &PrimitiveArray<T>,
+    part: Part,
+    bits: &Bitmap,
+) -> Result<String, Fault> {
+    let array = clone_part(alloc, array, part)?;
+    let text = add_where_set(alloc, array.values(), bits)?;
+    Ok(text)
 }
 
 // The sum of the numbers whose bit is 1. There must be a bit for each number.
-fn add_masked<T: WrappingSum + Display>(
+fn add_where_set<T: WrappingSum + Display>(
     alloc: Global,
     values: &[T],
-    mask: &BitMask<'_>,
+    bits: &Bitmap,
 ) -> Result<String, Fault> {
+    let mask = BitMask::from_bitmap(bits);
     if mask.len() != values.len() {
         return Err(Fault::Case);
     }
-    Ok(T::wrapping_sum_with_validity(values, mask).to_string(alloc)?)
+    Ok(T::wrapping_sum_with_validity(values, &mask).to_string(alloc)?)
 }
 
 // The sum of two numbers of the type that the next word names.

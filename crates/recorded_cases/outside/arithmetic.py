@@ -13,6 +13,9 @@ from bits import TYPES, Words, highest, lowest
 
 KINDS = ("i8", "i16", "i32", "i64", "u8", "u16", "u32", "u64")
 
+# types that have sums of two numbers alone, and the types of their numbers
+SIZES = {"isize": "i64", "usize": "u64"}
+
 
 def wrapped(kind, number):
     """The one number of the type that is congruent modulo 2 to its width."""
@@ -207,8 +210,8 @@ def sum_of_masked(case):
 
 
 def sum_of_two(case):
-    kind = {"isize": "i64", "usize": "u64"}.get(case.words[0], case.words[0])
-    case.word()
+    kind = case.word()
+    kind = SIZES.get(kind, kind)
     return wrapped(kind, case.number() + case.number())
 
 
@@ -358,10 +361,83 @@ def random_cases(kind, chance):
     yield from by_columns("left", "right")
 
 
+def zero_and_one_cases(kind):
+    low, high = lowest(kind), highest(kind)
+    yield f"# {kind}: single numbers, the ends of the type beside 0 and 1"
+    pairs = [(0, 0)] + [pair for end in (low, high) if end != 0 for pair in ((end, 0), (end, 1), (0, end), (1, end))]
+    for a, b in pairs:
+        for name in OPERATIONS:
+            yield f"pl_num {name} {kind} {a} {b}"
+
+
+def sums_of_ends(kind):
+    low, high = lowest(SIZES.get(kind, kind)), highest(SIZES.get(kind, kind))
+    yield f"# {kind}: sums of two ends of the type"
+    for a, b in ((low, low), (low, high), (high, high), (high, 1), (high, 0), (low, 0)):
+        yield f"wrapping_add_number {kind} {a} {b}"
+
+
+def by_masks(array, n, chance):
+    """The sums of the stored numbers, of all and of those under bits at random."""
+    yield f"wrapping_sum {array}"
+    for _ in range(2):
+        cut = chance.random.randint(0, 70)
+        bits = "".join(chance.random.choice("01") for _ in range(cut + n))
+        yield f"wrapping_sum_with_validity {array} b{cut}:{bits}"
+
+
+def overlapping_cases(kind, chance):
+    """Slices of one array on both sides, slices beside a number, and sums."""
+    for kept in ("", "shared"):
+        yield f"# {kind}: slices of one array of {kept or 'owned'} rows, which overlap, and sums under bits"
+        yield chance.array("whole", kind, 70, kept)
+        at, n = chance.random.randint(1, 4), chance.random.randint(64, 66)
+        here, there = f"slice whole 0 {n}", f"slice whole {at} {n}"
+        for name in OPERATIONS:
+            yield f"{name} {here} {there}"
+        yield "wrapping_sub whole whole"
+        yield "wrapping_mod whole whole"
+        yield from by_numbers(there, [chance.number(kind)])
+        yield from by_masks("whole", 70, chance)
+        yield from by_masks(there, n, chance)
+        yield f"wrapping_sum_arr {there}"
+        yield "rows whole"
+
+
+def value_cases(chance):
+    """The functions that have types of their own, at random rows."""
+    for kept in ("", "shared"):
+        for name, (before, _, _) in UNARY_VALUES.items():
+            yield f"# {name}: {kept or 'owned'} rows at random"
+            yield chance.array("array", before, 70, kept)
+            yield f"prim_unary_values {name} array"
+            yield f"prim_unary_values {name} slice array 5 64"
+            yield "rows array"
+        for name, (before, beside, _, _) in BINARY_VALUES.items():
+            yield f"# {name}: {kept or 'owned'} rows at random"
+            yield chance.array("left", before, 70, kept)
+            yield chance.array("right", beside, 70)
+            yield f"prim_binary_values {name} left right"
+            yield f"prim_binary_values {name} slice left 5 64 slice right 3 64"
+        for kind in ("i128", "u128"):
+            yield f"# {kind}: {kept or 'owned'} rows at random, written in place"
+            yield chance.array("left", kind, 14, kept)
+            yield chance.array("right", kind, 14)
+            for name in BINARY_IN_PLACE:
+                yield f"prim_binary_in_place {name} left right"
+                yield f"prim_binary_in_place {name} slice left 2 9 slice right 4 9"
+
+
 def cases():
     for kind in KINDS:
         yield from end_cases(kind)
         yield from random_cases(kind, Chance(kind))
+    for kind in KINDS:
+        yield from zero_and_one_cases(kind)
+        yield from overlapping_cases(kind, Chance(f"{kind} overlapping"))
+    for kind in (*KINDS, *SIZES):
+        yield from sums_of_ends(kind)
+    yield from value_cases(Chance("values"))
 
 
 if __name__ == "__main__":

@@ -1,0 +1,50 @@
+//! The arrays that calls make, as text.
+
+use polars_arrays_bits::error::ComputeError;
+use polars_arrays_flat::array::Array;
+use polars_arrays_flat::primitive::PrimitiveArray;
+use polars_arrays_numbers::native_type::NativeType;
+use recorded_text::bits_text::is_null;
+use recorded_text::fault::Fault;
+use std::alloc::Global;
+use std::fmt::Display;
+
+/// The rows of the array that a call made, parted by spaces.
+pub fn write_made<T: NativeType + Display>(
+    alloc: Global,
+    made: Result<PrimitiveArray<T>, ComputeError>,
+) -> Result<String, Fault> {
+    let array = made?;
+    let text = write_rows(alloc, &array)?;
+    Ok(text)
+}
+
+// The rows of an array of numbers, parted by spaces.
+fn write_rows<T: NativeType + Display>(
+    alloc: Global,
+    array: &PrimitiveArray<T>,
+) -> Result<String, Fault> {
+    let mut text = String::new(alloc);
+    for (i, value) in array.values().iter().enumerate() {
+        if i > 0 {
+            text.push(' ')?;
+        }
+        push_row(alloc, &mut text, value, is_null(array.validity(), i))?;
+    }
+    Ok(text)
+}
+
+// A number, or `null`.
+fn push_row<T: Display>(
+    alloc: Global,
+    text: &mut String,
+    value: &T,
+    is_null: bool,
+) -> Result<(), Fault> {
+    if is_null {
+        text.push_str("null")?;
+    } else {
+        text.push_str(&value.to_string(alloc)?)?;
+    }
+    Ok(())
+}
