@@ -73,7 +73,8 @@ fn fold_flagged<T: NativeType, O: Operator<T>>(operator: &O, numbers: &[T], flag
     total
 }
 
-// The numbers folded whose bit of a word is 1: all at once where no row is masked, nothing where all are, else by a flag for each.
+// The numbers folded whose bit of a word is 1: all at once where no row is masked, none where all are, else by a flag for
+// each.
 #[inline(always)]
 fn fold_word<T: NativeType, O: Operator<T>>(operator: &O, numbers: &[T], word: u64) -> T
     requires { length numbers.now ≡ 64 }
