@@ -15,7 +15,8 @@ from bits import TYPES, Words, highest, lowest, text
 
 STRINGS = ("binary", "largebinary", "utf8", "largeutf8")
 VIEWS = ("binaryview", "utf8view")
-WITHOUT_ORDER = ("null", "fixedbinary", "list", "largelist", "fixedlist", "struct", "dict")
+HOLDERS = ("null", "list", "largelist", "fixedlist", "struct", "dict")
+WITHOUT_ORDER = ("fixedbinary", *HOLDERS)
 
 NAMES = ("min_ignore_nan", "max_ignore_nan", "min_max_ignore_nan",
          "min_propagate_nan", "max_propagate_nan", "min_max_propagate_nan")
@@ -116,6 +117,11 @@ class Case(Words):
         offsets, data = self.numbers(), self.bytes()
         return [data[at:end] for at, end in itertools.pairwise(offsets)]
 
+    def sized(self):
+        size, n, data = self.number(), self.number(), self.bytes()
+        assert len(data) == size * n
+        return [data[size * i : size * (i + 1)] for i in range(n)]
+
     def viewed(self):
         views = [self.bytes() for _ in range(self.number())]
         buffers = [self.bytes() for _ in range(self.number())]
@@ -126,13 +132,15 @@ class Case(Words):
             return self.numbers()
         if kind == "bool":
             return self.bits()
+        if kind == "fixedbinary":
+            return self.sized()
         return self.viewed() if kind in VIEWS else self.strings()
 
     def defined(self):
         if self.words[0] == "shared":
             self.word()
         at, n, kind = self.number(), self.number(), self.word()
-        if kind in WITHOUT_ORDER:
+        if kind in HOLDERS:
             self.words.clear()
             return Array(kind, [], [])
         values = self.stored(kind)
@@ -183,6 +191,14 @@ def of_stored(name, case):
     return shown(extremes(name, array.values))
 
 
+def best(case):
+    """The first place at which a best present row stands, and the row; None without a present one."""
+    preference, array = case.word(), case.array()
+    assert array.kind in (*STRINGS, *VIEWS, "fixedbinary")
+    found = extremes({"less": "min_", "greater": "max_"}[preference] + "ignore_nan", array.present_rows())
+    return None if found is None else (array.rows().index(found), found)
+
+
 def of_any(name, case):
     array = case.array()
     if array.kind in WITHOUT_ORDER:
@@ -198,6 +214,8 @@ CALLS = {
     "wrapping_sum": sum_of_values,
     "wrapping_sum_with_validity": sum_of_masked,
     "wrapping_add_number": sum_of_two,
+    "best_place": lambda case: shown((best(case) or [None])[0]),
+    "best_string": lambda case: shown((best(case) or [None])[-1]),
 }
 for called in COUNTS:
     CALLS[called] = lambda case, name=called: count(name, case)
@@ -368,6 +386,8 @@ def string_cases(kind, nulls, n, chance):
     yield chance.strings("a", kind, nulls, n)
     yield from named_extremes("bytes_" if "binary" in kind else "text_", nulls)
     yield from dispatched(nulls)
+    for preference in ("less", "greater"):
+        yield f"best_place {preference} a"
 
 
 def scalar_cases(kind, chance):

@@ -12,6 +12,7 @@ mod dispatched;
 mod extremes;
 mod found_text;
 mod kinds;
+mod places;
 mod scalar_bits;
 
 use recorded_text::fault::Fault;
@@ -41,6 +42,7 @@ pub fn answer(
         bits::answer(alloc, call, store, words),
         extremes::answer(alloc, call, store, words),
         dispatched::answer(alloc, call, store, words),
+        places::answer(alloc, call, store, words),
     );
     scalar_bits::answer(alloc, call, words)
 }
