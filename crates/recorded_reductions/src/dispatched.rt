@@ -5,6 +5,8 @@
 //! | `dyn_array_min_ignore_nan A`, and so of `max_ignore_nan`, `min_propagate_nan` and `max_propagate_nan` | the name of the array's kind and the row, `none` without a present one, and `refused: not supported` |
 //! | `dyn_array_min_max_propagate_nan A` | the least and the greatest row in the same way |
 
+ghost use Rattle.recorded_text.specs.Cases.{HasGoodArrays};
+
 use crate::call_names::Extremes;
 use crate::found_text::write_none;
 use polars_arrays_bits::error::ComputeError;
@@ -20,8 +22,6 @@ use recorded_text::store::Store;
 use recorded_text::words::Words;
 use std::alloc::Global;
 use std::fmt::Display;
-
-ghost use Rattle.recorded_text.specs.Cases.{HasGoodArrays};
 
 /// The answer to a call of this subject, or None for another one's.
 pub fn answer(
