@@ -11,11 +11,12 @@ use crate::call_names::{Count, Join};
 use crate::found_text::write_found;
 use crate::kinds::of_kind;
 use polars_arrays_bits::error::ComputeError;
+use polars_arrays_flat::array::Array;
 use polars_arrays_flat::primitive::PrimitiveArray;
 use polars_arrays_nested::any_array::AnyArray;
 use polars_compute_bits::bitwise::BitwiseKernel;
+use recorded_text::bits_text::is_null;
 use recorded_text::fault::Fault;
-use recorded_text::row_text::write_rows;
 use recorded_text::store::Store;
 use recorded_text::words::Words;
 use std::alloc::Global;
@@ -69,9 +70,31 @@ fn write_counts(
     alloc: Global,
     made: Result<PrimitiveArray<u32>, ComputeError>,
 ) -> Result<String, Fault> {
-    let counts = AnyArray::UInt32(made?);
-    let text = write_rows(alloc, &counts)?;
+    let counts = made?;
+    let text = write_numbers(alloc, &counts)?;
     Ok(text)
+}
+
+// The rows of an array of counts, parted by spaces.
+fn write_numbers(alloc: Global, counts: &PrimitiveArray<u32>) -> Result<String, Fault> {
+    let mut text = String::new(alloc);
+    for (i, count) in counts.values().iter().enumerate() {
+        if i > 0 {
+            text.push(' ')?;
+        }
+        push_row(alloc, &mut text, *count, is_null(counts.validity(), i))?;
+    }
+    Ok(text)
+}
+
+// Adds a count, or that it is null.
+fn push_row(alloc: Global, text: &mut String, count: u32, null: bool) -> Result<(), Fault> {
+    if null {
+        text.push_str("null")?;
+    } else {
+        text.push_str(&count.to_string(alloc)?)?;
+    }
+    Ok(())
 }
 
 // What an array's rows reduce to.

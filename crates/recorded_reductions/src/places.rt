@@ -68,7 +68,9 @@ fn write_best<P: Preference, R: ByteRows>(
     question: Question,
     preference: &P,
     rows: &R,
-) -> Result<String, Fault> {
+) -> Result<String, Fault>
+    requires { R.good rows.now }
+{
     match question {
         Question::Place => write_found(alloc, best_place(preference, rows, rows.validity())),
         Question::Bytes => write_string(alloc, best_string(preference, rows, rows.validity())),
