@@ -1,11 +1,9 @@
 -- Worked examples of the definitions: the check computes both sides of each.
-use Rattle.std.specs.Prelude.{◌≡◌, pos, negsuc, true, false, [], ◌∷◌, Some, None, Ok, Err, Result, Option, List, refl}
+use Rattle.std.specs.Prelude.{◌≡◌, pos, negsuc, true, false, [], ◌∷◌, Some, None, Ok, Err, refl}
 use Rattle.std.specs.List.{list_all}
-use Rattle.polars_arrays_bits.specs.declared.error.ComputeError.{ComputeError}
 use Rattle.polars_arrays_bits.specs.declared.error.ComputeError.TheVariants.{Unsupported}
 use Rattle.polars_arrays_flat.specs.Kind.{Int8Kind}
-use Rattle.polars_arrays_flat.specs.Row.{Row, Null, Int}
-use Rattle.polars_compare_extremes.specs.declared.scalar.AnyScalar.{AnyScalar}
+use Rattle.polars_arrays_flat.specs.Row.{Null, Int}
 use Rattle.polars_compare_extremes.specs.declared.scalar.AnyScalar.TheVariants.{Int8}
 use Rattle.polars_compute.specs.ReductionLaws.{IsReduction, IsSum, both, scalar_told, told}
 
