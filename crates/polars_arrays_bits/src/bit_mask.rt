@@ -1,7 +1,8 @@
 //! Packed truth values that are borrowed.
 
-ghost use Rattle.std.specs.Prelude.{◌≡◌, ◌+◌, ◌<◌, ◌≤◌, not, length, take, drop, count_by, slice_get};
+ghost use Rattle.std.specs.Prelude.{◌≡◌, ◌+◌, ◌*◌, ◌<◌, ◌≤◌, not, length, take, drop, count_by, slice_get};
 ghost use Rattle.std.specs.List.{list_all};
+ghost use Rattle.polars_arrays_words.specs.Bits.{first_of, is_bit};
 
 mod blocks;
 mod logic;
@@ -9,7 +10,7 @@ mod merges;
 
 use crate::bitmap::Bitmap;
 use polars_arrays_words::runs::all_set;
-use polars_arrays_words::source::count_window;
+use polars_arrays_words::source::{Aligned, BitSource, Shifted, count_window};
 use polars_arrays_words::words::{bit_from, place_of};
 use std::marker::Model;
 
@@ -69,6 +70,20 @@ impl<'a> BitMask<'a> {
         ensures { slice_get self.now i ≡ Some result }
     {
         bit_from(self.words, self.at, i)
+    }
+
+    /// The 64 bits from bit `64 * k` on as a word, the first one lowest.
+    #[inline]
+    pub fn word(&self, k: usize) -> u64
+        requires { 64 * k + 64 ≤ length self.now }
+        ensures { first_of (is_bit result) 64 ≡ take 64 (drop (64 * k) self.now) }
+    {
+        let words = self.words;
+        if self.at == 0 {
+            return Aligned { words }.inner_word(k);
+        }
+        let by = self.at;
+        Shifted { words, by }.inner_word(k)
     }
 
     /// Whether the `n` bits from `at` on are all true.

@@ -1,11 +1,9 @@
 -- Folds that grow row by row and block by block.
 use Rattle.std.proofs.Common.{◌≡◌, ◌<◌, ◌≤◌, ◌+◌, ◌∙◌, ℕ, zero, suc, Bool, true, false, List, [], ◌∷◌, ◌++◌, length, take, drop, get_or, refl, sym, ap, ap₂, arith, slice_index_or}
-use Rattle.std.proofs.Math.ListN.{set}
-use Rattle.std.specs.Prelude.{ℤ, Option, None, Some, cond, eqb, slice_get}
+use Rattle.std.specs.Prelude.{ℤ, Option, None, Some, cond, eqb}
 use Rattle.std.specs.List.{list_all}
-use Rattle.std.proofs.lemmas.List.{take_all, take_more, take_more_set, length-drop, length-map, length-take-le, get_or-map, take-map, drop-map}
+use Rattle.std.proofs.lemmas.List.{take_all, take_more, length-drop, length-map, length-take-le, get_or-map, take-map, drop-map}
 use Rattle.std.proofs.lemmas.Bool.Decides.{nat_tests}
-use Rattle.std.proofs.lemmas.Option.{get_or_from_slice_get}
 use Rattle.std.proofs.Math.Seq.{take-add}
 use Rattle.polars_arrays_flat.specs.ArrayRows.{null_total}
 use Rattle.polars_arrays_flat.specs.Row.{Row, Null, Int, Truth, Bytes, Rows, Fields, Entry}
@@ -116,13 +114,13 @@ masked-all (b ∷ bits) [] e all = absurd (omega arith)
 masked-all (true ∷ bits) (x ∷ rows) e all = ap (λ rest. x ∷ rest) (masked-all bits rows (omega arith) all)
 masked-all (false ∷ bits) (x ∷ rows) e all = cc
 
--- a flag more
-pub flag_more : (flags bits : List Bool) (i : ℕ) (bit : Bool) → i < length flags → i < length bits → take i flags ≡ take i bits → slice_get bits i ≡ Some bit → take (i + 1) (set flags i bit) ≡ take (i + 1) bits
-flag_more flags bits i bit within below e is =
-    take_more_set flags i bit within
-    ∙ ap (λ front. front ++ bit ∷ []) e
-    ∙ ap (λ b. take i bits ++ b ∷ []) (sym (get_or_from_slice_get bits i bit false is))
-    ∙ sym (take_more bits i false below)
+-- where all bits are 0 no row is folded
+pub folded-none : (joined : ℤ → ℤ → ℤ) (neutral : ℤ) (bits : List Bool) (rows : List Row) → ((i : ℕ) → i < length bits → get_or bits i false ≡ false) → folded joined neutral (masked bits rows) ≡ neutral
+folded-none joined neutral [] [] none = refl
+folded-none joined neutral [] (row ∷ rows) none = refl
+folded-none joined neutral (bit ∷ bits) [] none = refl
+folded-none joined neutral (true ∷ bits) (row ∷ rows) none = let first = none 0 (omega arith) in cc
+folded-none joined neutral (false ∷ bits) (row ∷ rows) none = folded-none joined neutral bits rows (λ i lt. none (suc i) (omega arith))
 
 -- a window has as many elements as are asked for
 pub length-window : {A : Type 0} (xs : List A) (at n : ℕ) → at + n ≤ length xs → length (take n (drop at xs)) ≡ n

@@ -1,19 +1,34 @@
 //! Numbers folded by an operator: all of them, those that a mask leaves, or the present rows of an array.
 
-ghost use Rattle.std.specs.Prelude.{◌≡◌, ◌≤◌, false, length, take, option_map, slice_index_or};
+ghost use Rattle.std.specs.Prelude.{◌≡◌, ℕ, eqb, not, length, map, option_map};
 ghost use Rattle.polars_arrays_flat.specs.ArrayRows.{number_rows};
 ghost use Rattle.polars_arrays_flat.specs.Row.{Int};
 ghost use Rattle.polars_arrays_flat.specs.StoredRows.{kept, masked, number_slots};
 ghost use Rattle.polars_arrays_folds.specs.Folds.{folded, folded_if_any, number_or};
+ghost use Rattle.polars_arrays_words.specs.Bits.{first_of, is_bit};
 
 use crate::operator::Operator;
 use polars_arrays_bits::bit_mask::BitMask;
 use polars_arrays_flat::array::Array;
 use polars_arrays_flat::primitive::PrimitiveArray;
 use polars_arrays_numbers::native_type::NativeType;
+use std::simd::prelude::*;
 
-// How many rows go at once.
+// How many rows go at once: those of a word.
 const BLOCK: usize = 64;
+
+// The byte of a word in which each row's bit stands.
+const BYTES: [usize; BLOCK] = [
+    0, 0, 0, 0, 0, 0, 0, 0, 1, 1, 1, 1, 1, 1, 1, 1, 2, 2, 2, 2, 2, 2, 2, 2, 3, 3, 3, 3, 3, 3, 3, 3,
+    4, 4, 4, 4, 4, 4, 4, 4, 5, 5, 5, 5, 5, 5, 5, 5, 6, 6, 6, 6, 6, 6, 6, 6, 7, 7, 7, 7, 7, 7, 7, 7,
+];
+
+// The bit of that byte.
+const PLACES: [u8; BLOCK] = [
+    1, 2, 4, 8, 16, 32, 64, 128, 1, 2, 4, 8, 16, 32, 64, 128, 1, 2, 4, 8, 16, 32, 64, 128, 1, 2, 4,
+    8, 16, 32, 64, 128, 1, 2, 4, 8, 16, 32, 64, 128, 1, 2, 4, 8, 16, 32, 64, 128, 1, 2, 4, 8, 16,
+    32, 64, 128, 1, 2, 4, 8, 16, 32, 64, 128,
+];
 
 /// All numbers folded.
 #[inline]
@@ -35,48 +50,58 @@ fn choose<T: NativeType>(present: bool, number: T, other: T) -> T
     if present { number } else { other }
 }
 
-// The numbers folded whose flag is set.
+// A flag for each row of a word: a byte, which is 0 where the row's bit is.
 #[inline(always)]
-fn fold_flagged<T: NativeType, O: Operator<T>>(operator: &O, numbers: &[T], flags: &[bool]) -> T
+fn flags_of(word: u64) -> [u8; BLOCK]
+    ensures { map (λ flag. not (eqb flag 0)) result ≡ first_of (is_bit word) 64 }
+{
+    let bytes: u8x64 = u8x8::from_array(word.to_le_bytes()).swizzle(BYTES);
+    (bytes & u8x64::from_array(PLACES)).to_array()
+}
+
+// The numbers folded whose flag is not 0. Without a branch a row this becomes vectors.
+#[inline(always)]
+fn fold_flagged<T: NativeType, O: Operator<T>>(operator: &O, numbers: &[T], flags: &[u8]) -> T
     requires { length flags.now ≡ length numbers.now }
-    ensures { T.value result ≡ folded O.joined O.neutral (masked flags.now (number_slots T.value numbers.now)) }
+    ensures { T.value result ≡ folded O.joined O.neutral (masked (map (λ flag. not (eqb flag 0)) flags.now) (number_slots T.value numbers.now)) }
 {
     let start = operator.start();
     let mut total = start;
     for i in 0..numbers.len() {
-        total = operator.join(total, choose(flags[i], numbers[i], start));
+        total = operator.join(total, choose(flags[i] != 0, numbers[i], start));
     }
     total
 }
 
-// A flag for each row of a block.
+// The numbers folded whose bit of a word is 1: all at once where no row is masked, none where all are, else by a flag for
+// each.
 #[inline(always)]
-fn flags_of(mask: &BitMask<'_>) -> [bool; BLOCK]
-    requires { length mask.now ≤ 64 }
-    ensures { take (length mask.now) result ≡ mask.now }
+fn fold_word<T: NativeType, O: Operator<T>>(operator: &O, numbers: &[T], word: u64) -> T
+    requires { length numbers.now ≡ 64 }
+    ensures { T.value result ≡ folded O.joined O.neutral (masked (first_of (is_bit word) 64) (number_slots T.value numbers.now)) }
 {
-    let mut flags = [false; BLOCK];
-    for i in 0..mask.len() {
-        flags[i] = mask.get(i);
+    match word {
+        u64::MAX => fold_all(operator, numbers),
+        0 => operator.start(),
+        _ => fold_flagged(operator, numbers, &flags_of(word)),
     }
-    flags
 }
 
-// The present numbers of a block folded: all at once where none is masked, else by a flag for each.
+// The numbers folded whose bit is 1, row by row.
 #[inline(always)]
-fn fold_block<T: NativeType, O: Operator<T>>(operator: &O, numbers: &[T], mask: &BitMask<'_>) -> T
-    requires same_length { length mask.now ≡ length numbers.now }
-    requires few { length numbers.now ≤ 64 }
+fn fold_by_row<T: NativeType, O: Operator<T>>(operator: &O, numbers: &[T], mask: &BitMask<'_>) -> T
+    requires { length mask.now ≡ length numbers.now }
     ensures { T.value result ≡ folded O.joined O.neutral (masked mask.now (number_slots T.value numbers.now)) }
 {
-    if mask.all_set(0, numbers.len()) {
-        return fold_all(operator, numbers);
+    let start = operator.start();
+    let mut total = start;
+    for i in 0..numbers.len() {
+        total = operator.join(total, choose(mask.get(i), numbers[i], start));
     }
-    let flags = flags_of(mask);
-    fold_flagged(operator, numbers, &flags[..numbers.len()])
+    total
 }
 
-/// The numbers folded whose bit is 1, 64 rows at a time.
+/// The numbers folded whose bit is 1, by words of 64 rows.
 pub fn fold_present<T: NativeType, O: Operator<T>>(
     operator: &O,
     numbers: &[T],
@@ -89,12 +114,12 @@ pub fn fold_present<T: NativeType, O: Operator<T>>(
     let mut total = operator.start();
     for k in 0..blocks {
         let at = BLOCK * k;
-        let block = fold_block(operator, &numbers[at..at + BLOCK], &mask.window(at, BLOCK));
+        let block = fold_word(operator, &numbers[at..at + BLOCK], mask.word(k));
         total = operator.join(total, block);
     }
     let at = BLOCK * blocks;
     let rest = numbers.len() - at;
-    let last = fold_block(operator, &numbers[at..at + rest], &mask.window(at, rest));
+    let last = fold_by_row(operator, &numbers[at..at + rest], &mask.window(at, rest));
     operator.join(total, last)
 }
 

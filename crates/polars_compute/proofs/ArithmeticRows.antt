@@ -1,13 +1,13 @@
 -- The laws of arithmetic that wraps.
-use Rattle.std.proofs.Common.{◌≡◌, ◌≢◌, ◌∙◌, ℕ, List, [], ◌∷◌, length, replicate, refl, sym, ap, arith}
-use Rattle.std.specs.Prelude.{ℤ, zero, suc, pos, negsuc, ◌+ℤ◌, ◌-ℤ◌, ◌*ℤ◌, Option, Some, None}
+use Rattle.std.proofs.Common.{◌≡◌, ◌≢◌, ◌∙◌, ℕ, List, [], ◌∷◌, refl, sym, ap, arith}
+use Rattle.std.specs.Prelude.{ℤ, zero, suc, pos, negsuc, ◌+ℤ◌, ◌-ℤ◌, ◌*ℤ◌}
 use Rattle.std.proofs.lemmas.Int.{ints}
 use Rattle.std.proofs.Math.IntN.{*ℤ_comm}
 use Rattle.polars_arrays_flat.specs.ArrayRows.{number_rows}
 use Rattle.polars_arrays_flat.specs.Row.{Row, Int}
 use Rattle.polars_arrays_numbers.specs.Wrapping.{HasAllOf, wrapped}
 use Rattle.polars_arrays_numbers.specs.WrappingLaws.{wrapped-add}
-use Rattle.polars_compute_arithmetic.specs.Operations.{Operation, answer_row, answer_rows, floor_division, modulo, on_row, product_of, result_row, result_rows, sum_of, unless_zero}
+use Rattle.polars_compute_arithmetic.specs.Operations.{answer_row, answer_rows, floor_division, modulo, on_row, product_of, result_row, result_rows, sum_of, unless_zero}
 use Rattle.polars_compute_arithmetic.specs.Quotients.{floor_quotient, modulus}
 use Rattle.polars_compute_arithmetic.specs.WrapLaws.{wrapped-add_right, wrapped-mul_left, wrapped-within}
 use Rattle.polars_compute.specs.ArithmeticLaws.{AnswersByRows, DividesBack, NumberOnLeft, NumberOnRight, ResultsByRows}

@@ -1,2 +1,4 @@
 pub mod ArithmeticRows
+pub mod Examples
+pub mod ReducedRows
 pub mod SumsOfParts

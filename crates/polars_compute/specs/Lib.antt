@@ -5,4 +5,5 @@ pub use Rattle.polars_compute_arithmetic.specs.Results
 pub use Rattle.polars_compute_bits.specs.Bitwise
 pub use Rattle.polars_compute_bits.specs.Sum
 pub mod ArithmeticLaws
+pub mod ReductionLaws
 pub mod SumLaw

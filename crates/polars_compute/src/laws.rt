@@ -1,17 +1,30 @@
-//! What holds of the answers of arithmetic and of sums, over the definitions of their contracts alone. A law is a function that does nothing,
+//! What holds of the answers of arithmetic, counts, sums, reductions and extremes, over the definitions of their contracts alone. A law is a function that does nothing,
 //! and its clauses are what is proved.
 
 ghost use Rattle.num_traits.specs.Laws.{bit_len};
+ghost use Rattle.polars_arrays_flat.specs.Row.{Bytes, Int, Truth};
 ghost use Rattle.polars_compute.specs.ArithmeticLaws.{AnswersByRows, DividesBack, NumberOnLeft, NumberOnRight, ResultsByRows};
+ghost use Rattle.polars_compute.specs.ReductionLaws.{AnyBothByRows, AnyExtremesByRows, BothByRows, CountsByRows, ExtremesByRows, ReductionsByRows, SumsByRows};
 ghost use Rattle.polars_compute.specs.SumLaw.{SumsJoin};
 
 use polars_compute_arithmetic::arithmetic::pl_num::PlNumArithmetic;
 use polars_compute_bits::wrapping::WrappingNumber;
 
-/// Arrays with the same rows get the same rows, however they are stored and masked.
+/// Arrays with the same rows get the same rows of functions, operations and counts, the same sum, the same bits of a reduction, and the same
+/// extremes, however they are stored and masked: of numbers, of truth values, of byte strings and texts, which are lent, and of arrays of
+/// any kind, of one type.
 pub fn law_3<T: PlNumArithmetic>()
     ensures functions { AnswersByRows T.value T.low (bit_len T.width) }
     ensures operations { ResultsByRows T.value T.low (bit_len T.width) }
+    ensures counts { CountsByRows (bit_len T.width) }
+    ensures truth_counts { CountsByRows 1 }
+    ensures sums { SumsByRows T.low (bit_len T.width) }
+    ensures reductions { ReductionsByRows (bit_len T.width) }
+    ensures truth_reductions { ReductionsByRows 1 }
+    ensures number_extremes { ExtremesByRows (λ number. Int (T.value number)) × BothByRows (λ number. Int (T.value number)) }
+    ensures truth_extremes { ExtremesByRows Truth × BothByRows Truth }
+    ensures string_extremes { ExtremesByRows Bytes × BothByRows Bytes }
+    ensures any_extremes { AnyExtremesByRows × AnyBothByRows }
 {}
 
 /// Of a number and a divisor other than 0, the quotient that is rounded down, times the divisor, plus the modulus, wrapped, is

@@ -8,3 +8,4 @@ pub use polars_compute_arithmetic::{arithmetic, arity};
 pub use polars_compute_bits::{bitwise, sum};
 
 pub mod laws;
+pub mod min_max;

@@ -8,14 +8,14 @@ use Rattle.polars_tables_lines.specs.declared.operation.Comparison.TheVariants.{
 use Rattle.polars_tables_lines.specs.declared.operation.Operand.TheVariants.{Scalar}
 use Rattle.polars_tables_lines.specs.declared.operation.Operation.TheVariants.{Compare, Sum}
 use Rattle.polars_tables_lines.specs.declared.program.Command.TheVariants.{Lines, Usage}
-use Rattle.polars_tables_lines.specs.declared.row_type.RowType.TheVariants.{I32, Boolean}
+use Rattle.polars_tables_lines.specs.declared.row_type.RowType.TheVariants.{I8, I32, Boolean}
 use Rattle.polars_tables_lines.specs.Command.{command_of}
 use Rattle.polars_tables_lines.specs.Comparing.{compared_rows}
 use Rattle.polars_tables_lines.specs.Line.{line_meaning}
 use Rattle.polars_tables_lines.specs.Operations.{operation_of, has_type}
 use Rattle.polars_tables_lines.specs.Output.{lines_of, printed, fault_word}
 use Rattle.polars_tables_lines.specs.Tables.{find}
-use Rattle.polars_tables_lines.specs.Types.{row_type_of}
+use Rattle.polars_tables_lines.specs.Types.{row_type_of, wrapped_to}
 use Rattle.polars_tables_lines.specs.Word.{words_of, signed_number, unsigned_number, truth_of, row_of, lists_of}
 
 -- null is the same as null, and a row is at most itself
@@ -39,6 +39,9 @@ type-named = refl
 
 sum-type : has_type Sum Boolean ≡ false
 sum-type = refl
+
+wrapped-down : wrapped_to I8 (pos 128) ≡ negsuc 127
+wrapped-down = refl
 
 words-apart : words_of (codes "  a  bc ") ≡ codes "a" ∷ codes "bc" ∷ []
 words-apart = refl
@@ -80,10 +83,14 @@ line-sum : line_meaning (codes "sum i32 2147483647 1") ≡ Ok (codes "-214748364
 unfolding digits
 line-sum = refl
 
+line-sum-unsigned : line_meaning (codes "sum u8 200 null 100") ≡ Ok (codes "44")
+unfolding digits
+line-sum-unsigned = refl
+
 line-op : line_meaning (codes "less u8 x") ≡ Err Op
 line-op = refl
 
-line-type : line_meaning (codes "sum u8 x") ≡ Err TypeName
+line-type : line_meaning (codes "sum bool x") ≡ Err TypeName
 line-type = refl
 
 line-row : line_meaning (codes "lt u8 x") ≡ Err RowError

@@ -3,8 +3,6 @@ use Rattle.std.specs.Prelude.{ℕ, Bool, true, false, ◌==◌, if◌then◌else
 use Rattle.std.specs.List.{join_with_byte}
 use Rattle.std.specs.Fmt.{signed_decimal}
 use Rattle.polars_arrays_flat.specs.Row.{Row}
-use Rattle.polars_arrays_numbers.specs.Ranges.{least_of}
-use Rattle.polars_arrays_numbers.specs.Wrapping.{wrapped}
 use Rattle.polars_compute_bits.specs.Sum.{total}
 use Rattle.polars_tables_lines.specs.declared.line.LineError.{LineError}
 use Rattle.polars_tables_lines.specs.declared.line.LineError.TheVariants.{Op, TypeName, Row as RowError, Length}
@@ -16,7 +14,7 @@ use Rattle.polars_tables_lines.specs.declared.row_type.RowType.{RowType}
 use Rattle.polars_tables_lines.specs.Comparing.{compared_rows}
 use Rattle.polars_tables_lines.specs.Faults.{or_fault, of_one, of_two, unless_null}
 use Rattle.polars_tables_lines.specs.Operations.{operation_of, has_type}
-use Rattle.polars_tables_lines.specs.Types.{row_type_of}
+use Rattle.polars_tables_lines.specs.Types.{row_type_of, wrapped_to}
 use Rattle.polars_tables_lines.specs.Word.{words_of, lists_of}
 
 -- the word of a truth value
@@ -43,16 +41,16 @@ abbrev pub scalar_answer : Comparison → List Row → List Row → Result (List
 scalar_answer comparison rows scalars =
     of_one scalars (λ scalar. unless_null scalar (λ x. Ok (answer_words (compared_rows comparison rows (replicate (length rows) x)))))
 
--- what an operation answers to its lists of rows
-abbrev pub answer_of : Operation → List (List Row) → Result (List ℕ) LineError
-answer_of (Compare comparison Rows) lists = of_two lists (rows_answer comparison)
-answer_of (Compare comparison Scalar) lists = of_two lists (scalar_answer comparison)
-answer_of Sum lists = of_one lists (λ rows. Ok (signed_decimal (wrapped (least_of true 32) 32 (total rows))))
+-- what an operation answers to its lists of rows of a type
+abbrev pub answer_of : Operation → RowType → List (List Row) → Result (List ℕ) LineError
+answer_of (Compare comparison Rows) type lists = of_two lists (rows_answer comparison)
+answer_of (Compare comparison Scalar) type lists = of_two lists (scalar_answer comparison)
+answer_of Sum type lists = of_one lists (λ rows. Ok (signed_decimal (wrapped_to type (total rows))))
 
 -- what an operation answers to words that are rows of a type and bars
 abbrev pub rows_meaning : Operation → RowType → List (List ℕ) → Result (List ℕ) LineError
 rows_meaning operation type words =
-    if has_type operation type then or_fault (lists_of type words) RowError (answer_of operation) else Err TypeName
+    if has_type operation type then or_fault (lists_of type words) RowError (answer_of operation type) else Err TypeName
 
 -- what an operation answers to the words behind its name: the type, and then rows and bars
 abbrev pub typed_meaning : Operation → List (List ℕ) → Result (List ℕ) LineError

@@ -5,7 +5,7 @@ use Rattle.polars_tables_lines.specs.declared.operation.Operand.TheVariants.{Row
 use Rattle.polars_tables_lines.specs.declared.operation.Operation.{Operation}
 use Rattle.polars_tables_lines.specs.declared.operation.Operation.TheVariants.{Compare, Sum}
 use Rattle.polars_tables_lines.specs.declared.row_type.RowType.{RowType}
-use Rattle.polars_tables_lines.specs.declared.row_type.RowType.TheVariants.{I32}
+use Rattle.polars_tables_lines.specs.declared.row_type.RowType.TheVariants.{Boolean}
 use Rattle.polars_tables_lines.specs.Tables.{find}
 
 -- the operations by their names; a comparison takes two lists of rows, or one and a scalar
@@ -33,8 +33,8 @@ operations = (codes "eq", Compare Equal Rows)
 abbrev pub operation_of : List ℕ → Option Operation
 operation_of name = find operations name
 
--- whether an operation takes rows of the type: comparisons take every type, and sums 32 bits signed
+-- whether an operation takes rows of the type: comparisons take every type, and sums take numbers
 abbrev pub has_type : Operation → RowType → Bool
 has_type (Compare comparison operand) type = true
-has_type Sum I32 = true
-has_type Sum type = false
+has_type Sum Boolean = false
+has_type Sum type = true

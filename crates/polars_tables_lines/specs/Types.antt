@@ -1,5 +1,7 @@
--- The types of rows, by their names.
-use Rattle.std.specs.Prelude.{ℕ, List, [], ◌∷◌, codes, Option}
+-- The types of rows: their names, and their numbers.
+use Rattle.std.specs.Prelude.{ℕ, ℤ, true, false, List, [], ◌∷◌, codes, Option}
+use Rattle.polars_arrays_numbers.specs.Ranges.{least_of}
+use Rattle.polars_arrays_numbers.specs.Wrapping.{wrapped}
 use Rattle.polars_tables_lines.specs.declared.row_type.RowType.{RowType}
 use Rattle.polars_tables_lines.specs.declared.row_type.RowType.TheVariants.{I8, I16, I32, I64, U8, U16, U32, U64, Boolean}
 use Rattle.polars_tables_lines.specs.Tables.{find}
@@ -20,3 +22,15 @@ row_types = (codes "i8", I8)
 -- the type of a name
 abbrev pub row_type_of : List ℕ → Option RowType
 row_type_of name = find row_types name
+
+-- a whole number wrapped to a type of numbers; a type of other rows has none to wrap
+abbrev pub wrapped_to : RowType → ℤ → ℤ
+wrapped_to I8 n = wrapped (least_of true 8) 8 n
+wrapped_to I16 n = wrapped (least_of true 16) 16 n
+wrapped_to I32 n = wrapped (least_of true 32) 32 n
+wrapped_to I64 n = wrapped (least_of true 64) 64 n
+wrapped_to U8 n = wrapped (least_of false 8) 8 n
+wrapped_to U16 n = wrapped (least_of false 16) 16 n
+wrapped_to U32 n = wrapped (least_of false 32) 32 n
+wrapped_to U64 n = wrapped (least_of false 64) 64 n
+wrapped_to Boolean n = n

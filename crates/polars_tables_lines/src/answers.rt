@@ -13,6 +13,7 @@ use crate::comparing::{compare_rows, compare_scalar};
 use crate::line::{LineError, or_memory};
 use crate::operation::{Comparison, Operand};
 use crate::row_array::RowArray;
+use crate::row_number::RowNumber;
 use polars_arrays_bits::bitmap::Bitmap;
 use polars_arrays_flat::mask::Mask;
 use polars_arrays_flat::primitive::PrimitiveArray;
@@ -140,9 +141,9 @@ pub fn answer_comparison<A: RowArray>(
     operand: Operand,
     lists: &[A],
 ) -> Result<String, LineError>
-    ensures text { IfOk result (λ text. answer_of (Compare comparison operand)
+    ensures text { IfOk result (λ text. answer_of (Compare comparison operand) A.kind
         (map (λ a. rows_under (A.mask a) (A.slots a)) lists.now) ≡ Ok (string_bytes text)) }
-    ensures fault { IfErr result (λ e. UnlessMemory e (answer_of (Compare comparison operand)
+    ensures fault { IfErr result (λ e. UnlessMemory e (answer_of (Compare comparison operand) A.kind
         (map (λ a. rows_under (A.mask a) (A.slots a)) lists.now) ≡ Err e)) }
 {
     let [left, right] = lists else {
@@ -155,11 +156,14 @@ pub fn answer_comparison<A: RowArray>(
 }
 
 /// The sum of one list.
-pub fn answer_sum(alloc: Global, lists: &[PrimitiveArray<i32>]) -> Result<String, LineError>
-    ensures text { IfOk result (λ text. answer_of Sum
-        (map (λ a. rows_under a.validity (number_slots (λ n. n) a.values)) lists.now) ≡ Ok (string_bytes text)) }
-    ensures fault { IfErr result (λ e. UnlessMemory e (answer_of Sum
-        (map (λ a. rows_under a.validity (number_slots (λ n. n) a.values)) lists.now) ≡ Err e)) }
+pub fn answer_sum<T: RowNumber>(
+    alloc: Global,
+    lists: &[PrimitiveArray<T>],
+) -> Result<String, LineError>
+    ensures text { IfOk result (λ text. answer_of Sum T.kind
+        (map (λ a. rows_under a.validity (number_slots T.value a.values)) lists.now) ≡ Ok (string_bytes text)) }
+    ensures fault { IfErr result (λ e. UnlessMemory e (answer_of Sum T.kind
+        (map (λ a. rows_under a.validity (number_slots T.value a.values)) lists.now) ≡ Err e)) }
 {
     let [list] = lists else {
         return Err(LineError::Length);

@@ -4,8 +4,7 @@ ghost use Rattle.std.specs.Prelude.{◌≡◌, map, IfOk, IfErr, Err, Ok};
 ghost use Rattle.std.specs.String.{string_bytes};
 ghost use Rattle.polars_arrays_bits.specs.Errors.{IsMemory};
 ghost use Rattle.polars_tables_lines.specs.declared.line.LineError.TheVariants.{Memory, Row as RowError};
-ghost use Rattle.polars_tables_lines.specs.declared.operation.Operation.TheVariants.{Compare};
-ghost use Rattle.polars_tables_lines.specs.declared.row_type.RowType.TheVariants.{I32};
+ghost use Rattle.polars_tables_lines.specs.declared.operation.Operation.TheVariants.{Compare, Sum};
 ghost use Rattle.polars_tables_lines.specs.Faults.{UnlessMemory, or_fault};
 ghost use Rattle.polars_tables_lines.specs.Line.{answer_of, rows_meaning, typed_meaning, words_meaning, line_meaning};
 ghost use Rattle.polars_tables_lines.specs.Word.{lists_of};
@@ -13,6 +12,7 @@ ghost use Rattle.polars_tables_lines.specs.Word.{lists_of};
 use crate::answers::{answer_comparison, answer_sum};
 use crate::operation::{Comparison, Operand, Operation};
 use crate::row_array::RowArray;
+use crate::row_number::RowNumber;
 use crate::row_type::RowType;
 use crate::words::{parse_lists, split_words};
 use polars_arrays_bits::error::ComputeError;
@@ -85,9 +85,9 @@ fn compare_words<A: RowArray>(
     words: &[&str],
 ) -> Result<String, LineError>
     ensures text { IfOk result (λ text. or_fault (lists_of A.kind (map (λ w. w.now) words.now)) RowError
-        (answer_of (Compare comparison operand)) ≡ Ok (string_bytes text)) }
+        (answer_of (Compare comparison operand) A.kind) ≡ Ok (string_bytes text)) }
     ensures fault { IfErr result (λ e. UnlessMemory e (or_fault (lists_of A.kind (map (λ w. w.now) words.now)) RowError
-        (answer_of (Compare comparison operand)) ≡ Err e)) }
+        (answer_of (Compare comparison operand) A.kind) ≡ Err e)) }
 {
     let lists = parse_lists::<A>(alloc, words)?;
     answer_comparison(alloc, comparison, operand, &lists)
@@ -119,17 +119,32 @@ fn compare_typed(
     }
 }
 
-/// What a sum answers to words that are rows and bars.
+/// What a sum answers to words that are rows and bars, read as numbers of one type.
+fn sum_words<T: RowNumber>(alloc: Global, words: &[&str]) -> Result<String, LineError>
+    ensures text { IfOk result (λ text. or_fault (lists_of T.kind (map (λ w. w.now) words.now)) RowError
+        (answer_of Sum T.kind) ≡ Ok (string_bytes text)) }
+    ensures fault { IfErr result (λ e. UnlessMemory e (or_fault (lists_of T.kind (map (λ w. w.now) words.now)) RowError
+        (answer_of Sum T.kind) ≡ Err e)) }
+{
+    let lists = parse_lists::<PrimitiveArray<T>>(alloc, words)?;
+    answer_sum(alloc, &lists)
+}
+
+/// The same, read as numbers of the type.
 fn sum_typed(alloc: Global, row_type: RowType, words: &[&str]) -> Result<String, LineError>
-    ensures text { IfOk result (λ text. rows_meaning Operation.Sum row_type (map (λ w. w.now) words.now) ≡ Ok (string_bytes text)) }
-    ensures fault { IfErr result (λ e. UnlessMemory e (rows_meaning Operation.Sum row_type (map (λ w. w.now) words.now) ≡ Err e)) }
+    ensures text { IfOk result (λ text. rows_meaning Sum row_type (map (λ w. w.now) words.now) ≡ Ok (string_bytes text)) }
+    ensures fault { IfErr result (λ e. UnlessMemory e (rows_meaning Sum row_type (map (λ w. w.now) words.now) ≡ Err e)) }
 {
     match row_type {
-        RowType::I32 => {
-            let lists = parse_lists::<PrimitiveArray<i32>>(alloc, words)?;
-            answer_sum(alloc, &lists)
-        }
-        _ => Err(LineError::TypeName),
+        RowType::I8 => sum_words::<i8>(alloc, words),
+        RowType::I16 => sum_words::<i16>(alloc, words),
+        RowType::I32 => sum_words::<i32>(alloc, words),
+        RowType::I64 => sum_words::<i64>(alloc, words),
+        RowType::U8 => sum_words::<u8>(alloc, words),
+        RowType::U16 => sum_words::<u16>(alloc, words),
+        RowType::U32 => sum_words::<u32>(alloc, words),
+        RowType::U64 => sum_words::<u64>(alloc, words),
+        RowType::Boolean => Err(LineError::TypeName),
     }
 }
 

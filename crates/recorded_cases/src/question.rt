@@ -133,6 +133,7 @@ fn answer_call(alloc: Global, store: &Store, call: &str, words: &mut Words) -> R
         recorded_arrays::answer(alloc, call, store, words),
         recorded_kernels::answer(alloc, call, store, words),
         recorded_arithmetic::answer(alloc, call, store, words),
+        recorded_reductions::answer(alloc, call, store, words),
     );
     Err(Fault::Word)
 }

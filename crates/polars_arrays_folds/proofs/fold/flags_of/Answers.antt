@@ -1,10 +1,9 @@
-use Rattle.std.proofs.Common.{◌∙◌, arith}
-use Rattle.std.proofs.lemmas.List.{length-set}
-use Rattle.polars_arrays_folds.proofs.FoldSteps.{flag_more}
+use Rattle.std.proofs.Common.{◌/◌, ◌%◌, ◌^◌, ◌∙◌, ◌++◌, ℕ, List, not, eqb, get_or, ap, bit_and}
+use Rattle.polars_arrays_words.specs.Bits.{first_of}
+use Rattle.polars_arrays_folds.proofs.WordFlags.{flags}
 use Rattle.polars_arrays_folds.proofs.fold.flags_of.Goals as goal
 
-pub loop-i-preserved : goal.loop-i-preserved
-loop-i-preserved c = (
-  length-set c.loop-i.flags c.loop-i.i c.get.result ∙ c.loop-i.invariant.0,
-  flag_more c.loop-i.flags c.args.mask.now c.loop-i.i c.get.result (omega (arith, c.loop-i.invariant.0)) (omega (arith, c.len-i-end.ensures)) c.loop-i.invariant.1 c.get.ensures,
-)
+pub returns : goal.returns
+returns c =
+    ap (λ (bytes : List ℕ). first_of (λ j. not (eqb (bit_and (get_or (bytes ++ bytes) (j / 8) 0) (2 ^ (j % 8))) 0)) 64) c.to_le_bytes.ensures
+    ∙ flags c.args.word

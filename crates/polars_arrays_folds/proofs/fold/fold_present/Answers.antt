@@ -1,24 +1,22 @@
-use Rattle.std.proofs.Common.{◌≡◌, ◌∙◌, ◌+◌, ◌-◌, ◌*◌, ◌/◌, ◌≤◌, ℕ, List, ap, sym, take, drop, length, arith}
+use Rattle.std.proofs.Common.{◌≡◌, ◌∙◌, ◌+◌, ◌-◌, ◌*◌, ◌/◌, ◌≤◌, ℕ, List, ap, take, drop, length, arith}
 use Rattle.polars_arrays_flat.specs.Row.{Row}
 use Rattle.polars_arrays_flat.specs.StoredRows.{masked, number_slots}
 use Rattle.polars_arrays_folds.specs.Folds.{folded}
 use Rattle.polars_arrays_folds.proofs.FoldSteps.{block_rows, fold_block_more, fold_end, length-masked_slots, length-window}
 use Rattle.polars_arrays_folds.proofs.fold.fold_present.Goals as goal
 
-pub fold_block-block-requires-clause-same_length : goal.fold_block-block-requires-clause-same_length
-fold_block-block-requires-clause-same_length g c κs within =
+pub fold_word-block-requires-after_bounds : goal.fold_word-block-requires-after_bounds
+fold_word-block-requires-after_bounds g c κs within =
     let cut : 64 * c.loop-k.k + 64 - 64 * c.loop-k.k ≡ 64 = omega arith in
     let end : 64 * c.loop-k.k + 64 ≤ length c.args.numbers.now = omega (arith, c.loop-k-test.true) in
-    ap length c.window.ensures
-    ∙ length-window c.args.mask.now (64 * c.loop-k.k) 64 (omega (arith, c.requires))
-    ∙ sym (ap (λ (n : ℕ). length (take n (drop (64 * c.loop-k.k) c.args.numbers.now))) cut ∙ length-window c.args.numbers.now (64 * c.loop-k.k) 64 end)
+    ap (λ (n : ℕ). length (take n (drop (64 * c.loop-k.k) c.args.numbers.now))) cut ∙ length-window c.args.numbers.now (64 * c.loop-k.k) 64 end
 
 pub loop-k-preserved : goal.loop-k-preserved
 loop-k-preserved g c =
     let next : 64 * (c.loop-k.k + 1) ≡ 64 * c.loop-k.k + 64 = omega arith in
     let cut : 64 * c.loop-k.k + 64 - 64 * c.loop-k.k ≡ 64 = omega arith in
     let rows = masked c.args.mask.now (number_slots g.T.Number.value c.args.numbers.now) in
-    let block = c.fold_block-block.ensures ∙ ap (λ (rs : List Row). folded g.O.Operator.joined g.O.Operator.neutral rs) (block_rows g.T.Number.value c.args.numbers.now c.args.mask.now c.window.result (64 * c.loop-k.k) 64 _ c.window.ensures cut) in
+    let block = c.fold_word-block.ensures ∙ ap (λ (rs : List Row). folded g.O.Operator.joined g.O.Operator.neutral rs) (block_rows g.T.Number.value c.args.numbers.now c.args.mask.now _ (64 * c.loop-k.k) 64 _ c.word.ensures cut) in
     rw next (fold_block_more g.O.Operator.joined g.O.Operator.neutral g.O.Operator.folds_law rows (64 * c.loop-k.k) 64 _ _ _ c.loop-k.invariant block c.join-total.ensures)
 
 pub returns : goal.returns
@@ -30,6 +28,6 @@ returns g c =
     let cut : 64 * blocks + rest - 64 * blocks ≡ rest = omega arith in
     let rows = masked c.args.mask.now (number_slots g.T.Number.value c.args.numbers.now) in
     let long = length-masked_slots g.T.Number.value c.args.numbers.now c.args.mask.now c.requires in
-    let last = c.fold_block-last.ensures ∙ ap (λ (rs : List Row). folded g.O.Operator.joined g.O.Operator.neutral rs) (block_rows g.T.Number.value c.args.numbers.now c.args.mask.now c.window-2.result (64 * blocks) rest _ c.window-2.ensures cut) in
+    let last = c.fold_by_row-last.ensures ∙ ap (λ (rs : List Row). folded g.O.Operator.joined g.O.Operator.neutral rs) (block_rows g.T.Number.value c.args.numbers.now c.args.mask.now c.window.result (64 * blocks) rest _ c.window.ensures cut) in
     fold_end g.O.Operator.joined g.O.Operator.neutral g.O.Operator.folds_law rows (64 * blocks + rest) _ (omega (arith, long))
     (fold_block_more g.O.Operator.joined g.O.Operator.neutral g.O.Operator.folds_law rows (64 * blocks) rest _ _ _ before last c.join.ensures)

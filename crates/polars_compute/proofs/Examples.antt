@@ -1,0 +1,34 @@
+-- Worked examples of the definitions: the check computes both sides of each.
+use Rattle.std.specs.Prelude.{◌≡◌, pos, negsuc, true, false, [], ◌∷◌, Some, None, Ok, Err, refl}
+use Rattle.std.specs.List.{list_all}
+use Rattle.polars_arrays_bits.specs.declared.error.ComputeError.TheVariants.{Unsupported}
+use Rattle.polars_arrays_flat.specs.Kind.{Int8Kind}
+use Rattle.polars_arrays_flat.specs.Row.{Null, Int}
+use Rattle.polars_compare_extremes.specs.declared.scalar.AnyScalar.TheVariants.{Int8}
+use Rattle.polars_compute.specs.ReductionLaws.{IsReduction, IsSum, both, scalar_told, told}
+
+-- 100 and 100 add up to 200, which is -56 in eight bits
+sum-wraps : IsSum (negsuc 127) 8 (Int (pos 100) ∷ Null ∷ Int (pos 100) ∷ []) (negsuc 55)
+sum-wraps = refl
+
+-- of 6 and 3 the middle one of three bits is 1 in both
+both-have : IsReduction (list_all (λ b. b)) 3 (Int (pos 6) ∷ Null ∷ Int (pos 3) ∷ []) (Some (false ∷ true ∷ false ∷ []))
+both-have = refl
+
+none-to-reduce : IsReduction (list_all (λ b. b)) 3 (Null ∷ []) None
+none-to-reduce = refl
+
+both-rows : both Int (pos 1, pos 2) ≡ (Int (pos 1), Int (pos 2))
+both-rows = refl
+
+scalar-told : scalar_told (Int8 (pos 5)) ≡ (Int8Kind, Int (pos 5))
+scalar-told = refl
+
+found-told : told scalar_told (Ok (Some (Int8 (pos 5)))) ≡ Ok (Some (Int8Kind, Int (pos 5)))
+found-told = refl
+
+none-told : told scalar_told (Ok None) ≡ Ok None
+none-told = refl
+
+error-told : told scalar_told (Err Unsupported) ≡ Err Unsupported
+error-told = refl

@@ -1,0 +1,10 @@
+//! The least and the greatest present row: of arrays and slices of numbers and of truth values, of arrays of byte strings and of
+//! texts, and of an array of any kind.
+
+pub use polars_compare_extremes::borrowed::{BytesMinMaxKernel, TextMinMaxKernel};
+pub use polars_compare_extremes::dispatch::{
+    dyn_array_max_ignore_nan, dyn_array_max_propagate_nan, dyn_array_min_ignore_nan,
+    dyn_array_min_max_propagate_nan, dyn_array_min_propagate_nan,
+};
+pub use polars_compare_extremes::kernel::MinMaxKernel;
+pub use polars_compare_extremes::scalar::AnyScalar;
