@@ -3,7 +3,7 @@
 //! ratio, and what is asked for. Arguments: words of the names of the kernels to run.
 //!
 //! To add a kernel: its entry and its arm in `crates/polars_bench`, the same entry of the enum here, its peer
-//! in `plain.rs`, `plain_strings.rs` or `plain_nested.rs`, and a line where its group hands out its kernels.
+//! in the file `plain*.rs` of its shape, and a line where its group hands out its kernels.
 
 mod arithmetic;
 mod arrays;
@@ -14,7 +14,9 @@ mod operands;
 mod plain;
 mod plain_arithmetic;
 mod plain_nested;
+mod plain_reductions;
 mod plain_strings;
+mod reductions;
 mod slices;
 mod string_rows;
 mod strings;
@@ -30,6 +32,7 @@ fn for_each_on_rows(count: usize, each: &mut dyn FnMut(&Kernel)) {
     let data = &Data::new(count);
     slices::for_each(data, each);
     arrays::for_each(data, each);
+    reductions::for_each(data, each);
     strings::for_each(&Strings::new(count), each);
     nested::for_each(&Nested::new(count), each);
 }

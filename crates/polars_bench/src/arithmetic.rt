@@ -13,7 +13,7 @@ use polars_compute_arithmetic::arithmetic::{ArithmeticKernel, HasPrimitiveArithm
 use std::alloc::Global;
 
 /// What `row_of` answers where there is no number.
-const NO_NUMBER: u64 = 0x5555_5555_5555_5555;
+pub(crate) const NO_NUMBER: u64 = 0x5555_5555_5555_5555;
 
 /// An operation on two arrays.
 #[derive(Clone, Copy)]
@@ -109,9 +109,9 @@ impl<T: HasPrimitiveArithmeticKernel> Beside<T> for Scalar<T> {
     }
 }
 
-// The number of row `i`.
+/// The number of row `i`.
 #[inline(always)]
-fn row_of<T: NativeType + AsPrimitive<u64>>(array: &PrimitiveArray<T>, i: usize) -> u64 {
+pub(crate) fn row_of<T: NativeType + AsPrimitive<u64>>(array: &PrimitiveArray<T>, i: usize) -> u64 {
     let present = match array.validity() {
         Some(bits) => bits.get(i).unwrap_or(false),
         None => true,

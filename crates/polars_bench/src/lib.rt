@@ -63,6 +63,7 @@ mod nested;
 mod nested_operands;
 mod numbers;
 mod operands;
+mod reductions;
 mod slices;
 mod string_operands;
 mod strings;

@@ -1,0 +1,147 @@
+//! Sums, reductions and extremes of an array of numbers, and counts of its bits.
+
+use crate::arithmetic::{NO_NUMBER, row_of};
+use crate::operands::{NumberType, number_array, windows};
+use crate::{Timed, repeat};
+use num_traits::AsPrimitive;
+use polars_arrays_bits::bitmap::Bitmap;
+use polars_arrays_bits::error::ComputeError;
+use polars_arrays_flat::primitive::PrimitiveArray;
+use polars_arrays_numbers::native_type::NativeType;
+use polars_compare_extremes::kernel::MinMaxKernel;
+use polars_compute_bits::bit_number::BitNumber;
+use polars_compute_bits::bitwise::BitwiseKernel;
+use polars_compute_bits::sum::{WrappingSum, wrapping_sum_arr};
+use std::alloc::Global;
+
+/// A kernel on one array of numbers.
+#[derive(Clone, Copy)]
+pub(crate) enum ReductionKernel {
+    Sum,
+    ReduceAnd,
+    ReduceOr,
+    ReduceXor,
+    Min,
+    Max,
+    MinMax,
+    CountOnes,
+    LeadingZeros,
+    TrailingZeros,
+}
+
+impl<T: BitNumber + WrappingSum + AsPrimitive<u64>> Timed for PrimitiveArray<T> {
+    type Kernel = ReductionKernel;
+
+    #[inline(always)]
+    fn run(&self, alloc: Global, kernel: ReductionKernel, i: usize) -> u64 {
+        match kernel {
+            ReductionKernel::Sum => wrapping_sum_arr(self).as_(),
+            ReductionKernel::ReduceAnd => number_of(self.reduce_and()),
+            ReductionKernel::ReduceOr => number_of(self.reduce_or()),
+            ReductionKernel::ReduceXor => number_of(self.reduce_xor()),
+            ReductionKernel::Min => number_of(self.min_ignore_nan_kernel()),
+            ReductionKernel::Max => number_of(self.max_ignore_nan_kernel()),
+            ReductionKernel::MinMax => pair_of(self.min_max_ignore_nan_kernel()),
+            ReductionKernel::CountOnes => count_of(self.count_ones(alloc), i),
+            ReductionKernel::LeadingZeros => count_of(self.leading_zeros(alloc), i),
+            ReductionKernel::TrailingZeros => count_of(self.trailing_zeros(alloc), i),
+        }
+    }
+}
+
+// The number, if there is one.
+#[inline(always)]
+fn number_of<T: NativeType + AsPrimitive<u64>>(found: Option<T>) -> u64 {
+    match found {
+        Some(number) => number.as_(),
+        None => NO_NUMBER,
+    }
+}
+
+// Both numbers in one, if there are some.
+#[inline(always)]
+fn pair_of<T: NativeType + AsPrimitive<u64>>(found: Option<(T, T)>) -> u64 {
+    match found {
+        Some((least, greatest)) => {
+            let least: u64 = least.as_();
+            least.wrapping_mul(31).wrapping_add(greatest.as_())
+        }
+        None => NO_NUMBER,
+    }
+}
+
+// The count of row `i`.
+#[inline(always)]
+fn count_of(made: Result<PrimitiveArray<u32>, ComputeError>, i: usize) -> u64 {
+    match made {
+        Ok(counts) => row_of(&counts, i),
+        Err(_) => NO_NUMBER,
+    }
+}
+
+// Runs a kernel on an array and on its clone in turn.
+fn time_clones<T: BitNumber + WrappingSum + AsPrimitive<u64>>(
+    alloc: Global,
+    array: &PrimitiveArray<T>,
+    clone: &PrimitiveArray<T>,
+    kernel: u32,
+    repeats: usize,
+) -> Result<u64, ComputeError> {
+    by_number!(
+        kernel,
+        ReductionKernel: Sum ReduceAnd ReduceOr ReduceXor Min Max MinMax CountOnes LeadingZeros TrailingZeros,
+        |chosen| Ok(repeat(alloc, chosen, (array, clone), repeats)),
+        Err(ComputeError::Unsupported)
+    )
+}
+
+// A window of `len` bits of the words, or None without words.
+fn validity_from(
+    alloc: Global,
+    words: &[u64],
+    at: usize,
+    len: usize,
+) -> Result<Option<Bitmap>, ComputeError> {
+    if words.is_empty() {
+        return Ok(None);
+    }
+    let (validity, _) = windows(alloc, words, at, len)?;
+    Ok(Some(validity))
+}
+
+// Runs a kernel on an array of one type.
+fn time_array<T: BitNumber + WrappingSum + AsPrimitive<u64>>(
+    alloc: Global,
+    values: &[i64],
+    validities: &[u64],
+    kernel: u32,
+    shift: usize,
+    repeats: usize,
+) -> Result<u64, ComputeError>
+where
+    i64: AsPrimitive<T>,
+{
+    let validity = validity_from(alloc, validities, shift, values.len())?;
+    let array = number_array(alloc, values, validity)?;
+    let clone = array.clone_array(alloc)?;
+    time_clones::<T>(alloc, &array, &clone, kernel, repeats)
+}
+
+/// Runs a kernel on an array of these numbers, cut or widened to the type. Its validity begins `shift` bits into the
+/// words; without words it has none.
+#[unsafe(no_mangle)]
+pub extern "C" fn polars_time_reductions(
+    alloc: Global,
+    values: &[i64],
+    validities: &[u64],
+    kernel: u32,
+    number_type: u32,
+    shift: usize,
+    repeats: usize,
+) -> u64 {
+    let checksum = at_integer_type!(
+        number_type,
+        time_array(alloc, values, validities, kernel, shift, repeats)
+    );
+    checksum.unwrap_or(0)
+}
