@@ -22,7 +22,11 @@ module _ (joined : ℤ → ℤ → ℤ) (neutral : ℤ) (law : Folds joined neut
   row-groups (Entry x) a b = refl
 
   row-neutral : (row : Row) (rest : ℤ) → joined neutral rest ≡ rest → joined neutral (row_joined joined row rest) ≡ row_joined joined row rest
-  row-neutral (Int n) rest e = law.of_joined n rest
+  row-neutral (Int n) rest e =
+      sym (law.any_groups neutral n rest)
+      ∙ ap (λ (t : ℤ). joined t rest) (law.any_order neutral n)
+      ∙ law.any_groups n neutral rest
+      ∙ ap (joined n) e
   row-neutral Null rest e = e
   row-neutral (Truth x) rest e = e
   row-neutral (Bytes x) rest e = e
@@ -31,7 +35,7 @@ module _ (joined : ℤ → ℤ → ℤ) (neutral : ℤ) (law : Folds joined neut
   row-neutral (Entry x) rest e = e
 
   folded-neutral : (rows : List Row) → joined neutral (folded joined neutral rows) ≡ folded joined neutral rows
-  folded-neutral [] = law.of_none
+  folded-neutral [] = law.any_times
   folded-neutral (row ∷ rows) = row-neutral row (folded joined neutral rows) (folded-neutral rows)
 
   -- rows and the rows behind them
@@ -41,25 +45,28 @@ module _ (joined : ℤ → ℤ → ℤ) (neutral : ℤ) (law : Folds joined neut
       ap (row_joined joined row) (folded-append rows more)
       ∙ sym (row-groups row (folded joined neutral rows) (folded joined neutral more))
 
-  one-number : (total n : ℤ) → joined total (joined n neutral) ≡ joined total n
-  one-number total n =
-      sym (law.any_groups total n neutral) ∙ law.any_order (joined total n) neutral ∙ law.of_joined total n
+  one-number : (total n : ℤ) → joined neutral total ≡ total → joined total (joined n neutral) ≡ joined total n
+  one-number total n e =
+      ap (joined total) (law.any_order n neutral)
+      ∙ sym (law.any_groups total neutral n)
+      ∙ ap (λ (t : ℤ). joined t n) (law.any_order total neutral ∙ e)
 
-  one-row : (row : Row) (total : ℤ) → joined total (folded joined neutral (row ∷ [])) ≡ joined total (number_or neutral row)
-  one-row (Int n) total = one-number total n
-  one-row Null total = refl
-  one-row (Truth x) total = refl
-  one-row (Bytes x) total = refl
-  one-row (Rows x) total = refl
-  one-row (Fields x) total = refl
-  one-row (Entry x) total = refl
+  one-row : (row : Row) (total : ℤ) → joined neutral total ≡ total → joined total (folded joined neutral (row ∷ [])) ≡ joined total (number_or neutral row)
+  one-row (Int n) total e = one-number total n e
+  one-row Null total e = refl
+  one-row (Truth x) total e = refl
+  one-row (Bytes x) total e = refl
+  one-row (Rows x) total e = refl
+  one-row (Fields x) total e = refl
+  one-row (Entry x) total e = refl
 
   -- a row more
   pub fold_more : (rows : List Row) (i : ℕ) (total add next : ℤ) → i < length rows → total ≡ folded joined neutral (take i rows) → add ≡ number_or neutral (row rows i) → next ≡ joined total add → next ≡ folded joined neutral (take (i + 1) rows)
   fold_more rows i total add next h e a n =
+      let whole : joined neutral total ≡ total = ap (joined neutral) e ∙ folded-neutral (take i rows) ∙ sym e in
       n
       ∙ ap (joined total) a
-      ∙ sym (one-row (row rows i) total)
+      ∙ sym (one-row (row rows i) total whole)
       ∙ ap (λ (t : ℤ). joined t (folded joined neutral (row rows i ∷ []))) e
       ∙ sym (folded-append (take i rows) (row rows i ∷ []))
       ∙ ap (folded joined neutral) (sym (take_more rows i Null h))

@@ -3,19 +3,18 @@ use Rattle.std.specs.Prelude.{◌≡◌, ℤ, Bool, cond, eqb, List, [], ◌∷�
 use Rattle.polars_arrays_flat.specs.ArrayRows.{null_total}
 use Rattle.polars_arrays_flat.specs.Row.{Row, Int}
 
--- numbers can be joined in any order and in any groups, and the neutral number changes nothing that was joined
+-- numbers can be joined in any order and in any groups, and the number that folds begin with any number of times
 pub record Folds (joined : ℤ → ℤ → ℤ) (neutral : ℤ) : Type 0 where
   pub any_groups : (a b c : ℤ) → joined (joined a b) c ≡ joined a (joined b c)
   pub any_order : (a b : ℤ) → joined a b ≡ joined b a
-  pub of_none : joined neutral neutral ≡ neutral
-  pub of_joined : (a b : ℤ) → joined neutral (joined a b) ≡ joined a b
+  pub any_times : joined neutral neutral ≡ neutral
 
 -- a row joined with what the rows behind it are folded to: a number is, and any other row adds nothing
 abbrev pub row_joined : (ℤ → ℤ → ℤ) → Row → ℤ → ℤ
 row_joined joined (Int n) rest = joined n rest
 row_joined joined row rest = rest
 
--- what rows are folded to, the neutral number without a present one
+-- what rows are folded to, beginning with the neutral number, which is the answer without a present one
 abbrev pub folded : (ℤ → ℤ → ℤ) → ℤ → List Row → ℤ
 folded joined neutral [] = neutral
 folded joined neutral (row ∷ rows) = row_joined joined row (folded joined neutral rows)

@@ -1,14 +1,17 @@
 //! Numbers folded by an operator: all of them, those that a mask leaves, or the present rows of an array.
 
+ghost use Rattle.std.specs.Option.{option_copied};
 ghost use Rattle.std.specs.Prelude.{◌≡◌, ℕ, eqb, not, length, map, option_map};
 ghost use Rattle.polars_arrays_flat.specs.ArrayRows.{number_rows};
 ghost use Rattle.polars_arrays_flat.specs.Row.{Int};
-ghost use Rattle.polars_arrays_flat.specs.StoredRows.{kept, masked, number_slots};
+ghost use Rattle.polars_arrays_flat.specs.StoredRows.{kept, masked, number_slots, rows_under};
+ghost use Rattle.polars_arrays_flat.specs.Validity.{HasBits};
 ghost use Rattle.polars_arrays_folds.specs.Folds.{folded, folded_if_any, number_or};
 ghost use Rattle.polars_arrays_words.specs.Bits.{first_of, is_bit};
 
 use crate::operator::Operator;
 use polars_arrays_bits::bit_mask::BitMask;
+use polars_arrays_bits::bitmap::Bitmap;
 use polars_arrays_flat::array::Array;
 use polars_arrays_flat::primitive::PrimitiveArray;
 use polars_arrays_numbers::native_type::NativeType;
@@ -33,7 +36,7 @@ const PLACES: [u8; BLOCK] = [
 /// All numbers folded.
 #[inline]
 pub fn fold_all<T: NativeType, O: Operator<T>>(operator: &O, numbers: &[T]) -> T
-    ensures { T.value result ≡ folded O.joined O.neutral (number_slots T.value numbers.now) }
+    ensures { T.value result ≡ folded O.joined (O.neutral operator.now) (number_slots T.value numbers.now) }
 {
     let mut total = operator.start();
     for number in numbers {
@@ -63,7 +66,7 @@ fn flags_of(word: u64) -> [u8; BLOCK]
 #[inline(always)]
 fn fold_flagged<T: NativeType, O: Operator<T>>(operator: &O, numbers: &[T], flags: &[u8]) -> T
     requires { length flags.now ≡ length numbers.now }
-    ensures { T.value result ≡ folded O.joined O.neutral (masked (map (λ flag. not (eqb flag 0)) flags.now) (number_slots T.value numbers.now)) }
+    ensures { T.value result ≡ folded O.joined (O.neutral operator.now) (masked (map (λ flag. not (eqb flag 0)) flags.now) (number_slots T.value numbers.now)) }
 {
     let start = operator.start();
     let mut total = start;
@@ -78,7 +81,7 @@ fn fold_flagged<T: NativeType, O: Operator<T>>(operator: &O, numbers: &[T], flag
 #[inline(always)]
 fn fold_word<T: NativeType, O: Operator<T>>(operator: &O, numbers: &[T], word: u64) -> T
     requires { length numbers.now ≡ 64 }
-    ensures { T.value result ≡ folded O.joined O.neutral (masked (first_of (is_bit word) 64) (number_slots T.value numbers.now)) }
+    ensures { T.value result ≡ folded O.joined (O.neutral operator.now) (masked (first_of (is_bit word) 64) (number_slots T.value numbers.now)) }
 {
     match word {
         u64::MAX => fold_all(operator, numbers),
@@ -91,7 +94,7 @@ fn fold_word<T: NativeType, O: Operator<T>>(operator: &O, numbers: &[T], word: u
 #[inline(always)]
 fn fold_by_row<T: NativeType, O: Operator<T>>(operator: &O, numbers: &[T], mask: &BitMask<'_>) -> T
     requires { length mask.now ≡ length numbers.now }
-    ensures { T.value result ≡ folded O.joined O.neutral (masked mask.now (number_slots T.value numbers.now)) }
+    ensures { T.value result ≡ folded O.joined (O.neutral operator.now) (masked mask.now (number_slots T.value numbers.now)) }
 {
     let start = operator.start();
     let mut total = start;
@@ -108,7 +111,7 @@ pub fn fold_present<T: NativeType, O: Operator<T>>(
     mask: &BitMask<'_>,
 ) -> T
     requires { length mask.now ≡ length numbers.now }
-    ensures { T.value result ≡ folded O.joined O.neutral (masked mask.now (number_slots T.value numbers.now)) }
+    ensures { T.value result ≡ folded O.joined (O.neutral operator.now) (masked mask.now (number_slots T.value numbers.now)) }
 {
     let blocks = numbers.len() / BLOCK;
     let mut total = operator.start();
@@ -123,16 +126,26 @@ pub fn fold_present<T: NativeType, O: Operator<T>>(
     operator.join(total, last)
 }
 
+/// The numbers folded whose bit of a validity is 1, or all without a validity.
+pub fn fold_under<T: NativeType, O: Operator<T>>(
+    operator: &O,
+    numbers: &[T],
+    validity: Option<&Bitmap>,
+) -> T
+    requires { HasBits (length numbers.now) (option_copied validity) }
+    ensures { T.value result ≡ folded O.joined (O.neutral operator.now) (rows_under (option_copied validity.entry) (number_slots T.value numbers.now)) }
+{
+    match validity {
+        Some(bits) => fold_present(operator, numbers, &BitMask::from_bitmap(bits)),
+        None => fold_all(operator, numbers),
+    }
+}
+
 /// The present rows of an array folded.
 pub fn fold_rows<T: NativeType, O: Operator<T>>(operator: &O, array: &PrimitiveArray<T>) -> T
-    ensures { T.value result ≡ folded O.joined O.neutral (number_rows T.value array.now) }
+    ensures { T.value result ≡ folded O.joined (O.neutral operator.now) (number_rows T.value array.now) }
 {
-    match array.validity() {
-        Some(validity) => {
-            fold_present(operator, array.values(), &BitMask::from_bitmap(validity))
-        }
-        None => fold_all(operator, array.values()),
-    }
+    fold_under(operator, array.values(), array.validity())
 }
 
 /// The present rows of an array folded, or None without one.
@@ -140,7 +153,7 @@ pub fn reduce_rows<T: NativeType, O: Operator<T>>(
     operator: &O,
     array: &PrimitiveArray<T>,
 ) -> Option<T>
-    ensures { option_map T.value result ≡ folded_if_any O.joined O.neutral (number_rows T.value array.now) }
+    ensures { option_map T.value result ≡ folded_if_any O.joined (O.neutral operator.now) (number_rows T.value array.now) }
 {
     // No effect at run time. The proof reads from it that the validity has a bit for each row.
     let _validity = array.validity();

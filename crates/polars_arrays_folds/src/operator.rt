@@ -10,14 +10,14 @@ pub trait Operator<T: NativeType> {
     // What two numbers are joined to.
     ghost joined: { ℤ → ℤ → ℤ };
 
-    // What no numbers are folded to.
-    ghost neutral: { ℤ };
+    // The number that a fold begins with.
+    ghost neutral: { Self → ℤ };
 
-    ghost folds_law: { Folds joined neutral };
+    ghost folds_law: { (operator : Self) → Folds joined (neutral operator) };
 
-    /// What no numbers are folded to. Joined with others it changes nothing.
+    /// The number that a fold begins with, also each lane of it. It is joined in any number of times.
     fn start(&self) -> T
-        ensures { T.value result ≡ neutral };
+        ensures { T.value result ≡ neutral self.now };
 
     /// The two numbers joined.
     fn join(&self, left: T, right: T) -> T

@@ -90,8 +90,7 @@ module _ (operator : ℕ → ℕ → ℕ) (bit : Bool → Bool → Bool) (neutra
         ∙ any_groups (pattern width a) (pattern width b) (pattern width c) (pattern-below width a) (pattern-below width b) (pattern-below width c)
         ∙ sym (ap (operator (pattern width a)) (joined-pattern b c)));
     any_order = λ a b. ap (λ k. wrapped least width (pos k)) (any_order (pattern width a) (pattern width b) (pattern-below width a) (pattern-below width b));
-    of_none = onto_start start small;
-    of_joined = λ a b. onto_start (operator (pattern width a) (pattern width b)) (law.below width _ _ (pattern-below width a) (pattern-below width b));
+    any_times = onto_start start small;
   }
 
 -- ---- and, or, exclusive or

@@ -29,8 +29,7 @@ module _ (least : ℤ) (width : ℕ) where
   sum_folds = record {
     any_groups = λ a b c. wrapped-add least width (a +ℤ b) c ∙ ap (wrapped least width) (+ℤ_assoc a b c) ∙ sym (wrapped-add_right a (b +ℤ c));
     any_order = λ a b. ap (wrapped least width) (+ℤ_comm a b);
-    of_none = of_zero (pos 0);
-    of_joined = λ a b. of_zero (a +ℤ b);
+    any_times = of_zero (pos 0);
   }
 
   nothing_more : (rest : ℤ) → wrapped least width rest ≡ wrapped least width (pos 0 +ℤ rest)

@@ -24,9 +24,9 @@ impl<T: BitNumber> Operator<T> for And {
 
     ghost joined = { joined_bits bit_and T.low (bit_len T.width) };
 
-    ghost neutral = { wrapped T.low (bit_len T.width) (pos (2 ^ bit_len T.width - 1)) };
+    ghost neutral = { λ operator. wrapped T.low (bit_len T.width) (pos (2 ^ bit_len T.width - 1)) };
 
-    ghost folds_law = { and_folds T.low (bit_len T.width) };
+    ghost folds_law = { λ operator. and_folds T.low (bit_len T.width) };
 
     #[inline(always)]
     fn start(&self) -> T {
@@ -50,9 +50,9 @@ impl<T: BitNumber> Operator<T> for Or {
 
     ghost joined = { joined_bits bit_or T.low (bit_len T.width) };
 
-    ghost neutral = { wrapped T.low (bit_len T.width) (pos 0) };
+    ghost neutral = { λ operator. wrapped T.low (bit_len T.width) (pos 0) };
 
-    ghost folds_law = { or_folds T.low (bit_len T.width) };
+    ghost folds_law = { λ operator. or_folds T.low (bit_len T.width) };
 
     #[inline(always)]
     fn start(&self) -> T {
@@ -76,9 +76,9 @@ impl<T: BitNumber> Operator<T> for Xor {
 
     ghost joined = { joined_bits bit_xor T.low (bit_len T.width) };
 
-    ghost neutral = { wrapped T.low (bit_len T.width) (pos 0) };
+    ghost neutral = { λ operator. wrapped T.low (bit_len T.width) (pos 0) };
 
-    ghost folds_law = { xor_folds T.low (bit_len T.width) };
+    ghost folds_law = { λ operator. xor_folds T.low (bit_len T.width) };
 
     #[inline(always)]
     fn start(&self) -> T {

@@ -55,9 +55,9 @@ impl<T: NativeType + WrappingAdd + Zero> Operator<T> for Sum {
 
     ghost joined = { wrapped_sum T.low (bit_len T.width) };
 
-    ghost neutral = { wrapped T.low (bit_len T.width) (pos 0) };
+    ghost neutral = { λ operator. wrapped T.low (bit_len T.width) (pos 0) };
 
-    ghost folds_law = { sum_folds T.low (bit_len T.width) };
+    ghost folds_law = { λ operator. sum_folds T.low (bit_len T.width) };
 
     #[inline(always)]
     fn start(&self) -> T {

@@ -17,9 +17,9 @@ loop-i-preserved g c =
     let add =
     c.choose.ensures
     ∙ ap (λ (n : ℤ). number_or n (kept (not (eqb (slice_index_or {A = ℕ} c.args.flags.now c.loop-i.i 0) 0)) (Int (g.T.Number.value c.index-numbers-i.result)))) c.start-start.ensures
-    ∙ ap (λ (b : Bool). number_or g.O.Operator.neutral (kept b (Int (g.T.Number.value c.index-numbers-i.result)))) (sym bit) in
-    fold_more g.O.Operator.joined g.O.Operator.neutral g.O.Operator.folds_law rows c.loop-i.i _ _ _ (omega (arith, long, c.loop-i-test.true)) c.loop-i.invariant
-    (masked_slot-number g.T.Number.value c.args.numbers.now bits same g.O.Operator.neutral c.loop-i.i _ _ c.loop-i-test.true c.index-numbers-i.is add) c.join-total.ensures
+    ∙ ap (λ (b : Bool). number_or (g.O.Operator.neutral c.args.operator.now) (kept b (Int (g.T.Number.value c.index-numbers-i.result)))) (sym bit) in
+    fold_more g.O.Operator.joined (g.O.Operator.neutral c.args.operator.now) (g.O.Operator.folds_law c.args.operator.now) rows c.loop-i.i _ _ _ (omega (arith, long, c.loop-i-test.true)) c.loop-i.invariant
+    (masked_slot-number g.T.Number.value c.args.numbers.now bits same (g.O.Operator.neutral c.args.operator.now) c.loop-i.i _ _ c.loop-i-test.true c.index-numbers-i.is add) c.join-total.ensures
 
 pub returns : goal.returns
 returns g c =
@@ -27,4 +27,4 @@ returns g c =
     let same = length-map c.args.flags.now (λ (flag : ℕ). not (eqb flag 0)) ∙ c.requires in
     let rows = masked bits (number_slots g.T.Number.value c.args.numbers.now) in
     let long = length-masked_slots g.T.Number.value c.args.numbers.now bits same in
-    fold_end g.O.Operator.joined g.O.Operator.neutral g.O.Operator.folds_law rows c.loop-i.i _ (omega (arith, long, c.loop-i-test.false)) c.loop-i.invariant
+    fold_end g.O.Operator.joined (g.O.Operator.neutral c.args.operator.now) (g.O.Operator.folds_law c.args.operator.now) rows c.loop-i.i _ (omega (arith, long, c.loop-i-test.false)) c.loop-i.invariant

@@ -16,8 +16,8 @@ loop-k-preserved g c =
     let next : 64 * (c.loop-k.k + 1) ≡ 64 * c.loop-k.k + 64 = omega arith in
     let cut : 64 * c.loop-k.k + 64 - 64 * c.loop-k.k ≡ 64 = omega arith in
     let rows = masked c.args.mask.now (number_slots g.T.Number.value c.args.numbers.now) in
-    let block = c.fold_word-block.ensures ∙ ap (λ (rs : List Row). folded g.O.Operator.joined g.O.Operator.neutral rs) (block_rows g.T.Number.value c.args.numbers.now c.args.mask.now _ (64 * c.loop-k.k) 64 _ c.word.ensures cut) in
-    rw next (fold_block_more g.O.Operator.joined g.O.Operator.neutral g.O.Operator.folds_law rows (64 * c.loop-k.k) 64 _ _ _ c.loop-k.invariant block c.join-total.ensures)
+    let block = c.fold_word-block.ensures ∙ ap (λ (rs : List Row). folded g.O.Operator.joined (g.O.Operator.neutral c.args.operator.now) rs) (block_rows g.T.Number.value c.args.numbers.now c.args.mask.now _ (64 * c.loop-k.k) 64 _ c.word.ensures cut) in
+    rw next (fold_block_more g.O.Operator.joined (g.O.Operator.neutral c.args.operator.now) (g.O.Operator.folds_law c.args.operator.now) rows (64 * c.loop-k.k) 64 _ _ _ c.loop-k.invariant block c.join-total.ensures)
 
 pub returns : goal.returns
 returns g c =
@@ -28,6 +28,6 @@ returns g c =
     let cut : 64 * blocks + rest - 64 * blocks ≡ rest = omega arith in
     let rows = masked c.args.mask.now (number_slots g.T.Number.value c.args.numbers.now) in
     let long = length-masked_slots g.T.Number.value c.args.numbers.now c.args.mask.now c.requires in
-    let last = c.fold_by_row-last.ensures ∙ ap (λ (rs : List Row). folded g.O.Operator.joined g.O.Operator.neutral rs) (block_rows g.T.Number.value c.args.numbers.now c.args.mask.now c.window.result (64 * blocks) rest _ c.window.ensures cut) in
-    fold_end g.O.Operator.joined g.O.Operator.neutral g.O.Operator.folds_law rows (64 * blocks + rest) _ (omega (arith, long))
-    (fold_block_more g.O.Operator.joined g.O.Operator.neutral g.O.Operator.folds_law rows (64 * blocks) rest _ _ _ before last c.join.ensures)
+    let last = c.fold_by_row-last.ensures ∙ ap (λ (rs : List Row). folded g.O.Operator.joined (g.O.Operator.neutral c.args.operator.now) rs) (block_rows g.T.Number.value c.args.numbers.now c.args.mask.now c.window.result (64 * blocks) rest _ c.window.ensures cut) in
+    fold_end g.O.Operator.joined (g.O.Operator.neutral c.args.operator.now) (g.O.Operator.folds_law c.args.operator.now) rows (64 * blocks + rest) _ (omega (arith, long))
+    (fold_block_more g.O.Operator.joined (g.O.Operator.neutral c.args.operator.now) (g.O.Operator.folds_law c.args.operator.now) rows (64 * blocks) rest _ _ _ before last c.join.ensures)

@@ -15,14 +15,14 @@ returns-in-18446744073709551615 g c =
     let rows : List Row = number_slots g.T.Number.value c.args.numbers.now in
     let all = all-first (is_bit c.args.word) 64 (λ i lt. ap (λ (w : ℕ). is_bit w i) c.in-18446744073709551615.is ∙ ones_bit i lt) in
     let long : length bits ≡ length rows = length-first (is_bit c.args.word) 64 ∙ sym (length-slots g.T.Number.value c.args.numbers.now ∙ c.requires) in
-    c.fold_all.ensures ∙ ap (λ (rs : List Row). folded g.O.Operator.joined g.O.Operator.neutral rs) (sym (masked-all bits rows long all))
+    c.fold_all.ensures ∙ ap (λ (rs : List Row). folded g.O.Operator.joined (g.O.Operator.neutral c.args.operator.now) rs) (sym (masked-all bits rows long all))
 
 pub returns-in-0 : goal.returns-in-0
 returns-in-0 g c =
     let bits : List Bool = first_of (is_bit c.args.word) 64 in
     c.start.ensures
     ∙ sym
-    (folded-none g.O.Operator.joined g.O.Operator.neutral bits (number_slots g.T.Number.value c.args.numbers.now)
+    (folded-none g.O.Operator.joined (g.O.Operator.neutral c.args.operator.now) bits (number_slots g.T.Number.value c.args.numbers.now)
     (λ i lt.
     let within : i < 64 = omega (arith, length-first (is_bit c.args.word) 64) in
     get_or-first (is_bit c.args.word) 64 i false within ∙ ap (λ (w : ℕ). is_bit w i) c.in-0.is ∙ zeros_bit i))

@@ -6,10 +6,10 @@ use Rattle.polars_arrays_folds.proofs.fold.reduce_rows.Goals as goal
 
 pub returns-then-null_count-len : goal.returns-then-null_count-len
 returns-then-null_count-len g c =
-    no_fold g.O.Operator.joined g.O.Operator.neutral (number_rows g.T.Number.value c.args.array.now) c.null_count.result c.len.result (c.null_count.ensures.rows tt)
+    no_fold g.O.Operator.joined (g.O.Operator.neutral c.args.operator.now) (number_rows g.T.Number.value c.args.array.now) c.null_count.result c.len.result (c.null_count.ensures.rows tt)
     (c.len.ensures ∙ sym (length-rows c.args.array.now.validity (number_slots g.T.Number.value c.args.array.now.values) c.validity-validity.ensures.bits)) c.if-null_count-len.true
 
 pub returns : goal.returns
 returns g c =
-    some_fold g.O.Operator.joined g.O.Operator.neutral (number_rows g.T.Number.value c.args.array.now) c.null_count.result c.len.result (c.null_count.ensures.rows tt)
+    some_fold g.O.Operator.joined (g.O.Operator.neutral c.args.operator.now) (number_rows g.T.Number.value c.args.array.now) c.null_count.result c.len.result (c.null_count.ensures.rows tt)
     (c.len.ensures ∙ sym (length-rows c.args.array.now.validity (number_slots g.T.Number.value c.args.array.now.values) c.validity-validity.ensures.bits)) _ c.if-null_count-len.false c.fold_rows.ensures
