@@ -1,9 +1,10 @@
 -- Worked examples of the definitions.
 use Rattle.std.proofs.Common.{arith}
-use Rattle.std.specs.Prelude.{◌≡◌, ◌≢◌, ◌<◌, ℕ, zero, suc, true, false, List, [], ◌∷◌, refl}
+use Rattle.std.specs.Prelude.{◌≡◌, ◌≢◌, ◌<◌, ℕ, zero, suc, pos, true, false, List, [], ◌∷◌, refl}
 use Rattle.polars_arrays_flat.specs.Row.{Row, Null, Bytes, Truth}
 use Rattle.polars_arrays_flat.specs.StoredRows.{row}
 use Rattle.polars_compare_leaves.specs.Order.{row_less, row_greater}
+use Rattle.polars_compare_extremes.specs.BestNumber.{best_of}
 use Rattle.polars_compare_extremes.specs.Extremes.{IsBest, IsLeast, NonePresent}
 use Rattle.polars_compare_extremes.specs.Truths.{is_there, is_truth}
 
@@ -57,3 +58,10 @@ there-null = refl
 
 truth-false : is_truth false (Truth false) ≡ true
 truth-false = refl
+
+-- the lesser and the greater of two numbers
+lesser-number : best_of row_less (pos 3) (pos 2) ≡ pos 2
+lesser-number = refl
+
+greater-number : best_of row_greater (pos 3) (pos 2) ≡ pos 3
+greater-number = refl

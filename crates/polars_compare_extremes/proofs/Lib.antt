@@ -1,3 +1,4 @@
+mod BestRows
 mod ByteRows
 mod Examples
 mod Lent

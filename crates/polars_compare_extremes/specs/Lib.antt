@@ -1,3 +1,5 @@
+pub mod BestNumber
+pub mod BestNumberLaws
 pub mod Extremes
 pub mod Places
 pub mod Preference

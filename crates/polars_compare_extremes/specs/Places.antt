@@ -19,9 +19,3 @@ pub record IsBestSlot (better : Row → Row → Bool) (slot : ℕ → Row) (mask
   pub present : is_present mask place ≡ true
   pub best : (k : ℕ) → k < n → is_present mask k ≡ true → better (slot k) (slot place) ≡ false
   pub first : (k : ℕ) → k < place → is_present mask k ≡ true → better (slot place) (slot k) ≡ true
-
--- what was found among the first n stored rows is that one
-pub record FindsSlot (better : Row → Row → Bool) (slot : ℕ → Row) (mask : Option (List Bool)) (n : ℕ) (found : Row) : Type 0 where
-  pub place : ℕ
-  pub is_best : IsBestSlot better slot mask n place
-  pub is_slot : found ≡ slot place

@@ -1,88 +1,152 @@
-//! Extremes of arrays and slices of numbers.
+//! Extremes of arrays and slices of numbers: the present numbers folded, from the first one on.
 
 ghost use Rattle.std.specs.Option.{option_copied};
-ghost use Rattle.std.specs.Prelude.{◌≡◌, ◌&&◌, None, cond, length, MatchOption};
+ghost use Rattle.std.specs.Prelude.{◌≡◌, ℤ, Bool, length, MatchOption};
 ghost use Rattle.polars_arrays_flat.specs.ArrayRows.{number_rows};
-ghost use Rattle.polars_arrays_flat.specs.Row.{Int};
-ghost use Rattle.polars_arrays_flat.specs.StoredRows.{number_slots, row, rows_under};
+ghost use Rattle.polars_arrays_flat.specs.Row.{Row, Int};
+ghost use Rattle.polars_arrays_flat.specs.StoredRows.{number_slots, rows_under};
 ghost use Rattle.polars_arrays_flat.specs.Validity.{HasBits};
+ghost use Rattle.polars_compare_extremes.specs.BestNumber.{best_of};
 ghost use Rattle.polars_compare_extremes.specs.Extremes.{FindsBest, NonePresent};
-ghost use Rattle.polars_compare_extremes.specs.Places.{FindsSlot, IsFirstPresent};
 ghost use Rattle.polars_compare_extremes.specs.Preference.{Prefers};
-ghost use Rattle.polars_compare_extremes.specs.PreferenceLaws.{greater_prefers-numbers, less_prefers-numbers};
 
 use crate::kernel::MinMaxKernel;
 use crate::places::first_present;
 use polars_arrays_bits::bitmap::Bitmap;
 use polars_arrays_flat::array::Array;
 use polars_arrays_flat::primitive::PrimitiveArray;
-use polars_arrays_flat::validity::is_present;
-use polars_arrays_numbers::comparison::{Greater, Less};
+use polars_arrays_folds::fold::fold_under;
+use polars_arrays_folds::operator::Operator;
+use polars_arrays_numbers::comparison::{Comparison, Less};
 use polars_arrays_numbers::native_type::NativeType;
-use polars_compare_leaves::row_comparison::RowComparison;
 
-/// A comparison that says which of two numbers is the better one, so that among any there is a best.
-pub trait NumberPreference<T: NativeType>: RowComparison<T> {
+/// An operator that folds numbers to the best of them and of a first one.
+trait BestFrom<T: NativeType>: Operator<T> + Drop {
+    // Which of two rows is better.
+    ghost better: { Row → Row → Bool };
+
     // The better one is better than all that the other is not worse than.
-    ghost preference_law: { Prefers Int Self.rows };
+    ghost preference_law: { Prefers Int better };
+
+    /// Folds begin with this number.
+    fn from(first: T) -> Self
+        ensures { Self.neutral result ≡ T.value first };
+
+    // Numbers are joined to the better one.
+    ghost best_law: { (m n : ℤ) → Self.Operator.joined m n ≡ best_of better m n };
 }
 
-impl<T: NativeType> NumberPreference<T> for Less {
+/// Numbers are folded to the least of them and of the first one.
+#[derive(Drop)]
+struct LeastFrom<T: NativeType> {
+    first: T,
+}
+
+/// Numbers are folded to the greatest of them and of the first one.
+#[derive(Drop)]
+struct GreatestFrom<T: NativeType> {
+    first: T,
+}
+
+impl<T: NativeType> Operator<T> for LeastFrom<T> {
+    ghost use Rattle.polars_compare_leaves.specs.Order.{row_less};
+    ghost use Rattle.polars_compare_extremes.specs.BestNumber.{best_of};
+    ghost use Rattle.polars_compare_extremes.specs.BestNumberLaws.{least_folds};
+
+    ghost joined = { best_of row_less };
+
+    ghost neutral = { λ operator. T.value operator.first };
+
+    ghost folds_law = { λ operator. least_folds (T.value operator.first) };
+
+    #[inline(always)]
+    fn start(&self) -> T {
+        self.first
+    }
+
+    #[inline(always)]
+    fn join(&self, left: T, right: T) -> T {
+        if Less.compare(right, left) {
+            right
+        } else {
+            left
+        }
+    }
+}
+
+impl<T: NativeType> Operator<T> for GreatestFrom<T> {
+    ghost use Rattle.polars_compare_leaves.specs.Order.{row_greater};
+    ghost use Rattle.polars_compare_extremes.specs.BestNumber.{best_of};
+    ghost use Rattle.polars_compare_extremes.specs.BestNumberLaws.{greatest_folds};
+
+    ghost joined = { best_of row_greater };
+
+    ghost neutral = { λ operator. T.value operator.first };
+
+    ghost folds_law = { λ operator. greatest_folds (T.value operator.first) };
+
+    #[inline(always)]
+    fn start(&self) -> T {
+        self.first
+    }
+
+    #[inline(always)]
+    fn join(&self, left: T, right: T) -> T {
+        if Less.compare(left, right) {
+            right
+        } else {
+            left
+        }
+    }
+}
+
+impl<T: NativeType> BestFrom<T> for LeastFrom<T> {
+    ghost use Rattle.std.specs.Prelude.{refl};
+    ghost use Rattle.polars_compare_leaves.specs.Order.{row_less};
+    ghost use Rattle.polars_compare_extremes.specs.PreferenceLaws.{less_prefers-numbers};
+
+    ghost better = { row_less };
+
     ghost preference_law = { less_prefers-numbers };
+
+    ghost best_law = { λ m n. refl };
+
+    #[inline(always)]
+    fn from(first: T) -> LeastFrom<T> {
+        LeastFrom { first }
+    }
 }
 
-impl<T: NativeType> NumberPreference<T> for Greater {
+impl<T: NativeType> BestFrom<T> for GreatestFrom<T> {
+    ghost use Rattle.std.specs.Prelude.{refl};
+    ghost use Rattle.polars_compare_leaves.specs.Order.{row_greater};
+    ghost use Rattle.polars_compare_extremes.specs.PreferenceLaws.{greater_prefers-numbers};
+
+    ghost better = { row_greater };
+
     ghost preference_law = { greater_prefers-numbers };
-}
 
-// The number where it is present and better than the best one so far, else that one.
-#[inline(always)]
-fn better_number<T: NativeType, P: NumberPreference<T>>(
-    preference: &P,
-    present: bool,
-    number: T,
-    best: T,
-) -> T
-    ensures { Int (T.value result) ≡ cond (present && P.rows (Int (T.value number)) (Int (T.value best))) (Int (T.value number)) (Int (T.value best)) }
-{
-    if present & preference.compare(number, best) {
-        number
-    } else {
-        best
-    }
-}
+    ghost best_law = { λ m n. refl };
 
-// The best of the present numbers, where `first` is the place of the first present one.
-fn best_number_from<T: NativeType, P: NumberPreference<T>>(
-    preference: &P,
-    numbers: &[T],
-    present: Option<&Bitmap>,
-    first: usize,
-) -> T
-    requires bits { HasBits (length numbers.now) (option_copied present) }
-    requires first { IsFirstPresent (length numbers.now) (option_copied present) first }
-    ensures { FindsSlot P.rows (row (number_slots T.value numbers.now)) (option_copied present.entry) (length numbers.now) (Int (T.value result)) }
-{
-    let mut best = numbers[first];
-    for i in first + 1..numbers.len() {
-        best = better_number(preference, is_present(present, i), numbers[i], best);
+    #[inline(always)]
+    fn from(first: T) -> GreatestFrom<T> {
+        GreatestFrom { first }
     }
-    best
 }
 
 // The best of the present numbers, where `present` has a bit for each, or None where none is present.
-fn best_number<T: NativeType, P: NumberPreference<T>>(
-    preference: &P,
-    numbers: &[T],
-    present: Option<&Bitmap>,
-) -> Option<T>
+fn best_number<T: NativeType, B: BestFrom<T>>(numbers: &[T], present: Option<&Bitmap>) -> Option<T>
     requires { HasBits (length numbers.now) (option_copied present) }
     ensures { MatchOption result
         (NonePresent (rows_under (option_copied present.entry) (number_slots T.value numbers.now)))
-        (λ found. FindsBest P.rows (rows_under (option_copied present.entry) (number_slots T.value numbers.now)) (Int (T.value found))) }
+        (λ found. FindsBest B.better (rows_under (option_copied present.entry) (number_slots T.value numbers.now)) (Int (T.value found))) }
 {
     match first_present(present, numbers.len()) {
-        Some(first) => Some(best_number_from(preference, numbers, present, first)),
+        Some(first) => {
+            let operator = B::from(numbers[first]);
+            let best = fold_under(&operator, numbers, present);
+            Some(best)
+        }
         None => None,
     }
 }
@@ -95,11 +159,11 @@ impl<T: NativeType + 'static> MinMaxKernel for PrimitiveArray<T> {
     ghost scalar_row = { λ number. Int (T.value number) };
 
     fn min_ignore_nan_kernel(&self) -> Option<T> {
-        best_number(&Less, self.values(), self.validity())
+        best_number::<T, LeastFrom<T>>(self.values(), self.validity())
     }
 
     fn max_ignore_nan_kernel(&self) -> Option<T> {
-        best_number(&Greater, self.values(), self.validity())
+        best_number::<T, GreatestFrom<T>>(self.values(), self.validity())
     }
 }
 
@@ -111,10 +175,10 @@ impl<T: NativeType + 'static> MinMaxKernel for &[T] {
     ghost scalar_row = { λ number. Int (T.value number) };
 
     fn min_ignore_nan_kernel(&self) -> Option<T> {
-        best_number(&Less, *self, None)
+        best_number::<T, LeastFrom<T>>(*self, None)
     }
 
     fn max_ignore_nan_kernel(&self) -> Option<T> {
-        best_number(&Greater, *self, None)
+        best_number::<T, GreatestFrom<T>>(*self, None)
     }
 }
