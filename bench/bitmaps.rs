@@ -2,7 +2,7 @@
 
 use crate::operands::{Numbers, Rows, rows, words};
 use crate::plain::{self, Window};
-use crate::timing::{Asked, Bench, Kernel, RUNS, bit_of, repeat};
+use crate::timing::{Asked, Bench, Kernel, NO_BIT, RUNS, bit_of, repeat};
 use std::hint::black_box;
 
 /// The kernels on bitmaps, as the library numbers them.
@@ -25,6 +25,9 @@ enum BitmapKernel {
 enum TruthKernel {
     TotEq,
     TotLt,
+    ReduceAnd,
+    ReduceXor,
+    Min,
 }
 
 // After the words come the shift of the windows and their length in bits.
@@ -72,7 +75,7 @@ struct Logic {
 /// Windows at differing places in words.
 const DIFFERING: usize = 13;
 
-const LOGIC: [Logic; 20] = [
+const LOGIC: [Logic; 23] = [
     Logic {
         name: "and",
         shift: DIFFERING,
@@ -212,6 +215,27 @@ const LOGIC: [Logic; 20] = [
         asked: Asked::Nanoseconds([0.1, 0.1]),
         ours: Ours::Truths(TruthKernel::TotLt),
         plain: |w, i| bit_of(plain::not_and_aligned(w[0], w[1]), w[0].len, i),
+    },
+    Logic {
+        name: "reduce_and bool",
+        shift: DIFFERING,
+        asked: Asked::Ratio([1.0, 1.0]),
+        ours: Ours::Truths(TruthKernel::ReduceAnd),
+        plain: |w, _| plain::all_true(w[0]).map_or(NO_BIT, u64::from),
+    },
+    Logic {
+        name: "reduce_xor bool",
+        shift: DIFFERING,
+        asked: Asked::Ratio([1.0, 1.0]),
+        ours: Ours::Truths(TruthKernel::ReduceXor),
+        plain: |w, _| plain::odd_trues(w[0]).map_or(NO_BIT, u64::from),
+    },
+    Logic {
+        name: "min bool",
+        shift: DIFFERING,
+        asked: Asked::Ratio([1.0, 1.0]),
+        ours: Ours::Truths(TruthKernel::Min),
+        plain: |w, _| plain::all_true(w[0]).map_or(NO_BIT, u64::from),
     },
 ];
 

@@ -370,6 +370,18 @@ fn count_of(
     (counted + rest + last.count_ones()) as usize
 }
 
+/// Whether all bits are true, if there is one.
+#[inline(never)]
+pub fn all_true(bits: Window) -> Option<bool> {
+    (bits.len > 0).then(|| set_bits(bits) == bits.len)
+}
+
+/// Whether an odd number of bits is true, if there is one.
+#[inline(never)]
+pub fn odd_trues(bits: Window) -> Option<bool> {
+    (bits.len > 0).then(|| set_bits(bits) % 2 == 1)
+}
+
 /// How many bits of a window are 1.
 #[inline(never)]
 pub fn set_bits(bits: Window) -> usize {

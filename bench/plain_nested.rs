@@ -1,7 +1,7 @@
 //! The kernels on arrays that hold arrays in plain Rust, 64 results a word.
 
 use crate::nested_rows::{COLUMNS, Keyed, Lists, WIDTH};
-use crate::plain::{equal, compare_pairs};
+use crate::plain::{compare_pairs, equal};
 use crate::plain_strings::test_rows;
 use crate::string_rows::Texts;
 

@@ -1,6 +1,6 @@
 //! The kernels on strings in plain Rust, 64 results a word.
 
-use crate::plain::{test_each, compare_pairs, word_of};
+use crate::plain::{compare_pairs, test_each, word_of};
 use crate::string_rows::{Texts, Views};
 
 /// The answers for the rows from the first one on.
@@ -125,4 +125,36 @@ pub fn equal_sized(left: &[u8], right: &[u8]) -> Vec<u64> {
     let (left, _) = left.as_chunks::<SIZE>();
     let (right, _) = right.as_chunks::<SIZE>();
     compare_pairs(left, right, |l, r| l[..] == r[..])
+}
+
+/// How many bytes the least text has.
+#[inline(never)]
+pub fn least_text(texts: &Texts) -> Option<usize> {
+    (0..texts.count())
+        .map(|i| texts.row(i))
+        .min()
+        .map(<[u8]>::len)
+}
+
+/// How many bytes the greatest text has.
+#[inline(never)]
+pub fn greatest_text(texts: &Texts) -> Option<usize> {
+    (0..texts.count())
+        .map(|i| texts.row(i))
+        .max()
+        .map(<[u8]>::len)
+}
+
+/// How many bytes the least of strings that their views hold has.
+#[inline(never)]
+pub fn least_short(strings: &Views) -> Option<usize> {
+    let least = |best: u128, view: u128| if short_less(view, best) { view } else { best };
+    strings.views.iter().copied().reduce(least).map(len_of)
+}
+
+/// How many bytes the greatest of strings that their views hold has.
+#[inline(never)]
+pub fn greatest_short(strings: &Views) -> Option<usize> {
+    let greatest = |best: u128, view: u128| if short_less(best, view) { view } else { best };
+    strings.views.iter().copied().reduce(greatest).map(len_of)
 }

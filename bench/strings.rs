@@ -1,9 +1,10 @@
-//! The comparisons of arrays of views, of texts between offsets, and of byte strings of one size.
+//! The comparisons and the extremes of arrays of views, of texts between offsets, and of byte strings of one size.
 
 use crate::operands::{Rows, rows};
 use crate::plain_strings as plain;
 use crate::string_rows::{Pair, Strings, Texts, Views};
-use crate::timing::{Asked, Kernel, Side, plain_rows};
+use crate::timing::{Asked, Kernel, NO_BIT, Side, plain_rows, repeat};
+use std::hint::black_box;
 
 /// The kernels, as the library numbers them.
 #[derive(Clone, Copy)]
@@ -13,6 +14,8 @@ enum StringKernel {
     TotLt,
     TotEqBroadcast,
     TotLtBroadcast,
+    Min,
+    Max,
 }
 
 /// How strings lie in an array, as the library numbers it.
@@ -123,6 +126,60 @@ fn run_texts(kernel: StringKernel, pair: &Pair<Texts>, repeats: usize) -> u64 {
 
 fn run_sized(kernel: StringKernel, pair: &Pair<Texts>, repeats: usize) -> u64 {
     run_following(kernel, StringType::Sized, pair, repeats)
+}
+
+/// An extreme of the strings of an array, by its length.
+fn hand_extreme(
+    name: &str,
+    ours: Side,
+    plain: &dyn Fn() -> Option<usize>,
+    each: &mut dyn FnMut(&Kernel),
+) {
+    each(&Kernel {
+        name,
+        asked: Asked::Ratio([1.0, 1.0]),
+        ours,
+        plain: &|repeats| {
+            repeat(&[(); 2], repeats, |(), _| {
+                plain().map_or(NO_BIT, |len| len as u64)
+            })
+        },
+        beside: None,
+    });
+}
+
+/// Hands the extremes of an array of texts to `each`.
+fn for_each_text_extreme(pair: &Pair<Texts>, each: &mut dyn FnMut(&Kernel)) {
+    let texts = &pair.left;
+    hand_extreme(
+        "min texts 6",
+        &|repeats| run_texts(StringKernel::Min, pair, repeats),
+        &|| plain::least_text(black_box(texts)),
+        each,
+    );
+    hand_extreme(
+        "max texts 6",
+        &|repeats| run_texts(StringKernel::Max, pair, repeats),
+        &|| plain::greatest_text(black_box(texts)),
+        each,
+    );
+}
+
+/// Hands the extremes of an array of views that hold their strings to `each`.
+fn for_each_view_extreme(pair: &Pair<Views>, each: &mut dyn FnMut(&Kernel)) {
+    let views = &pair.left;
+    hand_extreme(
+        "min views 12",
+        &|repeats| run_views(StringKernel::Min, pair, repeats),
+        &|| plain::least_short(black_box(views)),
+        each,
+    );
+    hand_extreme(
+        "max views 12",
+        &|repeats| run_views(StringKernel::Max, pair, repeats),
+        &|| plain::greatest_short(black_box(views)),
+        each,
+    );
 }
 
 /// Hands each kernel on views that hold their strings to `each`.
@@ -245,4 +302,6 @@ pub fn for_each(strings: &Strings, each: &mut dyn FnMut(&Kernel)) {
     for_each_long(&strings.long, each);
     for_each_texts(&strings.texts, each);
     for_each_sized(&strings.sized, each);
+    for_each_text_extreme(&strings.texts, each);
+    for_each_view_extreme(&strings.short, each);
 }

@@ -4,7 +4,7 @@ use std::hint::black_box;
 use std::time::{Duration, Instant};
 
 /// What a side answers for a bit past the end.
-const NO_BIT: u64 = 2;
+pub const NO_BIT: u64 = 2;
 
 /// Bit `i` of the `len` bits that were made.
 pub fn bit_of(made: Vec<u64>, len: usize, i: usize) -> u64 {

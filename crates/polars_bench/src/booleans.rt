@@ -1,16 +1,30 @@
-//! Comparisons of arrays of truth values.
+//! Comparisons, reductions and extremes of arrays of truth values.
 
 use crate::operands::{Truths, truths_in_two_places};
-use crate::{Timed, bit_of, repeat};
+use crate::{NO_BIT, Timed, bit_of, repeat};
 use polars_compare_equality::kernel::TotalEqKernel;
+use polars_compare_extremes::kernel::MinMaxKernel;
 use polars_compare_order::kernel::TotalOrdKernel;
+use polars_compute_bits::bitwise::BitwiseKernel;
 use std::alloc::Global;
 
-/// A kernel on two arrays of truth values.
+/// A kernel on two arrays of truth values, or on the left one.
 #[derive(Clone, Copy)]
 pub(crate) enum TruthKernel {
     TotEq,
     TotLt,
+    ReduceAnd,
+    ReduceXor,
+    Min,
+}
+
+// The truth value as a number, if there is one.
+#[inline(always)]
+fn number_of(found: Option<bool>) -> u64 {
+    match found {
+        Some(truth) => u64::from(truth),
+        None => NO_BIT,
+    }
 }
 
 impl Timed for Truths {
@@ -18,11 +32,14 @@ impl Timed for Truths {
 
     #[inline(always)]
     fn run(&self, alloc: Global, kernel: TruthKernel, i: usize) -> u64 {
-        let made = match kernel {
-            TruthKernel::TotEq => self.left.tot_eq_kernel(alloc, &self.right),
-            TruthKernel::TotLt => self.left.tot_lt_kernel(alloc, &self.right),
-        };
-        bit_of(made, i)
+        let left = &self.left;
+        match kernel {
+            TruthKernel::TotEq => bit_of(left.tot_eq_kernel(alloc, &self.right), i),
+            TruthKernel::TotLt => bit_of(left.tot_lt_kernel(alloc, &self.right), i),
+            TruthKernel::ReduceAnd => number_of(left.reduce_and()),
+            TruthKernel::ReduceXor => number_of(left.reduce_xor()),
+            TruthKernel::Min => number_of(left.min_ignore_nan_kernel()),
+        }
     }
 }
 
@@ -30,7 +47,7 @@ impl Timed for Truths {
 fn time_pair(alloc: Global, operands: (&Truths, &Truths), kernel: u32, repeats: usize) -> u64 {
     by_number!(
         kernel,
-        TruthKernel: TotEq TotLt,
+        TruthKernel: TotEq TotLt ReduceAnd ReduceXor Min,
         |chosen| repeat(alloc, chosen, operands, repeats),
         0
     )

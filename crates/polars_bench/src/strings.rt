@@ -1,13 +1,14 @@
-//! Comparisons of arrays of views, of texts between offsets, and of byte strings of one size.
+//! Comparisons and extremes of arrays of views, of texts between offsets, and of byte strings of one size.
 
 use crate::string_operands::{Parts, StringArray, Strings, comparable_strings};
-use crate::{NO_BITMAP, Timed, bit_of, repeat};
+use crate::{NO_BIT, NO_BITMAP, Timed, bit_of, repeat};
 use polars_arrays_bits::error::ComputeError;
 use polars_arrays_bytes::fixed_size::FixedSizeBinaryArray;
 use polars_arrays_bytes::text::Utf8Array;
 use polars_arrays_views::binary_view::BinaryViewArray;
 use polars_compare_equality::borrowed::{BytesEqKernel, TextEqKernel};
 use polars_compare_equality::kernel::TotalEqKernel;
+use polars_compare_extremes::borrowed::{BytesMinMaxKernel, TextMinMaxKernel};
 use polars_compare_order::borrowed::{BytesOrdKernel, TextOrdKernel};
 use polars_compare_order::kernel::TotalOrdKernel;
 use std::alloc::Global;
@@ -20,6 +21,8 @@ pub(crate) enum StringKernel {
     TotLt,
     TotEqBroadcast,
     TotLtBroadcast,
+    Min,
+    Max,
 }
 
 /// How strings lie in an array.
@@ -27,6 +30,24 @@ pub(crate) enum StringType {
     Views,
     Texts,
     Sized,
+}
+
+// How many bytes the string has, if there is one.
+#[inline(always)]
+fn length_of(found: Option<&[u8]>) -> u64 {
+    match found {
+        Some(bytes) => bytes.len() as u64,
+        None => NO_BIT,
+    }
+}
+
+// The same of a text.
+#[inline(always)]
+fn text_length_of(found: Option<&str>) -> u64 {
+    match found {
+        Some(text) => text.len() as u64,
+        None => NO_BIT,
+    }
 }
 
 impl Timed for Strings<BinaryViewArray, &[u8]> {
@@ -44,6 +65,8 @@ impl Timed for Strings<BinaryViewArray, &[u8]> {
             StringKernel::TotLtBroadcast => {
                 BytesOrdKernel::tot_lt_kernel_broadcast(left, alloc, self.scalar)
             }
+            StringKernel::Min => return length_of(left.min_ignore_nan_kernel()),
+            StringKernel::Max => return length_of(left.max_ignore_nan_kernel()),
         };
         bit_of(made, i)
     }
@@ -64,12 +87,14 @@ impl Timed for Strings<Utf8Array<i32>, &str> {
             StringKernel::TotLtBroadcast => {
                 TextOrdKernel::tot_lt_kernel_broadcast(left, alloc, self.scalar)
             }
+            StringKernel::Min => return text_length_of(left.min_ignore_nan_kernel()),
+            StringKernel::Max => return text_length_of(left.max_ignore_nan_kernel()),
         };
         bit_of(made, i)
     }
 }
 
-// Strings of one size have no order.
+// Strings of one size are only compared for equality.
 impl Timed for Strings<FixedSizeBinaryArray, &[u8]> {
     type Kernel = StringKernel;
 
@@ -81,7 +106,7 @@ impl Timed for Strings<FixedSizeBinaryArray, &[u8]> {
             StringKernel::TotEqBroadcast => {
                 BytesEqKernel::tot_eq_kernel_broadcast(left, alloc, self.scalar)
             }
-            StringKernel::TotLt | StringKernel::TotLtBroadcast => return NO_BITMAP,
+            _ => return NO_BITMAP,
         };
         bit_of(made, i)
     }
@@ -99,7 +124,7 @@ where
 {
     by_number!(
         kernel,
-        StringKernel: TotEq TotLt TotEqBroadcast TotLtBroadcast,
+        StringKernel: TotEq TotLt TotEqBroadcast TotLtBroadcast Min Max,
         |chosen| repeat(alloc, chosen, operands, repeats),
         0
     )
