@@ -45,6 +45,25 @@ pub fn fold_all<T: NativeType, O: Operator<T>>(operator: &O, numbers: &[T]) -> T
     total
 }
 
+/// All numbers folded by two operators at once.
+#[inline]
+pub fn fold_all_both<T: NativeType, A: Operator<T>, B: Operator<T>>(
+    first: &A,
+    second: &B,
+    numbers: &[T],
+) -> (T, T)
+    ensures first { T.value result.0 ≡ folded A.joined (A.neutral first.now) (number_slots T.value numbers.now) }
+    ensures second { T.value result.1 ≡ folded B.joined (B.neutral second.now) (number_slots T.value numbers.now) }
+{
+    let mut total = first.start();
+    let mut other = second.start();
+    for number in numbers {
+        total = first.join(total, *number);
+        other = second.join(other, *number);
+    }
+    (total, other)
+}
+
 // The number where its row is present, else the other one. This becomes a choice without a branch.
 #[inline(always)]
 fn choose<T: NativeType>(present: bool, number: T, other: T) -> T

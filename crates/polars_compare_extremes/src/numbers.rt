@@ -7,7 +7,7 @@ ghost use Rattle.polars_arrays_flat.specs.Row.{Row, Int};
 ghost use Rattle.polars_arrays_flat.specs.StoredRows.{number_slots, rows_under};
 ghost use Rattle.polars_arrays_flat.specs.Validity.{HasBits};
 ghost use Rattle.polars_compare_extremes.specs.BestNumber.{best_of};
-ghost use Rattle.polars_compare_extremes.specs.Extremes.{FindsBest, NonePresent};
+ghost use Rattle.polars_compare_extremes.specs.Extremes.{FindsBest, IsGreatest, IsLeast, NonePresent};
 ghost use Rattle.polars_compare_extremes.specs.Preference.{Prefers};
 
 use crate::kernel::MinMaxKernel;
@@ -15,7 +15,7 @@ use crate::places::first_present;
 use polars_arrays_bits::bitmap::Bitmap;
 use polars_arrays_flat::array::Array;
 use polars_arrays_flat::primitive::PrimitiveArray;
-use polars_arrays_folds::fold::fold_under;
+use polars_arrays_folds::fold::{fold_all_both, fold_under};
 use polars_arrays_folds::operator::Operator;
 use polars_arrays_numbers::comparison::{Comparison, Less};
 use polars_arrays_numbers::native_type::NativeType;
@@ -151,6 +151,35 @@ fn best_number<T: NativeType, B: BestFrom<T>>(numbers: &[T], present: Option<&Bi
     }
 }
 
+// The least and the greatest of the numbers, or None without one.
+fn ends_of_all<T: NativeType>(numbers: &[T]) -> Option<(T, T)>
+    ensures { MatchOption result
+        (NonePresent (number_slots T.value numbers.now))
+        (λ pair. IsLeast (number_slots T.value numbers.now) (Int (T.value pair.0)) × IsGreatest (number_slots T.value numbers.now) (Int (T.value pair.1))) }
+{
+    if numbers.is_empty() {
+        return None;
+    }
+    let first = numbers[0];
+    let ends = fold_all_both(&LeastFrom { first }, &GreatestFrom { first }, numbers);
+    Some(ends)
+}
+
+// The least and the greatest of the present numbers, where `present` has a bit for each, or None where none is present.
+fn ends<T: NativeType>(numbers: &[T], present: Option<&Bitmap>) -> Option<(T, T)>
+    requires { HasBits (length numbers.now) (option_copied present) }
+    ensures { MatchOption result
+        (NonePresent (rows_under (option_copied present.entry) (number_slots T.value numbers.now)))
+        (λ pair. IsLeast (rows_under (option_copied present.entry) (number_slots T.value numbers.now)) (Int (T.value pair.0)) × IsGreatest (rows_under (option_copied present.entry) (number_slots T.value numbers.now)) (Int (T.value pair.1))) }
+{
+    if present.is_none() {
+        return ends_of_all(numbers);
+    }
+    let least = best_number::<T, LeastFrom<T>>(numbers, present)?;
+    let greatest = best_number::<T, GreatestFrom<T>>(numbers, present)?;
+    Some((least, greatest))
+}
+
 impl<T: NativeType + 'static> MinMaxKernel for PrimitiveArray<T> {
     type Scalar = T;
 
@@ -164,6 +193,10 @@ impl<T: NativeType + 'static> MinMaxKernel for PrimitiveArray<T> {
 
     fn max_ignore_nan_kernel(&self) -> Option<T> {
         best_number::<T, GreatestFrom<T>>(self.values(), self.validity())
+    }
+
+    fn min_max_ignore_nan_kernel(&self) -> Option<(T, T)> {
+        ends(self.values(), self.validity())
     }
 }
 
@@ -180,5 +213,9 @@ impl<T: NativeType + 'static> MinMaxKernel for &[T] {
 
     fn max_ignore_nan_kernel(&self) -> Option<T> {
         best_number::<T, GreatestFrom<T>>(*self, None)
+    }
+
+    fn min_max_ignore_nan_kernel(&self) -> Option<(T, T)> {
+        ends_of_all(*self)
     }
 }
