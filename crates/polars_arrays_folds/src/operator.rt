@@ -15,7 +15,7 @@ pub trait Operator<T: NativeType> {
 
     ghost folds_law: { (operator : Self) → Folds joined (neutral operator) };
 
-    /// The number that a fold begins with, also each lane of it. It is joined in any number of times.
+    /// The number that a fold begins with. A fold may join it in any number of times.
     fn start(&self) -> T
         ensures { T.value result ≡ neutral self.now };
 
