@@ -1,8 +1,8 @@
 -- Two validities joined.
-use Rattle.std.proofs.Common.{◌≡◌, ◌<◌, ◌∙◌, ◌&&◌, ℕ, Bool, List, [], ◌∷◌, length, sym, ap, subst, arith, refl, suc}
+use Rattle.std.proofs.Common.{◌≡◌, ◌∙◌, ◌&&◌, ℕ, Bool, List, [], ◌∷◌, length, sym, ap, subst, arith, refl, suc}
 use Rattle.std.specs.Prelude.{Option, Some, None}
 use Rattle.std.specs.Simd.Lanes.{zip2}
-use Rattle.std.specs.List.{AllZip, refill, length_refill, zip}
+use Rattle.std.specs.List.{refill, length_refill}
 use Rattle.std.proofs.lemmas.Slice.Zip.{AllZip-long}
 use Rattle.polars_arrays_flat.specs.Validity.{HasBits}
 use Rattle.polars_compute_arithmetic.specs.Maps.{AllPairs, joined_validity}

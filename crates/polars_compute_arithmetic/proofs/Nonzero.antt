@@ -1,8 +1,8 @@
 -- Rows that are not 0, as a comparison with 0 tells them.
-use Rattle.std.proofs.Common.{◌≡◌, ◌<◌, ◌↔◌, ◌∙◌, ◌&&◌, ℕ, zero, suc, Bool, true, false, IsTrue, List, length, get_or, replicate, refl, sym, ap, subst, arith}
+use Rattle.std.proofs.Common.{◌≡◌, ◌<◌, ◌↔◌, ◌∙◌, ◌&&◌, ℕ, zero, suc, Bool, true, false, IsTrue, List, length, replicate, refl, sym, ap, subst, arith}
 use Rattle.std.specs.Prelude.{ℤ, pos, negsuc, Option, Some, None, slice_index_or, ⊤}
 use Rattle.std.proofs.lemmas.List.{get_or-map, get_or-replicate, length-map}
-use Rattle.polars_arrays_flat.specs.Row.{Row, Null, Int}
+use Rattle.polars_arrays_flat.specs.Row.{Null, Int}
 use Rattle.polars_arrays_flat.specs.StoredRows.{number_slots, row}
 use Rattle.polars_arrays_flat.specs.Validity.{HasBits, is_present}
 use Rattle.polars_compare_leaves.specs.Equality.{RawEquality}

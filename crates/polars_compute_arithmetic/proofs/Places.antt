@@ -1,5 +1,5 @@
 -- Rows of answers, place by place.
-use Rattle.std.proofs.Common.{◌≡◌, ◌<◌, ◌∙◌, ◌&&◌, ℕ, zero, suc, Bool, true, false, List, [], ◌∷◌, length, get_or, replicate, refl, sym, ap, subst, arith}
+use Rattle.std.proofs.Common.{◌≡◌, ◌<◌, ◌∙◌, ◌&&◌, ℕ, zero, suc, Bool, true, false, List, [], ◌∷◌, length, replicate, refl, sym, ap, subst, arith}
 use Rattle.std.specs.Prelude.{ℤ, pos, negsuc, Option, Some, None, slice_index_or}
 use Rattle.std.specs.List.{AllZip, zip}
 use Rattle.std.specs.Simd.Lanes.{zip2}
@@ -7,11 +7,12 @@ use Rattle.std.proofs.lemmas.List.{length-map, length-replicate}
 use Rattle.std.proofs.lemmas.Slice.Zip.{AllZip-long}
 use Rattle.polars_arrays_flat.specs.ArrayRows.{number_rows}
 use Rattle.polars_arrays_flat.specs.Numbers.{Numbers}
-use Rattle.polars_arrays_flat.specs.Row.{Row, Null, Int}
+use Rattle.polars_arrays_flat.specs.Row.{Row, Int}
 use Rattle.polars_arrays_flat.specs.StoredRows.{kept, masked, number_slots, rows_under}
 use Rattle.polars_arrays_flat.specs.Validity.{HasBits, is_present}
 use Rattle.polars_arrays_numbers.specs.Wrapping.{wrapped}
 use Rattle.polars_compute_arithmetic.proofs.Joined.{joined-bits, length-pairs}
+use Rattle.polars_compute_arithmetic.proofs.Zips.{all_zip-weaker}
 use Rattle.polars_compute_arithmetic.specs.Maps.{AllPairs, MapsEach, MapsPairs, joined_validity}
 use Rattle.polars_compute_arithmetic.specs.Operations.{Function, Operation, answer_row, answer_rows, on_row, or_zero, result_row, result_rows, unless_zero}
 use Rattle.polars_compute_arithmetic.specs.Results.{IsAnswer, IsResult}
@@ -224,3 +225,18 @@ pub answers-same : {A : Type 0} (value : A → ℤ) (least : ℤ) (width : ℕ) 
     → IsAnswer value least width f before after → IsAnswer value least width g before after
 answers-same value least width f g e before after h =
     h ∙ same-rows least width f g e (number_rows value before)
+
+-- answers of a function that are answers of another one too
+pub maps_each-weaker : {A B : Type 0} (Answers Others : A → B → Type 0) → ((x : A) (z : B) → Answers x z → Others x z) → (before : Numbers A) (after : Numbers B)
+    → MapsEach Answers before after → MapsEach Others before after
+maps_each-weaker Answers Others gives before after h =
+    record { values = all_zip-weaker Answers Others gives before.values after.values h.values; nulls = h.nulls; bits = h.bits }
+
+pub maps_pairs-weaker : {A B C : Type 0} (Answers Others : A → B → C → Type 0) → ((x : A) (y : B) (z : C) → Answers x y z → Others x y z)
+    → (left : Numbers A) (right : Numbers B) (after : Numbers C) → MapsPairs Answers left right after → MapsPairs Others left right after
+maps_pairs-weaker {A} {B} {C} Answers Others gives left right after h = record {
+  values = all_zip-weaker (λ (p : A × B) z. Answers p.0 p.1 z) (λ (p : A × B) z. Others p.0 p.1 z) (λ p z a. gives p.0 p.1 z a) (zip left.values right.values) after.values h.values;
+  nulls = h.nulls;
+  left_bits = h.left_bits;
+  right_bits = h.right_bits;
+}

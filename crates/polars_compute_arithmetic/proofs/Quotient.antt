@@ -1,6 +1,6 @@
 -- A quotient is a product with the divisor's reciprocal.
-use Rattle.std.proofs.Common.{◌≡◌, ◌∙◌, ℕ, ◌+◌, ◌-◌, ◌*◌, ◌/◌, ◌%◌, ◌^◌, ◌<◌, ◌≤◌, suc, refl, sym, ap, arith, mod-lt}
-use Rattle.std.proofs.Math.Nat.{lt_of_mul-lt-mul_left, div-mul-le_self, mul-le-mul_left, add-mul-div_left, div-div-eq-div-mul}
+use Rattle.std.proofs.Common.{◌≡◌, ◌∙◌, ℕ, ◌+◌, ◌-◌, ◌*◌, ◌/◌, ◌%◌, ◌^◌, ◌<◌, ◌≤◌, sym, ap, arith, mod-lt}
+use Rattle.std.proofs.Math.Nat.{lt_of_mul-lt-mul_left, add-mul-div_left, div-div-eq-div-mul}
 use Rattle.std.proofs.lemmas.Nat.{div-mul-add, div-add-mod', mul-le, pow_pos}
 use Rattle.polars_compute_arithmetic.specs.Reciprocal.{reciprocal}
 
@@ -91,6 +91,18 @@ carried d v p q e low high two small =
     let greatest : x / d < 2 * v + 1 = lt_of_mul-lt-mul_left d (omega arith) in
     let t : ((v + 1) * p - 1 + (v + 1) * p) / d ≡ x / d = ap (λ (y : ℕ). y / d) same in
     (ap (λ (y : ℕ). v + 1 + (y - v)) t ∙ omega arith, omega arith)
+
+-- a reciprocal that is at most v
+pub shifted : (d v p q : ℕ) → p ≡ q → q ≤ d - 1 → 2 ≤ d → q ≤ v → 1 ≤ v
+    → (((v + 1) * p - 1) / d + 1 ≡ reciprocal ((v + 1) * q) d) × (((v + 1) * p - 1) / d + 1 < v + 1)
+shifted d v p q e low two small some =
+    let x : ℕ = (v + 1) * q - 1 in
+    let t : ((v + 1) * p - 1) / d ≡ x / d = ap (λ (y : ℕ). ((v + 1) * y - 1) / d) e in
+    let parts : x / d * d + x % d ≡ x = div-add-mod' x d in
+    let more : v * (q + 1) ≤ v * d = mul-le v (q + 1) v d (omega arith) (omega arith) in
+    let one : v * 1 ≤ v * d = mul-le v 1 v d (omega arith) (omega arith) in
+    let below : x / d < v = lt_of_mul-lt-mul_left d (omega arith) in
+    (ap (λ (y : ℕ). y + 1) t, omega arith)
 
 -- by 2 or more it is at most half of the number
 pub half-quotient : (a d q : ℕ) → 2 ≤ d → q ≡ a / d → 2 * q ≤ a

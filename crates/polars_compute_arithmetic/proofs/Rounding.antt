@@ -1,13 +1,13 @@
 -- The quotient that is rounded down, from the one that is rounded toward 0.
 use Rattle.std.proofs.Common.{◌≡◌, ◌≢◌, ◌∙◌, ◌+◌, ◌-◌, ◌*◌, ◌/◌, ◌%◌, ◌<◌, ◌≤◌, ℕ, zero, suc, Bool, true, false, refl, sym, ap, arith, mod-lt}
-use Rattle.std.specs.Prelude.{ℤ, pos, negsuc, neg_ℤ, ◌+ℤ◌, ◌-ℤ◌, ◌*ℤ◌, ◌≤ℤ◌, int_div, int_rem, Option, Some, None}
+use Rattle.std.specs.Prelude.{ℤ, pos, negsuc, neg_ℤ, ◌+ℤ◌, ◌-ℤ◌, ◌*ℤ◌, ◌≤ℤ◌, int_div, int_rem, Some, None}
 use Rattle.std.proofs.lemmas.Int.{ints, quot-rem}
 use Rattle.std.proofs.lemmas.Nat.{div-mul-add, div-add-mod'}
 use Rattle.std.proofs.Math.IntN.{*ℤ_comm}
 use Rattle.std.proofs.Math.Nat.{div-le_self, mod-le}
 use Rattle.polars_arrays_numbers.specs.Wrapping.{HasAllOf, wrapped}
 use Rattle.polars_compute_arithmetic.specs.Operations.{unless_zero, or_zero, floor_division, truncated_division, modulo}
-use Rattle.polars_compute_arithmetic.specs.Quotients.{floor_by, floor_quotient, truncated_quotient, modulus, is_above, is_below, across}
+use Rattle.polars_compute_arithmetic.specs.Quotients.{floor_quotient, truncated_quotient, modulus, is_above, is_below, across}
 use Rattle.polars_compute_arithmetic.specs.WrapLaws.{distrib, neg_mul, wrapped-mul_left, wrapped-sub_right, wrapped-within}
 use Rattle.polars_arrays_numbers.specs.WrappingLaws.{wrapped-add}
 
@@ -116,6 +116,11 @@ rem-within least greatest (negsuc a) (negsuc b) low high zl zh =
 
 rest-of : (a b q r : ℤ) → q *ℤ b +ℤ r ≡ a → a -ℤ q *ℤ b ≡ r
 rest-of a b q r e = omega (arith, ints, e)
+
+-- a number of the type that is a is a, wrapped
+pub within-is : (least greatest : ℤ) (width : ℕ) → HasAllOf least greatest width → (n a : ℤ) → least ≤ℤ n → n ≤ℤ greatest → n ≡ a → n ≡ wrapped least width a
+within-is least greatest width all n a low high e =
+    sym (wrapped-within least greatest width all n low high) ∙ ap (wrapped least width) e
 
 module _ (least greatest : ℤ) (width : ℕ) (all : HasAllOf least greatest width) (a b : ℤ) (some : b ≢ pos 0) where
   truncated : or_zero (truncated_division a b) ≡ int_div a b

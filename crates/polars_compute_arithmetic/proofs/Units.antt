@@ -1,10 +1,9 @@
 -- Quotients by 1 and by -1.
-use Rattle.std.proofs.Common.{◌≡◌, ◌≢◌, ◌∙◌, ◌+◌, ◌*◌, ◌/◌, ◌%◌, ◌≤◌, ◌<◌, ℕ, zero, suc, refl, sym, ap, arith}
-use Rattle.std.specs.Prelude.{ℤ, pos, negsuc, neg_ℤ, ◌-ℤ◌, ◌*ℤ◌, int_div, unsigned_abs, Option, Some, None}
+use Rattle.std.proofs.Common.{◌≡◌, ◌≢◌, ◌∙◌, ◌/◌, ◌%◌, ◌≤◌, ◌<◌, ℕ, zero, suc, refl, sym, ap, arith}
+use Rattle.std.specs.Prelude.{ℤ, pos, negsuc, neg_ℤ, ◌-ℤ◌, ◌*ℤ◌, unsigned_abs, Some}
 use Rattle.std.proofs.lemmas.Int.{ints}
 use Rattle.std.proofs.lemmas.Nat.{div-add-mod'}
 use Rattle.std.proofs.Common.{mod-lt}
-use Rattle.polars_arrays_numbers.specs.Wrapping.{HasAllOf, wrapped}
 use Rattle.polars_compute_arithmetic.proofs.Rounding.{unless_zero-is}
 use Rattle.polars_compute_arithmetic.specs.Operations.{floor_division, modulo, or_zero, product_of, truncated_division}
 use Rattle.polars_compute_arithmetic.specs.Quotients.{floor_by, floor_quotient, modulus, truncated_quotient}

@@ -1,5 +1,5 @@
 -- Two lists, place by place.
-use Rattle.std.proofs.Common.{◌≡◌, ◌<◌, ◌+◌, ◌≤◌, ◌∙◌, ℕ, zero, suc, List, [], ◌∷◌, ◌++◌, length, take, drop, get_or, set, refl, add-zero, sym, ap, arith, slice_index_or}
+use Rattle.std.proofs.Common.{◌≡◌, ◌<◌, ◌+◌, ◌≤◌, ◌∙◌, ℕ, zero, suc, List, [], ◌∷◌, ◌++◌, length, take, drop, get_or, set, refl, add-zero, sym, ap, arith}
 use Rattle.std.specs.List.{AllZip, zip}
 use Rattle.std.proofs.lemmas.List.{take_all, take_more, take_more_set, get_or-drop}
 use Rattle.std.proofs.lemmas.Grind.{common_steps}
@@ -56,3 +56,17 @@ all_zip_end R xs ys zs i e h k s =
     let below : length (zip xs ys) ≤ i = rw length_zip h in
     let last : length zs ≤ i = omega arith in
     rw (take_all i (zip xs ys) below, take_all i zs last) at s
+
+-- what holds of fewer pairs holds
+pub all_zip-weaker : {A : Type 0} {B : Type 0} (R S : A → B → Type 0) → ((x : A) (y : B) → R x y → S x y) → (xs : List A) (ys : List B) → AllZip R xs ys → AllZip S xs ys
+all_zip-weaker R S f [] [] h = h
+all_zip-weaker R S f [] (y ∷ ys) h = absurd h
+all_zip-weaker R S f (x ∷ xs) [] h = absurd h
+all_zip-weaker R S f (x ∷ xs) (y ∷ ys) h = (f x y h.0, all_zip-weaker R S f xs ys h.1)
+
+-- a list over which as many elements were written
+pub refill-same : {A : Type 0} (xs ws : List A) → length ws ≡ length xs → take (length xs) (ws ++ drop (length ws) xs) ≡ ws
+refill-same [] [] e = refl
+refill-same [] (w ∷ ws) e = absurd (omega arith)
+refill-same (x ∷ xs) [] e = absurd (omega arith)
+refill-same (x ∷ xs) (w ∷ ws) e = ap (λ (l : List _). w ∷ l) (refill-same xs ws (omega arith))

@@ -2,7 +2,8 @@
 use Rattle.std.specs.Prelude.{◌≡◌, ℕ, ℤ}
 use Rattle.polars_arrays_flat.specs.ArrayRows.{number_rows}
 use Rattle.polars_arrays_flat.specs.Numbers.{Numbers}
-use Rattle.polars_compute_arithmetic.specs.Operations.{Function, Operation, answer_rows, result_rows}
+use Rattle.polars_arrays_numbers.specs.Wrapping.{wrapped}
+use Rattle.polars_compute_arithmetic.specs.Operations.{Function, Operation, answer_rows, or_zero, result_rows}
 
 module _ {A : Type 0} (value : A → ℤ) (least : ℤ) (width : ℕ) where
   -- the rows of `after` are the answers of f at those of `before`
@@ -13,3 +14,7 @@ module _ {A : Type 0} (value : A → ℤ) (least : ℤ) (width : ℕ) where
   abbrev pub IsResult : Operation → Numbers A → Numbers A → Numbers A → Type 0
   IsResult operation left right after =
       number_rows value after ≡ result_rows least width operation (number_rows value left) (number_rows value right)
+
+  -- z is the answer of an operation at x and y, wrapped, or 0 where there is none
+  abbrev pub Gives : Operation → A → A → A → Type 0
+  Gives operation x y z = value z ≡ wrapped least width (or_zero (operation (value x) (value y)))

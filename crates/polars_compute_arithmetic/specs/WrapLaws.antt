@@ -6,7 +6,7 @@ use Rattle.std.proofs.lemmas.Int.{ints, int_rem_euclid_is}
 use Rattle.std.proofs.Math.Nat.{mod-eq_of_lt}
 use Rattle.std.proofs.lemmas.Nat.{div-add-mod', mod-mul-add, pow_pos}
 use borrow.Author.Differences.{up, down, sum_is_lem, neg_is, product_is}
-use Rattle.polars_arrays_numbers.specs.Wrapping.{HasAllOf, IsWrapped, wrapped}
+use Rattle.polars_arrays_numbers.specs.Wrapping.{HasAllOf, wrapped}
 use Rattle.polars_arrays_numbers.specs.WrappingLaws.{wrapped-only}
 
 pub distrib : (a b c : ℤ) → (a +ℤ b) *ℤ c ≡ a *ℤ c +ℤ b *ℤ c

@@ -2,6 +2,7 @@
 use Rattle.std.specs.Prelude.{◌≡◌, ◌<◌, ◌&&◌, ℕ, zero, suc, ℤ, pos, negsuc, Bool, true, false, length, slice_index_or}
 use Rattle.polars_arrays_flat.specs.Numbers.{Numbers}
 use Rattle.polars_arrays_flat.specs.Validity.{HasBits, is_present}
+use Rattle.polars_compute_arithmetic.specs.Maps.{MapsEach, MapsPairs}
 
 -- a number other than 0
 abbrev pub is_nonzero : ℤ → Bool
@@ -16,3 +17,15 @@ pub record MasksZeros {A : Type 0} (value : A → ℤ) (before after : Numbers A
       → is_present after.validity i ≡ (is_present before.validity i && is_nonzero (value x))
   pub bits_before : HasBits (length before.values) before.validity
   pub bits_after : HasBits (length after.values) after.validity
+
+-- each stored value is one of the answers at the value before, and those that were 0 are masked as well
+pub record DividesEach {A : Type 0} (value : A → ℤ) (Answers : A → A → Type 0) (before after : Numbers A) : Type 0 where
+  pub between : Numbers A
+  pub masks : MasksZeros value before between
+  pub maps : MapsEach Answers between after
+
+-- each stored value is one of the answers at the two values before; a row is present where both are, and the right one is not 0
+pub record DividesPairs {A : Type 0} (value : A → ℤ) (Answers : A → A → A → Type 0) (left right after : Numbers A) : Type 0 where
+  pub between : Numbers A
+  pub masks : MasksZeros value right between
+  pub maps : MapsPairs Answers left between after

@@ -6,8 +6,10 @@ ghost use Rattle.polars_arrays_bits.specs.Errors.{IsMemory};
 ghost use Rattle.polars_arrays_flat.specs.StoredRows.{rows_under};
 ghost use Rattle.polars_compute_arithmetic.specs.Operations.{answer_rows, difference_of, floor_division, magnitude_of, modulo, negation_of, product_of, result_rows, sum_of, truncated_division};
 
+mod applied;
 pub mod divisor;
 pub mod kernel;
+mod operations;
 pub mod pl_num;
 pub mod reciprocals;
 pub mod signed_divisors;

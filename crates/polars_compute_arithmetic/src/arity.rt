@@ -1,6 +1,6 @@
 //! A function applied to the stored values of arrays. Stored values of masked rows are given to it too.
 
-ghost use Rattle.std.specs.Prelude.{◌≡◌, All, IfOk, IsOk, IsTrue, MatchResult, length};
+ghost use Rattle.std.specs.Prelude.{◌≡◌, All, IfOk, IsFalse, IsOk, IsTrue, MatchResult, length};
 ghost use Rattle.std.specs.List.{AllZip};
 ghost use Rattle.polars_arrays_bits.specs.Errors.{IsMemory};
 ghost use Rattle.polars_compute_arithmetic.specs.Maps.{AllPairs, AsLong, MapsEach, MapsPairs, TakesPairs, joined_validity};
@@ -47,6 +47,20 @@ pub fn prim_unary_values<I: NativeType, O: NativeType, F: Fn(I) -> O>(
     ensures mapped { MatchResult result (MapsEach (F.post op) arr) IsMemory }
 {
     let mut arr = arr;
+    let answers = new_values(alloc, &mut arr, op);
+    drop(arr);
+    answers
+}
+
+// The array of what `op` answers at each stored value. The validity is taken out.
+fn new_values<I: NativeType, O: NativeType, F: Fn(I) -> O>(
+    alloc: Global,
+    arr: &mut PrimitiveArray<I>,
+    op: F,
+) -> Result<PrimitiveArray<O>, ComputeError>
+    requires callable { All (F.pre op) arr.old.values }
+    ensures { MatchResult result (MapsEach (F.post op) arr.old) IsMemory }
+{
     let values = map_values(alloc, arr.values(), op)?;
     Ok(PrimitiveArray::from_vec(values).with_validity(arr.take_validity()))
 }
@@ -121,8 +135,10 @@ pub(crate) fn join_validities(
 {
     match (left, right) {
         (Some(left), Some(right)) => {
-            let joined = left.and(alloc, &right)?;
-            Ok(Some(joined))
+            let joined = left.and(alloc, &right);
+            drop(left);
+            drop(right);
+            Ok(Some(joined?))
         }
         (None, right) => Ok(right),
         (left, None) => Ok(left),
@@ -142,6 +158,23 @@ pub fn prim_binary_values<L: NativeType, R: NativeType, O: NativeType, F: Fn(L, 
     ensures { MatchResult result (MapsPairs (F.post op) lhs rhs) IsMemory }
 {
     let (mut lhs, mut rhs) = (lhs, rhs);
+    let answers = new_pairs(alloc, &mut lhs, &mut rhs, op);
+    drop(lhs);
+    drop(rhs);
+    answers
+}
+
+// The array of what `op` answers at each pair of stored values. The validities are taken out.
+fn new_pairs<L: NativeType, R: NativeType, O: NativeType, F: Fn(L, R) -> O>(
+    alloc: Global,
+    lhs: &mut PrimitiveArray<L>,
+    rhs: &mut PrimitiveArray<R>,
+    op: F,
+) -> Result<PrimitiveArray<O>, ComputeError>
+    requires same_length { length lhs.old.values ≡ length rhs.old.values }
+    requires callable { TakesPairs (F.pre op) lhs.old.values rhs.old.values }
+    ensures { MatchResult result (MapsPairs (F.post op) lhs.old rhs.old) IsMemory }
+{
     let values = map_pairs(alloc, lhs.values(), rhs.values(), op)?;
     let validity = join_validities(alloc, lhs.take_validity(), rhs.take_validity())?;
     Ok(PrimitiveArray::from_vec(values).with_validity(validity))
@@ -164,12 +197,35 @@ pub fn prim_binary_in_place<T: NativeType, F: Fn(T, T) -> T>(
     if !lhs.is_owned() && !rhs.is_owned() {
         return prim_binary_values(alloc, lhs, rhs, op);
     }
-    let validity = join_validities(alloc, lhs.take_validity(), rhs.take_validity())?;
+    match join_validities(alloc, lhs.take_validity(), rhs.take_validity()) {
+        Ok(validity) => Ok(written_pairs(lhs, rhs, op).with_validity(validity)),
+        Err(error) => {
+            drop(lhs);
+            drop(rhs);
+            Err(error)
+        }
+    }
+}
+
+// The left array, where it owns its values, or else the right one, with what `op` answers written over them.
+fn written_pairs<T: NativeType, F: Fn(T, T) -> T>(
+    lhs: PrimitiveArray<T>,
+    rhs: PrimitiveArray<T>,
+    op: F,
+) -> PrimitiveArray<T>
+    requires owned { IsFalse lhs.owned → IsTrue rhs.owned }
+    requires same_length { length lhs.values ≡ length rhs.values }
+    requires callable { TakesPairs (F.pre op) lhs.values rhs.values }
+    ensures { AllPairs (F.post op) lhs.values rhs.values result.values }
+{
+    let (mut lhs, mut rhs) = (lhs, rhs);
     if lhs.is_owned() {
         map_over_left(lhs.as_mut_values(), rhs.values(), op);
-        Ok(lhs.with_validity(validity))
+        drop(rhs);
+        lhs
     } else {
         map_over_right(lhs.values(), rhs.as_mut_values(), op);
-        Ok(rhs.with_validity(validity))
+        drop(lhs);
+        rhs
     }
 }

@@ -1,15 +1,19 @@
 //! Arithmetic on arrays of numbers, one body for each operation, generic over the number. All calls consume their arrays.
 
-ghost use Rattle.std.specs.Prelude.{◌≡◌, ◌≢◌, pos, IsOk, IsTrue, MatchResult, length};
+ghost use Rattle.std.specs.Prelude.{◌≡◌, IsOk, IsTrue, MatchResult, length};
 ghost use Rattle.num_traits.specs.Laws.{bit_len};
 ghost use Rattle.polars_arrays_bits.specs.Errors.{IsMemory};
-ghost use Rattle.polars_arrays_numbers.specs.Wrapping.{wrapped};
-ghost use Rattle.polars_compute_arithmetic.specs.Operations.{difference_of, floor_division, magnitude_of, modulo, negation_of, or_zero, product_of, sum_of, truncated_division};
+ghost use Rattle.polars_compute_arithmetic.specs.Operations.{difference_of, floor_division, magnitude_of, modulo, negation_of, product_of, sum_of, truncated_division};
 ghost use Rattle.polars_compute_arithmetic.specs.Results.{IsAnswer, IsResult};
 
+use crate::arithmetic::applied::{
+    apply_left, apply_pairs, apply_right, divide_by, divide_each, divide_pairs,
+};
+use crate::arithmetic::operations::{
+    Difference, FloorQuotient, Modulus, Product, Sum, TruncatedQuotient,
+};
 use crate::arithmetic::pl_num::PlNumArithmetic;
-use crate::arithmetic::zeros::{mask_all, mask_zeros};
-use crate::arity::{prim_binary_in_place, prim_unary_in_place};
+use crate::arity::prim_unary_in_place;
 use polars_arrays_bits::error::ComputeError;
 use polars_arrays_flat::primitive::PrimitiveArray;
 use std::alloc::Global;
@@ -48,7 +52,7 @@ pub trait PrimitiveArithmeticKernelImpl: PlNumArithmetic {
         requires { length lhs.values ≡ length rhs.values }
         ensures { MatchResult result (IsResult Self.value Self.low (bit_len Self.width) sum_of lhs rhs) IsMemory }
     {
-        prim_binary_in_place(alloc, lhs, rhs, |x, y| PlNumArithmetic::wrapping_add(x, y))
+        apply_pairs::<Self, Sum>(alloc, lhs, rhs)
     }
 
     /// The differences.
@@ -60,7 +64,7 @@ pub trait PrimitiveArithmeticKernelImpl: PlNumArithmetic {
         requires { length lhs.values ≡ length rhs.values }
         ensures { MatchResult result (IsResult Self.value Self.low (bit_len Self.width) difference_of lhs rhs) IsMemory }
     {
-        prim_binary_in_place(alloc, lhs, rhs, |x, y| PlNumArithmetic::wrapping_sub(x, y))
+        apply_pairs::<Self, Difference>(alloc, lhs, rhs)
     }
 
     /// The products.
@@ -72,7 +76,7 @@ pub trait PrimitiveArithmeticKernelImpl: PlNumArithmetic {
         requires { length lhs.values ≡ length rhs.values }
         ensures { MatchResult result (IsResult Self.value Self.low (bit_len Self.width) product_of lhs rhs) IsMemory }
     {
-        prim_binary_in_place(alloc, lhs, rhs, |x, y| PlNumArithmetic::wrapping_mul(x, y))
+        apply_pairs::<Self, Product>(alloc, lhs, rhs)
     }
 
     /// The quotients, rounded down.
@@ -84,13 +88,7 @@ pub trait PrimitiveArithmeticKernelImpl: PlNumArithmetic {
         requires { length lhs.values ≡ length rhs.values }
         ensures { MatchResult result (IsResult Self.value Self.low (bit_len Self.width) floor_division lhs rhs) IsMemory }
     {
-        let rhs = mask_zeros(alloc, rhs)?;
-        prim_binary_in_place(
-            alloc,
-            lhs,
-            rhs,
-            |x, y| PlNumArithmetic::wrapping_floor_div(x, y),
-        )
+        divide_pairs::<Self, FloorQuotient>(alloc, lhs, rhs)
     }
 
     /// The quotients, rounded toward 0.
@@ -102,13 +100,7 @@ pub trait PrimitiveArithmeticKernelImpl: PlNumArithmetic {
         requires { length lhs.values ≡ length rhs.values }
         ensures { MatchResult result (IsResult Self.value Self.low (bit_len Self.width) truncated_division lhs rhs) IsMemory }
     {
-        let rhs = mask_zeros(alloc, rhs)?;
-        prim_binary_in_place(
-            alloc,
-            lhs,
-            rhs,
-            |x, y| PlNumArithmetic::wrapping_trunc_div(x, y),
-        )
+        divide_pairs::<Self, TruncatedQuotient>(alloc, lhs, rhs)
     }
 
     /// What the quotients that are rounded down leave.
@@ -120,8 +112,7 @@ pub trait PrimitiveArithmeticKernelImpl: PlNumArithmetic {
         requires { length lhs.values ≡ length rhs.values }
         ensures { MatchResult result (IsResult Self.value Self.low (bit_len Self.width) modulo lhs rhs) IsMemory }
     {
-        let rhs = mask_zeros(alloc, rhs)?;
-        prim_binary_in_place(alloc, lhs, rhs, |x, y| PlNumArithmetic::wrapping_mod(x, y))
+        divide_pairs::<Self, Modulus>(alloc, lhs, rhs)
     }
 
     /// The sums with a number.
@@ -133,7 +124,7 @@ pub trait PrimitiveArithmeticKernelImpl: PlNumArithmetic {
         ensures answers { MatchResult result (IsAnswer Self.value Self.low (bit_len Self.width) (λ a. sum_of a (Self.value rhs)) lhs) IsMemory }
         ensures in_place { IsTrue lhs.owned → IsOk result }
     {
-        prim_unary_in_place(alloc, lhs, |x| PlNumArithmetic::wrapping_add(x, rhs))
+        apply_right::<Self, Sum>(alloc, lhs, rhs)
     }
 
     /// The differences, a number taken away.
@@ -145,7 +136,7 @@ pub trait PrimitiveArithmeticKernelImpl: PlNumArithmetic {
         ensures answers { MatchResult result (IsAnswer Self.value Self.low (bit_len Self.width) (λ a. difference_of a (Self.value rhs)) lhs) IsMemory }
         ensures in_place { IsTrue lhs.owned → IsOk result }
     {
-        prim_unary_in_place(alloc, lhs, |x| PlNumArithmetic::wrapping_sub(x, rhs))
+        apply_right::<Self, Difference>(alloc, lhs, rhs)
     }
 
     /// The differences, taken away from a number.
@@ -157,7 +148,7 @@ pub trait PrimitiveArithmeticKernelImpl: PlNumArithmetic {
         ensures answers { MatchResult result (IsAnswer Self.value Self.low (bit_len Self.width) (difference_of (Self.value lhs)) rhs) IsMemory }
         ensures in_place { IsTrue rhs.owned → IsOk result }
     {
-        prim_unary_in_place(alloc, rhs, |y| PlNumArithmetic::wrapping_sub(lhs, y))
+        apply_left::<Self, Difference>(alloc, lhs, rhs)
     }
 
     /// The products with a number.
@@ -169,7 +160,7 @@ pub trait PrimitiveArithmeticKernelImpl: PlNumArithmetic {
         ensures answers { MatchResult result (IsAnswer Self.value Self.low (bit_len Self.width) (λ a. product_of a (Self.value rhs)) lhs) IsMemory }
         ensures in_place { IsTrue lhs.owned → IsOk result }
     {
-        prim_unary_in_place(alloc, lhs, |x| PlNumArithmetic::wrapping_mul(x, rhs))
+        apply_right::<Self, Product>(alloc, lhs, rhs)
     }
 
     /// The quotients by a number, rounded down.
@@ -180,17 +171,7 @@ pub trait PrimitiveArithmeticKernelImpl: PlNumArithmetic {
     ) -> Result<PrimitiveArray<Self>, ComputeError>
         ensures { MatchResult result (IsAnswer Self.value Self.low (bit_len Self.width) (λ a. floor_division a (Self.value rhs)) lhs) IsMemory }
     {
-        if rhs.is_zero() {
-            return mask_all(alloc, lhs);
-        }
-        match rhs.to_divisor() {
-            Some(divisor) => prim_unary_in_place(
-                alloc,
-                lhs,
-                |x| floor_by_divisor(x, rhs, &divisor),
-            ),
-            None => Self::prim_wrapping_mul_scalar(alloc, lhs, rhs),
-        }
+        divide_by::<Self, FloorQuotient>(alloc, lhs, rhs)
     }
 
     /// The quotients of a number, rounded down.
@@ -201,8 +182,7 @@ pub trait PrimitiveArithmeticKernelImpl: PlNumArithmetic {
     ) -> Result<PrimitiveArray<Self>, ComputeError>
         ensures { MatchResult result (IsAnswer Self.value Self.low (bit_len Self.width) (floor_division (Self.value lhs)) rhs) IsMemory }
     {
-        let rhs = mask_zeros(alloc, rhs)?;
-        prim_unary_in_place(alloc, rhs, |y| PlNumArithmetic::wrapping_floor_div(lhs, y))
+        divide_each::<Self, FloorQuotient>(alloc, lhs, rhs)
     }
 
     /// The quotients by a number, rounded toward 0.
@@ -213,17 +193,7 @@ pub trait PrimitiveArithmeticKernelImpl: PlNumArithmetic {
     ) -> Result<PrimitiveArray<Self>, ComputeError>
         ensures { MatchResult result (IsAnswer Self.value Self.low (bit_len Self.width) (λ a. truncated_division a (Self.value rhs)) lhs) IsMemory }
     {
-        if rhs.is_zero() {
-            return mask_all(alloc, lhs);
-        }
-        match rhs.to_divisor() {
-            Some(divisor) => prim_unary_in_place(
-                alloc,
-                lhs,
-                |x| truncated_by_divisor(x, rhs, &divisor),
-            ),
-            None => Self::prim_wrapping_mul_scalar(alloc, lhs, rhs),
-        }
+        divide_by::<Self, TruncatedQuotient>(alloc, lhs, rhs)
     }
 
     /// The quotients of a number, rounded toward 0.
@@ -234,8 +204,7 @@ pub trait PrimitiveArithmeticKernelImpl: PlNumArithmetic {
     ) -> Result<PrimitiveArray<Self>, ComputeError>
         ensures { MatchResult result (IsAnswer Self.value Self.low (bit_len Self.width) (truncated_division (Self.value lhs)) rhs) IsMemory }
     {
-        let rhs = mask_zeros(alloc, rhs)?;
-        prim_unary_in_place(alloc, rhs, |y| PlNumArithmetic::wrapping_trunc_div(lhs, y))
+        divide_each::<Self, TruncatedQuotient>(alloc, lhs, rhs)
     }
 
     /// What the quotients by a number, rounded down, leave.
@@ -246,17 +215,7 @@ pub trait PrimitiveArithmeticKernelImpl: PlNumArithmetic {
     ) -> Result<PrimitiveArray<Self>, ComputeError>
         ensures { MatchResult result (IsAnswer Self.value Self.low (bit_len Self.width) (λ a. modulo a (Self.value rhs)) lhs) IsMemory }
     {
-        if rhs.is_zero() {
-            return mask_all(alloc, lhs);
-        }
-        match rhs.to_divisor() {
-            Some(divisor) => prim_unary_in_place(
-                alloc,
-                lhs,
-                |x| modulus_by_divisor(x, rhs, &divisor),
-            ),
-            None => prim_unary_in_place(alloc, lhs, |_| nothing_left()),
-        }
+        divide_by::<Self, Modulus>(alloc, lhs, rhs)
     }
 
     /// What the quotients of a number, rounded down, leave.
@@ -267,54 +226,8 @@ pub trait PrimitiveArithmeticKernelImpl: PlNumArithmetic {
     ) -> Result<PrimitiveArray<Self>, ComputeError>
         ensures { MatchResult result (IsAnswer Self.value Self.low (bit_len Self.width) (modulo (Self.value lhs)) rhs) IsMemory }
     {
-        let rhs = mask_zeros(alloc, rhs)?;
-        prim_unary_in_place(alloc, rhs, |y| PlNumArithmetic::wrapping_mod(lhs, y))
+        divide_each::<Self, Modulus>(alloc, lhs, rhs)
     }
-}
-
-// The quotient by a divisor that stays, rounded down.
-#[inline(always)]
-fn floor_by_divisor<T: PlNumArithmetic>(number: T, rhs: T, divisor: &T::Divisor) -> T
-    requires some { T.value rhs ≢ pos 0 }
-    requires same { T.divisor divisor.now ≡ T.value rhs }
-    ensures { T.value result ≡ wrapped T.low (bit_len T.width) (or_zero (floor_division (T.value number) (T.value rhs))) }
-{
-    let quotient = number.floor_by(divisor);
-    quotient.law_ends();
-    quotient
-}
-
-// The quotient by a divisor that stays, rounded toward 0.
-#[inline(always)]
-fn truncated_by_divisor<T: PlNumArithmetic>(number: T, rhs: T, divisor: &T::Divisor) -> T
-    requires some { T.value rhs ≢ pos 0 }
-    requires same { T.divisor divisor.now ≡ T.value rhs }
-    ensures { T.value result ≡ wrapped T.low (bit_len T.width) (or_zero (truncated_division (T.value number) (T.value rhs))) }
-{
-    let quotient = number.truncated_by(divisor);
-    quotient.law_ends();
-    quotient
-}
-
-// What the quotient by a divisor that stays, rounded down, leaves of a number.
-#[inline(always)]
-fn modulus_by_divisor<T: PlNumArithmetic>(number: T, rhs: T, divisor: &T::Divisor) -> T
-    requires some { T.value rhs ≢ pos 0 }
-    requires same { T.divisor divisor.now ≡ T.value rhs }
-    ensures { T.value result ≡ wrapped T.low (bit_len T.width) (or_zero (modulo (T.value number) (T.value rhs))) }
-{
-    let product = PlNumArithmetic::wrapping_mul(rhs, number.floor_by(divisor));
-    PlNumArithmetic::wrapping_sub(number, product)
-}
-
-// 0, which a quotient by 1 or by -1 leaves of each number.
-#[inline(always)]
-fn nothing_left<T: PlNumArithmetic>() -> T
-    ensures { T.value result ≡ wrapped T.low (bit_len T.width) (pos 0) }
-{
-    let zero = T::zero();
-    zero.law_ends();
-    zero
 }
 
 impl PrimitiveArithmeticKernelImpl for i8 {}

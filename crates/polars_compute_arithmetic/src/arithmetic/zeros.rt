@@ -23,9 +23,26 @@ pub(crate) fn mask_zeros<T: NativeType + Zero>(
     ensures { MatchResult result (MasksZeros T.value divisors) IsMemory }
 {
     let mut divisors = divisors;
+    match nonzero_validity(alloc, &mut divisors) {
+        Ok(validity) => Ok(divisors.with_validity(validity)),
+        Err(error) => {
+            drop(divisors);
+            Err(error)
+        }
+    }
+}
+
+// The validity under which the rows that are 0 are null. The one that there was is taken out. The error is `Memory`.
+fn nonzero_validity<T: NativeType + Zero>(
+    alloc: Global,
+    divisors: &mut PrimitiveArray<T>,
+) -> Result<Option<Bitmap>, ComputeError>
+    ensures masked { MatchResult result (λ validity. MasksZeros T.value divisors.old (record divisors.old { validity = validity })) IsMemory }
+    ensures left { divisors.new.values ≡ divisors.old.values }
+{
     let nonzero = divisors.tot_ne_kernel_broadcast(alloc, &T::zero())?;
     let validity = join_validities(alloc, divisors.take_validity(), Some(nonzero))?;
-    Ok(divisors.with_validity(validity))
+    Ok(validity)
 }
 
 // An array of as many nulls. The error is `Memory`.
@@ -36,6 +53,11 @@ pub(crate) fn mask_all<T: NativeType>(
     ensures masked { MatchResult result (λ masked. masked ≡ record array { validity = Some (replicate (length array.values) false) }) IsMemory }
     ensures bits { HasBits (length array.values) array.validity }
 {
-    let none = Bitmap::new_zeroed(alloc, array.len())?;
-    Ok(array.with_validity(Some(none)))
+    match Bitmap::new_zeroed(alloc, array.len()) {
+        Ok(none) => Ok(array.with_validity(Some(none))),
+        Err(error) => {
+            drop(array);
+            Err(error)
+        }
+    }
 }

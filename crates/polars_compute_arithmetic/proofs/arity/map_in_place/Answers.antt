@@ -1,4 +1,4 @@
-use Rattle.std.proofs.Common.{◌≡◌, ◌<◌, ◌∙◌, length, arith, get_or}
+use Rattle.std.proofs.Common.{◌<◌, length, arith}
 use Rattle.polars_compute_arithmetic.proofs.Zips.{all_zip_write, same_at, rest_same}
 use Rattle.polars_compute_arithmetic.proofs.arity.map_in_place.Goals as goal
 

@@ -1,4 +1,4 @@
-use Rattle.std.proofs.Common.{◌≡◌, ◌<◌, ◌∙◌, length, arith, sym}
+use Rattle.std.proofs.Common.{◌<◌, ◌∙◌, length, arith, sym}
 use Rattle.polars_compute_arithmetic.proofs.Zips.{all_zip_over, all_zip_end, same_at, rest_same}
 use Rattle.polars_compute_arithmetic.proofs.arity.map_over_left.Goals as goal
 

@@ -1,4 +1,4 @@
-use Rattle.std.proofs.Common.{rules, ◌≡◌, ◌≤◌, ◌<◌, length, sym, arith, take_all}
+use Rattle.std.proofs.Common.{rules, ◌≡◌, ◌≤◌, length, sym, arith, take_all}
 use Rattle.std.specs.List.{zip}
 use Rattle.polars_compute_arithmetic.proofs.Zips.{all_zip_pair, length_zip}
 use Rattle.polars_compute_arithmetic.proofs.arity.map_pairs.Goals as goal

@@ -1,4 +1,4 @@
-use Rattle.std.proofs.Common.{rules, ◌≡◌}
+use Rattle.std.proofs.Common.{rules}
 use Rattle.polars_compute_arithmetic.proofs.Zips.{all_zip_more}
 use Rattle.polars_compute_arithmetic.proofs.arity.map_values.Goals as goal
 

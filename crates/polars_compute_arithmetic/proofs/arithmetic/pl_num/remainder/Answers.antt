@@ -1,4 +1,4 @@
-use Rattle.std.proofs.Common.{◌≡◌, ◌∙◌, ap, subst, sym}
+use Rattle.std.proofs.Common.{◌≡◌, ◌∙◌, ap, subst}
 use Rattle.std.specs.Prelude.{ℤ, pos, ◌≤ℤ◌}
 use Rattle.num_traits.specs.Laws.{bit_len}
 use Rattle.polars_compute_arithmetic.proofs.Rounding.{remainder-is}

@@ -1,14 +1,12 @@
-use Rattle.std.proofs.Common.{◌≡◌, refl, rules}
-use Rattle.std.specs.Prelude.{ℤ}
+use Rattle.std.proofs.Common.{refl}
 use Rattle.std.proofs.lemmas.Result.{MatchResult-weaker}
 use Rattle.num_traits.specs.Laws.{bit_len}
-use Rattle.polars_arrays_numbers.specs.Wrapping.{wrapped}
 use Rattle.polars_compute_arithmetic.proofs.Places.{answers}
-use Rattle.polars_compute_arithmetic.specs.Operations.{product_of, or_zero}
+use Rattle.polars_compute_arithmetic.specs.Operations.{product_of}
 use Rattle.polars_compute_arithmetic.proofs.arithmetic.kernel.PrimitiveArithmeticKernelImpl.prim_wrapping_mul_scalar.Goals as goal
 
 pub returns-clause-answers : goal.returns-clause-answers
 returns-clause-answers g c =
-    MatchResult-weaker c.prim_unary_in_place.result c.prim_unary_in_place.ensures.mapped
-    (λ a h. answers g.Self.Number.value g.Self.Bounded.low (bit_len g.Self.FixedWidth.width) (λ n. product_of n (g.Self.Number.value c.args.rhs)) _ (λ x z p. let e : g.Self.Number.value z ≡ wrapped g.Self.Bounded.low (bit_len g.Self.FixedWidth.width) (or_zero (product_of (g.Self.Number.value x) (g.Self.Number.value c.args.rhs))) = search rules in e) c.args.lhs a (λ n. refl) h)
+    MatchResult-weaker c.apply_right.result c.apply_right.ensures.answers
+    (λ a h. answers g.Self.Number.value g.Self.Bounded.low (bit_len g.Self.FixedWidth.width) (λ n. product_of n (g.Self.Number.value c.args.rhs)) _ (λ x z p. p) c.args.lhs a (λ n. refl) h)
     (λ y m. m)

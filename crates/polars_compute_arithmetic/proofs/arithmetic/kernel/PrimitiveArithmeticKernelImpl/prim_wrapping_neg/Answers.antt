@@ -1,5 +1,4 @@
 use Rattle.std.proofs.Common.{◌≡◌, refl, rules}
-use Rattle.std.specs.Prelude.{ℤ}
 use Rattle.std.proofs.lemmas.Result.{MatchResult-weaker}
 use Rattle.num_traits.specs.Laws.{bit_len}
 use Rattle.polars_arrays_numbers.specs.Wrapping.{wrapped}

@@ -1,4 +1,4 @@
-use Rattle.std.proofs.Common.{◌≡◌, ◌≢◌, ◌∙◌, Bool, true, false, ap, sym}
+use Rattle.std.proofs.Common.{◌≢◌, ◌∙◌, ap, sym}
 use Rattle.std.specs.Prelude.{ℤ, pos}
 use Rattle.num_traits.specs.Laws.{bit_len}
 use Rattle.polars_compute_arithmetic.specs.Quotients.{across}

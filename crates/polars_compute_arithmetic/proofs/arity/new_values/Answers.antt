@@ -1,5 +1,5 @@
 use Rattle.std.proofs.lemmas.Slice.Zip.{AllZip-long}
-use Rattle.polars_compute_arithmetic.proofs.arity.prim_unary_values.Goals as goal
+use Rattle.polars_compute_arithmetic.proofs.arity.new_values.Goals as goal
 
 pub with_validity-requires-after_bounds : goal.with_validity-requires-after_bounds
 with_validity-requires-after_bounds g c κs within =

@@ -1,0 +1,102 @@
+//! Operations on two numbers applied to arrays.
+
+ghost use Rattle.std.specs.Prelude.{◌≡◌, IsOk, IsTrue, MatchResult, length};
+ghost use Rattle.num_traits.specs.Laws.{bit_len};
+ghost use Rattle.polars_arrays_bits.specs.Errors.{IsMemory};
+ghost use Rattle.polars_compute_arithmetic.specs.Maps.{MapsEach, MapsPairs};
+ghost use Rattle.polars_compute_arithmetic.specs.Results.{Gives, IsAnswer};
+ghost use Rattle.polars_compute_arithmetic.specs.Zeros.{DividesEach, DividesPairs};
+
+use crate::arithmetic::divisor::DivisorNumber;
+use crate::arithmetic::operations::{NumberDivision, NumberOperation};
+use crate::arithmetic::zeros::{mask_all, mask_zeros};
+use crate::arity::{prim_binary_in_place, prim_unary_in_place};
+use num_traits::Zero;
+use polars_arrays_bits::error::ComputeError;
+use polars_arrays_flat::primitive::PrimitiveArray;
+use polars_arrays_numbers::native_type::NativeType;
+use std::alloc::Global;
+
+// The answers at each pair of stored values. A row is null where one of the two is. The error is `Memory`.
+pub(crate) fn apply_pairs<T: NativeType, O: NumberOperation<T>>(
+    alloc: Global,
+    lhs: PrimitiveArray<T>,
+    rhs: PrimitiveArray<T>,
+) -> Result<PrimitiveArray<T>, ComputeError>
+    requires { length lhs.values ≡ length rhs.values }
+    ensures { MatchResult result (MapsPairs (Gives T.value T.low (bit_len T.width) O.meaning) lhs rhs) IsMemory }
+{
+    prim_binary_in_place(alloc, lhs, rhs, |x, y| O::apply(x, y))
+}
+
+// The answers at each stored value and a number. Nulls are kept. The error is `Memory`.
+pub(crate) fn apply_right<T: NativeType, O: NumberOperation<T>>(
+    alloc: Global,
+    lhs: PrimitiveArray<T>,
+    rhs: T,
+) -> Result<PrimitiveArray<T>, ComputeError>
+    ensures answers { MatchResult result (MapsEach (λ x z. Gives T.value T.low (bit_len T.width) O.meaning x rhs z) lhs) IsMemory }
+    ensures in_place { IsTrue lhs.owned → IsOk result }
+{
+    prim_unary_in_place(alloc, lhs, |x| O::apply(x, rhs))
+}
+
+// The answers at a number and each stored value. Nulls are kept. The error is `Memory`.
+pub(crate) fn apply_left<T: NativeType, O: NumberOperation<T>>(
+    alloc: Global,
+    lhs: T,
+    rhs: PrimitiveArray<T>,
+) -> Result<PrimitiveArray<T>, ComputeError>
+    ensures answers { MatchResult result (MapsEach (λ y z. Gives T.value T.low (bit_len T.width) O.meaning lhs y z) rhs) IsMemory }
+    ensures in_place { IsTrue rhs.owned → IsOk result }
+{
+    prim_unary_in_place(alloc, rhs, |y| O::apply(lhs, y))
+}
+
+// The answers at each pair of stored values. A row is null where one of the two is, or the right one is 0. The error
+// is `Memory`.
+pub(crate) fn divide_pairs<T: NativeType + Zero, O: NumberOperation<T>>(
+    alloc: Global,
+    lhs: PrimitiveArray<T>,
+    rhs: PrimitiveArray<T>,
+) -> Result<PrimitiveArray<T>, ComputeError>
+    requires { length lhs.values ≡ length rhs.values }
+    ensures { MatchResult result (DividesPairs T.value (Gives T.value T.low (bit_len T.width) O.meaning) lhs rhs) IsMemory }
+{
+    match mask_zeros(alloc, rhs) {
+        Ok(rhs) => apply_pairs::<T, O>(alloc, lhs, rhs),
+        Err(error) => {
+            drop(lhs);
+            Err(error)
+        }
+    }
+}
+
+// The answers at a number and each stored value. A row is null where it was, or is 0. The error is `Memory`.
+pub(crate) fn divide_each<T: NativeType + Zero, O: NumberOperation<T>>(
+    alloc: Global,
+    lhs: T,
+    rhs: PrimitiveArray<T>,
+) -> Result<PrimitiveArray<T>, ComputeError>
+    ensures { MatchResult result (DividesEach T.value (λ y z. Gives T.value T.low (bit_len T.width) O.meaning lhs y z) rhs) IsMemory }
+{
+    let rhs = mask_zeros(alloc, rhs)?;
+    apply_left::<T, O>(alloc, lhs, rhs)
+}
+
+// The answers at each stored value and a divisor. Nulls are kept, and by 0 each row is null. The error is `Memory`.
+pub(crate) fn divide_by<T: DivisorNumber + Zero, O: NumberDivision<T>>(
+    alloc: Global,
+    lhs: PrimitiveArray<T>,
+    rhs: T,
+) -> Result<PrimitiveArray<T>, ComputeError>
+    ensures { MatchResult result (IsAnswer T.value T.low (bit_len T.width) (λ a. O.meaning a (T.value rhs)) lhs) IsMemory }
+{
+    if rhs.is_zero() {
+        return mask_all(alloc, lhs);
+    }
+    match rhs.to_divisor() {
+        Some(divisor) => prim_unary_in_place(alloc, lhs, |x| O::by_divisor(x, rhs, &divisor)),
+        None => prim_unary_in_place(alloc, lhs, |x| O::by_unit(x, rhs)),
+    }
+}

@@ -1,0 +1,169 @@
+//! Operations on two numbers, a type each, so that what maps arrays by them is written once.
+
+ghost use Rattle.std.specs.Prelude.{◌≡◌, ◌≢◌, ◌≤◌, ℤ, pos, refl, unsigned_abs};
+ghost use Rattle.num_traits.specs.Laws.{bit_len};
+ghost use Rattle.polars_compute_arithmetic.specs.Operations.{Operation, difference_of, floor_division, modulo, product_of, sum_of, truncated_division, unless_zero};
+ghost use Rattle.polars_compute_arithmetic.specs.Quotients.{floor_quotient, modulus, truncated_quotient};
+ghost use Rattle.polars_compute_arithmetic.specs.Results.{Gives};
+
+use crate::arithmetic::divisor::DivisorNumber;
+use crate::arithmetic::pl_num::PlNumArithmetic;
+use polars_arrays_numbers::native_type::NativeType;
+
+/// An operation on two numbers.
+pub(crate) trait NumberOperation<T: NativeType> {
+    // The operation on whole numbers.
+    ghost meaning: { Operation };
+
+    /// The answer wrapped to the type, or 0 where there is none.
+    fn apply(x: T, y: T) -> T
+        ensures { Gives T.value T.low (bit_len T.width) meaning x y result };
+}
+
+/// A division: it has an answer by each number but 0.
+pub(crate) trait NumberDivision<T: DivisorNumber>: NumberOperation<T> {
+    // The answer by a number other than 0.
+    ghost divided: { ℤ → ℤ → ℤ };
+
+    /// The answer by a divisor that stays.
+    fn by_divisor(x: T, rhs: T, divisor: &T::Divisor) -> T
+        requires some { T.value rhs ≢ pos 0 }
+        requires same { T.divisor divisor.now ≡ T.value rhs }
+        ensures { Gives T.value T.low (bit_len T.width) Self.meaning x rhs result };
+
+    /// The answer by 1 or by -1.
+    fn by_unit(x: T, rhs: T) -> T
+        requires some { T.value rhs ≢ pos 0 }
+        requires unit { 2 ≤ unsigned_abs (T.value rhs) → ⊥ }
+        ensures { Gives T.value T.low (bit_len T.width) Self.meaning x rhs result };
+
+    // By 0 it has no answer.
+    ghost division_law: { (a b : ℤ) → Self.NumberOperation.meaning a b ≡ unless_zero Self.divided a b };
+}
+
+/// The sum.
+pub(crate) struct Sum;
+
+/// The difference.
+pub(crate) struct Difference;
+
+/// The product.
+pub(crate) struct Product;
+
+/// The quotient, rounded down.
+pub(crate) struct FloorQuotient;
+
+/// The quotient, rounded toward 0.
+pub(crate) struct TruncatedQuotient;
+
+/// What the quotient that is rounded down leaves.
+pub(crate) struct Modulus;
+
+impl<T: PlNumArithmetic> NumberOperation<T> for Sum {
+    ghost meaning = { sum_of };
+
+    #[inline(always)]
+    fn apply(x: T, y: T) -> T {
+        PlNumArithmetic::wrapping_add(x, y)
+    }
+}
+
+impl<T: PlNumArithmetic> NumberOperation<T> for Difference {
+    ghost meaning = { difference_of };
+
+    #[inline(always)]
+    fn apply(x: T, y: T) -> T {
+        PlNumArithmetic::wrapping_sub(x, y)
+    }
+}
+
+impl<T: PlNumArithmetic> NumberOperation<T> for Product {
+    ghost meaning = { product_of };
+
+    #[inline(always)]
+    fn apply(x: T, y: T) -> T {
+        PlNumArithmetic::wrapping_mul(x, y)
+    }
+}
+
+impl<T: PlNumArithmetic> NumberOperation<T> for FloorQuotient {
+    ghost meaning = { floor_division };
+
+    #[inline(always)]
+    fn apply(x: T, y: T) -> T {
+        PlNumArithmetic::wrapping_floor_div(x, y)
+    }
+}
+
+impl<T: PlNumArithmetic> NumberDivision<T> for FloorQuotient {
+    ghost divided = { floor_quotient };
+
+    ghost division_law = { λ a b. refl };
+
+    #[inline(always)]
+    fn by_divisor(x: T, rhs: T, divisor: &T::Divisor) -> T {
+        let quotient = x.floor_by(divisor);
+        quotient.law_ends();
+        quotient
+    }
+
+    #[inline(always)]
+    fn by_unit(x: T, rhs: T) -> T {
+        PlNumArithmetic::wrapping_mul(x, rhs)
+    }
+}
+
+impl<T: PlNumArithmetic> NumberOperation<T> for TruncatedQuotient {
+    ghost meaning = { truncated_division };
+
+    #[inline(always)]
+    fn apply(x: T, y: T) -> T {
+        PlNumArithmetic::wrapping_trunc_div(x, y)
+    }
+}
+
+impl<T: PlNumArithmetic> NumberDivision<T> for TruncatedQuotient {
+    ghost divided = { truncated_quotient };
+
+    ghost division_law = { λ a b. refl };
+
+    #[inline(always)]
+    fn by_divisor(x: T, rhs: T, divisor: &T::Divisor) -> T {
+        let quotient = x.truncated_by(divisor);
+        quotient.law_ends();
+        quotient
+    }
+
+    #[inline(always)]
+    fn by_unit(x: T, rhs: T) -> T {
+        PlNumArithmetic::wrapping_mul(x, rhs)
+    }
+}
+
+impl<T: PlNumArithmetic> NumberOperation<T> for Modulus {
+    ghost meaning = { modulo };
+
+    #[inline(always)]
+    fn apply(x: T, y: T) -> T {
+        PlNumArithmetic::wrapping_mod(x, y)
+    }
+}
+
+impl<T: PlNumArithmetic> NumberDivision<T> for Modulus {
+    ghost divided = { modulus };
+
+    ghost division_law = { λ a b. refl };
+
+    #[inline(always)]
+    fn by_divisor(x: T, rhs: T, divisor: &T::Divisor) -> T {
+        let product = PlNumArithmetic::wrapping_mul(rhs, x.floor_by(divisor));
+        PlNumArithmetic::wrapping_sub(x, product)
+    }
+
+    #[inline(always)]
+    fn by_unit(x: T, rhs: T) -> T {
+        let nothing = T::zero();
+        nothing.law_ends();
+        nothing
+    }
+}
