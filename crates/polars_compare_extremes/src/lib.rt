@@ -6,6 +6,7 @@ pub mod borrowed;
 mod bytes;
 pub mod dispatch;
 mod extreme;
+mod first_bytes;
 pub mod kernel;
 mod numbers;
 pub mod places;

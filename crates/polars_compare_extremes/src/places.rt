@@ -44,7 +44,7 @@ fn best_from<P: Preference, R: ByteRows>(
     let mut best = rows.bytes(first);
     for i in first + 1..n {
         let bytes = rows.bytes(i);
-        if is_present(present, i) && preference.compare(bytes, best) {
+        if is_present(present, i) && preference.is_better(bytes, best) {
             place = i;
             best = bytes;
         }

@@ -1,22 +1,38 @@
 //! Which of two byte strings an extreme prefers.
 
+ghost use Rattle.std.specs.Prelude.{◌≡◌};
 ghost use Rattle.polars_arrays_flat.specs.Row.{Bytes};
 ghost use Rattle.polars_compare_extremes.specs.Preference.{Prefers};
 ghost use Rattle.polars_compare_extremes.specs.PreferenceLaws.{greater_prefers, less_prefers};
 
+use crate::first_bytes::less_by_first;
 use polars_arrays_numbers::comparison::{Greater, Less};
 use polars_compare_leaves::bytes::ByteComparison;
 
 /// A comparison that says which of two byte strings is the better one, so that among any there is a best.
 pub trait Preference: ByteComparison {
+    /// Whether the left byte string is the better one, found sooner where the first bytes differ.
+    fn is_better(&self, left: &[u8], right: &[u8]) -> bool
+        ensures { result ≡ Self.ByteComparison.rows (Bytes left.now) (Bytes right.now) };
+
     // The better one is better than all that the other is not worse than.
-    ghost preference_law: { Prefers Bytes Self.rows };
+    ghost preference_law: { Prefers Bytes Self.ByteComparison.rows };
 }
 
 impl Preference for Less {
     ghost preference_law = { less_prefers };
+
+    #[inline(always)]
+    fn is_better(&self, left: &[u8], right: &[u8]) -> bool {
+        less_by_first(left, right)
+    }
 }
 
 impl Preference for Greater {
     ghost preference_law = { greater_prefers };
+
+    #[inline(always)]
+    fn is_better(&self, left: &[u8], right: &[u8]) -> bool {
+        less_by_first(right, left)
+    }
 }
