@@ -1,0 +1,47 @@
+-- States whose values are the keys of a dictionary.
+use Rattle.std.specs.Prelude.{◌≡◌, ◌<ℤ◌, ◌≤◌, ℕ, ℤ, pos, Bool, true, false, List, [], Option, Some, None, All, Contains, ⊤}
+use Rattle.polars_arrays_bits.specs.declared.error.ComputeError.{ComputeError}
+use Rattle.polars_arrays_bits.specs.declared.error.ComputeError.TheVariants.{Memory, Unsupported, KeyOutOfRange}
+use Rattle.polars_arrays_flat.specs.ArrayRows.{number_rows}
+use Rattle.polars_arrays_flat.specs.Row.{Row}
+use Rattle.polars_arrays_nested.specs.Lengths.{len_of}
+use Rattle.polars_arrays_nested.specs.declared.any_array.AnyArray.{AnyArray}
+use Rattle.polars_arrays_nested.specs.declared.dict_keys.DictKeys.{DictKeys}
+use Rattle.polars_arrays_nested.specs.declared.dict_keys.DictKeys.TheVariants.{UInt32}
+use Rattle.polars_compute_unique.specs.State.{State, set_of}
+
+-- the keys as rows; those of another type than u32 are fed to no state
+abbrev pub key_rows : DictKeys → List Row
+key_rows (UInt32 keys) = number_rows (λ x. pos x) keys
+key_rows keys = []
+
+-- whether the keys are of type u32
+abbrev pub are_u32 : DictKeys → Bool
+are_u32 (UInt32 keys) = true
+are_u32 keys = false
+
+-- each key that was seen names one of n entries
+abbrev pub NamesEntries : ℕ → State → Type 0
+NamesEntries n s = All (λ key. key <ℤ pos n) (set_of s)
+
+-- the least key that was seen and names none of n entries
+pub record IsLeastMissing (n : ℕ) (s : State) (key : ℕ) : Type 0 where
+  pub seen : Contains (set_of s) (pos key)
+  pub missing : n ≤ key
+  pub least : All (λ other. other <ℤ pos key → other <ℤ pos n) (set_of s)
+
+-- the values are no keys, or each that was seen names an entry
+abbrev pub HasEntries : Option AnyArray → State → Type 0
+HasEntries None s = ⊤
+HasEntries (Some entries) s = NamesEntries (len_of entries) s
+
+-- the error names the least key that was seen and names none of n entries, and n
+abbrev pub IsMissingKey : ℕ → State → ComputeError → Type 0
+IsMissingKey n s (KeyOutOfRange key len) = (len ≡ n) × IsLeastMissing n s key
+IsMissingKey n s e = ⊥
+
+-- why a state gives no array: a refused growth, or the least key that was seen and has no entry, which is told first
+abbrev pub IsFinalFault : Option AnyArray → State → ComputeError → Type 0
+IsFinalFault dictionary s (Memory e) = HasEntries dictionary s
+IsFinalFault (Some entries) s e = IsMissingKey (len_of entries) s e
+IsFinalFault None s e = ⊥

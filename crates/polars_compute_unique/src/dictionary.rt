@@ -1,0 +1,187 @@
+//! States of the keys of dictionaries.
+
+ghost use Rattle.std.specs.Borrow.{sem};
+ghost use Rattle.std.specs.Prelude.{◌≡◌, ◌↔◌, ◌≤◌, ◌^◌, pos, IfOk, IsOk, IsTrue, MatchResult};
+ghost use Rattle.polars_arrays_bits.specs.Errors.{IsMemory};
+ghost use Rattle.polars_arrays_nested.specs.GoodParts.{AreKeys, IsGood};
+ghost use Rattle.polars_arrays_nested.specs.Lengths.{len_of};
+ghost use Rattle.polars_arrays_nested.specs.Parts.{dictionary_keys, dictionary_values};
+ghost use Rattle.polars_arrays_nested.specs.declared.any_array.AnyArray.{Dictionary};
+ghost use Rattle.polars_compute_unique.specs.Dictionaries.{IsMissingKey, NamesEntries};
+ghost use Rattle.polars_compute_unique.specs.State.{new_state, numbers_from};
+
+use crate::kernel::RangedUniqueKernel;
+use crate::primitive::PrimitiveRangedUniqueState;
+use polars_arrays_bits::error::ComputeError;
+use polars_arrays_flat::primitive::PrimitiveArray;
+use polars_arrays_nested::any_array::AnyArray;
+use polars_arrays_nested::dict_keys::DictKeys;
+use polars_arrays_nested::dictionary::DictionaryArray;
+use std::alloc::Global;
+use std::marker::Model;
+
+// How many entries keys of type `u32` can name.
+const MOST_ENTRIES: usize = 1 << 32;
+
+/// A state of the keys that name the entries of a dictionary. Only keys are read and counted: two equal entries count twice.
+#[derive(Drop)]
+pub struct DictionaryRangedUniqueState {
+    keys: PrimitiveRangedUniqueState<u32>,
+    entries: AnyArray,
+}
+
+impl Model for DictionaryRangedUniqueState {
+    ghost use Rattle.polars_arrays_nested.specs.GoodParts.{IsGood};
+    ghost use Rattle.polars_arrays_nested.specs.contracts.any_array.AnyArray as any;
+    ghost use Rattle.polars_compute_unique.specs.KeyState.{KeyState, key_state_code};
+
+    ghost Value = { KeyState };
+
+    ghost coded = { key_state_code any.the_row.coded };
+
+    ghost view = { λ s. record { keys = s.keys; entries = s.entries } };
+
+    ghost invariant = { λ s. IsGood s.entries };
+}
+
+/// Whether keys of type `u32` can name all entries: there are at most 2^32.
+pub fn keys_fit(values: &AnyArray) -> bool
+    ensures { IsTrue result ↔ (len_of values.now ≤ 2 ^ 32) }
+{
+    values.len() <= MOST_ENTRIES
+}
+
+// A state of `n` keys that has seen none of them. The error is `Memory`, and comes only of more than 127 keys.
+fn new_keys(alloc: Global, n: usize) -> Result<PrimitiveRangedUniqueState<u32>, ComputeError>
+    requires { n ≤ 2 ^ 32 }
+    ensures state { MatchResult result (λ state. state ≡ new_state (numbers_from (pos 0) n)) IsMemory }
+    ensures few { n ≤ 127 → IsOk result }
+{
+    match n {
+        0 => Ok(PrimitiveRangedUniqueState::new_empty()),
+        n => PrimitiveRangedUniqueState::new(alloc, 0, (n - 1) as u32),
+    }
+}
+
+impl DictionaryRangedUniqueState {
+    ghost use Rattle.polars_compute_unique.specs.KeyLends.{lends_keys};
+
+    /// A state that has seen none of the keys of the entries. The error is `Memory`, and comes only of more than 127 entries.
+    pub fn new(alloc: Global, values: AnyArray) -> Result<DictionaryRangedUniqueState, ComputeError>
+        requires good { IsGood values }
+        requires fit { len_of values ≤ 2 ^ 32 }
+        ensures state { MatchResult result (λ state. state ≡ record { keys = new_state (numbers_from (pos 0) (len_of values)); entries = values }) IsMemory }
+        ensures few { len_of values ≤ 127 → IsOk result }
+    {
+        match new_keys(alloc, values.len()) {
+            Ok(keys) => Ok(DictionaryRangedUniqueState {
+                keys,
+                entries: values,
+            }),
+            Err(refused) => {
+                drop(values);
+                Err(refused)
+            }
+        }
+    }
+
+    /// The state of the keys. What is written through it is the range, the set and the flag from then on.
+    pub fn key_state(&mut self) -> &mut PrimitiveRangedUniqueState<u32>
+        ensures* written { sem 𝓛 (lends_keys self.entry result) }
+        ensures keys { result.now ≡ self.old.keys }
+    {
+        &mut self.keys
+    }
+}
+
+// An array of keys over entries that they name, and which is good. The error is `Memory`.
+fn keyed_array(
+    alloc: Global,
+    keys: PrimitiveArray<u32>,
+    entries: AnyArray,
+) -> Result<DictionaryArray, ComputeError>
+    requires good { IsGood entries }
+    requires named { AreKeys (len_of entries) (DictKeys.UInt32 keys) }
+    ensures keys { MatchResult result (λ array. dictionary_keys array ≡ DictKeys.UInt32 keys) IsMemory }
+    ensures entries { IfOk result (λ array. dictionary_values array ≡ entries) }
+    ensures good { IfOk result (λ array. IsGood (Dictionary array)) }
+{
+    let entries = Box::new(alloc, entries)?;
+    let Ok(array) = DictionaryArray::try_new(DictKeys::UInt32(keys), entries) else {
+        unreachable!();
+    };
+    Ok(array)
+}
+
+// That each key that was seen names one of `len` entries, or else the least one that does not.
+fn name_entries(keys: &PrimitiveRangedUniqueState<u32>, len: usize) -> Result<(), ComputeError>
+    ensures { MatchResult result (λ _. NamesEntries len keys.now) (IsMissingKey len keys.now) }
+{
+    match keys.least_from(len as i128) {
+        Some(key) => Err(ComputeError::KeyOutOfRange { key, len }),
+        None => Ok(()),
+    }
+}
+
+impl RangedUniqueKernel for DictionaryRangedUniqueState {
+    ghost use Rattle.std.specs.Prelude.{Some};
+    ghost use Rattle.polars_arrays_flat.specs.Row.{Int};
+    ghost use Rattle.polars_arrays_nested.specs.Parts.{dictionary_keys, dictionary_values};
+    ghost use Rattle.polars_compute_unique.specs.Dictionaries.{are_u32, key_rows};
+
+    type Array = DictionaryArray;
+
+    ghost state = { λ s. s.keys };
+
+    ghost dictionary = { λ s. Some s.entries };
+
+    ghost fed = { λ a. key_rows (dictionary_keys a) };
+
+    ghost is_taken = { λ a. are_u32 (dictionary_keys a) };
+
+    ghost array_dictionary = { λ a. Some (dictionary_values a) };
+
+    ghost value_row = { λ v. Int v };
+
+    fn has_seen_all(&self) -> bool {
+        self.keys.has_seen_all()
+    }
+
+    fn accepts(&self, array: &DictionaryArray) -> bool {
+        match array.keys() {
+            DictKeys::UInt32(keys) => self.keys.accepts(keys),
+            _ => false,
+        }
+    }
+
+    fn same_range(&self, other: &DictionaryRangedUniqueState) -> bool {
+        self.keys.same_range(&other.keys)
+    }
+
+    fn append(&mut self, array: &DictionaryArray) {
+        match array.keys() {
+            DictKeys::UInt32(keys) => self.keys.append(keys),
+            _ => unreachable!(),
+        }
+    }
+
+    fn append_state(&mut self, other: &DictionaryRangedUniqueState) {
+        self.keys.append_state(&other.keys);
+    }
+
+    fn finalize_unique(self, alloc: Global) -> Result<DictionaryArray, ComputeError> {
+        let DictionaryRangedUniqueState { keys, entries } = self;
+        name_entries(&keys, entries.len())?;
+        let keys = keys.finalize_unique(alloc)?;
+        let array = keyed_array(alloc, keys, entries)?;
+        Ok(array)
+    }
+
+    fn finalize_n_unique(&self) -> usize {
+        self.keys.finalize_n_unique()
+    }
+
+    fn finalize_n_unique_non_null(&self) -> usize {
+        self.keys.finalize_n_unique_non_null()
+    }
+}

@@ -1,0 +1,131 @@
+//! What states that gather distinct values have, and what arrays have.
+
+ghost use Rattle.std.specs.Prelude.{◌≡◌, ◌↔◌, ◌&&◌, ◌++◌, ℤ, Bool, List, Option, IsTrue, IfOk, MatchResult, All, length};
+ghost use Rattle.polars_arrays_bits.specs.Errors.{IsMemory};
+ghost use Rattle.polars_arrays_flat.specs.Row.{Row};
+ghost use Rattle.polars_arrays_flat.specs.StoredRows.{rows_under};
+ghost use Rattle.polars_arrays_nested.specs.declared.any_array.AnyArray.{AnyArray};
+ghost use Rattle.polars_compute_unique.specs.Dictionaries.{HasEntries, IsFinalFault};
+ghost use Rattle.polars_compute_unique.specs.Sorted.{AreAdjacent, AreDistinct, CountsDistinct, CountsPresent, rows_of_all};
+ghost use Rattle.polars_compute_unique.specs.State.{State, all_seen, appended, are_within, distinct, distinct_values, finalised, merged, range_of, set_of};
+
+use polars_arrays_bits::error::ComputeError;
+use polars_arrays_flat::array::Array;
+use std::alloc::Global;
+
+/// A state that gathers the distinct values of arrays whose values lie in a range: a set of these values, and whether there was a null.
+///
+/// Arrays of many chunks are appended to one state, and states of one range are merged.
+pub trait RangedUniqueKernel {
+    type Array: Array;
+
+    // The range, the set of its values that were seen, and whether a null was.
+    ghost state: { Self → State };
+
+    // The dictionary whose keys the values are, where they are keys.
+    ghost dictionary: { Self → Option AnyArray };
+
+    // The rows that an array feeds to a state: its own, or the keys of a dictionary.
+    ghost fed: { Self.Array → List Row };
+
+    // Whether an array is of a type that states take.
+    ghost is_taken: { Self.Array → Bool };
+
+    // The dictionary of an array, where it has one.
+    ghost array_dictionary: { Self.Array → Option AnyArray };
+
+    // The row that a value of the range is.
+    ghost value_row: { ℤ → Row };
+
+    /// Whether all values of the range were seen, and a null.
+    fn has_seen_all(&self) -> bool
+        ensures { result ≡ all_seen (state self.now) };
+
+    /// Whether the state takes the array: each present row is in the range, and a dictionary has keys of type `u32`.
+    fn accepts(&self, array: &Self::Array) -> bool
+        ensures { result ≡ (is_taken array.now && are_within (range_of (state self.now)) (fed array.now)) };
+
+    /// Whether two states have one range.
+    fn same_range(&self, other: &Self) -> bool
+        ensures { IsTrue result ↔ (range_of (state self.now) ≡ range_of (state other.now)) };
+
+    /// Joins the set with the present rows of an array that the state takes, and notes a null.
+    fn append(&mut self, array: &Self::Array)
+        requires taken { IsTrue (is_taken array.now) }
+        requires within { IsTrue (are_within (range_of (state self.old)) (fed array.now)) }
+        ensures state { state self.new ≡ appended (fed array.now) (state self.old) }
+        ensures dictionary { dictionary self.new ≡ dictionary self.old };
+
+    /// Joins the set with that of a state of the same range, and notes a null that it saw. A state keeps its own dictionary.
+    fn append_state(&mut self, other: &Self)
+        requires { range_of (state self.old) ≡ range_of (state other.now) }
+        ensures state { state self.new ≡ merged (state self.old) (state other.now) }
+        ensures dictionary { dictionary self.new ≡ dictionary self.old };
+
+    /// The set, ascending, and a null last, if there was one. The error is `KeyOutOfRange`, with the least key that was seen and has no
+    /// entry in the dictionary and the number of entries, or else `Memory`.
+    fn finalize_unique(self, alloc: Global) -> Result<Self::Array, ComputeError>
+        ensures rows { MatchResult result (λ array. fed array ≡ finalised value_row (state self)) (IsFinalFault (dictionary self) (state self)) }
+        ensures entries { IfOk result (λ array. HasEntries (dictionary self) (state self)) }
+        ensures dictionary { IfOk result (λ array. array_dictionary array ≡ dictionary self) }
+        ensures good { IfOk result (λ array. Self.Array.good array) };
+
+    /// How many rows `finalize_unique` gives, or would give.
+    fn finalize_n_unique(&self) -> usize
+        ensures { result ≡ length (finalised value_row (state self.now)) };
+
+    /// How many of them are present.
+    fn finalize_n_unique_non_null(&self) -> usize
+        ensures { result ≡ length (set_of (state self.now)) };
+}
+
+/// The distinct rows of one array, as a state to which it alone is appended gives them.
+pub trait GenericUniqueKernel: Sized {
+    ghost rows: { Self → List Row };
+
+    // The values that a row can be, and the row that each is.
+    ghost range: { List ℤ };
+
+    ghost value_row: { ℤ → Row };
+
+    /// The distinct rows, ascending, and a null last, if there is one. The error is `Memory`.
+    fn unique(&self, alloc: Global) -> Result<Self, ComputeError>
+        ensures { MatchResult result (λ unique. rows unique ≡ distinct value_row range (rows self.now)) IsMemory };
+
+    /// How many distinct rows there are, null among them.
+    fn n_unique(&self) -> usize
+        ensures { result ≡ length (distinct value_row range (rows self.now)) };
+
+    /// How many distinct rows are present.
+    fn n_unique_non_null(&self) -> usize
+        ensures { result ≡ length (distinct_values range (rows self.now)) };
+}
+
+/// The distinct rows of arrays in which equal rows are adjacent, as in sorted ones. There is no implementation.
+pub trait SortedUniqueKernel: Sized + Array {
+    /// Each distinct row once, in the order of its first place, where the rows of `fst` and then those of `others` are taken as one
+    /// list. A null is a row. The error is `Memory`.
+    fn unique_fold(alloc: Global, fst: &Self, others: &[&Self]) -> Result<Self, ComputeError>
+        requires good { Self.good fst.now }
+        requires all_good { All (λ array. Self.good array.now) others.now }
+        requires adjacent { AreAdjacent (rows_under (Self.mask fst.now) (Self.slots fst.now) ++ rows_of_all (λ array. rows_under (Self.mask array) (Self.slots array)) others.now) }
+        ensures { MatchResult result (λ unique. AreDistinct (rows_under (Self.mask fst.now) (Self.slots fst.now) ++ rows_of_all (λ array. rows_under (Self.mask array) (Self.slots array)) others.now) (rows_under (Self.mask unique) (Self.slots unique))) IsMemory };
+
+    /// Each distinct row once, in the order of its first place. A null is a row. The error is `Memory`.
+    fn unique(&self, alloc: Global) -> Result<Self, ComputeError>
+        requires good { Self.good self.now }
+        requires adjacent { AreAdjacent (rows_under (Self.mask self.now) (Self.slots self.now)) }
+        ensures { MatchResult result (λ unique. AreDistinct (rows_under (Self.mask self.now) (Self.slots self.now)) (rows_under (Self.mask unique) (Self.slots unique))) IsMemory };
+
+    /// How many distinct rows there are, null among them.
+    fn n_unique(&self) -> usize
+        requires good { Self.good self.now }
+        requires adjacent { AreAdjacent (rows_under (Self.mask self.now) (Self.slots self.now)) }
+        ensures { CountsDistinct (rows_under (Self.mask self.now) (Self.slots self.now)) result };
+
+    /// How many distinct rows are present.
+    fn n_unique_non_null(&self) -> usize
+        requires good { Self.good self.now }
+        requires adjacent { AreAdjacent (rows_under (Self.mask self.now) (Self.slots self.now)) }
+        ensures { CountsPresent (rows_under (Self.mask self.now) (Self.slots self.now)) result };
+}

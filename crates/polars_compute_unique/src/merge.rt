@@ -1,0 +1,72 @@
+//! Many arrays appended to one state, and many states merged into one.
+
+ghost use Rattle.std.specs.Prelude.{◌≡◌, ◌↔◌, ◌<◌, ℕ, IsTrue, length, map, slice_get, All};
+ghost use Rattle.polars_compute_unique.specs.State.{appended_all, are_within, range_of};
+ghost use Rattle.polars_compute_unique.specs.Trees.{HaveRange, leftmost, merged_tree};
+
+use crate::kernel::RangedUniqueKernel;
+
+/// Appends all arrays, in order. It takes no memory.
+pub fn append_all<S: RangedUniqueKernel>(state: &mut S, arrays: &[S::Array])
+    requires taken { All (λ array. IsTrue (S.is_taken array)) arrays.now }
+    requires within { All (λ array. IsTrue (are_within (range_of (S.state state.old)) (S.fed array))) arrays.now }
+    ensures state { S.state state.new ≡ appended_all (map S.fed arrays.now) (S.state state.old) }
+    ensures dictionary { S.dictionary state.new ≡ S.dictionary state.old }
+{
+    for array in arrays {
+        state.append(array);
+    }
+}
+
+/// States to be merged, in an order of one's own.
+#[derive(Drop)]
+pub enum MergeTree<S> {
+    Leaf(S),
+    Node(Box<MergeTree<S>>, Box<MergeTree<S>>),
+}
+
+impl<S: RangedUniqueKernel> MergeTree<S> {
+    // The leftmost state.
+    fn leftmost(&self) -> &S
+        ensures { result.now ≡ leftmost self.now }
+    {
+        match self {
+            MergeTree::Leaf(state) => state,
+            MergeTree::Node(left, _) => left.leftmost(),
+        }
+    }
+
+    // Whether all states have the range of this one.
+    fn has_range_of(&self, state: &S) -> bool
+        ensures { IsTrue result ↔ HaveRange S.state (range_of (S.state state.now)) self.now }
+    {
+        match self {
+            MergeTree::Leaf(leaf) => leaf.same_range(state),
+            MergeTree::Node(left, right) => left.has_range_of(state) && right.has_range_of(state),
+        }
+    }
+
+    /// Whether all states have one range.
+    pub fn one_range(&self) -> bool
+        ensures { IsTrue result ↔ HaveRange S.state (range_of (S.state (leftmost self.now))) self.now }
+    {
+        self.has_range_of(self.leftmost())
+    }
+}
+
+/// All states merged into the leftmost, which keeps its dictionary. It takes no memory.
+pub fn merge_tree<S: RangedUniqueKernel + Drop>(tree: MergeTree<S>) -> S
+    requires { HaveRange S.state (range_of (S.state (leftmost tree))) tree }
+    ensures state { S.state result ≡ merged_tree S.state tree }
+    ensures dictionary { S.dictionary result ≡ S.dictionary (leftmost tree) }
+{
+    match tree {
+        MergeTree::Leaf(state) => state,
+        MergeTree::Node(left, right) => {
+            let mut merged = merge_tree(Box::into_inner(left));
+            let other = merge_tree(Box::into_inner(right));
+            merged.append_state(&other);
+            merged
+        }
+    }
+}

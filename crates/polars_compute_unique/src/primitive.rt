@@ -1,0 +1,256 @@
+//! States of numbers in a range.
+
+ghost use Rattle.std.specs.Prelude.{◌≡◌, ◌↔◌, ◌+◌, ◌≤◌, ◌||◌, ◌+ℤ◌, ◌-ℤ◌, ◌<ℤ◌, ◌≤ℤ◌, [], pos, true, false, IsOk, IsTrue, nat_le, MatchOption, MatchResult, All, None, length, replicate};
+ghost use Rattle.std.specs.Simd.Lanes.{zip2};
+ghost use Rattle.polars_arrays_bits.specs.Errors.{IsMemory};
+ghost use Rattle.polars_arrays_flat.specs.ArrayRows.{number_rows};
+ghost use Rattle.polars_compute_unique.specs.Seen.{in_word, seen_slots};
+ghost use Rattle.polars_compute_unique.specs.State.{IsLeastFrom, RangeFits, appended, are_within, new_state, numbers_between, range_of, rows_read, set_of};
+
+use crate::accepting::accepts_rows;
+use crate::kernel::RangedUniqueKernel;
+use crate::listing::{all_set, count_rows, count_set, least_from, list_set};
+use crate::marking::mark_rows;
+use crate::number::UniqueNumber;
+use crate::slots::{Slots, WORD_SLOTS, WordSlots};
+use crate::span::{Span, range_fits as span_fits};
+use polars_arrays_bits::error::ComputeError;
+use polars_arrays_bits::mutable_bitmap::MutableBitmap;
+use polars_arrays_flat::primitive::PrimitiveArray;
+use polars_arrays_numbers::steps::Steps;
+use std::alloc::Global;
+use std::marker::Model;
+
+// The slots of a state: up to 128 in one word, and more in a bitmap.
+#[derive(Drop)]
+pub(crate) enum Seen {
+    Few(WordSlots),
+    Many(MutableBitmap),
+}
+
+// So many slots, none of them set. The error is `Memory`, and does not come of slots that stand in one word.
+fn none_set(alloc: Global, len: usize) -> Result<Seen, ComputeError>
+    ensures slots { MatchResult result (λ seen. seen_slots seen ≡ replicate len false) IsMemory }
+    ensures word { MatchResult result (λ seen. in_word seen ≡ nat_le len 128) IsMemory }
+    ensures few { len ≤ 128 → IsOk result }
+{
+    if len <= WORD_SLOTS {
+        return Ok(Seen::Few(WordSlots::none_set(len)));
+    }
+    let slots = MutableBitmap::from_len_zeroed(alloc, len)?;
+    Ok(Seen::Many(slots))
+}
+
+// The slots that are set elsewhere are set here too, where as many are kept alike.
+fn join_seen(seen: &mut Seen, other: &Seen)
+    requires size { length (seen_slots other.now) ≡ length (seen_slots seen.old) }
+    requires word { in_word other.now ≡ in_word seen.old }
+    ensures slots { seen_slots seen.new ≡ zip2 ◌||◌ (seen_slots seen.old) (seen_slots other.now) }
+    ensures word { in_word seen.new ≡ in_word seen.old }
+{
+    match (seen, other) {
+        (Seen::Few(slots), Seen::Few(others)) => slots.join(others),
+        (Seen::Many(slots), Seen::Many(others)) => slots.join(others),
+        _ => unreachable!(),
+    }
+}
+
+/// A state of the numbers from a least to a greatest one.
+#[derive(Drop)]
+pub struct PrimitiveRangedUniqueState<T: UniqueNumber> {
+    span: Span<T>,
+    seen: Seen,
+}
+
+impl<T: UniqueNumber> Model for PrimitiveRangedUniqueState<T> {
+    ghost use Rattle.polars_compute_unique.specs.State.{State};
+
+    ghost Value = { State };
+
+    ghost use Rattle.polars_compute_unique.specs.Seen.{IsKept, seen_slots};
+    ghost use Rattle.polars_compute_unique.specs.Slots.{slot_state};
+
+    ghost view = { λ s. slot_state (T.value s.span.least) s.span.count (seen_slots s.seen) };
+
+    ghost invariant = { λ s. IsKept T.low T.high (T.value s.span.least) s.span.count s.seen };
+}
+
+/// Whether there is a state of the numbers from `min_value` to `max_value`: they are in order, and `max_value - min_value + 2` is
+/// no more than `usize::MAX`.
+pub fn range_fits<T: UniqueNumber>(min_value: T, max_value: T) -> bool
+    ensures { IsTrue result ↔ RangeFits (T.value min_value) (T.value max_value) }
+{
+    span_fits(min_value, max_value)
+}
+
+impl<T: UniqueNumber> PrimitiveRangedUniqueState<T> {
+    /// A state that has seen none of the numbers from `min_value` to `max_value`. The error is `Memory`, and comes only of more than
+    /// 127 numbers.
+    pub fn new(
+        alloc: Global,
+        min_value: T,
+        max_value: T,
+    ) -> Result<PrimitiveRangedUniqueState<T>, ComputeError>
+        requires { RangeFits (T.value min_value) (T.value max_value) }
+        ensures state { MatchResult result (λ state. state ≡ new_state (numbers_between (T.value min_value) (T.value max_value))) IsMemory }
+        ensures few { (T.value max_value -ℤ T.value min_value +ℤ pos 2) ≤ℤ pos 128 → IsOk result }
+    {
+        let span = Span::between(min_value, max_value);
+        let seen = none_set(alloc, span.count + 1)?;
+        Ok(PrimitiveRangedUniqueState { span, seen })
+    }
+
+    /// A state of no numbers, which can see nothing but nulls.
+    pub fn new_empty() -> PrimitiveRangedUniqueState<T>
+        ensures { result ≡ new_state [] }
+    {
+        PrimitiveRangedUniqueState {
+            span: Span::empty(),
+            seen: Seen::Few(WordSlots::none_set(1)),
+        }
+    }
+
+    /// `append`, where the counter rises by the rows that are read: with a null all, else blocks of 512 rows until all numbers were
+    /// seen.
+    pub fn append_counted(&mut self, array: &PrimitiveArray<T>, steps: &mut Steps)
+        requires { IsTrue (are_within (range_of self.old) (number_rows T.value array.now)) }
+        ensures state { self.new ≡ appended (number_rows T.value array.now) self.old }
+        ensures read { steps.new ≡ steps.old + rows_read self.old (number_rows T.value array.now) }
+    {
+        let span = self.span;
+        match &mut self.seen {
+            Seen::Few(slots) => {
+                let mut copy = slots.copied();
+                mark_rows(&mut copy, &span, array, steps);
+                *slots = copy;
+            }
+            Seen::Many(slots) => mark_rows(slots, &span, array, steps),
+        }
+    }
+
+    // The least number from a bound on that was seen.
+    pub(crate) fn least_from(&self, bound: i128) -> Option<T>
+        ensures { MatchOption result (All (λ v. v <ℤ bound) (set_of self.now)) (λ x. IsLeastFrom bound (set_of self.now) (T.value x)) }
+    {
+        match &self.seen {
+            Seen::Few(slots) => least_from(slots, &self.span, bound),
+            Seen::Many(slots) => least_from(slots, &self.span, bound),
+        }
+    }
+}
+
+impl<T: UniqueNumber> RangedUniqueKernel for PrimitiveRangedUniqueState<T> {
+    ghost use Rattle.std.specs.Prelude.{true, None};
+    ghost use Rattle.polars_arrays_flat.specs.ArrayRows.{number_rows};
+    ghost use Rattle.polars_arrays_flat.specs.Row.{Int};
+
+    type Array = PrimitiveArray<T>;
+
+    ghost state = { λ s. s };
+
+    ghost dictionary = { λ s. None };
+
+    ghost fed = { λ a. number_rows T.value a };
+
+    ghost is_taken = { λ a. true };
+
+    ghost array_dictionary = { λ a. None };
+
+    ghost value_row = { λ v. Int v };
+
+    fn has_seen_all(&self) -> bool {
+        match &self.seen {
+            Seen::Few(slots) => all_set(slots, self.span.count),
+            Seen::Many(slots) => all_set(slots, self.span.count),
+        }
+    }
+
+    fn accepts(&self, array: &PrimitiveArray<T>) -> bool {
+        accepts_rows(&self.span, array)
+    }
+
+    fn same_range(&self, other: &PrimitiveRangedUniqueState<T>) -> bool {
+        self.span.same(&other.span)
+    }
+
+    fn append(&mut self, array: &PrimitiveArray<T>) {
+        let mut steps = Steps::new();
+        self.append_counted(array, &mut steps);
+    }
+
+    fn append_state(&mut self, other: &PrimitiveRangedUniqueState<T>) {
+        join_seen(&mut self.seen, &other.seen);
+    }
+
+    fn finalize_unique(self, alloc: Global) -> Result<PrimitiveArray<T>, ComputeError> {
+        let PrimitiveRangedUniqueState { span, seen } = self;
+        match seen {
+            Seen::Few(slots) => list_set(alloc, &slots, &span),
+            Seen::Many(slots) => list_set(alloc, &slots, &span),
+        }
+    }
+
+    fn finalize_n_unique(&self) -> usize {
+        match &self.seen {
+            Seen::Few(slots) => count_rows(slots, self.span.count),
+            Seen::Many(slots) => count_rows(slots, self.span.count),
+        }
+    }
+
+    fn finalize_n_unique_non_null(&self) -> usize {
+        match &self.seen {
+            Seen::Few(slots) => count_set(slots, self.span.count),
+            Seen::Many(slots) => count_set(slots, self.span.count),
+        }
+    }
+}
+
+#[cfg(test)]
+mod tests {
+    use super::*;
+    use polars_arrays_bits::bitmap::Bitmap;
+    use polars_arrays_bits::buffer::Buffer;
+    use std::test::Fail;
+
+    // How many slots a state has, and whether they stand in one word.
+    fn slots_of<T: UniqueNumber>(state: &PrimitiveRangedUniqueState<T>) -> (usize, bool) {
+        match &state.seen {
+            Seen::Few(slots) => (slots.len(), true),
+            Seen::Many(slots) => (slots.len(), false),
+        }
+    }
+
+    // Whether a slot is there and set.
+    fn has_slot<T: UniqueNumber>(state: &PrimitiveRangedUniqueState<T>, i: usize) -> bool {
+        match &state.seen {
+            Seen::Few(slots) => i < slots.len() && slots.is_set(i),
+            Seen::Many(slots) => i < slots.len() && slots.is_set(i),
+        }
+    }
+
+    #[test]
+    fn null_has_the_last_bit_of_a_word(rt: HostRuntime) -> Result<(), Fail> {
+        let alloc = rt.alloc();
+        let mut state = PrimitiveRangedUniqueState::<u8>::new(alloc, 0, 126)?;
+        assert_eq!(rt; slots_of(&state), (128, true));
+        let validity = Bitmap::from_bools(alloc, &[true, false])?;
+        let values = Buffer::from_vec(vec![in alloc; 126u8, 0]?);
+        let array = PrimitiveArray::try_new(values, Some(validity))?;
+        assert!(rt; state.accepts(&array));
+        state.append(&array);
+        assert!(rt; has_slot(&state, 126));
+        assert!(rt; has_slot(&state, 127));
+        assert!(rt; !has_slot(&state, 125));
+        Ok(())
+    }
+
+    #[test]
+    fn more_slots_stand_in_a_bitmap(rt: HostRuntime) -> Result<(), Fail> {
+        let alloc = rt.alloc();
+        let state = PrimitiveRangedUniqueState::<u8>::new(alloc, 0, 127)?;
+        assert_eq!(rt; slots_of(&state), (129, false));
+        let state = PrimitiveRangedUniqueState::<i8>::new(alloc, -128, 127)?;
+        assert_eq!(rt; slots_of(&state), (257, false));
+        Ok(())
+    }
+}
