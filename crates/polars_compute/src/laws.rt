@@ -1,10 +1,11 @@
-//! What holds of the answers of arithmetic, counts, sums, reductions and extremes, over the definitions of their contracts alone. A law is a function that does nothing,
-//! and its clauses are what is proved.
+//! What holds of the answers of arithmetic, counts, sums, reductions, extremes and distinct values, over the definitions of their contracts alone. A law is a
+//! function that does nothing, and its clauses are what is proved.
 
 ghost use Rattle.num_traits.specs.Laws.{bit_len};
 ghost use Rattle.polars_arrays_flat.specs.Row.{Bytes, Int, Truth};
 ghost use Rattle.polars_compute.specs.ArithmeticLaws.{AnswersByRows, DividesBack, NumberOnLeft, NumberOnRight, ResultsByRows};
 ghost use Rattle.polars_compute.specs.ReductionLaws.{AnyBothByRows, AnyExtremesByRows, BothByRows, CountsByRows, ExtremesByRows, ReductionsByRows, SumsByRows};
+ghost use Rattle.polars_compute.specs.StateLaws.{MergesAsAppended, MergesEitherWay, MergesInGroups, MergesWithItself, ReadsByRows, StatesByRows, StaysWhenAppended, StaysWhenMerged};
 ghost use Rattle.polars_compute.specs.SumLaw.{SumsJoin};
 
 use polars_compute_arithmetic::arithmetic::pl_num::PlNumArithmetic;
@@ -12,7 +13,7 @@ use polars_compute_bits::wrapping::WrappingNumber;
 
 /// Arrays with the same rows get the same rows of functions, operations and counts, the same sum, the same bits of a reduction, and the same
 /// extremes, however they are stored and masked: of numbers, of truth values, of byte strings and texts, which are lent, and of arrays of
-/// any kind, of one type.
+/// any kind, of one type. They make the same of a state of distinct values, to which as many of their rows are read.
 pub fn law_3<T: PlNumArithmetic>()
     ensures functions { AnswersByRows T.value T.low (bit_len T.width) }
     ensures operations { ResultsByRows T.value T.low (bit_len T.width) }
@@ -25,6 +26,8 @@ pub fn law_3<T: PlNumArithmetic>()
     ensures truth_extremes { ExtremesByRows Truth × BothByRows Truth }
     ensures string_extremes { ExtremesByRows Bytes × BothByRows Bytes }
     ensures any_extremes { AnyExtremesByRows × AnyBothByRows }
+    ensures states { StatesByRows }
+    ensures reads { ReadsByRows }
 {}
 
 /// Of a number and a divisor other than 0, the quotient that is rounded down, times the divisor, plus the modulus, wrapped, is
@@ -42,4 +45,20 @@ pub fn law_5<T: PlNumArithmetic>()
 /// The sum of rows one behind another, wrapped, is the sum of the sums of its parts, wrapped.
 pub fn law_6<T: WrappingNumber>()
     ensures { SumsJoin T.low (bit_len T.width) }
+{}
+
+/// States of one range merge to the same in any order and in any groups, a state merged with itself stays as it is, and two new
+/// states merge to the one to which all arrays of both are appended.
+pub fn law_7()
+    ensures either_way { MergesEitherWay }
+    ensures in_groups { MergesInGroups }
+    ensures with_itself { MergesWithItself }
+    ensures as_appended { MergesAsAppended }
+{}
+
+/// Once a state has seen all values of its range and a null, no array that it takes and no state of its range changes what it
+/// answers.
+pub fn law_8()
+    ensures appended { StaysWhenAppended }
+    ensures merged { StaysWhenMerged }
 {}

@@ -1,6 +1,7 @@
 use Rattle.num_traits.specs.Laws.{bit_len}
 use Rattle.polars_arrays_flat.specs.Row.{Bytes, Int, Truth}
 use Rattle.polars_compute.proofs.ArithmeticRows.{answers-by_rows, results-by_rows}
+use Rattle.polars_compute.proofs.MergedStates.{reads-by_rows, states-by_rows}
 use Rattle.polars_compute.proofs.ReducedRows.{any_both-by_rows, any_extremes-by_rows, both-by_rows, counts-by_rows, extremes-by_rows, reductions-by_rows, sums-by_rows}
 use Rattle.polars_compute.proofs.laws.law_3.Goals as goal
 
@@ -19,4 +20,6 @@ returns g c =
       truth_extremes = (extremes-by_rows Truth, both-by_rows Truth);
       string_extremes = (extremes-by_rows Bytes, both-by_rows Bytes);
       any_extremes = (any_extremes-by_rows, any_both-by_rows);
+      states = states-by_rows;
+      reads = reads-by_rows;
     }

@@ -1,0 +1,5 @@
+use Rattle.polars_compute.proofs.MergedStates.{stays-appended, stays-merged}
+use Rattle.polars_compute.proofs.laws.law_8.Goals as goal
+
+pub returns : goal.returns
+returns c = record { appended = stays-appended; merged = stays-merged }
