@@ -134,6 +134,7 @@ fn answer_call(alloc: Global, store: &Store, call: &str, words: &mut Words) -> R
         recorded_kernels::answer(alloc, call, store, words),
         recorded_arithmetic::answer(alloc, call, store, words),
         recorded_reductions::answer(alloc, call, store, words),
+        recorded_states::answer(alloc, call, store, words),
     );
     Err(Fault::Word)
 }

@@ -45,6 +45,13 @@ impl<'a> Words<'a> {
         }
     }
 
+    /// The words that are left, all of which are then read.
+    pub fn rest(&mut self) -> &'a [&'a str] {
+        let rest = self.words.get(self.next..).unwrap_or_default();
+        self.next = self.words.len();
+        rest
+    }
+
     /// Whether each word was read.
     pub fn are_read(&self) -> bool {
         self.next >= self.words.len()

@@ -1,0 +1,159 @@
+//! Copies of arrays, appended to one new state in one call.
+//!
+//! | Call | Answer |
+//! |---|---|
+//! | `append_all_numbers TYPE MIN MAX A..` | the state of the numbers from MIN to MAX, as `seen` says |
+//! | `append_all_truths A..` | that of truth values |
+//! | `append_all_keys V A..` | that of the keys of the entries V |
+//! | `stored_numbers TYPE MIN MAX A..`, and so of `truths` and `keys` | what the array that the state ends in stores, under its null too |
+
+ghost use Rattle.std.specs.Prelude.{All, IsTrue};
+ghost use Rattle.polars_compute_unique.specs.State.{are_within, range_of};
+ghost use Rattle.recorded_text.specs.Cases.{HasGoodArrays};
+
+use crate::new_states::{Entries, NewStates, NumberRange, Truths};
+use crate::numbers::at_number_type;
+use crate::seen::write_seen;
+use crate::state_kinds::RecordedState;
+use polars_arrays_bits::error::ComputeError;
+use polars_compute_unique::kernel::RangedUniqueKernel;
+use polars_compute_unique::merge::append_all;
+use recorded_text::fault::Fault;
+use recorded_text::row_text::write_rows;
+use recorded_text::store::Store;
+use recorded_text::words::Words;
+use std::alloc::Global;
+
+/// The answer to a call of this subject, or None for another one's.
+pub fn answer(
+    alloc: Global,
+    call: &str,
+    store: &Store,
+    words: &mut Words,
+) -> Result<Option<String>, Fault>
+    requires { HasGoodArrays store.now }
+{
+    let answer = match call {
+        "append_all_numbers" => at_number_type!(
+            words.read()?,
+            write_all::<NumberRange>(alloc, store, words)
+        ),
+        "append_all_truths" => write_all::<Truths>(alloc, store, words),
+        "append_all_keys" => write_all::<Entries>(alloc, store, words),
+        "stored_numbers" => at_number_type!(
+            words.read()?,
+            write_stored::<NumberRange>(alloc, store, words)
+        ),
+        "stored_truths" => write_stored::<Truths>(alloc, store, words),
+        "stored_keys" => write_stored::<Entries>(alloc, store, words),
+        _ => return Ok(None),
+    };
+    Ok(Some(answer?))
+}
+
+// The text of the state that words tell.
+fn write_all<N: NewStates>(alloc: Global, store: &Store, words: &mut Words) -> Result<String, Fault>
+    requires { HasGoodArrays store.now }
+{
+    write_seen(alloc, state_of_all::<N>(alloc, store, words)?)
+}
+
+// What the array stores that the state ends in which words tell.
+fn write_stored<N: NewStates>(
+    alloc: Global,
+    store: &Store,
+    words: &mut Words,
+) -> Result<String, Fault>
+    requires { HasGoodArrays store.now }
+{
+    let state = state_of_all::<N>(alloc, store, words)?;
+    write_end::<N::State>(alloc, state.finalize_unique(alloc))
+}
+
+// What the array stores that a state ended in.
+fn write_end<S: RecordedState>(
+    alloc: Global,
+    end: Result<S::Array, ComputeError>,
+) -> Result<String, Fault> {
+    match end {
+        Ok(array) => write_array::<S>(alloc, array),
+        Err(refused) => Err(Fault::from(refused)),
+    }
+}
+
+// What an array stores.
+fn write_array<S: RecordedState>(alloc: Global, array: S::Array) -> Result<String, Fault> {
+    let rows = S::stored_rows(alloc, array)?;
+    write_rows(alloc, &rows)
+}
+
+// A new state of the range that words tell, to which copies of the arrays that further words name were appended.
+fn state_of_all<N: NewStates>(
+    alloc: Global,
+    store: &Store,
+    words: &mut Words,
+) -> Result<N::State, Fault>
+    requires { HasGoodArrays store.now }
+{
+    let mut state = N::read(alloc, store, words)?.new_state(alloc)?;
+    append_copies(alloc, &mut state, store, words.rest())?;
+    Ok(state)
+}
+
+// Appends copies of the arrays that words name.
+fn append_copies<S: RecordedState>(
+    alloc: Global,
+    state: &mut S,
+    store: &Store,
+    names: &[&str],
+) -> Result<(), Fault>
+    requires { HasGoodArrays store.now }
+{
+    let arrays = copy_all::<S>(alloc, store, names)?;
+    append_accepted(state, &arrays)
+}
+
+// Copies of the arrays that words name.
+fn copy_all<S: RecordedState>(
+    alloc: Global,
+    store: &Store,
+    names: &[&str],
+) -> Result<Vec<S::Array>, Fault>
+    requires { HasGoodArrays store.now }
+{
+    let mut arrays = Vec::new(alloc);
+    for name in names {
+        arrays.push(S::copy_rows(alloc, S::rows_in(store.array(name)?)?)?)?;
+    }
+    Ok(arrays)
+}
+
+// Appends all arrays. The error is `Case`, where the state does not accept one.
+fn append_accepted<S: RangedUniqueKernel>(state: &mut S, arrays: &[S::Array]) -> Result<(), Fault> {
+    if !all_accepted(state, arrays) {
+        return Err(Fault::Case);
+    }
+    append_all(state, arrays);
+    Ok(())
+}
+
+// Whether a state accepts an array.
+fn is_accepted<S: RangedUniqueKernel>(state: &S, array: &S::Array) -> bool
+    ensures taken { IsTrue result → IsTrue (S.is_taken array.now) }
+    ensures within { IsTrue result → IsTrue (are_within (range_of (S.state state.now)) (S.fed array.now)) }
+{
+    state.accepts(array)
+}
+
+// Whether a state accepts each array.
+fn all_accepted<S: RangedUniqueKernel>(state: &S, arrays: &[S::Array]) -> bool
+    ensures taken { IsTrue result → All (λ array. IsTrue (S.is_taken array)) arrays.now }
+    ensures within { IsTrue result → All (λ array. IsTrue (are_within (range_of (S.state state.now)) (S.fed array))) arrays.now }
+{
+    for i in 0..arrays.len() {
+        if !is_accepted(state, &arrays[i]) {
+            return false;
+        }
+    }
+    true
+}

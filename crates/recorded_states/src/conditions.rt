@@ -1,0 +1,80 @@
+//! The conditions of other calls. The answer is `true` or `false`.
+//!
+//! | Call | Whether |
+//! |---|---|
+//! | `range_fits TYPE MIN MAX` | there is a state of these numbers |
+//! | `keys_fit V` | there is a state of the keys of these entries |
+//! | `accepts_numbers TYPE MIN MAX A` | a state of these numbers accepts the array |
+//! | `accepts_truths A` | a state of truth values does |
+//! | `accepts_keys V A` | a state of the keys of these entries does |
+//! | `same_range_numbers TYPE MIN MAX MIN MAX` | two states of these numbers have one range |
+//! | `same_range_keys V W` | two states of the keys of these entries do |
+
+ghost use Rattle.recorded_text.specs.Cases.{HasGoodArrays};
+
+use crate::new_states::{Entries, NewStates, NumberRange, Truths};
+use crate::numbers::at_number_type;
+use crate::state_kinds::RecordedState;
+use polars_compute_unique::kernel::RangedUniqueKernel;
+use recorded_text::fault::Fault;
+use recorded_text::store::Store;
+use recorded_text::words::Words;
+use std::alloc::Global;
+
+/// The answer to a call of this subject, or None for another one's.
+pub fn answer(
+    alloc: Global,
+    call: &str,
+    store: &Store,
+    words: &mut Words,
+) -> Result<Option<String>, Fault>
+    requires { HasGoodArrays store.now }
+{
+    let answer = match call {
+        "range_fits" => at_number_type!(words.read()?, fit::<NumberRange>(alloc, store, words)),
+        "keys_fit" => fit::<Entries>(alloc, store, words),
+        "accepts_numbers" => {
+            at_number_type!(words.read()?, accept::<NumberRange>(alloc, store, words))
+        }
+        "accepts_truths" => accept::<Truths>(alloc, store, words),
+        "accepts_keys" => accept::<Entries>(alloc, store, words),
+        "same_range_numbers" => {
+            at_number_type!(
+                words.read()?,
+                have_one_range::<NumberRange>(alloc, store, words)
+            )
+        }
+        "same_range_keys" => have_one_range::<Entries>(alloc, store, words),
+        _ => return Ok(None),
+    };
+    Ok(Some(answer?.to_string(alloc)?))
+}
+
+// Whether there are states of the range that words tell.
+fn fit<N: NewStates>(alloc: Global, store: &Store, words: &mut Words) -> Result<bool, Fault>
+    requires { HasGoodArrays store.now }
+{
+    Ok(N::read(alloc, store, words)?.fit())
+}
+
+// Whether a new state of the range that words tell accepts the array that another word names.
+fn accept<N: NewStates>(alloc: Global, store: &Store, words: &mut Words) -> Result<bool, Fault>
+    requires { HasGoodArrays store.now }
+{
+    let state = N::read(alloc, store, words)?.new_state(alloc)?;
+    let array = N::State::rows_in(store.read(words)?)?;
+    Ok(state.accepts(array))
+}
+
+// Whether new states of two ranges that words tell have one range.
+fn have_one_range<N: NewStates>(
+    alloc: Global,
+    store: &Store,
+    words: &mut Words,
+) -> Result<bool, Fault>
+    requires { HasGoodArrays store.now }
+{
+    let state = N::read(alloc, store, words)?.new_state(alloc)?;
+    let other = N::read(alloc, store, words)?.new_state(alloc)?;
+    Ok(state.same_range(&other))
+}

@@ -1,0 +1,53 @@
+//! The recorded cases of states of distinct values: of numbers in a range, of truth values, and of the keys of dictionaries.
+//!
+//! An array is an operand by its name. A TYPE is one of `i8`, `i16`, `i32`, `i64`, `u8`, `u16`, `u32` and `u64`, and MIN and MAX are the
+//! first and the last number of a range. What is read from a state is text as `seen` says. A condition of a call is tested before, and
+//! where it does not hold, the line can't be answered.
+#![tactic(auto)]
+
+ghost use Rattle.recorded_text.specs.Cases.{HasGoodArrays};
+
+mod appending;
+mod columns;
+mod conditions;
+mod key_states;
+mod new_states;
+mod numbers;
+mod pairs;
+mod seen;
+mod single_arrays;
+mod state_kinds;
+mod trees;
+
+use recorded_text::fault::Fault;
+use recorded_text::store::Store;
+use recorded_text::words::Words;
+use std::alloc::Global;
+
+// Returns the first answer that there is.
+macro_rules! first_answer {
+    ($($answer:expr),+ $(,)?) => {
+        $(if let Some(answer) = $answer? {
+            return Ok(Some(answer));
+        })+
+    };
+}
+
+/// The answer to a call of one of these subjects, or None for another one's.
+pub fn answer(
+    alloc: Global,
+    call: &str,
+    store: &Store,
+    words: &mut Words,
+) -> Result<Option<String>, Fault>
+    requires { HasGoodArrays store.now }
+{
+    first_answer!(
+        pairs::answer(alloc, call, store, words),
+        key_states::answer(alloc, call, store, words),
+        conditions::answer(alloc, call, store, words),
+        appending::answer(alloc, call, store, words),
+        trees::answer(alloc, call, store, words),
+    );
+    single_arrays::answer(alloc, call, store, words)
+}

@@ -1,0 +1,55 @@
+//! The distinct rows of one array of truth values.
+//!
+//! | Call | Answer |
+//! |---|---|
+//! | `unique A` | the rows |
+//! | `n_unique A` | how many there are |
+//! | `n_unique_non_null A` | how many of them are present |
+
+ghost use Rattle.recorded_text.specs.Cases.{HasGoodArrays};
+
+use crate::numbers::rows_in;
+use polars_arrays_bits::error::ComputeError;
+use polars_arrays_flat::boolean::BooleanArray;
+use polars_arrays_nested::any_array::AnyArray;
+use polars_compute_unique::kernel::GenericUniqueKernel;
+use recorded_text::fault::Fault;
+use recorded_text::row_text::write_rows;
+use recorded_text::store::Store;
+use recorded_text::words::Words;
+use std::alloc::Global;
+
+/// The answer to a call of this subject, or None for another one's.
+pub fn answer(
+    alloc: Global,
+    call: &str,
+    store: &Store,
+    words: &mut Words,
+) -> Result<Option<String>, Fault>
+    requires { HasGoodArrays store.now }
+{
+    let answer = match call {
+        "unique" => write_made(alloc, truths_in(store.read(words)?)?.unique(alloc)),
+        "n_unique" => write_count(alloc, truths_in(store.read(words)?)?.n_unique()),
+        "n_unique_non_null" => {
+            write_count(alloc, truths_in(store.read(words)?)?.n_unique_non_null())
+        }
+        _ => return Ok(None),
+    };
+    Ok(Some(answer?))
+}
+
+// The truth values inside an array of them.
+fn truths_in(any: &AnyArray) -> Result<&BooleanArray, Fault> {
+    rows_in!(any, Boolean)
+}
+
+// The rows of the array that a call made.
+fn write_made(alloc: Global, made: Result<BooleanArray, ComputeError>) -> Result<String, Fault> {
+    write_rows(alloc, &AnyArray::Boolean(made?))
+}
+
+// The text of a number of rows.
+fn write_count(alloc: Global, count: usize) -> Result<String, Fault> {
+    Ok(count.to_string(alloc)?)
+}

@@ -1,0 +1,211 @@
+//! Trees of states, in postfix: leaves of some words each, and `+`, which joins the two trees before it.
+//!
+//! | Call | A leaf | Answer |
+//! |---|---|---|
+//! | `merge_tree_numbers TYPE MIN MAX TREE` | A: a state of the numbers from MIN to MAX, to which A was appended | the states merged, as `seen` says |
+//! | `merge_tree_truths TREE` | A: the same of truth values | the same |
+//! | `merge_tree_keys TREE` | V A: the same of the keys of the entries V | the same |
+//! | `one_range_numbers TYPE TREE` | MIN MAX: a new state of these numbers | whether all leaves have one range |
+//! | `one_range_keys TREE` | V: a new state of the keys of these entries | the same |
+
+ghost use Rattle.recorded_text.specs.Cases.{HasGoodArrays};
+
+use crate::columns::append;
+use crate::new_states::{Entries, NewStates, NumberRange, Truths};
+use crate::numbers::at_number_type;
+use crate::seen::write_seen;
+use crate::state_kinds::RecordedState;
+use polars_compute_unique::merge::{MergeTree, merge_tree};
+use recorded_text::fault::Fault;
+use recorded_text::store::Store;
+use recorded_text::words::Words;
+use std::alloc::Global;
+
+/// The answer to a call of this subject, or None for another one's.
+pub fn answer(
+    alloc: Global,
+    call: &str,
+    store: &Store,
+    words: &mut Words,
+) -> Result<Option<String>, Fault>
+    requires { HasGoodArrays store.now }
+{
+    let answer = match call {
+        "merge_tree_numbers" => {
+            at_number_type!(
+                words.read()?,
+                merge_in_range::<NumberRange>(alloc, store, words)
+            )
+        }
+        "merge_tree_truths" => merge_in_range::<Truths>(alloc, store, words),
+        "merge_tree_keys" => merge::<Entries>(alloc, &Leaves::Gathered, store, words),
+        "one_range_numbers" => {
+            at_number_type!(
+                words.read()?,
+                have_one_range::<NumberRange>(alloc, store, words)
+            )
+        }
+        "one_range_keys" => have_one_range::<Entries>(alloc, store, words),
+        _ => return Ok(None),
+    };
+    Ok(Some(answer?))
+}
+
+// What the words of a leaf tell.
+#[derive(Drop)]
+enum Leaves<N: NewStates> {
+    // An array that is appended to a new state of this range.
+    Within(N),
+    // A range, and such an array.
+    Gathered,
+    // The range of a new state.
+    New,
+}
+
+// The states of leaves of the range that words tell, merged.
+fn merge_in_range<N: NewStates>(
+    alloc: Global,
+    store: &Store,
+    words: &mut Words,
+) -> Result<String, Fault>
+    requires { HasGoodArrays store.now }
+{
+    let leaves = Leaves::Within(N::read(alloc, store, words)?);
+    merge(alloc, &leaves, store, words)
+}
+
+// The states of a tree, merged.
+fn merge<N: NewStates>(
+    alloc: Global,
+    leaves: &Leaves<N>,
+    store: &Store,
+    words: &mut Words,
+) -> Result<String, Fault>
+    requires { HasGoodArrays store.now }
+{
+    let tree = read_tree(alloc, leaves, store, words.rest())?;
+    write_merged(alloc, tree)
+}
+
+// The text of the states of a tree, merged. The error is `Case`, where their ranges differ.
+fn write_merged<S: RecordedState>(alloc: Global, tree: MergeTree<S>) -> Result<String, Fault> {
+    if !tree.one_range() {
+        return Err(Fault::Case);
+    }
+    write_seen(alloc, merge_tree(tree))
+}
+
+// Whether the new states of a tree have one range.
+fn have_one_range<N: NewStates>(
+    alloc: Global,
+    store: &Store,
+    words: &mut Words,
+) -> Result<String, Fault>
+    requires { HasGoodArrays store.now }
+{
+    let tree = read_tree::<N>(alloc, &Leaves::New, store, words.rest())?;
+    Ok(tree.one_range().to_string(alloc)?)
+}
+
+// The tree that words write.
+fn read_tree<N: NewStates>(
+    alloc: Global,
+    leaves: &Leaves<N>,
+    store: &Store,
+    words: &[&str],
+) -> Result<MergeTree<N::State>, Fault>
+    requires { HasGoodArrays store.now }
+{
+    let mut trees = Vec::new(alloc);
+    read_trees(alloc, &mut trees, leaves, store, words)?;
+    match trees.pop() {
+        Some(tree) if trees.is_empty() => Ok(tree),
+        _ => Err(Fault::Word),
+    }
+}
+
+// The trees that words write, of which the last ones may be joined.
+fn read_trees<N: NewStates>(
+    alloc: Global,
+    trees: &mut Vec<MergeTree<N::State>>,
+    leaves: &Leaves<N>,
+    store: &Store,
+    words: &[&str],
+) -> Result<(), Fault>
+    requires { HasGoodArrays store.now }
+{
+    let mut left = Words::new(words);
+    for _ in 0..words.len() {
+        if !left.are_read() {
+            read_part(alloc, trees, leaves, store, &mut left)?;
+        }
+    }
+    Ok(())
+}
+
+// Joins the last two trees, or adds the leaf that words write.
+fn read_part<N: NewStates>(
+    alloc: Global,
+    trees: &mut Vec<MergeTree<N::State>>,
+    leaves: &Leaves<N>,
+    store: &Store,
+    words: &mut Words,
+) -> Result<(), Fault>
+    requires { HasGoodArrays store.now }
+{
+    if words.take("+") {
+        return join_last(alloc, trees);
+    }
+    let state = read_leaf(alloc, leaves, store, words)?;
+    Ok(trees.push(MergeTree::Leaf(state))?)
+}
+
+// Joins the last two trees.
+fn join_last<S: RecordedState>(alloc: Global, trees: &mut Vec<MergeTree<S>>) -> Result<(), Fault> {
+    match (trees.pop(), trees.pop()) {
+        (Some(right), Some(left)) => Ok(trees.push(join_two(alloc, left, right)?)?),
+        _ => Err(Fault::Word),
+    }
+}
+
+// A tree of two.
+fn join_two<S: RecordedState>(
+    alloc: Global,
+    left: MergeTree<S>,
+    right: MergeTree<S>,
+) -> Result<MergeTree<S>, Fault> {
+    let left = Box::new(alloc, left)?;
+    let right = Box::new(alloc, right)?;
+    Ok(MergeTree::Node(left, right))
+}
+
+// The state of the leaf that words write.
+fn read_leaf<N: NewStates>(
+    alloc: Global,
+    leaves: &Leaves<N>,
+    store: &Store,
+    words: &mut Words,
+) -> Result<N::State, Fault>
+    requires { HasGoodArrays store.now }
+{
+    match leaves {
+        Leaves::Within(range) => read_gathered(alloc, range, store, words),
+        Leaves::Gathered => read_gathered(alloc, &N::read(alloc, store, words)?, store, words),
+        Leaves::New => N::read(alloc, store, words)?.new_state(alloc),
+    }
+}
+
+// A new state to which the array that a word names was appended.
+fn read_gathered<N: NewStates>(
+    alloc: Global,
+    range: &N,
+    store: &Store,
+    words: &mut Words,
+) -> Result<N::State, Fault>
+    requires { HasGoodArrays store.now }
+{
+    let array = N::State::rows_in(store.read(words)?)?;
+    let mut state = range.new_state(alloc)?;
+    append(&mut state, array)?;
+    Ok(state)
+}
