@@ -2,6 +2,7 @@
 
 use crate::operands::{Numbers, Rows, rows, words};
 use crate::plain::{self, Window};
+use crate::plain_states::distinct_truths;
 use crate::timing::{Asked, Bench, Kernel, NO_BIT, RUNS, bit_of, repeat};
 use std::hint::black_box;
 
@@ -28,6 +29,7 @@ enum TruthKernel {
     ReduceAnd,
     ReduceXor,
     Min,
+    Distinct,
 }
 
 // After the words come the shift of the windows and their length in bits.
@@ -75,7 +77,7 @@ struct Logic {
 /// Windows at differing places in words.
 const DIFFERING: usize = 13;
 
-const LOGIC: [Logic; 23] = [
+const LOGIC: [Logic; 24] = [
     Logic {
         name: "and",
         shift: DIFFERING,
@@ -236,6 +238,13 @@ const LOGIC: [Logic; 23] = [
         asked: Asked::Ratio([1.0, 1.0]),
         ours: Ours::Truths(TruthKernel::Min),
         plain: |w, _| plain::all_true(w[0]).map_or(NO_BIT, u64::from),
+    },
+    Logic {
+        name: "distinct of bool",
+        shift: DIFFERING,
+        asked: Asked::Nanoseconds([0.05, 0.05]),
+        ours: Ours::Truths(TruthKernel::Distinct),
+        plain: |w, _| distinct_truths(w[0]),
     },
 ];
 

@@ -15,9 +15,11 @@ mod plain;
 mod plain_arithmetic;
 mod plain_nested;
 mod plain_reductions;
+mod plain_states;
 mod plain_strings;
 mod reductions;
 mod slices;
+mod states;
 mod string_rows;
 mod strings;
 mod timing;
@@ -33,6 +35,7 @@ fn for_each_on_rows(count: usize, each: &mut dyn FnMut(&Kernel)) {
     slices::for_each(data, each);
     arrays::for_each(data, each);
     reductions::for_each(data, each);
+    states::for_each(count, each);
     strings::for_each(&Strings::new(count), each);
     nested::for_each(&Nested::new(count), each);
 }
@@ -76,6 +79,7 @@ fn main() {
         bitmaps::compare(&mut bench, run);
     }
     nested::compare(&mut bench);
+    states::compare(&mut bench);
     for run in 0..RUNS.len() {
         arithmetic::compare(&mut bench, run);
     }

@@ -1,4 +1,4 @@
-//! Comparisons, reductions and extremes of arrays of truth values.
+//! Comparisons, reductions, extremes and distinct values of arrays of truth values.
 
 use crate::operands::{Truths, truths_in_two_places};
 use crate::{NO_BIT, Timed, bit_of, repeat};
@@ -6,6 +6,7 @@ use polars_compare_equality::kernel::TotalEqKernel;
 use polars_compare_extremes::kernel::MinMaxKernel;
 use polars_compare_order::kernel::TotalOrdKernel;
 use polars_compute_bits::bitwise::BitwiseKernel;
+use polars_compute_unique::kernel::GenericUniqueKernel;
 use std::alloc::Global;
 
 /// A kernel on two arrays of truth values, or on the left one.
@@ -16,6 +17,7 @@ pub(crate) enum TruthKernel {
     ReduceAnd,
     ReduceXor,
     Min,
+    Distinct,
 }
 
 // The truth value as a number, if there is one.
@@ -39,6 +41,7 @@ impl Timed for Truths {
             TruthKernel::ReduceAnd => number_of(left.reduce_and()),
             TruthKernel::ReduceXor => number_of(left.reduce_xor()),
             TruthKernel::Min => number_of(left.min_ignore_nan_kernel()),
+            TruthKernel::Distinct => left.n_unique() as u64,
         }
     }
 }
@@ -47,7 +50,7 @@ impl Timed for Truths {
 fn time_pair(alloc: Global, operands: (&Truths, &Truths), kernel: u32, repeats: usize) -> u64 {
     by_number!(
         kernel,
-        TruthKernel: TotEq TotLt ReduceAnd ReduceXor Min,
+        TruthKernel: TotEq TotLt ReduceAnd ReduceXor Min Distinct,
         |chosen| repeat(alloc, chosen, operands, repeats),
         0
     )

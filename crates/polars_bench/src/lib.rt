@@ -65,6 +65,7 @@ mod numbers;
 mod operands;
 mod reductions;
 mod slices;
+mod states;
 mod string_operands;
 mod strings;
 

@@ -96,7 +96,7 @@ fn time_clones<T: BitNumber + WrappingSum + AsPrimitive<u64>>(
 }
 
 // A window of `len` bits of the words, or None without words.
-fn validity_from(
+pub(crate) fn validity_from(
     alloc: Global,
     words: &[u64],
     at: usize,
