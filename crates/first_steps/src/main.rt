@@ -84,14 +84,14 @@ fn fields(alloc: Global) -> Result<Vec<Field>, Fault> {
 }
 
 /// The column of orders that the parts make.
-fn orders(alloc: Global, parts: &Parts) -> Result<AnyArray, Fault>
-    ensures { IfOk result (λ array. IsGood array) }
+fn orders(alloc: Global, parts: &Parts) -> Result<Box<AnyArray>, Fault>
+    ensures { IfOk result (λ array. IsGood array.value) }
 {
     let mut columns = Vec::new(alloc);
     columns.push(lists(alloc, parts)?)?;
     columns.push(cities(alloc, parts)?)?;
     let array = StructArray::try_new(fields(alloc)?, parts.keys.len(), columns, None)?;
-    Ok(AnyArray::Struct(array))
+    Ok(Box::new(alloc, AnyArray::Struct(array))?)
 }
 
 /// Prints for each row of two columns whether it is the same, and after how many comparisons that is known.
@@ -144,8 +144,7 @@ const SECOND: Parts<'static> = Parts {
 fn compare_orders(rt: &(impl Print + AllocGlobal)) -> Result<(), Fault> {
     let left = orders(rt.alloc(), &FIRST)?;
     let right = orders(rt.alloc(), &SECOND)?;
-    print_same(rt, &left, &right)?;
-    Ok(())
+    print_same(rt, &left, &right)
 }
 
 fn main(rt: HostRuntime) -> ExitCode {

@@ -4,7 +4,7 @@ ghost use Rattle.recorded_text.specs.Cases.{HasGoodArrays};
 
 use recorded_text::fault::Fault;
 use recorded_text::leaf_slots::leaf_slots;
-use recorded_text::row_text::write_rows;
+use recorded_text::row_text::{write_made, write_rows};
 use recorded_text::store::Store;
 use recorded_text::words::Words;
 use std::alloc::Global;
@@ -40,22 +40,21 @@ fn copy(alloc: Global, store: &Store, words: &mut Words) -> Result<String, Fault
     requires { HasGoodArrays store.now }
 {
     let copy = store.read(words)?.clone_array(alloc)?;
-    let text = write_rows(alloc, &copy)?;
-    Ok(text)
+    write_made(alloc, copy)
 }
 
 // The rows that a slice of a clone of an array has.
 fn slice(alloc: Global, store: &Store, words: &mut Words) -> Result<String, Fault>
     requires { HasGoodArrays store.now }
 {
-    let mut array = store.read(words)?.clone_array(alloc)?;
+    let array = store.read(words)?;
     let (at, n): (usize, usize) = (words.read_number()?, words.read_number()?);
     if at > array.len() || n > array.len() - at {
         return Err(Fault::Case);
     }
-    array.slice(at, n);
-    let text = write_rows(alloc, &array)?;
-    Ok(text)
+    let mut copy = array.clone_array(alloc)?;
+    copy.slice(at, n);
+    write_made(alloc, copy)
 }
 
 // How many leaf slots each of two arrays has.

@@ -12,7 +12,7 @@ use polars_arrays_nested::any_array::AnyArray;
 use polars_arrays_nested::struct_array::StructArray;
 use recorded_text::fault::Fault;
 use recorded_text::parts::{Kept, read_validity};
-use recorded_text::row_text::write_rows;
+use recorded_text::row_text::write_made;
 use recorded_text::store::Store;
 use recorded_text::words::Words;
 use std::alloc::Global;
@@ -50,17 +50,9 @@ fn write_struct(alloc: Global, made: Result<StructArray, ArrayError>) -> Result<
     requires { IfOk made (λ array. IsGood (Struct array)) }
 {
     match made {
-        Ok(array) => rows(alloc, array),
+        Ok(array) => write_made(alloc, AnyArray::Struct(array)),
         Err(error) => refusal(alloc, &error),
     }
-}
-
-// The rows of structs.
-fn rows(alloc: Global, array: StructArray) -> Result<String, Fault>
-    requires { IsGood (Struct array) }
-{
-    let text = write_rows(alloc, &AnyArray::Struct(array))?;
-    Ok(text)
 }
 
 // Why there are no structs.

@@ -101,6 +101,7 @@ fn add(
     ensures { HasGoodArrays store.new }
 {
     if !words.are_read() {
+        drop(array);
         return Err(Fault::Word);
     }
     store.add(alloc, name, array)?;

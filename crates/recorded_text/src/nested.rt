@@ -42,8 +42,16 @@ fn read_array(alloc: Global, kept: Kept, words: &mut Words, depth: usize) -> Res
 {
     let at: usize = words.read_number()?;
     let n: usize = words.read_number()?;
-    let mut array = read_whole(alloc, kept, words, depth)?;
+    slice_of(read_whole(alloc, kept, words, depth)?, at, n)
+}
+
+// The `n` rows of an array from row `at` on. The error is `Word`, where it has fewer.
+fn slice_of(mut array: AnyArray, at: usize, n: usize) -> Result<AnyArray, Fault>
+    requires { IsGood array }
+    ensures { IfOk result (λ a. IsGood a) }
+{
     if at > array.len() || n > array.len() - at {
+        drop(array);
         return Err(Fault::Word);
     }
     array.slice(at, n);

@@ -197,3 +197,12 @@ pub fn write_rows(alloc: Global, array: &AnyArray) -> Result<String, Fault>
     }
     Ok(text)
 }
+
+/// The rows of an array that was made to be written, parted by spaces.
+pub fn write_made(alloc: Global, array: AnyArray) -> Result<String, Fault>
+    requires { IsGood array }
+{
+    let text = write_rows(alloc, &array);
+    drop(array);
+    text
+}

@@ -45,11 +45,32 @@ impl Store {
         requires array { IsGood array }
         ensures { HasGoodArrays self.new }
     {
+        match self.new_name(alloc, name) {
+            Ok(name) => self.push(NamedArray { name, array }),
+            Err(fault) => {
+                drop(array);
+                Err(fault)
+            }
+        }
+    }
+
+    // A name that no array has. The error is `Case`, where one has it, or else `Memory`.
+    fn new_name(&self, alloc: Global, name: &str) -> Result<String, Fault>
+        requires { HasGoodArrays self.now }
+    {
         if self.array(name).is_ok() {
             return Err(Fault::Case);
         }
-        let name = name.to_string(alloc)?;
-        self.arrays.push(NamedArray { name, array })?;
+        Ok(name.to_string(alloc)?)
+    }
+
+    // Adds an array with a name of its own.
+    fn push(&mut self, named: NamedArray) -> Result<(), Fault>
+        requires arrays { HasGoodArrays self.old }
+        requires array { IsGood named.array }
+        ensures { HasGoodArrays self.new }
+    {
+        self.arrays.push(named)?;
         Ok(())
     }
 
