@@ -2,7 +2,7 @@
 
 ghost use Rattle.std.specs.Prelude.{◌+◌, ◌≤◌, All, IsTrue, length};
 ghost use Rattle.polars_arrays_flat.specs.ArrayRows.{number_rows};
-ghost use Rattle.polars_compute_unique.specs.State.{RangeFits, are_within, new_state, numbers_between, range_of};
+ghost use Rattle.polars_compute_slots.specs.State.{RangeFits, are_within, new_state, numbers_between, range_of};
 
 use crate::operands::number_array;
 use crate::reductions::validity_from;
@@ -10,9 +10,9 @@ use crate::{Timed, repeat};
 use polars_arrays_bits::error::ComputeError;
 use polars_arrays_flat::array::Array;
 use polars_arrays_flat::primitive::PrimitiveArray;
+use polars_compute_slots::number::UniqueNumber;
 use polars_compute_unique::kernel::RangedUniqueKernel;
 use polars_compute_unique::merge::append_all;
-use polars_compute_unique::number::UniqueNumber;
 use polars_compute_unique::primitive::{PrimitiveRangedUniqueState, range_fits};
 use std::alloc::Global;
 

@@ -6,7 +6,7 @@ use Rattle.std.specs.Simd.Lanes.{zip2}
 use Rattle.polars_arrays_flat.specs.Row.{Row}
 use Rattle.polars_compare.specs.RowsLaws.{rows_of}
 use Rattle.polars_compute.specs.StateLaws.{MergesAsAppended, MergesEitherWay, MergesInGroups, MergesWithItself, ReadsByRows, StatesByRows, StaysWhenAppended, StaysWhenMerged}
-use Rattle.polars_compute_unique.specs.State.{State, any_null, appended, appended_all, finalised, holds, is_full, merged, new_state, range_of, rows_read}
+use Rattle.polars_compute_slots.specs.State.{State, any_null, appended, appended_all, finalised, holds, is_full, merged, new_state, range_of, rows_read}
 
 -- a state of its two parts
 abbrev made : List (ℤ × Bool) → Bool → State

@@ -4,9 +4,9 @@ pub use Rattle.polars_compute_arithmetic.specs.Quotients
 pub use Rattle.polars_compute_arithmetic.specs.Results
 pub use Rattle.polars_compute_bits.specs.Bitwise
 pub use Rattle.polars_compute_bits.specs.Sum
+pub use Rattle.polars_compute_slots.specs.State
 pub use Rattle.polars_compute_unique.specs.Dictionaries
 pub use Rattle.polars_compute_unique.specs.Sorted
-pub use Rattle.polars_compute_unique.specs.State
 pub use Rattle.polars_compute_unique.specs.Trees
 pub mod ArithmeticLaws
 pub mod ReductionLaws

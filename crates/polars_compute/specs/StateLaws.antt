@@ -2,7 +2,7 @@
 use Rattle.std.specs.Prelude.{◌≡◌, ◌++◌, ℕ, ℤ, true, List, IsTrue}
 use Rattle.polars_arrays_flat.specs.Row.{Row}
 use Rattle.polars_compute.specs.ReductionLaws.{ByRows}
-use Rattle.polars_compute_unique.specs.State.{State, all_seen, appended, appended_all, are_within, finalised, merged, new_state, range_of, rows_read}
+use Rattle.polars_compute_slots.specs.State.{State, all_seen, appended, appended_all, are_within, finalised, merged, new_state, range_of, rows_read}
 
 -- two columns that keep the same rows make the same of a state
 abbrev pub StatesByRows : Type 0

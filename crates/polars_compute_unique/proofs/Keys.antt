@@ -9,8 +9,8 @@ use Rattle.polars_arrays_flat.specs.Row.{Row, Null, Int}
 use Rattle.polars_arrays_flat.specs.StoredRows.{kept, masked, number_slots, row, rows_under}
 use Rattle.polars_arrays_flat.specs.Validity.{is_present}
 use Rattle.polars_arrays_nested.specs.DictKeys.{IsEntry, NameEntries}
+use Rattle.polars_compute_slots.specs.State.{State, finalised, set_of}
 use Rattle.polars_compute_unique.specs.Dictionaries.{NamesEntries}
-use Rattle.polars_compute_unique.specs.State.{State, finalised, set_of}
 use mathlib.Core.Logic.{⊎_elim}
 
 tail-null : (b : Bool) (k : ℕ) → get_or (cond b (Null ∷ []) []) k Null ≡ Null

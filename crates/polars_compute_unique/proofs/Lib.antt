@@ -1,12 +1,4 @@
-pub mod Casts
 pub mod Examples
-pub mod Fullness
 pub mod Keys
-pub mod Marked
 pub mod Merges
-pub mod Ranges
-pub mod RowPlaces
-pub mod Sets
-pub mod States
 pub mod TruthCounts
-pub mod WordBits

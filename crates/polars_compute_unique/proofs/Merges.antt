@@ -4,7 +4,7 @@ use Rattle.std.specs.Prelude.{ℤ}
 use Rattle.std.specs.Simd.Lanes.{zip2}
 use Rattle.std.proofs.lemmas.List.{map-append, take_all, take_more}
 use Rattle.polars_arrays_flat.specs.Row.{Row}
-use Rattle.polars_compute_unique.specs.State.{State, appended, appended_all, merged, range_of}
+use Rattle.polars_compute_slots.specs.State.{State, appended, appended_all, merged, range_of}
 use Rattle.polars_compute_unique.specs.Trees.{HaveRange, leftmost, merged_tree}
 use Rattle.polars_compute_unique.specs.declared.merge.MergeTree.{MergeTree, Leaf, Node'}
 

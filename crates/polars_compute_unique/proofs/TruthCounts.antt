@@ -8,8 +8,8 @@ use Rattle.polars_arrays_flat.specs.ArrayRows.{is_null}
 use Rattle.polars_arrays_flat.specs.Row.{Row, Null, Truth}
 use Rattle.polars_arrays_flat.specs.StoredRows.{kept, masked, rows_under, truth_slots}
 use Rattle.polars_arrays_flat.specs.Validity.{HasBits}
-use Rattle.polars_compute_unique.specs.State.{any_null, are_within, holds, is_value, is_within, truth_numbers}
-use Rattle.polars_compute_unique.proofs.Fullness.{tally, tally-is}
+use Rattle.polars_compute_slots.specs.State.{any_null, are_within, holds, is_value, is_within, truth_numbers}
+use Rattle.polars_compute_slots.proofs.Fullness.{tally, tally-is}
 
 -- ---- counts and tests
 

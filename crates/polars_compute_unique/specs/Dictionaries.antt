@@ -8,7 +8,7 @@ use Rattle.polars_arrays_nested.specs.Lengths.{len_of}
 use Rattle.polars_arrays_nested.specs.declared.any_array.AnyArray.{AnyArray}
 use Rattle.polars_arrays_nested.specs.declared.dict_keys.DictKeys.{DictKeys}
 use Rattle.polars_arrays_nested.specs.declared.dict_keys.DictKeys.TheVariants.{UInt32}
-use Rattle.polars_compute_unique.specs.State.{State, set_of}
+use Rattle.polars_compute_slots.specs.State.{State, set_of}
 
 -- the keys as rows; those of another type than u32 are fed to no state
 abbrev pub key_rows : DictKeys → List Row

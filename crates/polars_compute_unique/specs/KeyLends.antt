@@ -8,8 +8,8 @@ use Rattle.num_traits.specs.contracts.impls.u32.U32Bounded.TheImpl.{ghosts as bo
 use Rattle.num_traits.specs.contracts.impls.u32.U32FixedWidth.TheImpl.{ghosts as fixed_width}
 use Rattle.num_traits.specs.contracts.impls.u32.U32Number.TheImpl.{ghosts as number}
 use Rattle.num_traits.specs.contracts.impls.u32.U32Zero.TheImpl.{ghosts as zero}
+use Rattle.polars_compute_slots.specs.State.{State}
 use Rattle.polars_compute_unique.specs.KeyState.{KeyState}
-use Rattle.polars_compute_unique.specs.State.{State}
 use Rattle.polars_compute_unique.specs.contracts.dictionary.DictionaryRangedUniqueState.{the_row}
 use Rattle.polars_compute_unique.specs.contracts.primitive.PrimitiveRangedUniqueState.{the_row as keys_row}
 

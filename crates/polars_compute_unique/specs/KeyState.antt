@@ -2,7 +2,7 @@
 use Rattle.std.specs.Prelude.{ℤ, Bool, List, refl}
 use Rattle.std.specs.Coded.{Coded, code_by, coded×, coded_bool, coded_list, coded_ℤ}
 use Rattle.polars_arrays_nested.specs.declared.any_array.AnyArray.{AnyArray}
-use Rattle.polars_compute_unique.specs.State.{State}
+use Rattle.polars_compute_slots.specs.State.{State}
 
 -- the state of the keys, and the dictionary whose entries they name
 pub record KeyState : Type 0 where

@@ -2,8 +2,6 @@ pub mod Dictionaries
 pub mod KeyLends
 pub mod KeyState
 pub mod Seen
-pub mod Slots
 pub mod Sorted
-pub mod State
 pub mod Trees
 pub mod Truths

@@ -1,6 +1,6 @@
 -- How a state of numbers is kept.
 use Rattle.std.specs.Prelude.{◌≡◌, ◌+◌, ℕ, ℤ, Bool, true, false, List, length, nat_le}
-use Rattle.polars_compute_unique.specs.Slots.{AreNumbers}
+use Rattle.polars_compute_slots.specs.Slots.{AreNumbers}
 use Rattle.polars_compute_unique.specs.declared.primitive.Seen.{Seen}
 use Rattle.polars_compute_unique.specs.declared.primitive.Seen.TheVariants.{Few, Many}
 

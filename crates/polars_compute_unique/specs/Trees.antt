@@ -1,6 +1,6 @@
 -- Trees of states to be merged.
 use Rattle.std.specs.Prelude.{◌≡◌, ℤ, List}
-use Rattle.polars_compute_unique.specs.State.{State, merged, range_of}
+use Rattle.polars_compute_slots.specs.State.{State, merged, range_of}
 use Rattle.polars_compute_unique.specs.declared.merge.MergeTree.{MergeTree, Leaf, Node'}
 
 module _ {S : Type 0} where

@@ -1,7 +1,7 @@
 -- States of truth values.
 use Rattle.std.specs.Prelude.{◌++◌, Bool, true, false, cond, List, [], ◌∷◌, map, pos}
 use Rattle.std.specs.Ordering.{int_eq}
-use Rattle.polars_compute_unique.specs.State.{State, set_of}
+use Rattle.polars_compute_slots.specs.State.{State, set_of}
 
 -- the truth values that were seen, false before true, and false for a null
 abbrev pub seen_bits : State → List Bool

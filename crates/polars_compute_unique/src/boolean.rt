@@ -3,16 +3,16 @@
 ghost use Rattle.std.specs.Prelude.{◌≡◌, ◌+◌, ◌++◌, ◌<◌, ◌≤◌, cond, count_by, [], ◌∷◌, pos, true, false, length, replicate, Some, None, if◌then◌else◌, IsTrue, MatchResult};
 ghost use Rattle.polars_arrays_bits.specs.Errors.{IsMemory};
 ghost use Rattle.polars_arrays_flat.specs.ArrayRows.{truth_rows};
-ghost use Rattle.polars_compute_unique.specs.State.{any_null, appended, holds, is_value, new_state, truth_numbers};
+ghost use Rattle.polars_compute_slots.specs.State.{any_null, appended, holds, is_value, new_state, truth_numbers};
 ghost use Rattle.polars_compute_unique.specs.Truths.{seen_bits};
 
 use crate::kernel::{GenericUniqueKernel, RangedUniqueKernel};
-use crate::listing::last_masked;
 use polars_arrays_bits::bitmap::Bitmap;
 use polars_arrays_bits::builder::BitmapBuilder;
 use polars_arrays_bits::error::ComputeError;
 use polars_arrays_flat::array::Array;
 use polars_arrays_flat::boolean::BooleanArray;
+use polars_compute_slots::listing::last_masked;
 use std::alloc::Global;
 use std::marker::Model;
 
@@ -26,7 +26,7 @@ pub struct BooleanUniqueKernelState {
 
 impl Model for BooleanUniqueKernelState {
     ghost use Rattle.std.specs.Prelude.{[], ◌∷◌, pos};
-    ghost use Rattle.polars_compute_unique.specs.State.{State};
+    ghost use Rattle.polars_compute_slots.specs.State.{State};
 
     ghost Value = { State };
 
@@ -83,7 +83,7 @@ impl BooleanUniqueKernelState {
 
 impl Default for BooleanUniqueKernelState {
     ghost use Rattle.std.specs.Prelude.{◌≡◌};
-    ghost use Rattle.polars_compute_unique.specs.State.{new_state, truth_numbers};
+    ghost use Rattle.polars_compute_slots.specs.State.{new_state, truth_numbers};
 
     ghost is_default = { λ s. s ≡ new_state truth_numbers };
 
@@ -134,7 +134,7 @@ fn seen_validity(
 impl RangedUniqueKernel for BooleanUniqueKernelState {
     ghost use Rattle.std.specs.Prelude.{true, None};
     ghost use Rattle.polars_arrays_flat.specs.ArrayRows.{truth_rows};
-    ghost use Rattle.polars_compute_unique.specs.State.{truth_row};
+    ghost use Rattle.polars_compute_slots.specs.State.{truth_row};
 
     type Array = BooleanArray;
 
@@ -209,7 +209,7 @@ fn state_of(array: &BooleanArray) -> BooleanUniqueKernelState
 
 impl GenericUniqueKernel for BooleanArray {
     ghost use Rattle.polars_arrays_flat.specs.ArrayRows.{truth_rows};
-    ghost use Rattle.polars_compute_unique.specs.State.{truth_numbers, truth_row};
+    ghost use Rattle.polars_compute_slots.specs.State.{truth_numbers, truth_row};
 
     ghost rows = { truth_rows };
 

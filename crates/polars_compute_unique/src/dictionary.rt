@@ -7,8 +7,8 @@ ghost use Rattle.polars_arrays_nested.specs.GoodParts.{AreKeys, IsGood};
 ghost use Rattle.polars_arrays_nested.specs.Lengths.{len_of};
 ghost use Rattle.polars_arrays_nested.specs.Parts.{dictionary_keys, dictionary_values};
 ghost use Rattle.polars_arrays_nested.specs.declared.any_array.AnyArray.{Dictionary};
+ghost use Rattle.polars_compute_slots.specs.State.{new_state, numbers_from};
 ghost use Rattle.polars_compute_unique.specs.Dictionaries.{IsMissingKey, NamesEntries};
-ghost use Rattle.polars_compute_unique.specs.State.{new_state, numbers_from};
 
 use crate::kernel::RangedUniqueKernel;
 use crate::primitive::PrimitiveRangedUniqueState;

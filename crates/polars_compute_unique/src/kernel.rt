@@ -5,9 +5,9 @@ ghost use Rattle.polars_arrays_bits.specs.Errors.{IsMemory};
 ghost use Rattle.polars_arrays_flat.specs.Row.{Row};
 ghost use Rattle.polars_arrays_flat.specs.StoredRows.{rows_under};
 ghost use Rattle.polars_arrays_nested.specs.declared.any_array.AnyArray.{AnyArray};
+ghost use Rattle.polars_compute_slots.specs.State.{State, all_seen, appended, are_within, distinct, distinct_values, finalised, merged, range_of, set_of};
 ghost use Rattle.polars_compute_unique.specs.Dictionaries.{HasEntries, IsFinalFault};
 ghost use Rattle.polars_compute_unique.specs.Sorted.{AreAdjacent, AreDistinct, CountsDistinct, CountsPresent, rows_of_all};
-ghost use Rattle.polars_compute_unique.specs.State.{State, all_seen, appended, are_within, distinct, distinct_values, finalised, merged, range_of, set_of};
 
 use polars_arrays_bits::error::ComputeError;
 use polars_arrays_flat::array::Array;

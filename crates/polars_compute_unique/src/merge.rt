@@ -1,7 +1,7 @@
 //! Many arrays appended to one state, and many states merged into one.
 
 ghost use Rattle.std.specs.Prelude.{◌≡◌, ◌↔◌, ◌<◌, ℕ, IsTrue, length, map, slice_get, All};
-ghost use Rattle.polars_compute_unique.specs.State.{appended_all, are_within, range_of};
+ghost use Rattle.polars_compute_slots.specs.State.{appended_all, are_within, range_of};
 ghost use Rattle.polars_compute_unique.specs.Trees.{HaveRange, leftmost, merged_tree};
 
 use crate::kernel::RangedUniqueKernel;

@@ -4,20 +4,20 @@ ghost use Rattle.std.specs.Prelude.{◌≡◌, ◌↔◌, ◌+◌, ◌≤◌, �
 ghost use Rattle.std.specs.Simd.Lanes.{zip2};
 ghost use Rattle.polars_arrays_bits.specs.Errors.{IsMemory};
 ghost use Rattle.polars_arrays_flat.specs.ArrayRows.{number_rows};
+ghost use Rattle.polars_compute_slots.specs.State.{IsLeastFrom, RangeFits, appended, are_within, new_state, numbers_between, range_of, rows_read, set_of};
 ghost use Rattle.polars_compute_unique.specs.Seen.{in_word, seen_slots};
-ghost use Rattle.polars_compute_unique.specs.State.{IsLeastFrom, RangeFits, appended, are_within, new_state, numbers_between, range_of, rows_read, set_of};
 
-use crate::accepting::accepts_rows;
 use crate::kernel::RangedUniqueKernel;
-use crate::listing::{all_set, count_rows, count_set, least_from, list_set};
-use crate::marking::mark_rows;
-use crate::number::UniqueNumber;
-use crate::slots::{Slots, WORD_SLOTS, WordSlots};
-use crate::span::{Span, range_fits as span_fits};
 use polars_arrays_bits::error::ComputeError;
 use polars_arrays_bits::mutable_bitmap::MutableBitmap;
 use polars_arrays_flat::primitive::PrimitiveArray;
 use polars_arrays_numbers::steps::Steps;
+use polars_compute_slots::accepting::accepts_rows;
+use polars_compute_slots::listing::{all_set, count_rows, count_set, least_from, list_set};
+use polars_compute_slots::marking::mark_rows;
+use polars_compute_slots::number::UniqueNumber;
+use polars_compute_slots::slots::{Slots, WORD_SLOTS, WordSlots};
+use polars_compute_slots::span::{Span, range_fits as span_fits};
 use std::alloc::Global;
 use std::marker::Model;
 
@@ -63,12 +63,12 @@ pub struct PrimitiveRangedUniqueState<T: UniqueNumber> {
 }
 
 impl<T: UniqueNumber> Model for PrimitiveRangedUniqueState<T> {
-    ghost use Rattle.polars_compute_unique.specs.State.{State};
+    ghost use Rattle.polars_compute_slots.specs.State.{State};
 
     ghost Value = { State };
 
+    ghost use Rattle.polars_compute_slots.specs.Slots.{slot_state};
     ghost use Rattle.polars_compute_unique.specs.Seen.{IsKept, seen_slots};
-    ghost use Rattle.polars_compute_unique.specs.Slots.{slot_state};
 
     ghost view = { λ s. slot_state (T.value s.span.least) s.span.count (seen_slots s.seen) };
 

@@ -8,58 +8,34 @@
 //! | `stored_numbers TYPE MIN MAX A..`, and so of `truths` and `keys` | what the array that the state ends in stores, under its null too |
 
 ghost use Rattle.std.specs.Prelude.{All, IsTrue};
-ghost use Rattle.polars_compute_unique.specs.State.{are_within, range_of};
+ghost use Rattle.polars_compute_slots.specs.State.{are_within, range_of};
 ghost use Rattle.recorded_text.specs.Cases.{HasGoodArrays};
 
-use crate::new_states::{Entries, NewStates, NumberRange, Truths};
-use crate::numbers::at_number_type;
+use crate::new_states::NewStates;
 use crate::seen::write_seen;
 use crate::state_kinds::RecordedState;
 use polars_arrays_bits::error::ComputeError;
 use polars_compute_unique::kernel::RangedUniqueKernel;
 use polars_compute_unique::merge::append_all;
 use recorded_text::fault::Fault;
-use recorded_text::row_text::write_rows;
+use recorded_text::row_text::write_made;
 use recorded_text::store::Store;
 use recorded_text::words::Words;
 use std::alloc::Global;
 
-/// The answer to a call of this subject, or None for another one's.
-pub fn answer(
+/// The text of the state that words tell.
+pub fn write_all<N: NewStates>(
     alloc: Global,
-    call: &str,
     store: &Store,
     words: &mut Words,
-) -> Result<Option<String>, Fault>
-    requires { HasGoodArrays store.now }
-{
-    let answer = match call {
-        "append_all_numbers" => at_number_type!(
-            words.read()?,
-            write_all::<NumberRange>(alloc, store, words)
-        ),
-        "append_all_truths" => write_all::<Truths>(alloc, store, words),
-        "append_all_keys" => write_all::<Entries>(alloc, store, words),
-        "stored_numbers" => at_number_type!(
-            words.read()?,
-            write_stored::<NumberRange>(alloc, store, words)
-        ),
-        "stored_truths" => write_stored::<Truths>(alloc, store, words),
-        "stored_keys" => write_stored::<Entries>(alloc, store, words),
-        _ => return Ok(None),
-    };
-    Ok(Some(answer?))
-}
-
-// The text of the state that words tell.
-fn write_all<N: NewStates>(alloc: Global, store: &Store, words: &mut Words) -> Result<String, Fault>
+) -> Result<String, Fault>
     requires { HasGoodArrays store.now }
 {
     write_seen(alloc, state_of_all::<N>(alloc, store, words)?)
 }
 
-// What the array stores that the state ends in which words tell.
-fn write_stored<N: NewStates>(
+/// What the array stores that the state ends in which words tell.
+pub fn write_stored<N: NewStates>(
     alloc: Global,
     store: &Store,
     words: &mut Words,
@@ -83,8 +59,7 @@ fn write_end<S: RecordedState>(
 
 // What an array stores.
 fn write_array<S: RecordedState>(alloc: Global, array: S::Array) -> Result<String, Fault> {
-    let rows = S::stored_rows(alloc, array)?;
-    write_rows(alloc, &rows)
+    write_made(alloc, S::stored_rows(alloc, array)?)
 }
 
 // A new state of the range that words tell, to which copies of the arrays that further words name were appended.

@@ -12,8 +12,7 @@
 
 ghost use Rattle.recorded_text.specs.Cases.{HasGoodArrays};
 
-use crate::new_states::{Entries, NewStates, NumberRange, Truths};
-use crate::numbers::at_number_type;
+use crate::new_states::NewStates;
 use crate::state_kinds::RecordedState;
 use polars_compute_unique::kernel::RangedUniqueKernel;
 use recorded_text::fault::Fault;
@@ -21,44 +20,15 @@ use recorded_text::store::Store;
 use recorded_text::words::Words;
 use std::alloc::Global;
 
-/// The answer to a call of this subject, or None for another one's.
-pub fn answer(
-    alloc: Global,
-    call: &str,
-    store: &Store,
-    words: &mut Words,
-) -> Result<Option<String>, Fault>
-    requires { HasGoodArrays store.now }
-{
-    let answer = match call {
-        "range_fits" => at_number_type!(words.read()?, fit::<NumberRange>(alloc, store, words)),
-        "keys_fit" => fit::<Entries>(alloc, store, words),
-        "accepts_numbers" => {
-            at_number_type!(words.read()?, accept::<NumberRange>(alloc, store, words))
-        }
-        "accepts_truths" => accept::<Truths>(alloc, store, words),
-        "accepts_keys" => accept::<Entries>(alloc, store, words),
-        "same_range_numbers" => {
-            at_number_type!(
-                words.read()?,
-                have_one_range::<NumberRange>(alloc, store, words)
-            )
-        }
-        "same_range_keys" => have_one_range::<Entries>(alloc, store, words),
-        _ => return Ok(None),
-    };
-    Ok(Some(answer?.to_string(alloc)?))
-}
-
-// Whether there are states of the range that words tell.
-fn fit<N: NewStates>(alloc: Global, store: &Store, words: &mut Words) -> Result<bool, Fault>
+/// Whether there are states of the range that words tell.
+pub fn fit<N: NewStates>(alloc: Global, store: &Store, words: &mut Words) -> Result<bool, Fault>
     requires { HasGoodArrays store.now }
 {
     Ok(N::read(alloc, store, words)?.fit())
 }
 
-// Whether a new state of the range that words tell accepts the array that another word names.
-fn accept<N: NewStates>(alloc: Global, store: &Store, words: &mut Words) -> Result<bool, Fault>
+/// Whether a new state of the range that words tell accepts the array that another word names.
+pub fn accept<N: NewStates>(alloc: Global, store: &Store, words: &mut Words) -> Result<bool, Fault>
     requires { HasGoodArrays store.now }
 {
     let state = N::read(alloc, store, words)?.new_state(alloc)?;
@@ -66,8 +36,8 @@ fn accept<N: NewStates>(alloc: Global, store: &Store, words: &mut Words) -> Resu
     Ok(state.accepts(array))
 }
 
-// Whether new states of two ranges that words tell have one range.
-fn have_one_range<N: NewStates>(
+/// Whether new states of two ranges that words tell have one range.
+pub fn have_one_range<N: NewStates>(
     alloc: Global,
     store: &Store,
     words: &mut Words,

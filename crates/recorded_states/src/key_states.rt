@@ -1,21 +1,43 @@
-//! A state of keys, the state of which is another one.
+//! The calls of states of the keys of a dictionary, which one word names.
 //!
 //! | Call | Answer |
 //! |---|---|
 //! | `key_state V MIN MAX A..` | the state over the entries V, as `seen` says, in which one of the numbers from MIN to MAX was put in the place of that of its keys, and to which the arrays of type `u32` were then appended |
 
+ghost use Rattle.polars_arrays_nested.specs.GoodParts.{IsGood};
+ghost use Rattle.polars_arrays_nested.specs.declared.any_array.AnyArray.{Dictionary};
 ghost use Rattle.recorded_text.specs.Cases.{HasGoodArrays};
 
 use crate::columns::{append_each, read_arrays};
-use crate::new_states::{Entries, NewStates, NumberRange};
+use crate::new_states::{Entries, NewStates, NumberRange, new_state_over};
+use crate::pairs::{either_way, read_joined};
+use crate::questions::{Question, answer_question};
 use crate::seen::write_seen;
+use crate::trees::merge_leaves;
 use polars_arrays_flat::primitive::PrimitiveArray;
+use polars_arrays_nested::any_array::AnyArray;
+use polars_arrays_nested::dictionary::DictionaryArray;
 use polars_compute_unique::dictionary::DictionaryRangedUniqueState;
+use polars_compute_unique::kernel::RangedUniqueKernel;
 use polars_compute_unique::primitive::PrimitiveRangedUniqueState;
 use recorded_text::fault::Fault;
+use recorded_text::row_text::write_made;
 use recorded_text::store::Store;
 use recorded_text::words::Words;
 use std::alloc::Global;
+
+// What a call asks that is asked of states of any range, or None for another call.
+fn question_of(call: &str) -> Option<Question> {
+    match call {
+        "keys_fit" => Some(Question::Fit),
+        "accepts_keys" => Some(Question::Accept),
+        "same_range_keys" => Some(Question::SameRange),
+        "append_all_keys" => Some(Question::AppendAll),
+        "stored_keys" => Some(Question::Stored),
+        "one_range_keys" => Some(Question::OneRange),
+        _ => None,
+    }
+}
 
 /// The answer to a call of this subject, or None for another one's.
 pub fn answer(
@@ -26,22 +48,46 @@ pub fn answer(
 ) -> Result<Option<String>, Fault>
     requires { HasGoodArrays store.now }
 {
-    match call {
-        "key_state" => Ok(Some(write_state(alloc, store, words)?)),
-        _ => Ok(None),
+    if let Some(question) = question_of(call) {
+        return Ok(Some(answer_question::<Entries>(alloc, question, store, words)?));
     }
+    let answer = match call {
+        "key_state" => write_state(alloc, store, words),
+        "state_keys" => either_way::<Entries>(alloc, store, words),
+        "state_keys_rows" => write_joined(alloc, store, words),
+        "merge_tree_keys" => merge_leaves::<Entries>(alloc, store, words),
+        _ => return Ok(None),
+    };
+    Ok(Some(answer?))
 }
 
-// The text of the state.
+// The text of a state whose state of keys is another one.
 fn write_state(alloc: Global, store: &Store, words: &mut Words) -> Result<String, Fault>
     requires { HasGoodArrays store.now }
 {
-    let entries = Entries::read(alloc, store, words)?;
+    let entries = store.read(words)?;
     let range: NumberRange<u32> = NumberRange::read(alloc, store, words)?;
     let keys = read_arrays::<PrimitiveRangedUniqueState<u32>>(alloc, store, words.rest())?;
-    let mut state = entries.new_state(alloc)?;
-    put_keys(&mut state, range.new_state(alloc)?, &keys)?;
-    write_seen(alloc, state)
+    write_put(alloc, entries, range.new_state(alloc)?, &keys)
+}
+
+// The text of the state over entries in which a state of keys is put, and to which arrays are then appended.
+fn write_put(
+    alloc: Global,
+    entries: &AnyArray,
+    keys: PrimitiveRangedUniqueState<u32>,
+    arrays: &[&PrimitiveArray<u32>],
+) -> Result<String, Fault>
+    requires { IsGood entries.now }
+{
+    let mut state = new_state_over(alloc, entries)?;
+    match put_keys(&mut state, keys, arrays) {
+        Ok(()) => write_seen(alloc, state),
+        Err(fault) => {
+            drop(state);
+            Err(fault)
+        }
+    }
 }
 
 // Puts another state of keys in the place of the present one, and appends arrays to it.
@@ -53,4 +99,19 @@ fn put_keys(
     let key_state = state.key_state();
     *key_state = keys;
     append_each(key_state, arrays)
+}
+
+// The entries that two merged states name.
+fn write_joined(alloc: Global, store: &Store, words: &mut Words) -> Result<String, Fault>
+    requires { HasGoodArrays store.now }
+{
+    let state = read_joined::<Entries>(alloc, store, words)?;
+    write_entries(alloc, state.finalize_unique(alloc)?)
+}
+
+// The entries that keys name.
+fn write_entries(alloc: Global, array: DictionaryArray) -> Result<String, Fault>
+    requires { IsGood (Dictionary array) }
+{
+    write_made(alloc, AnyArray::Dictionary(array))
 }

@@ -12,12 +12,15 @@ mod columns;
 mod conditions;
 mod key_states;
 mod new_states;
+mod number_states;
 mod numbers;
 mod pairs;
+mod questions;
 mod seen;
 mod single_arrays;
 mod state_kinds;
 mod trees;
+mod truth_states;
 
 use recorded_text::fault::Fault;
 use recorded_text::store::Store;
@@ -43,11 +46,9 @@ pub fn answer(
     requires { HasGoodArrays store.now }
 {
     first_answer!(
-        pairs::answer(alloc, call, store, words),
+        number_states::answer(alloc, call, store, words),
+        truth_states::answer(alloc, call, store, words),
         key_states::answer(alloc, call, store, words),
-        conditions::answer(alloc, call, store, words),
-        appending::answer(alloc, call, store, words),
-        trees::answer(alloc, call, store, words),
     );
     single_arrays::answer(alloc, call, store, words)
 }

@@ -129,8 +129,7 @@ impl NewStates for Entries {
     }
 
     fn new_state(&self, alloc: Global) -> Result<DictionaryRangedUniqueState, Fault> {
-        let entries = copy_array(alloc, &self.entries)?;
-        state_over(alloc, entries)
+        new_state_over(alloc, &self.entries)
     }
 }
 
@@ -143,11 +142,22 @@ fn copy_array(alloc: Global, array: &AnyArray) -> Result<AnyArray, Fault>
     Ok(copy)
 }
 
+/// A new state of the keys of a copy of these entries. The error is `Case`, where there is none, or else `Memory`.
+pub fn new_state_over(
+    alloc: Global,
+    entries: &AnyArray,
+) -> Result<DictionaryRangedUniqueState, Fault>
+    requires { IsGood entries.now }
+{
+    state_over(alloc, copy_array(alloc, entries)?)
+}
+
 // A state of the keys of these entries.
 fn state_over(alloc: Global, entries: AnyArray) -> Result<DictionaryRangedUniqueState, Fault>
     requires { IsGood entries }
 {
     if !keys_fit(&entries) {
+        drop(entries);
         return Err(Fault::Case);
     }
     Ok(DictionaryRangedUniqueState::new(alloc, entries)?)

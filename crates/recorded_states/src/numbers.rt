@@ -4,42 +4,10 @@ ghost use Rattle.polars_arrays_nested.specs.GoodParts.{IsGood};
 
 use polars_arrays_flat::primitive::PrimitiveArray;
 use polars_arrays_nested::any_array::AnyArray;
-use polars_compute_unique::number::UniqueNumber;
+use polars_compute_slots::number::UniqueNumber;
 use recorded_text::fault::Fault;
 use std::fmt::Display;
 use std::str::FromStr;
-
-/// What a function answers at the type of numbers of 8 to 64 bits whose name a word is, or at the ranges of such numbers.
-macro_rules! at_number_type {
-    ($word:expr, $function:ident::<$range:ident> $arguments:tt) => {
-        match $word {
-            "i8" => $function::<$range<i8>> $arguments,
-            "i16" => $function::<$range<i16>> $arguments,
-            "i32" => $function::<$range<i32>> $arguments,
-            "i64" => $function::<$range<i64>> $arguments,
-            "u8" => $function::<$range<u8>> $arguments,
-            "u16" => $function::<$range<u16>> $arguments,
-            "u32" => $function::<$range<u32>> $arguments,
-            "u64" => $function::<$range<u64>> $arguments,
-            _ => Err(Fault::Word),
-        }
-    };
-    ($word:expr, $function:ident $arguments:tt) => {
-        match $word {
-            "i8" => $function::<i8> $arguments,
-            "i16" => $function::<i16> $arguments,
-            "i32" => $function::<i32> $arguments,
-            "i64" => $function::<i64> $arguments,
-            "u8" => $function::<u8> $arguments,
-            "u16" => $function::<u16> $arguments,
-            "u32" => $function::<u32> $arguments,
-            "u64" => $function::<u64> $arguments,
-            _ => Err(Fault::Word),
-        }
-    };
-}
-
-pub(crate) use at_number_type;
 
 /// The rows inside an array of one kind. The error is `Case`, where it is of another one.
 macro_rules! rows_in {

@@ -8,46 +8,21 @@
 //! | `state_keys V A.. \| W B..` | the three states, of keys of the entries V and W, and the second after the first was merged into it |
 //! | `state_keys_rows V A.. \| W B..` | the entries that the first names after the second was merged into it |
 
-ghost use Rattle.polars_arrays_nested.specs.GoodParts.{IsGood};
-ghost use Rattle.polars_arrays_nested.specs.declared.any_array.AnyArray.{Dictionary};
 ghost use Rattle.recorded_text.specs.Cases.{HasGoodArrays};
 
 use crate::columns::{Column, gathered, join, read_arrays};
-use crate::new_states::{Entries, NewStates, NumberRange, Truths};
-use crate::numbers::{RecordedNumber, at_number_type};
+use crate::new_states::{NewStates, NumberRange};
+use crate::numbers::RecordedNumber;
 use crate::seen::{BAR, push_seen};
 use crate::state_kinds::RecordedState;
 use polars_arrays_flat::primitive::PrimitiveArray;
-use polars_arrays_nested::any_array::AnyArray;
-use polars_arrays_nested::dictionary::DictionaryArray;
 use polars_arrays_numbers::steps::Steps;
 use polars_compute_unique::kernel::RangedUniqueKernel;
 use polars_compute_unique::primitive::PrimitiveRangedUniqueState;
 use recorded_text::fault::Fault;
-use recorded_text::row_text::write_rows;
 use recorded_text::store::Store;
 use recorded_text::words::Words;
 use std::alloc::Global;
-
-/// The answer to a call of this subject, or None for another one's.
-pub fn answer(
-    alloc: Global,
-    call: &str,
-    store: &Store,
-    words: &mut Words,
-) -> Result<Option<String>, Fault>
-    requires { HasGoodArrays store.now }
-{
-    let answer = match call {
-        "state_numbers" => at_number_type!(words.read()?, in_range(alloc, store, words)),
-        "state_empty" => at_number_type!(words.read()?, in_none(alloc, store, words)),
-        "state_truths" => of_truths(alloc, store, words),
-        "state_keys" => of_keys(alloc, store, words),
-        "state_keys_rows" => of_entries(alloc, store, words),
-        _ => return Ok(None),
-    };
-    Ok(Some(answer?))
-}
 
 // The words before a bar and those behind it.
 fn part_at_bar<'a>(words: &'a [&'a str]) -> Result<(&'a [&'a str], &'a [&'a str]), Fault> {
@@ -57,8 +32,8 @@ fn part_at_bar<'a>(words: &'a [&'a str]) -> Result<(&'a [&'a str], &'a [&'a str]
     }
 }
 
-// Two states of the numbers of a range.
-fn in_range<T: RecordedNumber>(
+/// Two states of the numbers of a range.
+pub fn in_range<T: RecordedNumber>(
     alloc: Global,
     store: &Store,
     words: &mut Words,
@@ -69,8 +44,8 @@ fn in_range<T: RecordedNumber>(
     of_numbers(alloc, &range, store, words)
 }
 
-// Two states of no numbers.
-fn in_none<T: RecordedNumber>(
+/// Two states of no numbers.
+pub fn in_none<T: RecordedNumber>(
     alloc: Global,
     store: &Store,
     words: &mut Words,
@@ -205,57 +180,58 @@ fn joined<N: NewStates>(
     Ok(state)
 }
 
-// Two states of truth values.
-fn of_truths(alloc: Global, store: &Store, words: &mut Words) -> Result<String, Fault>
+// The two columns that words tell, parted by a bar.
+fn read_columns<'a, N: NewStates>(
+    alloc: Global,
+    store: &'a Store,
+    words: &[&str],
+) -> Result<(Column<'a, N>, Column<'a, N>), Fault>
     requires { HasGoodArrays store.now }
 {
-    let (left, right) = part_at_bar(words.rest())?;
-    let left = Column::<Truths>::read(alloc, store, left)?;
-    let right = Column::<Truths>::read(alloc, store, right)?;
+    let (left, right) = part_at_bar(words)?;
+    let left = Column::read(alloc, store, left)?;
+    let right = Column::read(alloc, store, right)?;
+    Ok((left, right))
+}
+
+/// The states of two columns, and the second merged into the first.
+pub fn of_columns<N: NewStates>(
+    alloc: Global,
+    store: &Store,
+    words: &mut Words,
+) -> Result<String, Fault>
+    requires { HasGoodArrays store.now }
+{
+    let (left, right) = read_columns::<N>(alloc, store, words.rest())?;
     let mut text = String::new(alloc);
     push_columns(alloc, &mut text, &left, &right)?;
     Ok(text)
 }
 
-// Two states of keys.
-fn of_keys(alloc: Global, store: &Store, words: &mut Words) -> Result<String, Fault>
-    requires { HasGoodArrays store.now }
-{
-    let (left, right) = part_at_bar(words.rest())?;
-    let left = Column::<Entries>::read(alloc, store, left)?;
-    let right = Column::<Entries>::read(alloc, store, right)?;
-    let mut text = String::new(alloc);
-    push_either_way(alloc, &mut text, &left, &right)?;
-    Ok(text)
-}
-
-// Adds the states of two columns, the second merged into the first, and the first into the second.
-fn push_either_way<N: NewStates>(
+/// The states of two columns, the second merged into the first, and the first into the second.
+pub fn either_way<N: NewStates>(
     alloc: Global,
-    text: &mut String,
-    left: &Column<'_, N>,
-    right: &Column<'_, N>,
-) -> Result<(), Fault> {
-    push_columns(alloc, text, left, right)?;
-    text.push_str(BAR)?;
-    push_seen(alloc, text, joined(alloc, right, left)?)
-}
-
-// The entries that two merged states name.
-fn of_entries(alloc: Global, store: &Store, words: &mut Words) -> Result<String, Fault>
+    store: &Store,
+    words: &mut Words,
+) -> Result<String, Fault>
     requires { HasGoodArrays store.now }
 {
-    let (left, right) = part_at_bar(words.rest())?;
-    let left = Column::<Entries>::read(alloc, store, left)?;
-    let right = Column::<Entries>::read(alloc, store, right)?;
-    let state = joined(alloc, &left, &right)?;
-    write_entries(alloc, state.finalize_unique(alloc)?)
+    let (left, right) = read_columns::<N>(alloc, store, words.rest())?;
+    let mut text = String::new(alloc);
+    push_columns(alloc, &mut text, &left, &right)?;
+    text.push_str(BAR)?;
+    push_seen(alloc, &mut text, joined(alloc, &right, &left)?)?;
+    Ok(text)
 }
 
-// The entries that keys name.
-fn write_entries(alloc: Global, array: DictionaryArray) -> Result<String, Fault>
-    requires { IsGood (Dictionary array) }
+/// The state of one column, into which that of another one was merged.
+pub fn read_joined<N: NewStates>(
+    alloc: Global,
+    store: &Store,
+    words: &mut Words,
+) -> Result<N::State, Fault>
+    requires { HasGoodArrays store.now }
 {
-    let text = write_rows(alloc, &AnyArray::Dictionary(array))?;
-    Ok(text)
+    let (left, right) = read_columns::<N>(alloc, store, words.rest())?;
+    joined(alloc, &left, &right)
 }

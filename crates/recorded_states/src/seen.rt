@@ -63,7 +63,9 @@ fn push_array<S: RecordedState>(
     array: S::Array,
 ) -> Result<(), Fault> {
     let rows = S::written_rows(alloc, array)?;
-    push_rows(alloc, text, &rows)
+    let pushed = push_rows(alloc, text, &rows);
+    drop(rows);
+    pushed
 }
 
 // Adds each row, behind a space.

@@ -14,7 +14,7 @@ use polars_arrays_flat::boolean::BooleanArray;
 use polars_arrays_nested::any_array::AnyArray;
 use polars_compute_unique::kernel::GenericUniqueKernel;
 use recorded_text::fault::Fault;
-use recorded_text::row_text::write_rows;
+use recorded_text::row_text::write_made;
 use recorded_text::store::Store;
 use recorded_text::words::Words;
 use std::alloc::Global;
@@ -29,7 +29,7 @@ pub fn answer(
     requires { HasGoodArrays store.now }
 {
     let answer = match call {
-        "unique" => write_made(alloc, truths_in(store.read(words)?)?.unique(alloc)),
+        "unique" => write_unique(alloc, truths_in(store.read(words)?)?.unique(alloc)),
         "n_unique" => write_count(alloc, truths_in(store.read(words)?)?.n_unique()),
         "n_unique_non_null" => {
             write_count(alloc, truths_in(store.read(words)?)?.n_unique_non_null())
@@ -45,8 +45,8 @@ fn truths_in(any: &AnyArray) -> Result<&BooleanArray, Fault> {
 }
 
 // The rows of the array that a call made.
-fn write_made(alloc: Global, made: Result<BooleanArray, ComputeError>) -> Result<String, Fault> {
-    write_rows(alloc, &AnyArray::Boolean(made?))
+fn write_unique(alloc: Global, made: Result<BooleanArray, ComputeError>) -> Result<String, Fault> {
+    write_made(alloc, AnyArray::Boolean(made?))
 }
 
 // The text of a number of rows.

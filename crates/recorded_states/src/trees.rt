@@ -11,8 +11,7 @@
 ghost use Rattle.recorded_text.specs.Cases.{HasGoodArrays};
 
 use crate::columns::append;
-use crate::new_states::{Entries, NewStates, NumberRange, Truths};
-use crate::numbers::at_number_type;
+use crate::new_states::NewStates;
 use crate::seen::write_seen;
 use crate::state_kinds::RecordedState;
 use polars_compute_unique::merge::{MergeTree, merge_tree};
@@ -20,36 +19,6 @@ use recorded_text::fault::Fault;
 use recorded_text::store::Store;
 use recorded_text::words::Words;
 use std::alloc::Global;
-
-/// The answer to a call of this subject, or None for another one's.
-pub fn answer(
-    alloc: Global,
-    call: &str,
-    store: &Store,
-    words: &mut Words,
-) -> Result<Option<String>, Fault>
-    requires { HasGoodArrays store.now }
-{
-    let answer = match call {
-        "merge_tree_numbers" => {
-            at_number_type!(
-                words.read()?,
-                merge_in_range::<NumberRange>(alloc, store, words)
-            )
-        }
-        "merge_tree_truths" => merge_in_range::<Truths>(alloc, store, words),
-        "merge_tree_keys" => merge::<Entries>(alloc, &Leaves::Gathered, store, words),
-        "one_range_numbers" => {
-            at_number_type!(
-                words.read()?,
-                have_one_range::<NumberRange>(alloc, store, words)
-            )
-        }
-        "one_range_keys" => have_one_range::<Entries>(alloc, store, words),
-        _ => return Ok(None),
-    };
-    Ok(Some(answer?))
-}
 
 // What the words of a leaf tell.
 #[derive(Drop)]
@@ -62,8 +31,8 @@ enum Leaves<N: NewStates> {
     New,
 }
 
-// The states of leaves of the range that words tell, merged.
-fn merge_in_range<N: NewStates>(
+/// The states of leaves of the range that words tell, merged.
+pub fn merge_in_range<N: NewStates>(
     alloc: Global,
     store: &Store,
     words: &mut Words,
@@ -72,6 +41,17 @@ fn merge_in_range<N: NewStates>(
 {
     let leaves = Leaves::Within(N::read(alloc, store, words)?);
     merge(alloc, &leaves, store, words)
+}
+
+/// The states of leaves, each of the range that its own words tell, merged.
+pub fn merge_leaves<N: NewStates>(
+    alloc: Global,
+    store: &Store,
+    words: &mut Words,
+) -> Result<String, Fault>
+    requires { HasGoodArrays store.now }
+{
+    merge::<N>(alloc, &Leaves::Gathered, store, words)
 }
 
 // The states of a tree, merged.
@@ -95,8 +75,8 @@ fn write_merged<S: RecordedState>(alloc: Global, tree: MergeTree<S>) -> Result<S
     write_seen(alloc, merge_tree(tree))
 }
 
-// Whether the new states of a tree have one range.
-fn have_one_range<N: NewStates>(
+/// Whether the new states of a tree have one range.
+pub fn have_one_range<N: NewStates>(
     alloc: Global,
     store: &Store,
     words: &mut Words,

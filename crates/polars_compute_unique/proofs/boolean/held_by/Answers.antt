@@ -1,7 +1,7 @@
 use Rattle.std.proofs.Common.{◌≡◌, ◌≤◌, ◌∙◌, length, sym, arith, pos}
 use Rattle.polars_arrays_flat.specs.ArrayRows.{is_null, truth_rows}
-use Rattle.polars_compute_unique.specs.State.{is_value}
-use Rattle.polars_compute_unique.proofs.RowPlaces.{length-rows}
+use Rattle.polars_compute_slots.specs.State.{is_value}
+use Rattle.polars_compute_slots.proofs.RowPlaces.{length-rows}
 use Rattle.polars_arrays_flat.specs.StoredRows.{truth_slots}
 use Rattle.polars_compute_unique.proofs.TruthCounts.{any-counted, some-false}
 use Rattle.polars_compute_unique.proofs.boolean.held_by.Goals as goal

@@ -2,7 +2,7 @@ use Rattle.std.proofs.Common.{◌≡◌, ◌∙◌, ◌&&◌, List, Bool, ap, ap
 use Rattle.std.specs.Prelude.{Option}
 use Rattle.std.specs.Simd.Lanes.{zip2}
 use Rattle.polars_arrays_flat.specs.StoredRows.{rows_under, truth_slots}
-use Rattle.polars_compute_unique.specs.State.{is_value}
+use Rattle.polars_compute_slots.specs.State.{is_value}
 use Rattle.polars_compute_unique.proofs.TruthCounts.{count-masked}
 use Rattle.polars_compute_unique.proofs.boolean.true_rows.Goals as goal
 

@@ -1,5 +1,5 @@
 use Rattle.std.proofs.Common.{◌≡◌, ◌∙◌, ap, rules, subst, sym}
-use Rattle.polars_compute_unique.specs.State.{range_of}
+use Rattle.polars_compute_slots.specs.State.{range_of}
 use Rattle.polars_compute_unique.specs.Trees.{HaveRange, leftmost}
 use Rattle.polars_compute_unique.specs.declared.merge.MergeTree.{MergeTree, the_lemmas}
 use Rattle.polars_compute_unique.proofs.Merges.{own-range, tree-range}

@@ -1,5 +1,5 @@
 use Rattle.std.proofs.Common.{◌≡◌, map, take}
-use Rattle.polars_compute_unique.specs.State.{appended_all}
+use Rattle.polars_compute_slots.specs.State.{appended_all}
 use Rattle.polars_compute_unique.proofs.merge.append_all.Given as goal
 
 abbrev pub invariant-loop-array : goal.invariant-loop-array

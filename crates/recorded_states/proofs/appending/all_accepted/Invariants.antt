@@ -1,6 +1,6 @@
 use Rattle.std.proofs.Common.{◌<◌, ℕ, slice_index_or}
 use Rattle.std.specs.Prelude.{IsTrue}
-use Rattle.polars_compute_unique.specs.State.{are_within, range_of}
+use Rattle.polars_compute_slots.specs.State.{are_within, range_of}
 use Rattle.recorded_states.proofs.appending.all_accepted.Given as goal
 
 abbrev pub invariant-loop-i : goal.invariant-loop-i

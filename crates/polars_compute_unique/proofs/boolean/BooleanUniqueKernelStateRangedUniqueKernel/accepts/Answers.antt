@@ -1,7 +1,7 @@
 use Rattle.std.proofs.Common.{◌≡◌, ◌∙◌, List, ap, sym}
 use Rattle.std.specs.Prelude.{ℤ}
 use Rattle.polars_arrays_flat.specs.ArrayRows.{truth_rows}
-use Rattle.polars_compute_unique.specs.State.{are_within, range_of}
+use Rattle.polars_compute_slots.specs.State.{are_within, range_of}
 use Rattle.polars_compute_unique.proofs.TruthCounts.{all-truths}
 use Rattle.polars_compute_unique.proofs.boolean.BooleanUniqueKernelStateRangedUniqueKernel.accepts.Goals as goal
 

@@ -1,9 +1,9 @@
 use Rattle.std.proofs.Common.{◌∙◌, List, ap, sym}
 use Rattle.std.specs.Prelude.{ℤ}
 use Rattle.polars_arrays_flat.specs.ArrayRows.{number_rows}
+use Rattle.polars_compute_slots.specs.State.{are_within, range_of}
+use Rattle.polars_compute_slots.proofs.Sets.{range-slots}
 use Rattle.polars_compute_unique.specs.Seen.{seen_slots}
-use Rattle.polars_compute_unique.specs.State.{are_within, range_of}
-use Rattle.polars_compute_unique.proofs.Sets.{range-slots}
 use Rattle.polars_compute_unique.proofs.primitive.PrimitiveRangedUniqueStateRangedUniqueKernel.accepts.Goals as goal
 
 pub returns : goal.returns

@@ -2,11 +2,11 @@ use Rattle.std.proofs.Common.{◌≡◌, ◌∙◌, ◌+◌, ◌≤◌, ℕ, ap,
 use Rattle.std.specs.Prelude.{nat_le}
 use Rattle.std.proofs.lemmas.Simd.{length-zip2}
 use Rattle.std.proofs.Common.{◌||◌}
+use Rattle.polars_compute_slots.specs.Slots.{slot_state}
+use Rattle.polars_compute_slots.specs.State.{merged, numbers_from, range_of}
+use Rattle.polars_compute_slots.proofs.Ranges.{merged-slots}
+use Rattle.polars_compute_slots.proofs.Sets.{range-slots, same-count}
 use Rattle.polars_compute_unique.specs.Seen.{in_word, seen_slots}
-use Rattle.polars_compute_unique.specs.Slots.{slot_state}
-use Rattle.polars_compute_unique.specs.State.{merged, numbers_from, range_of}
-use Rattle.polars_compute_unique.proofs.Ranges.{merged-slots}
-use Rattle.polars_compute_unique.proofs.Sets.{range-slots, same-count}
 use Rattle.polars_compute_unique.proofs.primitive.PrimitiveRangedUniqueStateRangedUniqueKernel.append_state.Goals as goal
 
 pub join_seen-requires-clause-size : goal.join_seen-requires-clause-size

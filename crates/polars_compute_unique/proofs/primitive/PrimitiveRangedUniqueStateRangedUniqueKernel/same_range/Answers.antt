@@ -1,7 +1,7 @@
 use Rattle.std.proofs.Common.{◌≡◌, ◌∙◌, ap, sym}
+use Rattle.polars_compute_slots.specs.State.{numbers_from, range_of}
+use Rattle.polars_compute_slots.proofs.Sets.{range-slots}
 use Rattle.polars_compute_unique.specs.Seen.{seen_slots}
-use Rattle.polars_compute_unique.specs.State.{numbers_from, range_of}
-use Rattle.polars_compute_unique.proofs.Sets.{range-slots}
 use Rattle.polars_compute_unique.proofs.primitive.PrimitiveRangedUniqueStateRangedUniqueKernel.same_range.Goals as goal
 
 pub returns : goal.returns

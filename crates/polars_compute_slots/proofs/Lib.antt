@@ -1,0 +1,9 @@
+pub mod Casts
+pub mod Examples
+pub mod Fullness
+pub mod Marked
+pub mod Ranges
+pub mod RowPlaces
+pub mod Sets
+pub mod States
+pub mod WordBits

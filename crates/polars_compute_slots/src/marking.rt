@@ -1,0 +1,154 @@
+//! Rows are marked in slots.
+
+ghost use Rattle.std.specs.Prelude.{◌≡◌, ◌+◌, ◌≤◌, length};
+ghost use Rattle.polars_arrays_flat.specs.ArrayRows.{number_rows};
+ghost use Rattle.polars_arrays_flat.specs.StoredRows.{masked, number_slots};
+ghost use Rattle.polars_arrays_words.specs.Bits.{first_of, is_bit};
+ghost use Rattle.polars_compute_slots.specs.Slots.{HaveSlots, Marks, slot_state};
+ghost use Rattle.polars_compute_slots.specs.State.{rows_read};
+
+use crate::number::UniqueNumber;
+use crate::slots::Slots;
+use crate::span::Span;
+use polars_arrays_bits::bit_mask::BitMask;
+use polars_arrays_bits::bitmap::Bitmap;
+use polars_arrays_flat::array::Array;
+use polars_arrays_flat::primitive::PrimitiveArray;
+use polars_arrays_numbers::steps::Steps;
+
+// How many rows are read before it is asked again whether all values were seen.
+const BLOCK: usize = 512;
+
+// How many rows go at once where some are null: those of a word.
+const WORD_ROWS: usize = 64;
+
+// The slots of numbers are set.
+#[inline(always)]
+fn mark_all<T: UniqueNumber, S: Slots>(slots: &mut S, span: &Span<T>, numbers: &[T])
+    requires size { length (S.set_slots slots.old) ≡ span.now.count + 1 }
+    requires fit { HaveSlots (T.value span.now.least) span.now.count (number_slots T.value numbers.now) }
+    ensures { Marks (T.value span.now.least) span.now.count (number_slots T.value numbers.now) (S.set_slots slots.old) (S.set_slots slots.new) }
+{
+    for number in numbers {
+        slots.set(span.slot(*number));
+    }
+}
+
+// The slots of at most 64 rows are set, each of which is present where its bit of a word is 1.
+#[inline(always)]
+fn mark_word<T: UniqueNumber, S: Slots>(slots: &mut S, span: &Span<T>, numbers: &[T], word: u64)
+    requires size { length (S.set_slots slots.old) ≡ span.now.count + 1 }
+    requires few { length numbers.now ≡ 64 }
+    requires fit { HaveSlots (T.value span.now.least) span.now.count (masked (first_of (is_bit word) 64) (number_slots T.value numbers.now)) }
+    ensures { Marks (T.value span.now.least) span.now.count (masked (first_of (is_bit word) 64) (number_slots T.value numbers.now)) (S.set_slots slots.old) (S.set_slots slots.new) }
+{
+    for i in 0..numbers.len() {
+        let present = (word >> i) & 1 == 1;
+        slots.set(span.row_slot(present, numbers[i]));
+    }
+}
+
+// The slots of rows are set, each of which is present where its bit is 1, row by row.
+#[inline(always)]
+fn mark_few<T: UniqueNumber, S: Slots>(
+    slots: &mut S,
+    span: &Span<T>,
+    numbers: &[T],
+    mask: &BitMask<'_>,
+)
+    requires size { length (S.set_slots slots.old) ≡ span.now.count + 1 }
+    requires bits { length mask.now ≡ length numbers.now }
+    requires fit { HaveSlots (T.value span.now.least) span.now.count (masked mask.now (number_slots T.value numbers.now)) }
+    ensures { Marks (T.value span.now.least) span.now.count (masked mask.now (number_slots T.value numbers.now)) (S.set_slots slots.old) (S.set_slots slots.new) }
+{
+    for i in 0..numbers.len() {
+        slots.set(span.row_slot(mask.get(i), numbers[i]));
+    }
+}
+
+// The slots of rows are set, each of which is present where its bit is 1, by words of 64 rows.
+#[inline(always)]
+fn mark_masked<T: UniqueNumber, S: Slots>(
+    slots: &mut S,
+    span: &Span<T>,
+    numbers: &[T],
+    mask: &BitMask<'_>,
+)
+    requires size { length (S.set_slots slots.old) ≡ span.now.count + 1 }
+    requires bits { length mask.now ≡ length numbers.now }
+    requires fit { HaveSlots (T.value span.now.least) span.now.count (masked mask.now (number_slots T.value numbers.now)) }
+    ensures { Marks (T.value span.now.least) span.now.count (masked mask.now (number_slots T.value numbers.now)) (S.set_slots slots.old) (S.set_slots slots.new) }
+{
+    let blocks = numbers.len() / WORD_ROWS;
+    for k in 0..blocks {
+        let at = WORD_ROWS * k;
+        mark_word(slots, span, &numbers[at..at + WORD_ROWS], mask.word(k));
+    }
+    let at = WORD_ROWS * blocks;
+    let rest = numbers.len() - at;
+    mark_few(slots, span, &numbers[at..at + rest], &mask.window(at, rest));
+}
+
+// The slots of numbers are set, block after block until those of all values are, and the numbers that were read are counted.
+#[inline(always)]
+fn mark_until_full<T: UniqueNumber, S: Slots>(
+    slots: &mut S,
+    span: &Span<T>,
+    numbers: &[T],
+    steps: &mut Steps,
+)
+    requires size { length (S.set_slots slots.old) ≡ span.now.count + 1 }
+    requires fit { HaveSlots (T.value span.now.least) span.now.count (number_slots T.value numbers.now) }
+    ensures marks { Marks (T.value span.now.least) span.now.count (number_slots T.value numbers.now) (S.set_slots slots.old) (S.set_slots slots.new) }
+    ensures read { steps.new ≡ steps.old + rows_read (slot_state (T.value span.now.least) span.now.count (S.set_slots slots.old)) (number_slots T.value numbers.now) }
+{
+    let mut at = 0;
+    while at < numbers.len() && slots.count_values(span.count) < span.count {
+        let n = BLOCK.min(numbers.len() - at);
+        mark_all(slots, span, &numbers[at..at + n]);
+        steps.add(n);
+        at += n;
+    }
+}
+
+// The same of rows, each of which is present where its bit is 1. Where one is null all are read.
+#[inline(always)]
+fn mark_under<T: UniqueNumber, S: Slots>(
+    slots: &mut S,
+    span: &Span<T>,
+    numbers: &[T],
+    validity: &Bitmap,
+    steps: &mut Steps,
+)
+    requires size { length (S.set_slots slots.old) ≡ span.now.count + 1 }
+    requires bits { length validity.now ≡ length numbers.now }
+    requires fit { HaveSlots (T.value span.now.least) span.now.count (masked validity.now (number_slots T.value numbers.now)) }
+    ensures marks { Marks (T.value span.now.least) span.now.count (masked validity.now (number_slots T.value numbers.now)) (S.set_slots slots.old) (S.set_slots slots.new) }
+    ensures read { steps.new ≡ steps.old + rows_read (slot_state (T.value span.now.least) span.now.count (S.set_slots slots.old)) (masked validity.now (number_slots T.value numbers.now)) }
+{
+    if validity.unset_bits() == 0 {
+        mark_until_full(slots, span, numbers, steps);
+        return;
+    }
+    mark_masked(slots, span, numbers, &BitMask::from_bitmap(validity));
+    steps.add(numbers.len());
+}
+
+/// The slots of an array's rows are set, and the rows that were read are counted.
+#[inline(always)]
+pub fn mark_rows<T: UniqueNumber, S: Slots>(
+    slots: &mut S,
+    span: &Span<T>,
+    array: &PrimitiveArray<T>,
+    steps: &mut Steps,
+)
+    requires size { length (S.set_slots slots.old) ≡ span.now.count + 1 }
+    requires fit { HaveSlots (T.value span.now.least) span.now.count (number_rows T.value array.now) }
+    ensures marks { Marks (T.value span.now.least) span.now.count (number_rows T.value array.now) (S.set_slots slots.old) (S.set_slots slots.new) }
+    ensures read { steps.new ≡ steps.old + rows_read (slot_state (T.value span.now.least) span.now.count (S.set_slots slots.old)) (number_rows T.value array.now) }
+{
+    match array.validity() {
+        Some(validity) => mark_under(slots, span, array.values(), validity, steps),
+        None => mark_until_full(slots, span, array.values(), steps),
+    }
+}

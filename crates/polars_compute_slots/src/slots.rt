@@ -1,0 +1,138 @@
+//! Slots that are set one by one: of few in one word of 128 bits, and of more in a bitmap.
+
+ghost use Rattle.std.specs.Prelude.{◌≡◌, ◌+◌, ◌<◌, ◌≤◌, ◌^◌, ◌||◌, List, Bool, true, false, length, count_by, take, replicate, slice_get, slice_set};
+ghost use Rattle.std.specs.Simd.Lanes.{zip2};
+
+use polars_arrays_bits::mutable_bitmap::MutableBitmap;
+use std::marker::Model;
+
+/// How many slots one word has.
+pub const WORD_SLOTS: usize = 128;
+
+/// Slots, of which each is set or not.
+pub trait Slots {
+    // For each slot whether it is set.
+    ghost set_slots: { Self → List Bool };
+
+    /// Slot `i` is set.
+    fn set(&mut self, i: usize)
+        requires { i < length (set_slots self.old) }
+        ensures { set_slots self.new ≡ slice_set (set_slots self.old) i true };
+
+    /// Whether slot `i` is set.
+    fn is_set(&self, i: usize) -> bool
+        requires { i < length (set_slots self.now) }
+        ensures { slice_get (set_slots self.now) i ≡ Some result };
+
+    /// How many slots are set, but for the last one of `n + 1`.
+    fn count_values(&self, n: usize) -> usize
+        requires { length (set_slots self.now) ≡ n + 1 }
+        ensures { result ≡ count_by (λ b. b) (take n (set_slots self.now)) };
+
+    /// The slots that are set elsewhere are set here too.
+    fn join(&mut self, other: &Self)
+        requires { length (set_slots other.now) ≡ length (set_slots self.old) }
+        ensures { set_slots self.new ≡ zip2 ◌||◌ (set_slots self.old) (set_slots other.now) };
+}
+
+/// At most 128 slots.
+#[derive(Drop)]
+pub struct WordSlots {
+    // bits from `len` on are 0
+    word: u128,
+    len: usize,
+}
+
+impl Model for WordSlots {
+    ghost use Rattle.std.specs.Prelude.{◌^◌, ◌<◌, ◌≤◌, Bool, List};
+    ghost use Rattle.polars_arrays_words.specs.Bits.{first_of, is_bit};
+
+    ghost Value = { List Bool };
+
+    ghost view = { λ s. first_of (is_bit s.word) s.len };
+
+    ghost invariant = { λ s. (s.len ≤ 128) × (s.word < 2 ^ s.len) };
+}
+
+impl WordSlots {
+    /// So many slots, none of them set.
+    pub fn none_set(len: usize) -> WordSlots
+        requires { len ≤ 128 }
+        ensures { result ≡ replicate len false }
+    {
+        WordSlots { word: 0, len }
+    }
+
+    /// The same slots once more, which a loop can keep in registers.
+    #[inline(always)]
+    pub fn copied(&self) -> WordSlots
+        ensures { result ≡ self.now }
+    {
+        WordSlots {
+            word: self.word,
+            len: self.len,
+        }
+    }
+
+    /// How many slots there are.
+    pub fn len(&self) -> usize
+        ensures { result ≡ length self.now }
+    {
+        self.len
+    }
+}
+
+// The number of which bit `i` alone is 1. To shift one half and to choose between both is less work than a shift of 128 bits.
+#[inline(always)]
+fn one_bit(i: usize) -> u128
+    requires { i < 128 }
+    ensures { result ≡ 2 ^ i }
+{
+    let half = u128::from(1u64 << (i % 64));
+    if i < 64 { half } else { half << 64 }
+}
+
+impl Slots for WordSlots {
+    ghost set_slots = { λ s. s };
+
+    #[inline(always)]
+    fn set(&mut self, i: usize) {
+        let word = self.word;
+        self.word = word | one_bit(i);
+    }
+
+    #[inline(always)]
+    fn is_set(&self, i: usize) -> bool {
+        (self.word >> i) & 1 == 1
+    }
+
+    fn count_values(&self, n: usize) -> usize {
+        self.word.count_ones() as usize - usize::from(self.is_set(n))
+    }
+
+    fn join(&mut self, other: &WordSlots) {
+        self.word |= other.word;
+    }
+}
+
+impl Slots for MutableBitmap {
+    ghost set_slots = { λ s. s };
+
+    #[inline(always)]
+    fn set(&mut self, i: usize) {
+        MutableBitmap::set(self, i, true);
+    }
+
+    #[inline(always)]
+    fn is_set(&self, i: usize) -> bool {
+        self.get(i)
+    }
+
+    fn count_values(&self, n: usize) -> usize {
+        self.set_bits() - usize::from(self.is_set(n))
+    }
+
+    fn join(&mut self, other: &MutableBitmap) {
+        self.or_assign(other);
+    }
+}

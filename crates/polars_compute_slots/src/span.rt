@@ -1,0 +1,120 @@
+//! The range of a state of numbers.
+
+ghost use Rattle.std.specs.Prelude.{◌≡◌, ◌<◌, ◌^◌, ◌+ℤ◌, ◌-ℤ◌, ◌≤ℤ◌, ◌<ℤ◌, ◌↔◌, pos, unsigned_abs, IsTrue};
+ghost use Rattle.polars_arrays_flat.specs.Row.{Int};
+ghost use Rattle.polars_arrays_flat.specs.StoredRows.{kept};
+ghost use Rattle.polars_compute_slots.specs.Slots.{AreNumbers, HasSlot, place, slot_of};
+ghost use Rattle.polars_compute_slots.specs.State.{RangeFits, numbers_from};
+
+use crate::number::UniqueNumber;
+use polars_arrays_numbers::comparison::{Comparison, Equal};
+use polars_arrays_numbers::native_type::least_value;
+
+/// A range of numbers: so many from the least on. A number's slot is how far above the least it lies, and null has the slot behind
+/// all numbers.
+#[derive(Clone, Copy, Drop)]
+pub struct Span<T: UniqueNumber> {
+    pub least: T,
+    pub count: usize,
+}
+
+// How far a number lies above another.
+#[inline(always)]
+fn distance<T: UniqueNumber>(least: T, number: T) -> usize
+    requires order { T.value least ≤ℤ T.value number }
+    requires small { T.value number <ℤ (T.value least +ℤ pos (2 ^ 64)) }
+    ensures distance { result ≡ place (T.value least) (T.value number) }
+    ensures least { T.low ≤ℤ T.value least }
+    ensures greatest { T.value number ≤ℤ T.high }
+{
+    (number.whole() - least.whole()) as usize
+}
+
+/// Whether the numbers from one to another have a slot each, beside that of null: they are in order, and their slots can be counted.
+pub fn range_fits<T: UniqueNumber>(least: T, greatest: T) -> bool
+    ensures { IsTrue result ↔ RangeFits (T.value least) (T.value greatest) }
+{
+    match usize::try_from(greatest.whole() - least.whole()) {
+        Ok(distance) => distance < usize::MAX - 1,
+        Err(_) => false,
+    }
+}
+
+impl<T: UniqueNumber> Span<T> {
+    /// The numbers from one to another.
+    pub fn between(least: T, greatest: T) -> Span<T>
+        requires { RangeFits (T.value least) (T.value greatest) }
+        ensures least { result.least ≡ least }
+        ensures count { result.count ≡ unsigned_abs (T.value greatest -ℤ T.value least +ℤ pos 1) }
+        ensures numbers { AreNumbers T.low T.high (T.value least) result.count }
+    {
+        Span {
+            least,
+            count: distance(least, greatest) + 1,
+        }
+    }
+
+    /// No numbers.
+    pub fn empty() -> Span<T>
+        ensures none { result.count ≡ 0 }
+        ensures numbers { AreNumbers T.low T.high (T.value result.least) 0 }
+    {
+        let least = least_value::<T>();
+        // No effect at run time. The proof reads from it that the number is one of the type.
+        let _whole = least.whole();
+        Span { least, count: 0 }
+    }
+
+    /// The slot of a number.
+    #[inline(always)]
+    pub fn slot(&self, number: T) -> usize
+        requires { HasSlot (T.value self.now.least) self.now.count (Int (T.value number)) }
+        ensures { result ≡ slot_of (T.value self.now.least) self.now.count (Int (T.value number)) }
+    {
+        // No effect at run time. The proof reads from it that the count is a `usize`.
+        let _count = self.count;
+        distance(self.least, number)
+    }
+
+    /// The number of a slot.
+    #[inline(always)]
+    pub fn number(&self, slot: usize) -> T
+        requires numbers { AreNumbers T.low T.high (T.value self.now.least) self.now.count }
+        requires within { slot < self.now.count }
+        ensures { T.value result ≡ T.value self.now.least +ℤ pos slot }
+    {
+        T::of_whole(self.least.whole() + slot as i128)
+    }
+
+    /// Whether a number is one of the range.
+    #[inline(always)]
+    pub fn holds(&self, number: T) -> bool
+        ensures { IsTrue result ↔ HasSlot (T.value self.now.least) self.now.count (Int (T.value number)) }
+    {
+        let count = self.count;
+        match usize::try_from(number.whole() - self.least.whole()) {
+            Ok(slot) => slot < count,
+            Err(_) => false,
+        }
+    }
+
+    /// Whether two ranges have the same numbers.
+    pub fn same(&self, other: &Span<T>) -> bool
+        ensures { IsTrue result ↔ (numbers_from (T.value self.now.least) self.now.count ≡ numbers_from (T.value other.now.least) other.now.count) }
+    {
+        self.count == other.count && (self.count == 0 || Equal.compare(self.least, other.least))
+    }
+
+    /// The slot of a row, which is a number where it is present. This becomes a choice without a branch.
+    #[inline(always)]
+    pub fn row_slot(&self, present: bool, number: T) -> usize
+        requires { HasSlot (T.value self.now.least) self.now.count (kept present (Int (T.value number))) }
+        ensures { result ≡ slot_of (T.value self.now.least) self.now.count (kept present (Int (T.value number))) }
+    {
+        if present {
+            self.slot(number)
+        } else {
+            self.count
+        }
+    }
+}

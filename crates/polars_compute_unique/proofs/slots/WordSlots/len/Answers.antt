@@ -1,6 +1,0 @@
-use Rattle.std.proofs.Common.{sym}
-use Rattle.polars_compute_unique.proofs.WordBits.{size_is}
-use Rattle.polars_compute_unique.proofs.slots.WordSlots.len.Goals as goal
-
-pub returns : goal.returns
-returns c = sym (size_is _ _ _ c.self.view_is)

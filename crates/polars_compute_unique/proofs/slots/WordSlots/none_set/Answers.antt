@@ -1,5 +1,0 @@
-use Rattle.polars_compute_unique.proofs.WordBits.{word-none}
-use Rattle.polars_compute_unique.proofs.slots.WordSlots.none_set.Goals as goal
-
-pub returns : goal.returns
-returns c = word-none c.args.len

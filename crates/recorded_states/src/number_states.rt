@@ -1,0 +1,94 @@
+//! The calls of states of numbers. The word behind a call is the type of the numbers.
+
+ghost use Rattle.recorded_text.specs.Cases.{HasGoodArrays};
+
+use crate::new_states::NumberRange;
+use crate::numbers::RecordedNumber;
+use crate::pairs;
+use crate::questions::{Question, answer_question};
+use recorded_text::fault::Fault;
+use recorded_text::store::Store;
+use recorded_text::words::Words;
+use std::alloc::Global;
+
+// What is asked of states of numbers.
+#[derive(Clone, Copy)]
+enum NumberQuestion {
+    // What is asked of states of any range.
+    OfRange(Question),
+    // What two states have seen, and how many rows were read.
+    Counted,
+    // The same of two states of no numbers.
+    CountedInNone,
+}
+
+// What a call asks, or None for a call of another subject.
+fn question_of(call: &str) -> Option<NumberQuestion> {
+    match call {
+        "range_fits" => Some(NumberQuestion::OfRange(Question::Fit)),
+        "accepts_numbers" => Some(NumberQuestion::OfRange(Question::Accept)),
+        "same_range_numbers" => Some(NumberQuestion::OfRange(Question::SameRange)),
+        "append_all_numbers" => Some(NumberQuestion::OfRange(Question::AppendAll)),
+        "stored_numbers" => Some(NumberQuestion::OfRange(Question::Stored)),
+        "merge_tree_numbers" => Some(NumberQuestion::OfRange(Question::MergeTree)),
+        "one_range_numbers" => Some(NumberQuestion::OfRange(Question::OneRange)),
+        "state_numbers" => Some(NumberQuestion::Counted),
+        "state_empty" => Some(NumberQuestion::CountedInNone),
+        _ => None,
+    }
+}
+
+/// The answer to a call of this subject, or None for another one's.
+pub fn answer(
+    alloc: Global,
+    call: &str,
+    store: &Store,
+    words: &mut Words,
+) -> Result<Option<String>, Fault>
+    requires { HasGoodArrays store.now }
+{
+    match question_of(call) {
+        Some(question) => Ok(Some(answer_typed(alloc, question, store, words)?)),
+        None => Ok(None),
+    }
+}
+
+// The answer at the type that the next word names.
+fn answer_typed(
+    alloc: Global,
+    question: NumberQuestion,
+    store: &Store,
+    words: &mut Words,
+) -> Result<String, Fault>
+    requires { HasGoodArrays store.now }
+{
+    match words.read()? {
+        "i8" => answer_numbers::<i8>(alloc, question, store, words),
+        "i16" => answer_numbers::<i16>(alloc, question, store, words),
+        "i32" => answer_numbers::<i32>(alloc, question, store, words),
+        "i64" => answer_numbers::<i64>(alloc, question, store, words),
+        "u8" => answer_numbers::<u8>(alloc, question, store, words),
+        "u16" => answer_numbers::<u16>(alloc, question, store, words),
+        "u32" => answer_numbers::<u32>(alloc, question, store, words),
+        "u64" => answer_numbers::<u64>(alloc, question, store, words),
+        _ => Err(Fault::Word),
+    }
+}
+
+// The answer at one type.
+fn answer_numbers<T: RecordedNumber>(
+    alloc: Global,
+    question: NumberQuestion,
+    store: &Store,
+    words: &mut Words,
+) -> Result<String, Fault>
+    requires { HasGoodArrays store.now }
+{
+    match question {
+        NumberQuestion::OfRange(question) => {
+            answer_question::<NumberRange<T>>(alloc, question, store, words)
+        }
+        NumberQuestion::Counted => pairs::in_range::<T>(alloc, store, words),
+        NumberQuestion::CountedInNone => pairs::in_none::<T>(alloc, store, words),
+    }
+}

@@ -1,0 +1,59 @@
+//! What is asked of states of any range.
+
+ghost use Rattle.recorded_text.specs.Cases.{HasGoodArrays};
+
+use crate::new_states::NewStates;
+use crate::{appending, conditions, pairs, trees};
+use recorded_text::fault::Fault;
+use recorded_text::store::Store;
+use recorded_text::words::Words;
+use std::alloc::Global;
+
+/// A question that lines ask in the same words of each kind of range.
+#[derive(Clone, Copy)]
+pub enum Question {
+    /// Whether there are states of a range.
+    Fit,
+    /// Whether a state accepts an array.
+    Accept,
+    /// Whether two states have one range.
+    SameRange,
+    /// What a state has seen to which all arrays were appended.
+    AppendAll,
+    /// What the array stores that such a state ends in.
+    Stored,
+    /// What two states have seen, by themselves and merged.
+    Pair,
+    /// What the leaves of a tree have seen, merged; they are of one range.
+    MergeTree,
+    /// Whether all leaves of a tree have one range.
+    OneRange,
+}
+
+/// The answer to a question, at the range or ranges that words tell.
+pub fn answer_question<N: NewStates>(
+    alloc: Global,
+    question: Question,
+    store: &Store,
+    words: &mut Words,
+) -> Result<String, Fault>
+    requires { HasGoodArrays store.now }
+{
+    match question {
+        Question::Fit => write_truth(alloc, conditions::fit::<N>(alloc, store, words)),
+        Question::Accept => write_truth(alloc, conditions::accept::<N>(alloc, store, words)),
+        Question::SameRange => {
+            write_truth(alloc, conditions::have_one_range::<N>(alloc, store, words))
+        }
+        Question::AppendAll => appending::write_all::<N>(alloc, store, words),
+        Question::Stored => appending::write_stored::<N>(alloc, store, words),
+        Question::Pair => pairs::of_columns::<N>(alloc, store, words),
+        Question::MergeTree => trees::merge_in_range::<N>(alloc, store, words),
+        Question::OneRange => trees::have_one_range::<N>(alloc, store, words),
+    }
+}
+
+// The text of a truth value.
+fn write_truth(alloc: Global, truth: Result<bool, Fault>) -> Result<String, Fault> {
+    Ok(truth?.to_string(alloc)?)
+}
