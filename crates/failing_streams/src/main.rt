@@ -3,7 +3,7 @@
 //! A line is `READS WRITES BYTES`: the run's input is `BYTES`, its reader gives one byte at a time and fails
 //! after `READS` reads, and its writer takes one byte at a time and fails after `WRITES` writes. With the word
 //! `interrupted` in front each of these reads and writes is interrupted once before it succeeds. Bytes are `x`
-//! and two hexadecimal digits for each. Printed are the line, ` -> `, what the run said and the bytes that the
+//! and two hexadecimal digits for each. `demo WRITES` is the demo over such a writer. Printed are the line, ` -> `, what the run said and the bytes that the
 //! writer took. A line that begins with `#` is printed as it stands.
 #![tactic(auto)]
 

@@ -2,8 +2,9 @@
 #![tactic(auto)]
 
 use polars_tables_lines::arguments::command;
+use polars_tables_lines::demo::demo;
 use polars_tables_lines::program::{Command, exit_status, fault_text};
-use polars_tables_lines::running::{RunError, run};
+use polars_tables_lines::running::{Report, RunError, run};
 use std::process::ExitCode;
 use std::rt::Env;
 use std::{env, io};
@@ -17,13 +18,21 @@ fn read_arguments<R: Env + AllocGlobal>(rt: &R) -> io::Result<Vec<String>> {
     Ok(words)
 }
 
-/// Answers standard input on standard output. A fault goes to standard error.
-fn answer_input(rt: &(impl Input + Print + Eprint + AllocGlobal)) -> u8 {
-    let outcome = run(rt.alloc(), &mut rt.reader(), &mut io::writer(rt));
+/// The exit status after a run, whose fault goes to standard error.
+fn end(rt: &impl Eprint, outcome: Result<Report, RunError>) -> u8 {
     if let Err(fault) = &outcome {
         let _ = eprintln!(rt; "{}", fault_text(fault));
     }
     exit_status(&outcome)
+}
+
+/// Prints the demo, which counts as a run of no lines.
+fn print_demo(rt: &(impl Print + AllocGlobal)) -> Result<Report, RunError> {
+    demo(rt.alloc(), &mut io::writer(rt))?;
+    Ok(Report {
+        lines: 0,
+        refused: 0,
+    })
 }
 
 fn main(rt: HostRuntime) -> ExitCode {
@@ -32,8 +41,12 @@ fn main(rt: HostRuntime) -> ExitCode {
         return ExitCode::from(1);
     };
     match command(&words) {
-        Command::Lines => ExitCode::from(answer_input(&rt)),
-        Command::Demo | Command::Usage => {
+        Command::Lines => {
+            let outcome = run(rt.alloc(), &mut rt.reader(), &mut io::writer(&rt));
+            ExitCode::from(end(&rt, outcome))
+        }
+        Command::Demo => ExitCode::from(end(&rt, print_demo(&rt))),
+        Command::Usage => {
             let _ = eprintln!(rt; "usage: polars_tables [demo]");
             ExitCode::from(2)
         }

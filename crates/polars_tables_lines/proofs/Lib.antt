@@ -1,11 +1,4 @@
-pub mod Rows
-pub mod Options
-pub mod RowLists
-pub mod Joins
-pub mod Comparisons
-pub mod Shown
-pub mod Shapes
-pub mod Known
 pub mod Cuts
-pub mod Texts
 pub mod Examples
+pub mod Known
+pub mod Texts

@@ -3,7 +3,7 @@ use Rattle.std.proofs.Common.{◌≡◌, ◌∙◌, ℕ, Bool, true, false, List
 use Rattle.std.specs.Prelude.{if◌then◌else◌}
 use Rattle.std.specs.Str.{IsUtf8, is_utf8}
 use Rattle.std.proofs.lemmas.Str.{IsUtf8-from_is_utf8, is_utf8-from_IsUtf8}
-use Rattle.polars_tables_lines.specs.declared.line.LineError.TheVariants.{Op}
+use Rattle.polars_tables_rows.specs.declared.fault.LineError.TheVariants.{Op}
 use Rattle.polars_tables_lines.specs.Line.{line_meaning}
 use Rattle.polars_tables_lines.specs.Output.{meaning_of}
 

@@ -1,15 +1,17 @@
 -- What the program is asked to do, and how it ends.
-use Rattle.std.specs.Prelude.{ℕ, ◌==◌, if◌then◌else◌, List, [], ◌∷◌, codes, Result, Ok, Err}
+use Rattle.std.specs.Prelude.{ℕ, ◌==◌, cond, if◌then◌else◌, List, [], ◌∷◌, codes, Result, Ok, Err}
+use Rattle.std.specs.Str.{bytes_eq}
 use Rattle.polars_tables_lines.specs.declared.program.Command.{Command}
-use Rattle.polars_tables_lines.specs.declared.program.Command.TheVariants.{Lines, Usage}
+use Rattle.polars_tables_lines.specs.declared.program.Command.TheVariants.{Lines, Demo, Usage}
 use Rattle.polars_tables_lines.specs.declared.running.Report.{Report}
 use Rattle.polars_tables_lines.specs.declared.running.RunError.{RunError}
 use Rattle.polars_tables_lines.specs.declared.running.RunError.TheVariants.{Read, Write, Memory}
 
--- without words the lines of standard input are answered, and with any the usage line is printed
-abbrev pub command_of : {A : Type 0} → List A → Command
+-- without words the lines of standard input are answered, with the one word `demo` the demo is printed, and with any others the usage line
+abbrev pub command_of : List (List ℕ) → Command
 command_of [] = Lines
-command_of (word ∷ more) = Usage
+command_of (word ∷ []) = cond (bytes_eq word (codes "demo")) Demo Usage
+command_of (word ∷ other ∷ more) = Usage
 
 -- a run ends well where no line was refused
 abbrev pub exit_status_of : Result Report RunError → ℕ

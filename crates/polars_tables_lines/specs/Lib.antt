@@ -1,12 +1,3 @@
-pub mod Tables
-pub mod Types
-pub mod Word
-pub mod ParsingLaws
-pub mod Stored
-pub mod StoredLaws
-pub mod Operations
-pub mod Comparing
-pub mod Faults
 pub mod Line
 pub mod Output
 pub mod Reading

@@ -4,8 +4,8 @@ use Rattle.std.specs.Result.{is_err}
 use Rattle.std.specs.List.{slice_split}
 use Rattle.std.specs.Str.{is_utf8}
 use Rattle.std.specs.Fmt.{decimal}
-use Rattle.polars_tables_lines.specs.declared.line.LineError.{LineError}
-use Rattle.polars_tables_lines.specs.declared.line.LineError.TheVariants.{Op, TypeName, Row, Length, Range, Memory}
+use Rattle.polars_tables_rows.specs.declared.fault.LineError.{LineError}
+use Rattle.polars_tables_rows.specs.declared.fault.LineError.TheVariants.{Op, TypeName, Row, Length, Range, Memory}
 use Rattle.polars_tables_lines.specs.declared.running.Report.{Report}
 use Rattle.polars_tables_lines.specs.Line.{line_meaning}
 

@@ -1,10 +1,10 @@
 //! The program's run: reads an input, answers each of its lines, and writes the answers.
 
-ghost use Rattle.std.specs.Prelude.{◌≡◌, ◌⊎◌, ◌++◌, ◌∷◌, [], length, vec_len, ◌<◌, ◌==◌, ◌+◌, ◌^◌, IfOk, IfErr, IfSome, OnOk, Ok, Err};
+ghost use Rattle.std.specs.Prelude.{◌≡◌, ◌⊎◌, ◌++◌, ◌∷◌, [], length, vec_len, ◌<◌, ◌==◌, ◌+◌, ◌^◌, IfOk, IfErr, IfSome, OnOk};
 ghost use Rattle.std.specs.List.{position};
 ghost use Rattle.std.specs.String.{string_bytes};
 ghost use Rattle.std.specs.Io.KnownBytes.{Appends, Keeps};
-ghost use Rattle.polars_tables_lines.specs.Faults.{UnlessMemory};
+ghost use Rattle.polars_tables_rows.specs.Faults.{Tells};
 ghost use Rattle.polars_tables_lines.specs.Output.{fault_word, meaning_of, refusal, lines_of, output_of, Reports};
 ghost use Rattle.polars_tables_lines.specs.Answers.{AddsLine};
 ghost use Rattle.polars_tables_lines.specs.Reading.{ReadsOn};
@@ -122,8 +122,7 @@ fn fault_word(fault: &LineError) -> &'static str
 
 /// Answers a line of bytes: one that is not UTF-8 names no operation.
 fn answer_bytes(alloc: Global, line: &[u8]) -> Result<String, LineError>
-    ensures text { IfOk result (λ text. meaning_of line.now ≡ Ok (string_bytes text)) }
-    ensures fault { IfErr result (λ e. UnlessMemory e (meaning_of line.now ≡ Err e)) }
+    ensures { Tells string_bytes (meaning_of line.now) result }
 {
     match str::from_utf8(line) {
         Ok(line) => answer_line(alloc, line),
@@ -221,6 +220,20 @@ fn answer_lines(alloc: Global, input: &[u8]) -> Result<Answers, RunError>
     Ok(answers)
 }
 
+/// Writes a text to its end.
+pub(crate) fn write_text<W: Write>(writer: &mut W, text: &str) -> Result<(), RunError>
+    ensures written { OnOk result (Appends (W.contents writer.old) (W.contents writer.new) text.now) }
+    ensures fault { IfErr result (λ e. e ≡ RunError.Write) }
+{
+    if writer.write_all(text.as_bytes()).is_err() {
+        return Err(RunError::Write);
+    }
+    if writer.flush().is_err() {
+        return Err(RunError::Write);
+    }
+    Ok(())
+}
+
 /// Reads the input to its end, answers each of its lines, and then writes all answers, each ended
 /// by a line feed. A refused line is answered by `line N: refused: WORD`, N counted from 1.
 /// It reads at most 2^32 times. A refused growth stops the run before anything is written.
@@ -240,11 +253,6 @@ pub fn run<R: Read, W: Write>(
 {
     let input = read_input(alloc, reader)?;
     let answers = answer_lines(alloc, &input)?;
-    if writer.write_all(answers.text.as_bytes()).is_err() {
-        return Err(RunError::Write);
-    }
-    if writer.flush().is_err() {
-        return Err(RunError::Write);
-    }
+    write_text(writer, &answers.text)?;
     Ok(answers.report)
 }

@@ -5,11 +5,13 @@
 //! | `line TEXT` | the answer to the line that stands behind `line ` as it is, or why it is refused |
 //! | `line_bytes BYTES` | the same of the text that these bytes are, for a line that holds what can't be seen |
 //! | `run BYTES` | how many lines this input has, how many are refused, and the bytes that are written |
+//! | `demo` | the bytes that the demo writes |
 //! | `command WORD..` | what these arguments ask for |
 //! | `exit_status lines N refused N`, `exit_status FAULT` | the status after such a run |
 //! | `fault_text FAULT` | what is printed where a run stopped: by `read`, `write` or `memory` |
 
 use polars_tables_lines::arguments::command;
+use polars_tables_lines::demo::demo;
 use polars_tables_lines::line::{LineError, answer_line};
 use polars_tables_lines::program::{Command, exit_status, fault_text};
 use polars_tables_lines::running::{Report, RunError, run};
@@ -31,6 +33,7 @@ pub fn answer(
         "line" => answer_text(alloc, text),
         "line_bytes" => answer_bytes(alloc, words),
         "run" => answer_run(alloc, words),
+        "demo" => answer_demo(alloc),
         "command" => answer_command(alloc, text),
         "exit_status" => answer_status(alloc, words),
         "fault_text" => answer_fault(alloc, words),
@@ -92,6 +95,23 @@ fn write_run(alloc: Global, report: Report, written: &[u8]) -> Result<String, Fa
     let mut text = String::new(alloc);
     write!(text, "lines {lines} refused {refused} x")?;
     push_hexadecimal(&mut text, written)?;
+    Ok(text)
+}
+
+/// The bytes that the demo writes.
+fn answer_demo(alloc: Global) -> Result<String, Fault> {
+    let mut written = Vec::new(alloc);
+    match demo(alloc, &mut written) {
+        Ok(()) => write_bytes(alloc, &written),
+        Err(_) => Err(Fault::Memory),
+    }
+}
+
+/// Bytes as `x` and two hexadecimal digits for each.
+fn write_bytes(alloc: Global, bytes: &[u8]) -> Result<String, Fault> {
+    let mut text = String::new(alloc);
+    text.push('x')?;
+    push_hexadecimal(&mut text, bytes)?;
     Ok(text)
 }
 

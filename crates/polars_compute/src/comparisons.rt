@@ -1,0 +1,12 @@
+//! Equality and order of arrays of one kind, row by row and against a scalar, and equality of two arrays of any kind.
+
+pub use polars_compare_equality::borrowed::{BytesEqKernel, TextEqKernel};
+pub use polars_compare_equality::kernel::TotalEqKernel;
+pub use polars_compare_nested::kernels::{
+    array_tot_eq_missing_kernel, array_tot_eq_missing_kernel_counted,
+    array_tot_eq_missing_kernel_with_steps, array_tot_ne_missing_kernel,
+    array_tot_ne_missing_kernel_counted,
+};
+pub use polars_compare_nested::leaf_kernel::LeafKernel;
+pub use polars_compare_order::borrowed::{BytesOrdKernel, TextOrdKernel};
+pub use polars_compare_order::kernel::TotalOrdKernel;

@@ -1,0 +1,153 @@
+//! The arrays of the demo, made of parts. Each is kept in a box.
+
+ghost use Rattle.std.specs.Prelude.{IfOk, IfSome};
+ghost use Rattle.std.specs.List.{All};
+ghost use Rattle.polars_arrays_nested.specs.GoodParts.{IsGood};
+
+use crate::fault::Fault;
+use polars_arrays_bits::bitmap::Bitmap;
+use polars_arrays_bits::buffer::Buffer;
+use polars_arrays_bytes::text::Utf8Array;
+use polars_arrays_flat::data_type::Field;
+use polars_arrays_flat::null::NullArray;
+use polars_arrays_flat::primitive::PrimitiveArray;
+use polars_arrays_nested::any_array::AnyArray;
+use polars_arrays_nested::dict_keys::DictKeys;
+use polars_arrays_nested::dictionary::DictionaryArray;
+use polars_arrays_nested::fixed_size_list::FixedSizeListArray;
+use polars_arrays_nested::list::ListArray;
+use polars_arrays_nested::list_offsets::ListOffsets;
+use polars_arrays_nested::struct_array::StructArray;
+use polars_arrays_views::binary_view::BinaryViewArray;
+use polars_arrays_views::view::View;
+use std::alloc::Global;
+
+// Which rows are present, or None where all are.
+fn validity(alloc: Global, present: Option<&[bool]>) -> Result<Option<Bitmap>, Fault> {
+    match present {
+        Some(present) => Ok(Some(Bitmap::from_bools(alloc, present)?)),
+        None => Ok(None),
+    }
+}
+
+/// Numbers.
+pub fn numbers(alloc: Global, values: &[i32]) -> Result<Box<AnyArray>, Fault>
+    ensures { IfOk result (λ array. IsGood array.value) }
+{
+    let array = PrimitiveArray::from_vec(Vec::from_slice(alloc, values)?);
+    Ok(Box::new(alloc, AnyArray::Int32(array))?)
+}
+
+/// So many nulls.
+pub fn nulls(alloc: Global, len: usize) -> Result<Box<AnyArray>, Fault>
+    ensures { IfOk result (λ array. IsGood array.value) }
+{
+    Ok(Box::new(alloc, AnyArray::Null(NullArray::new(len)))?)
+}
+
+/// Texts, of which text `i` has the bytes from end `i` up to end `i + 1`.
+pub fn texts(
+    alloc: Global,
+    ends: &[i32],
+    bytes: &str,
+    present: Option<&[bool]>,
+) -> Result<Box<AnyArray>, Fault>
+    ensures { IfOk result (λ array. IsGood array.value) }
+{
+    let ends = Buffer::from_vec(Vec::from_slice(alloc, ends)?);
+    let bytes = Buffer::from_vec(Vec::from_slice(alloc, bytes.as_bytes())?);
+    let array = Utf8Array::try_new(ends, bytes, validity(alloc, present)?)?;
+    Ok(Box::new(alloc, AnyArray::Utf8(array))?)
+}
+
+/// Lists, of which list `i` has the items from offset `i` up to offset `i + 1`.
+pub fn lists(
+    alloc: Global,
+    offsets: &[i32],
+    present: Option<&[bool]>,
+    items: Box<AnyArray>,
+) -> Result<Box<AnyArray>, Fault>
+    requires { IsGood items.value }
+    ensures { IfOk result (λ array. IsGood array.value) }
+{
+    let offsets = ListOffsets::Small(Buffer::from_vec(Vec::from_slice(alloc, offsets)?));
+    let array = ListArray::try_new(offsets, items, validity(alloc, present)?)?;
+    Ok(Box::new(alloc, AnyArray::List(array))?)
+}
+
+/// Lists of no items each.
+pub fn empty_lists(alloc: Global, present: &[bool]) -> Result<Box<AnyArray>, Fault>
+    ensures { IfOk result (λ array. IsGood array.value) }
+{
+    let items = numbers(alloc, &[])?;
+    let validity = validity(alloc, Some(present))?;
+    let array = FixedSizeListArray::try_new(0, present.len(), items, validity)?;
+    Ok(Box::new(alloc, AnyArray::FixedSizeList(array))?)
+}
+
+/// The entries that keys name; a key that is not present is a null.
+pub fn entries(
+    alloc: Global,
+    keys: &[u32],
+    present: &[bool],
+    entries: Box<AnyArray>,
+) -> Result<Box<AnyArray>, Fault>
+    requires { IsGood entries.value }
+    ensures { IfOk result (λ array. IsGood array.value) }
+{
+    let keys = Buffer::from_vec(Vec::from_slice(alloc, keys)?);
+    let keys = PrimitiveArray::try_new(keys, validity(alloc, Some(present))?)?;
+    let array = DictionaryArray::try_new(DictKeys::UInt32(keys), entries)?;
+    Ok(Box::new(alloc, AnyArray::Dictionary(array))?)
+}
+
+/// Byte strings by views, of which the long ones stand in one buffer.
+pub fn strings(alloc: Global, views: &[View], buffer: &[u8]) -> Result<Box<AnyArray>, Fault>
+    ensures { IfOk result (λ array. IsGood array.value) }
+{
+    let views = Buffer::from_vec(Vec::from_slice(alloc, views)?);
+    let mut buffers = Vec::new(alloc);
+    buffers.push(Buffer::from_vec(Vec::from_slice(alloc, buffer)?))?;
+    let array = BinaryViewArray::try_new(views, buffers, None)?;
+    Ok(Box::new(alloc, AnyArray::BinaryView(array))?)
+}
+
+// Adds a column, with its field.
+fn push_column(
+    alloc: Global,
+    fields: &mut Vec<Field>,
+    columns: &mut Vec<AnyArray>,
+    name: &str,
+    column: Box<AnyArray>,
+) -> Result<(), Fault>
+    requires columns { All IsGood columns.old.items }
+    requires column { IsGood column.value }
+    ensures { All IsGood columns.new.items }
+{
+    let dtype = column.dtype(alloc)?;
+    let name = String::from_str(alloc, name)?;
+    fields.push(Field { name, dtype })?;
+    columns.push(Box::into_inner(column))?;
+    Ok(())
+}
+
+/// Structs whose first field is named `a`, and whose second one, if there is one, `b`.
+pub fn structs(
+    alloc: Global,
+    first: Box<AnyArray>,
+    second: Option<Box<AnyArray>>,
+) -> Result<Box<AnyArray>, Fault>
+    requires first { IsGood first.value }
+    requires second { IfSome second (λ array. IsGood array.value) }
+    ensures { IfOk result (λ array. IsGood array.value) }
+{
+    let len = first.len();
+    let mut fields = Vec::new(alloc);
+    let mut columns = Vec::new(alloc);
+    push_column(alloc, &mut fields, &mut columns, "a", first)?;
+    if let Some(second) = second {
+        push_column(alloc, &mut fields, &mut columns, "b", second)?;
+    }
+    let array = StructArray::try_new(fields, len, columns, None)?;
+    Ok(Box::new(alloc, AnyArray::Struct(array))?)
+}

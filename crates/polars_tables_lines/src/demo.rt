@@ -1,0 +1,19 @@
+//! The demo.
+
+ghost use Rattle.std.specs.Prelude.{◌≡◌, ◌⊎◌, IfErr};
+ghost use Rattle.std.specs.Io.KnownBytes.{Keeps};
+
+use crate::running::{RunError, write_text};
+use polars_tables_demo::text::demo_text;
+use std::alloc::Global;
+use std::io::Write;
+
+/// Compares eight pairs of small nested arrays, and writes a line for each: which rows are the same, null equal to null alone, and how many
+/// leaves were compared. A refused growth stops it before anything is written.
+pub fn demo<W: Write>(alloc: Global, writer: &mut W) -> Result<(), RunError>
+    // Nothing was written, unless a write failed.
+    ensures unwritten { IfErr result (λ e. (e ≡ RunError.Write) ⊎ Keeps (W.contents writer.old) (W.contents writer.new)) }
+{
+    let text = demo_text(alloc)?;
+    write_text(writer, &text)
+}

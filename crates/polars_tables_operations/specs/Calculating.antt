@@ -1,0 +1,27 @@
+-- What is made of numbers.
+use Rattle.polars_compute_arithmetic.specs.Operations.{Function, Operation, difference_of, floor_division, magnitude_of, modulo, negation_of, product_of, sum_of, truncated_division}
+use Rattle.polars_tables_operations.specs.declared.operation.Calculation.{Calculation}
+use Rattle.polars_tables_operations.specs.declared.operation.Calculation.TheVariants.{Add, Multiply, Ordered}
+use Rattle.polars_tables_operations.specs.declared.operation.Change.{Change}
+use Rattle.polars_tables_operations.specs.declared.operation.Change.TheVariants.{Magnitude, Negation}
+use Rattle.polars_tables_operations.specs.declared.operation.OrderedCalculation.{OrderedCalculation}
+use Rattle.polars_tables_operations.specs.declared.operation.OrderedCalculation.TheVariants.{Subtract, FloorDivide, TruncatedDivide, Modulo, LegacyDivide}
+
+-- what is made of one number
+abbrev pub change_of : Change → Function
+change_of Magnitude = magnitude_of
+change_of Negation = negation_of
+
+-- what is made of two whose order matters
+abbrev pub ordered_of : OrderedCalculation → Operation
+ordered_of Subtract = difference_of
+ordered_of FloorDivide = floor_division
+ordered_of TruncatedDivide = truncated_division
+ordered_of Modulo = modulo
+ordered_of LegacyDivide = floor_division
+
+-- what is made of two
+abbrev pub calculation_of : Calculation → Operation
+calculation_of Add = sum_of
+calculation_of Multiply = product_of
+calculation_of (Ordered ordered) = ordered_of ordered

@@ -1,0 +1,9 @@
+pub mod Operations
+pub mod Comparing
+pub mod Calculating
+pub mod Bits
+pub mod Reducing
+pub mod Distinct
+pub mod Answers
+pub mod Stored
+pub mod StoredLaws

@@ -1,0 +1,156 @@
+//! Comparisons of the rows of two arrays, and of an array with a scalar.
+
+ghost use Rattle.std.specs.Prelude.{◌≡◌, None, length, replicate, MatchResult};
+ghost use Rattle.polars_arrays_bits.specs.Errors.{IsMemory};
+ghost use Rattle.polars_arrays_flat.specs.ArrayRows.{truth_rows};
+ghost use Rattle.polars_arrays_flat.specs.StoredRows.{rows_under, truth_slots};
+ghost use Rattle.polars_arrays_flat.specs.Validity.{HasBits};
+ghost use Rattle.polars_compute_arithmetic.specs.Maps.{joined_validity};
+ghost use Rattle.polars_tables_operations.specs.Comparing.{ComparesRows, answer_validity, compared_rows};
+
+use crate::kernel_array::KernelArray;
+use crate::operation::Comparison;
+use polars_arrays_bits::bitmap::Bitmap;
+use polars_arrays_bits::error::ComputeError;
+use polars_arrays_flat::boolean::BooleanArray;
+use polars_arrays_flat::mask::Mask;
+use std::alloc::Global;
+
+// A bit for each row, right wherever the comparison of the two rows answers a truth value. The error is
+// `Memory`: any two arrays of one kind and length can be compared, so that no kernel answers `Unsupported`.
+fn compare_bits<A: KernelArray>(
+    alloc: Global,
+    comparison: Comparison,
+    left: &A,
+    right: &A,
+) -> Result<Bitmap, ComputeError>
+    requires as_long { length (A.slots right.now) ≡ length (A.slots left.now) }
+    requires left_bits { HasBits (length (A.slots left.now)) (A.mask left.now) }
+    requires right_bits { HasBits (length (A.slots right.now)) (A.mask right.now) }
+    ensures { MatchResult result
+        (ComparesRows comparison (rows_under (A.mask left.now) (A.slots left.now)) (rows_under (A.mask right.now) (A.slots right.now)))
+        IsMemory }
+{
+    match comparison {
+        Comparison::Equal => left.tot_eq_kernel(alloc, right),
+        Comparison::Unequal => left.tot_ne_kernel(alloc, right),
+        Comparison::Less => left.tot_lt_kernel(alloc, right),
+        Comparison::LessOrEqual => left.tot_le_kernel(alloc, right),
+        Comparison::Greater => left.tot_gt_kernel(alloc, right),
+        Comparison::GreaterOrEqual => left.tot_ge_kernel(alloc, right),
+        Comparison::EqualMissing => left.tot_eq_missing_kernel(alloc, right),
+        Comparison::UnequalMissing => left.tot_ne_missing_kernel(alloc, right),
+    }
+}
+
+// The same of each row and a scalar. The error is `Memory`: every such array has broadcasts, so that no kernel
+// answers `Unsupported`.
+fn compare_bits_scalar<A: KernelArray>(
+    alloc: Global,
+    comparison: Comparison,
+    rows: &A,
+    scalar: &A::Value,
+) -> Result<Bitmap, ComputeError>
+    requires { HasBits (length (A.slots rows.now)) (A.mask rows.now) }
+    ensures { MatchResult result
+        (ComparesRows comparison (rows_under (A.mask rows.now) (A.slots rows.now)) (replicate (length (A.slots rows.now)) (A.value_row scalar.now)))
+        IsMemory }
+{
+    match comparison {
+        Comparison::Equal => rows.tot_eq_kernel_broadcast(alloc, scalar),
+        Comparison::Unequal => rows.tot_ne_kernel_broadcast(alloc, scalar),
+        Comparison::Less => rows.tot_lt_kernel_broadcast(alloc, scalar),
+        Comparison::LessOrEqual => rows.tot_le_kernel_broadcast(alloc, scalar),
+        Comparison::Greater => rows.tot_gt_kernel_broadcast(alloc, scalar),
+        Comparison::GreaterOrEqual => rows.tot_ge_kernel_broadcast(alloc, scalar),
+        Comparison::EqualMissing => rows.tot_eq_missing_kernel_broadcast(alloc, scalar),
+        Comparison::UnequalMissing => rows.tot_ne_missing_kernel_broadcast(alloc, scalar),
+    }
+}
+
+// Where rows of both sides are present, unless all are.
+fn present_in_both(
+    alloc: Global,
+    left: &Mask<'_>,
+    right: &Mask<'_>,
+    n: usize,
+) -> Result<Option<Bitmap>, ComputeError>
+    requires left_bits { HasBits n left.now }
+    requires right_bits { HasBits n right.now }
+    ensures { MatchResult result (λ bits. bits ≡ joined_validity left.now right.now) IsMemory }
+{
+    match (left.bits(), right.bits()) {
+        (Some(left), Some(right)) => Ok(Some(left.and(alloc, &right)?)),
+        (Some(left), None) => Ok(Some(left.to_bitmap(alloc)?)),
+        (None, Some(right)) => Ok(Some(right.to_bitmap(alloc)?)),
+        (None, None) => Ok(None),
+    }
+}
+
+// The validity of the answers of a comparison.
+fn validity_of(
+    alloc: Global,
+    comparison: Comparison,
+    left: &Mask<'_>,
+    right: &Mask<'_>,
+    n: usize,
+) -> Result<Option<Bitmap>, ComputeError>
+    requires left_bits { HasBits n left.now }
+    requires right_bits { HasBits n right.now }
+    ensures { MatchResult result (λ bits. bits ≡ answer_validity comparison left.now right.now) IsMemory }
+{
+    match comparison {
+        Comparison::EqualMissing | Comparison::UnequalMissing => Ok(None),
+        _ => present_in_both(alloc, left, right, n),
+    }
+}
+
+// The bits of a comparison as truth values, and null where it answers none.
+fn answered(
+    alloc: Global,
+    comparison: Comparison,
+    left: &Mask<'_>,
+    right: &Mask<'_>,
+    bits: Bitmap,
+) -> Result<BooleanArray, ComputeError>
+    requires left_bits { HasBits (length bits) left.now }
+    requires right_bits { HasBits (length bits) right.now }
+    ensures { MatchResult result (λ answers. truth_rows answers ≡ rows_under (answer_validity comparison left.now right.now) (truth_slots bits)) IsMemory }
+{
+    let validity = validity_of(alloc, comparison, left, right, bits.len())?;
+    let Ok(answers) = BooleanArray::try_new(bits, validity) else {
+        unreachable!();
+    };
+    Ok(answers)
+}
+
+/// What a comparison answers for the rows of two arrays. The error is `Memory`.
+pub fn compare_rows<A: KernelArray>(
+    alloc: Global,
+    comparison: Comparison,
+    left: &A,
+    right: &A,
+) -> Result<BooleanArray, ComputeError>
+    requires { length (A.slots right.now) ≡ length (A.slots left.now) }
+    ensures { MatchResult result (λ answers. truth_rows answers ≡ compared_rows comparison (rows_under (A.mask left.now) (A.slots left.now)) (rows_under (A.mask right.now) (A.slots right.now))) IsMemory }
+{
+    let left_mask = left.missing_mask(alloc)?;
+    let right_mask = right.missing_mask(alloc)?;
+    let bits = compare_bits(alloc, comparison, left, right)?;
+    answered(alloc, comparison, &left_mask, &right_mask, bits)
+}
+
+/// What a comparison answers for the rows of an array and a scalar, which is as many equal rows. The error is `Memory`.
+pub fn compare_scalar<A: KernelArray>(
+    alloc: Global,
+    comparison: Comparison,
+    rows: &A,
+    scalar: &A::Value,
+) -> Result<BooleanArray, ComputeError>
+    ensures { MatchResult result (λ answers. truth_rows answers ≡ compared_rows comparison (rows_under (A.mask rows.now) (A.slots rows.now)) (replicate (length (rows_under (A.mask rows.now) (A.slots rows.now))) (A.value_row scalar.now))) IsMemory }
+{
+    let mask = rows.missing_mask(alloc)?;
+    let bits = compare_bits_scalar(alloc, comparison, rows, scalar)?;
+    let every = Mask::all();
+    answered(alloc, comparison, &mask, &every, bits)
+}

@@ -1,0 +1,58 @@
+//! What states answer of distinct numbers.
+
+ghost use Rattle.std.specs.Prelude.{◌≡◌, IfOk};
+ghost use Rattle.std.specs.String.{string_bytes};
+ghost use Rattle.polars_arrays_flat.specs.Row.{Int};
+ghost use Rattle.polars_compute_slots.specs.State.{all_seen, finalised};
+ghost use Rattle.polars_tables_operations.specs.Answers.{told};
+ghost use Rattle.polars_tables_operations.specs.Distinct.{asked_of};
+ghost use Rattle.polars_tables_rows.specs.Faults.{Tells};
+ghost use Rattle.polars_tables_rows.specs.Written.{truth_word};
+
+use crate::line_number::LineNumber;
+use crate::operation::Distinct;
+use polars_compute_unique::kernel::RangedUniqueKernel;
+use polars_compute_unique::primitive::PrimitiveRangedUniqueState;
+use polars_tables_rows::fault::{LineError, or_memory};
+use polars_tables_rows::written::write_rows;
+use std::alloc::{AllocError, Global};
+
+// The distinct rows that a state has seen.
+fn list_distinct<T: LineNumber>(
+    alloc: Global,
+    state: PrimitiveRangedUniqueState<T>,
+) -> Result<String, LineError>
+    ensures { Tells string_bytes (told (finalised Int state)) result }
+{
+    let rows = or_memory(state.finalize_unique(alloc))?;
+    Ok(write_rows(alloc, &rows)?)
+}
+
+/// What a state answers of the distinct rows that it has seen.
+pub fn answer_distinct<T: LineNumber>(
+    alloc: Global,
+    asked: Distinct,
+    state: PrimitiveRangedUniqueState<T>,
+) -> Result<String, LineError>
+    ensures { Tells string_bytes (told (asked_of Int asked state)) result }
+{
+    match asked {
+        Distinct::Listed => list_distinct(alloc, state),
+        Distinct::Counted => Ok(state.finalize_n_unique().to_string(alloc)?),
+        Distinct::PresentCounted => Ok(state.finalize_n_unique_non_null().to_string(alloc)?),
+    }
+}
+
+/// Whether a state has seen all numbers of its range, and a null, as a word.
+pub fn write_all_seen<T: LineNumber>(
+    alloc: Global,
+    state: &PrimitiveRangedUniqueState<T>,
+) -> Result<String, AllocError>
+    ensures { IfOk result (λ text. string_bytes text ≡ truth_word (all_seen state.now)) }
+{
+    if state.has_seen_all() {
+        "true".to_string(alloc)
+    } else {
+        "false".to_string(alloc)
+    }
+}

@@ -1,0 +1,151 @@
+//! What the operations on rows of every type answer.
+
+ghost use Rattle.std.specs.Prelude.{◌≡◌, IfOk, map, option_map};
+ghost use Rattle.std.specs.String.{string_bytes};
+ghost use Rattle.polars_arrays_flat.specs.StoredRows.{rows_under};
+ghost use Rattle.polars_tables_operations.specs.Answers.{comparison_answer, general_answer, row_or_none, rows_or_none};
+ghost use Rattle.polars_tables_operations.specs.declared.operation.GeneralOperation.TheVariants.{Compare, CountBits, Extremes, Reduce};
+ghost use Rattle.polars_tables_operations.specs.declared.operation.Operand.TheVariants.{Rows, Scalar};
+ghost use Rattle.polars_tables_rows.specs.Faults.{Tells};
+
+use crate::comparing::{compare_rows, compare_scalar};
+use crate::counting::count_bits;
+use crate::kernel_array::KernelArray;
+use crate::operation::{BitCount, Comparison, GeneralOperation, Operand, Reduction};
+use crate::reducing::{find_extremes, reduce};
+use polars_tables_rows::fault::{LineError, or_memory};
+use polars_tables_rows::written::write_rows;
+use std::alloc::{AllocError, Global};
+
+// Two lists of rows compared, which have to be equally long.
+fn answer_rows<A: KernelArray>(
+    alloc: Global,
+    comparison: Comparison,
+    left: &A,
+    right: &A,
+) -> Result<String, LineError>
+    ensures { Tells string_bytes (comparison_answer comparison Rows (rows_under (A.mask left.now) (A.slots left.now)) (rows_under (A.mask right.now) (A.slots right.now))) result }
+{
+    if left.count() != right.count() {
+        return Err(LineError::Length);
+    }
+    let answers = or_memory(compare_rows(alloc, comparison, left, right))?;
+    Ok(write_rows(alloc, &answers)?)
+}
+
+// A list of rows compared with a scalar, which is a list of one row that is not null.
+fn answer_scalar<A: KernelArray>(
+    alloc: Global,
+    comparison: Comparison,
+    rows: &A,
+    scalars: &A,
+) -> Result<String, LineError>
+    ensures { Tells string_bytes (comparison_answer comparison Scalar (rows_under (A.mask rows.now) (A.slots rows.now)) (rows_under (A.mask scalars.now) (A.slots scalars.now))) result }
+{
+    if scalars.count() != 1 {
+        return Err(LineError::Length);
+    }
+    let Some(scalar) = scalars.value(0) else {
+        return Err(LineError::Range);
+    };
+    let answers = or_memory(compare_scalar(alloc, comparison, rows, &scalar))?;
+    Ok(write_rows(alloc, &answers)?)
+}
+
+// What a comparison answers to its lists of rows.
+fn answer_comparison<A: KernelArray>(
+    alloc: Global,
+    comparison: Comparison,
+    operand: Operand,
+    lists: &[A],
+) -> Result<String, LineError>
+    ensures { Tells string_bytes (general_answer (Compare comparison operand) A.kind (map (λ a. rows_under (A.mask a) (A.slots a)) lists.now)) result }
+{
+    let [left, right] = lists else {
+        return Err(LineError::Length);
+    };
+    match operand {
+        Operand::Rows => answer_rows(alloc, comparison, left, right),
+        Operand::Scalar => answer_scalar(alloc, comparison, left, right),
+    }
+}
+
+// How many bits of a kind each row of a list has.
+fn answer_count<A: KernelArray>(
+    alloc: Global,
+    count: BitCount,
+    lists: &[A],
+) -> Result<String, LineError>
+    ensures { Tells string_bytes (general_answer (CountBits count) A.kind (map (λ a. rows_under (A.mask a) (A.slots a)) lists.now)) result }
+{
+    let [list] = lists else {
+        return Err(LineError::Length);
+    };
+    let counts = or_memory(count_bits(alloc, count, list))?;
+    Ok(write_rows(alloc, &counts)?)
+}
+
+// The word of a value, or `none`.
+fn write_value<A: KernelArray>(alloc: Global, found: Option<A::Value>) -> Result<String, AllocError>
+    ensures { IfOk result (λ text. string_bytes text ≡ row_or_none (option_map A.value_row found)) }
+{
+    match found {
+        Some(value) => value.to_string(alloc),
+        None => "none".to_string(alloc),
+    }
+}
+
+// What the rows of a list are reduced to, if one is present.
+fn answer_reduction<A: KernelArray>(
+    alloc: Global,
+    reduction: Reduction,
+    lists: &[A],
+) -> Result<String, LineError>
+    ensures { Tells string_bytes (general_answer (Reduce reduction) A.kind (map (λ a. rows_under (A.mask a) (A.slots a)) lists.now)) result }
+{
+    let [list] = lists else {
+        return Err(LineError::Length);
+    };
+    Ok(write_value::<A>(alloc, reduce(reduction, list))?)
+}
+
+// The words of two values, or `none`.
+fn write_pair<A: KernelArray>(
+    alloc: Global,
+    found: Option<(A::Value, A::Value)>,
+) -> Result<String, AllocError>
+    ensures { IfOk result (λ text. string_bytes text ≡ rows_or_none (option_map (λ pair. A.value_row pair.0) found) (option_map (λ pair. A.value_row pair.1) found)) }
+{
+    match found {
+        Some((least, greatest)) => format!(in alloc; "{least} {greatest}"),
+        None => "none".to_string(alloc),
+    }
+}
+
+// The least and the greatest row of a list, if one is present.
+fn answer_extremes<A: KernelArray>(alloc: Global, lists: &[A]) -> Result<String, LineError>
+    ensures { Tells string_bytes (general_answer Extremes A.kind (map (λ a. rows_under (A.mask a) (A.slots a)) lists.now)) result }
+{
+    let [list] = lists else {
+        return Err(LineError::Length);
+    };
+    Ok(write_pair::<A>(alloc, find_extremes(list))?)
+}
+
+/// What an operation on rows of every type answers to its lists of rows.
+pub fn answer_general<A: KernelArray>(
+    alloc: Global,
+    operation: GeneralOperation,
+    lists: &[A],
+) -> Result<String, LineError>
+    ensures { Tells string_bytes (general_answer operation A.kind (map (λ a. rows_under (A.mask a) (A.slots a)) lists.now)) result }
+{
+    match operation {
+        GeneralOperation::Compare(comparison, operand) => {
+            answer_comparison(alloc, comparison, operand, lists)
+        }
+        GeneralOperation::CountBits(count) => answer_count(alloc, count, lists),
+        GeneralOperation::Reduce(reduction) => answer_reduction(alloc, reduction, lists),
+        GeneralOperation::Extremes => answer_extremes(alloc, lists),
+    }
+}

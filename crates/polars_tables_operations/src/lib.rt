@@ -1,0 +1,15 @@
+//! The operations of the line language, on arrays of rows.
+#![tactic(auto)]
+
+mod calculating;
+mod comparing;
+mod counting;
+mod distinct;
+pub mod general;
+pub mod kernel_array;
+pub mod line_number;
+pub mod numeric;
+pub mod operation;
+mod ranges;
+mod reducing;
+pub mod truths;

@@ -1,0 +1,65 @@
+//! The types of numbers that a line can name, and what operations ask of them.
+
+ghost use Rattle.std.specs.Prelude.{◌≡◌, false, refl};
+ghost use Rattle.polars_arrays_flat.specs.Row.{Int};
+ghost use Rattle.polars_compute_bits.specs.Bitwise.{number_bits};
+ghost use Rattle.polars_tables_operations.specs.Bits.{bits_row};
+ghost use Rattle.polars_tables_rows.specs.Types.{is_boolean, width_of};
+
+use polars_compute_arithmetic::arithmetic::HasPrimitiveArithmeticKernel;
+use polars_compute_bits::bit_number::BitNumber;
+use polars_compute_bits::sum::WrappingSum;
+use polars_compute_bits::wrapping::law_wrapped;
+use polars_compute_slots::number::UniqueNumber;
+use polars_tables_rows::row_number::RowNumber;
+
+/// A type of numbers that a line can name.
+pub trait LineNumber: RowNumber
+    + HasPrimitiveArithmeticKernel
+    + BitNumber
+    + WrappingSum
+    + UniqueNumber
+    + 'static {
+    // They are no truth values.
+    ghost number_kind_law: { is_boolean Self.kind ≡ false };
+
+    /// A law of every number: it is the one that its bits write. It does nothing.
+    final fn law_number_bits(self)
+        ensures { bits_row Self.kind (number_bits (width_of Self.kind) (Self.value self)) ≡ Int (Self.value self) }
+    {
+        let _ = self.whole();
+        law_wrapped::<Self>();
+    }
+}
+
+impl LineNumber for i8 {
+    ghost number_kind_law = { refl };
+}
+
+impl LineNumber for i16 {
+    ghost number_kind_law = { refl };
+}
+
+impl LineNumber for i32 {
+    ghost number_kind_law = { refl };
+}
+
+impl LineNumber for i64 {
+    ghost number_kind_law = { refl };
+}
+
+impl LineNumber for u8 {
+    ghost number_kind_law = { refl };
+}
+
+impl LineNumber for u16 {
+    ghost number_kind_law = { refl };
+}
+
+impl LineNumber for u32 {
+    ghost number_kind_law = { refl };
+}
+
+impl LineNumber for u64 {
+    ghost number_kind_law = { refl };
+}

@@ -1,0 +1,204 @@
+//! What the operations on numbers answer.
+
+ghost use Rattle.std.specs.Prelude.{◌≡◌, IfOk, map, Ok};
+ghost use Rattle.std.specs.String.{string_bytes};
+ghost use Rattle.polars_arrays_flat.specs.ArrayRows.{number_rows};
+ghost use Rattle.polars_arrays_flat.specs.Row.{Int};
+ghost use Rattle.polars_arrays_numbers.specs.Wrapping.{wrapped};
+ghost use Rattle.polars_compute_bits.specs.Sum.{total};
+ghost use Rattle.polars_tables_operations.specs.Answers.{calculation_answer, numeric_answer, scalar_calculation_answer};
+ghost use Rattle.polars_tables_operations.specs.declared.operation.NumericOperation.TheVariants.{Calculate, CalculateFromScalar, Change as ChangeRows, DistinctInRange, HasAllOfRange, Sum};
+ghost use Rattle.polars_tables_operations.specs.declared.operation.Operand.TheVariants.{Rows, Scalar};
+ghost use Rattle.polars_tables_rows.specs.Faults.{Tells, of_number_scalar, of_one, of_two};
+ghost use Rattle.polars_tables_rows.specs.Types.{least_in, width_of};
+ghost use Rattle.polars_tables_rows.specs.Written.{row_word};
+
+use crate::calculating::{calculate_from_scalar, calculate_rows, calculate_scalar, change_rows};
+use crate::distinct::{answer_distinct, write_all_seen};
+use crate::line_number::LineNumber;
+use crate::operation::{
+    Calculation, Change, Distinct, NumericOperation, Operand, OrderedCalculation,
+};
+use crate::ranges::state_of;
+use polars_arrays_flat::primitive::PrimitiveArray;
+use polars_compute_bits::sum::wrapping_sum_arr;
+use polars_tables_rows::fault::{LineError, or_memory};
+use polars_tables_rows::row_array::RowArray;
+use polars_tables_rows::written::write_rows;
+use std::alloc::{AllocError, Global};
+
+// The one list.
+fn into_one<A: Drop>(lists: Vec<A>) -> Result<A, LineError>
+    ensures { Tells {Y = A} (λ list. list) (of_one lists.items (λ list. Ok list)) result }
+{
+    let mut lists = lists;
+    let Some(list) = lists.pop() else {
+        return Err(LineError::Length);
+    };
+    if !lists.is_empty() {
+        return Err(LineError::Length);
+    }
+    Ok(list)
+}
+
+// The two lists.
+fn into_two<A: Drop>(lists: Vec<A>) -> Result<(A, A), LineError>
+    ensures { Tells {Y = A × A} (λ pair. pair) (of_two lists.items (λ left right. Ok (left, right))) result }
+{
+    let mut lists = lists;
+    let Some(right) = lists.pop() else {
+        return Err(LineError::Length);
+    };
+    let left = into_one(lists)?;
+    Ok((left, right))
+}
+
+// The one number of a list of rows.
+fn scalar_of<T: LineNumber>(scalars: &PrimitiveArray<T>) -> Result<T, LineError>
+    ensures { Tells T.value (of_number_scalar (number_rows T.value scalars.now) (λ n. Ok n)) result }
+{
+    if scalars.count() != 1 {
+        return Err(LineError::Length);
+    }
+    match scalars.value(0) {
+        Some(scalar) => Ok(scalar),
+        None => Err(LineError::Range),
+    }
+}
+
+// What is made of each number of a list.
+fn answer_change<T: LineNumber>(
+    alloc: Global,
+    change: Change,
+    lists: Vec<PrimitiveArray<T>>,
+) -> Result<String, LineError>
+    ensures { Tells string_bytes (numeric_answer (ChangeRows change) T.kind (map (number_rows T.value) lists.items)) result }
+{
+    let rows = into_one(lists)?;
+    let answers = or_memory(change_rows(alloc, change, rows))?;
+    Ok(write_rows(alloc, &answers)?)
+}
+
+// What is made of the numbers of two lists, which have to be equally long.
+fn answer_rows<T: LineNumber>(
+    alloc: Global,
+    calculation: Calculation,
+    left: PrimitiveArray<T>,
+    right: PrimitiveArray<T>,
+) -> Result<String, LineError>
+    ensures { Tells string_bytes (calculation_answer calculation Rows T.kind (number_rows T.value left) (number_rows T.value right)) result }
+{
+    if left.count() != right.count() {
+        return Err(LineError::Length);
+    }
+    let answers = or_memory(calculate_rows(alloc, calculation, left, right))?;
+    Ok(write_rows(alloc, &answers)?)
+}
+
+// What is made of the numbers of a list, each on the left, and a scalar.
+fn answer_scalar<T: LineNumber>(
+    alloc: Global,
+    calculation: Calculation,
+    rows: PrimitiveArray<T>,
+    scalars: PrimitiveArray<T>,
+) -> Result<String, LineError>
+    ensures { Tells string_bytes (calculation_answer calculation Scalar T.kind (number_rows T.value rows) (number_rows T.value scalars)) result }
+{
+    let scalar = scalar_of(&scalars)?;
+    let answers = or_memory(calculate_scalar(alloc, calculation, rows, scalar))?;
+    Ok(write_rows(alloc, &answers)?)
+}
+
+// What a calculation answers to its lists of rows.
+fn answer_calculation<T: LineNumber>(
+    alloc: Global,
+    calculation: Calculation,
+    operand: Operand,
+    lists: Vec<PrimitiveArray<T>>,
+) -> Result<String, LineError>
+    ensures { Tells string_bytes (numeric_answer (Calculate calculation operand) T.kind (map (number_rows T.value) lists.items)) result }
+{
+    let (left, right) = into_two(lists)?;
+    match operand {
+        Operand::Rows => answer_rows(alloc, calculation, left, right),
+        Operand::Scalar => answer_scalar(alloc, calculation, left, right),
+    }
+}
+
+// What is made of a scalar, on the left, and the numbers of a list.
+fn answer_from_scalar<T: LineNumber>(
+    alloc: Global,
+    calculation: OrderedCalculation,
+    lists: Vec<PrimitiveArray<T>>,
+) -> Result<String, LineError>
+    ensures { Tells string_bytes (numeric_answer (CalculateFromScalar calculation) T.kind (map (number_rows T.value) lists.items)) result }
+{
+    let (scalars, rows) = into_two(lists)?;
+    let scalar = scalar_of(&scalars)?;
+    let answers = or_memory(calculate_from_scalar(alloc, calculation, scalar, rows))?;
+    Ok(write_rows(alloc, &answers)?)
+}
+
+// The word of the sum of rows.
+fn write_sum<T: LineNumber>(alloc: Global, rows: &PrimitiveArray<T>) -> Result<String, AllocError>
+    ensures { IfOk result (λ text. string_bytes text ≡ row_word (Int (wrapped (least_in T.kind) (width_of T.kind) (total (number_rows T.value rows.now))))) }
+{
+    wrapping_sum_arr(rows).to_string(alloc)
+}
+
+// The sum of a list.
+fn answer_sum<T: LineNumber>(
+    alloc: Global,
+    lists: Vec<PrimitiveArray<T>>,
+) -> Result<String, LineError>
+    ensures { Tells string_bytes (numeric_answer Sum T.kind (map (number_rows T.value) lists.items)) result }
+{
+    let rows = into_one(lists)?;
+    Ok(write_sum(alloc, &rows)?)
+}
+
+// What is asked of the distinct rows of a list, whose numbers lie between two ends.
+fn answer_range<T: LineNumber>(
+    alloc: Global,
+    asked: Distinct,
+    lists: Vec<PrimitiveArray<T>>,
+) -> Result<String, LineError>
+    ensures { Tells string_bytes (numeric_answer (DistinctInRange asked) T.kind (map (number_rows T.value) lists.items)) result }
+{
+    let (ends, rows) = into_two(lists)?;
+    answer_distinct(alloc, asked, state_of(alloc, &ends, &rows)?)
+}
+
+// Whether a list has all numbers between two ends, and a null.
+fn answer_all<T: LineNumber>(
+    alloc: Global,
+    lists: Vec<PrimitiveArray<T>>,
+) -> Result<String, LineError>
+    ensures { Tells string_bytes (numeric_answer HasAllOfRange T.kind (map (number_rows T.value) lists.items)) result }
+{
+    let (ends, rows) = into_two(lists)?;
+    let state = state_of(alloc, &ends, &rows)?;
+    Ok(write_all_seen(alloc, &state)?)
+}
+
+/// What an operation on numbers answers to its lists of rows.
+pub fn answer_numeric<T: LineNumber>(
+    alloc: Global,
+    operation: NumericOperation,
+    lists: Vec<PrimitiveArray<T>>,
+) -> Result<String, LineError>
+    ensures { Tells string_bytes (numeric_answer operation T.kind (map (number_rows T.value) lists.items)) result }
+{
+    match operation {
+        NumericOperation::Change(change) => answer_change(alloc, change, lists),
+        NumericOperation::Calculate(calculation, operand) => {
+            answer_calculation(alloc, calculation, operand, lists)
+        }
+        NumericOperation::CalculateFromScalar(calculation) => {
+            answer_from_scalar(alloc, calculation, lists)
+        }
+        NumericOperation::Sum => answer_sum(alloc, lists),
+        NumericOperation::DistinctInRange(asked) => answer_range(alloc, asked, lists),
+        NumericOperation::HasAllOfRange => answer_all(alloc, lists),
+    }
+}

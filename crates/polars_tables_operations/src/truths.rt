@@ -1,0 +1,41 @@
+//! What is answered of the distinct rows of truth values.
+
+ghost use Rattle.std.specs.Prelude.{[], ◌∷◌, map};
+ghost use Rattle.std.specs.String.{string_bytes};
+ghost use Rattle.polars_arrays_flat.specs.ArrayRows.{truth_rows};
+ghost use Rattle.polars_tables_operations.specs.Answers.{truths_answer};
+ghost use Rattle.polars_tables_operations.specs.declared.operation.Distinct.TheVariants.{Listed};
+ghost use Rattle.polars_tables_rows.specs.Faults.{Tells};
+
+use crate::operation::Distinct;
+use polars_arrays_flat::boolean::BooleanArray;
+use polars_compute_unique::kernel::GenericUniqueKernel;
+use polars_tables_rows::fault::{LineError, or_memory};
+use polars_tables_rows::written::write_rows;
+use std::alloc::Global;
+
+// The distinct rows of a list.
+fn list_distinct(alloc: Global, list: &BooleanArray) -> Result<String, LineError>
+    ensures { Tells string_bytes (truths_answer Listed (truth_rows list.now ∷ [])) result }
+{
+    let rows = or_memory(list.unique(alloc))?;
+    Ok(write_rows(alloc, &rows)?)
+}
+
+/// What is asked of the distinct rows of one list of truth values.
+pub fn answer_truths(
+    alloc: Global,
+    asked: Distinct,
+    lists: &[BooleanArray],
+) -> Result<String, LineError>
+    ensures { Tells string_bytes (truths_answer asked (map truth_rows lists.now)) result }
+{
+    let [list] = lists else {
+        return Err(LineError::Length);
+    };
+    match asked {
+        Distinct::Listed => list_distinct(alloc, list),
+        Distinct::Counted => Ok(list.n_unique().to_string(alloc)?),
+        Distinct::PresentCounted => Ok(list.n_unique_non_null().to_string(alloc)?),
+    }
+}

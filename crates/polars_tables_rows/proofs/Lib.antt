@@ -1,0 +1,4 @@
+pub mod Examples
+pub mod Joins
+pub mod Options
+pub mod RowLists
