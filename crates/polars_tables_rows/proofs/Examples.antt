@@ -1,9 +1,8 @@
 -- Worked examples of the definitions: the check computes both sides of each.
 use Rattle.std.proofs.Common.{◌≡◌, ℕ, true, false, [], ◌∷◌, Some, None, Ok, Err, refl, codes}
-use Rattle.std.specs.Prelude.{pos, negsuc, Result}
+use Rattle.std.specs.Prelude.{pos, negsuc}
 use Rattle.std.specs.Fmt.{digits}
 use Rattle.polars_arrays_flat.specs.Row.{Row, Null, Int, Truth}
-use Rattle.polars_tables_rows.specs.declared.fault.LineError.{LineError}
 use Rattle.polars_tables_rows.specs.declared.fault.LineError.TheVariants.{Length, Range}
 use Rattle.polars_tables_rows.specs.declared.row_type.RowType.TheVariants.{I8, I32, U16, Boolean}
 use Rattle.polars_tables_rows.specs.Faults.{of_ends, of_number_scalar, of_scalar, of_two, or_fault}

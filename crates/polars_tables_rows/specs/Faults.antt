@@ -1,5 +1,5 @@
 -- What leads to the faults of a line.
-use Rattle.std.specs.Prelude.{◌≡◌, ◌⊎◌, ℕ, ℤ, cond, List, [], ◌∷◌, Option, None, Some, Result, Ok, Err, MatchResult}
+use Rattle.std.specs.Prelude.{◌≡◌, ◌⊎◌, ℤ, cond, List, [], ◌∷◌, Option, None, Some, Result, Ok, Err, MatchResult}
 use Rattle.polars_arrays_flat.specs.ArrayRows.{is_null}
 use Rattle.polars_arrays_flat.specs.Row.{Row, Int}
 use Rattle.polars_tables_rows.specs.declared.fault.LineError.{LineError}

@@ -1,4 +1,4 @@
-use Rattle.std.proofs.Common.{◌<◌, ◌∙◌, length, ap, sym, refl, arith}
+use Rattle.std.proofs.Common.{◌<◌, ◌∙◌, length, ap, refl, arith}
 use Rattle.std.proofs.lemmas.List.{take_all}
 use Rattle.std.specs.String.{string_bytes}
 use Rattle.polars_arrays_flat.specs.StoredRows.{rows_under}
