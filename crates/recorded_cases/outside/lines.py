@@ -287,6 +287,11 @@ def bytes_of(word):
     return bytes.fromhex(word[1:])
 
 
+def repeated(times, piece, beginning):
+    """The line that ends in a piece of text so many times."""
+    return (bytes_of(beginning) + int(times) * bytes_of(piece)).decode("utf-8")
+
+
 def status(words):
     return "0" if words[0] == "lines" and words[2:] == ["refused", "0"] else "1"
 
@@ -294,6 +299,7 @@ def status(words):
 CALLS = {
     "line": told,
     "line_bytes": lambda text: told(bytes_of(text).decode("utf-8")),
+    "line_repeated": lambda text: told(repeated(*text.split(" "))),
     "run": lambda text: output_of(bytes_of(text)),
     "demo": lambda text: "x" + DEMO.encode().hex(),
     "command": lambda text: {(): "lines", ("demo",): "demo"}.get(tuple(text.split()), "usage"),

@@ -4,6 +4,7 @@
 //! |---|---|
 //! | `line TEXT` | the answer to the line that stands behind `line ` as it is, or why it is refused |
 //! | `line_bytes BYTES` | the same of the text that these bytes are, for a line that holds what can't be seen |
+//! | `line_repeated N PIECE BYTES` | the same of the text that these bytes are and, behind it, N times the bytes of PIECE, for a line that is very long |
 //! | `run BYTES` | how many lines this input has, how many are refused, and the bytes that are written |
 //! | `demo` | the bytes that the demo writes |
 //! | `command WORD..` | what these arguments ask for |
@@ -15,6 +16,7 @@ use polars_tables_lines::demo::demo;
 use polars_tables_lines::line::{LineError, answer_line};
 use polars_tables_lines::program::{Command, exit_status, fault_text};
 use polars_tables_lines::running::{Report, RunError, run};
+use recorded_text::bytes_text::{push_bytes, write_bytes};
 use recorded_text::fault::Fault;
 use recorded_text::parts::read_bytes;
 use recorded_text::words::Words;
@@ -32,6 +34,7 @@ pub fn answer(
     let answer = match call {
         "line" => answer_text(alloc, text),
         "line_bytes" => answer_bytes(alloc, words),
+        "line_repeated" => answer_repeated(alloc, words),
         "run" => answer_run(alloc, words),
         "demo" => answer_demo(alloc),
         "command" => answer_command(alloc, text),
@@ -72,10 +75,32 @@ fn answer_text(alloc: Global, line: &str) -> Result<String, Fault> {
 /// What the line is answered whose bytes the next word has.
 fn answer_bytes(alloc: Global, words: &mut Words) -> Result<String, Fault> {
     let bytes = read_bytes(alloc, words.read()?)?;
-    match from_utf8(&bytes) {
+    answer_read(alloc, &bytes)
+}
+
+/// What the line is answered that these bytes are.
+fn answer_read(alloc: Global, bytes: &[u8]) -> Result<String, Fault> {
+    match from_utf8(bytes) {
         Ok(line) => answer_text(alloc, line),
         Err(_) => Err(Fault::Word),
     }
+}
+
+/// What the line is answered that ends in a piece of text so many times.
+fn answer_repeated(alloc: Global, words: &mut Words) -> Result<String, Fault> {
+    let times = words.read_number()?;
+    let piece = read_bytes(alloc, words.read()?)?;
+    let mut bytes = read_bytes(alloc, words.read()?)?;
+    push_repeated(&mut bytes, times, &piece)?;
+    answer_read(alloc, &bytes)
+}
+
+/// Adds a piece so many times.
+fn push_repeated(bytes: &mut Vec<u8>, times: u32, piece: &[u8]) -> Result<(), AllocError> {
+    for _ in 0..times {
+        bytes.extend_from_slice(piece)?;
+    }
+    Ok(())
 }
 
 /// What a run over the bytes of the next word reports and writes. Bytes can always be read, and writing them
@@ -93,8 +118,8 @@ fn answer_run(alloc: Global, words: &mut Words) -> Result<String, Fault> {
 fn write_run(alloc: Global, report: Report, written: &[u8]) -> Result<String, Fault> {
     let Report { lines, refused } = report;
     let mut text = String::new(alloc);
-    write!(text, "lines {lines} refused {refused} x")?;
-    push_hexadecimal(&mut text, written)?;
+    write!(text, "lines {lines} refused {refused} ")?;
+    push_bytes(&mut text, written)?;
     Ok(text)
 }
 
@@ -105,22 +130,6 @@ fn answer_demo(alloc: Global) -> Result<String, Fault> {
         Ok(()) => write_bytes(alloc, &written),
         Err(_) => Err(Fault::Memory),
     }
-}
-
-/// Bytes as `x` and two hexadecimal digits for each.
-fn write_bytes(alloc: Global, bytes: &[u8]) -> Result<String, Fault> {
-    let mut text = String::new(alloc);
-    text.push('x')?;
-    push_hexadecimal(&mut text, bytes)?;
-    Ok(text)
-}
-
-/// Two hexadecimal digits for each byte.
-fn push_hexadecimal(text: &mut String, bytes: &[u8]) -> Result<(), AllocError> {
-    for byte in bytes {
-        write!(text, "{byte:02x}")?;
-    }
-    Ok(())
 }
 
 /// The arguments that a text has, parted by one space.
