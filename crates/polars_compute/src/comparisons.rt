@@ -1,4 +1,5 @@
-//! Equality and order of arrays of one kind, row by row and against a scalar, and equality of two arrays of any kind.
+//! Equality and order of arrays of one kind, row by row and against a scalar, of views with the rows counted that are followed into a
+//! buffer, and equality of two arrays of any kind.
 
 pub use polars_compare_equality::borrowed::{BytesEqKernel, TextEqKernel};
 pub use polars_compare_equality::kernel::TotalEqKernel;
@@ -10,3 +11,4 @@ pub use polars_compare_nested::kernels::{
 pub use polars_compare_nested::leaf_kernel::LeafKernel;
 pub use polars_compare_order::borrowed::{BytesOrdKernel, TextOrdKernel};
 pub use polars_compare_order::kernel::TotalOrdKernel;
+pub use polars_compare_views::followed::FollowedKernel;
