@@ -1,14 +1,16 @@
 //! States of the keys of dictionaries.
 
 ghost use Rattle.std.specs.Borrow.{sem};
-ghost use Rattle.std.specs.Prelude.{◌≡◌, ◌↔◌, ◌≤◌, ◌^◌, pos, IfOk, IsOk, IsTrue, MatchResult};
+ghost use Rattle.std.specs.Prelude.{◌≡◌, ◌↔◌, ◌≤◌, ◌^◌, pos, IfOk, IsOk, IsTrue, MatchResult, Some};
 ghost use Rattle.polars_arrays_bits.specs.Errors.{IsMemory};
+ghost use Rattle.polars_arrays_flat.specs.ArrayRows.{number_rows};
+ghost use Rattle.polars_arrays_flat.specs.Row.{Int};
 ghost use Rattle.polars_arrays_nested.specs.GoodParts.{AreKeys, IsGood};
 ghost use Rattle.polars_arrays_nested.specs.Lengths.{len_of};
 ghost use Rattle.polars_arrays_nested.specs.Parts.{dictionary_keys, dictionary_values};
 ghost use Rattle.polars_arrays_nested.specs.declared.any_array.AnyArray.{Dictionary};
-ghost use Rattle.polars_compute_slots.specs.State.{new_state, numbers_from};
-ghost use Rattle.polars_compute_unique.specs.Dictionaries.{IsMissingKey, NamesEntries};
+ghost use Rattle.polars_compute_slots.specs.State.{finalised, new_state, numbers_from};
+ghost use Rattle.polars_compute_unique.specs.Dictionaries.{IsFinalFault, IsMissingKey, NamesEntries};
 
 use crate::kernel::RangedUniqueKernel;
 use crate::primitive::PrimitiveRangedUniqueState;
@@ -123,6 +125,20 @@ fn name_entries(keys: &PrimitiveRangedUniqueState<u32>, len: usize) -> Result<()
     }
 }
 
+// The keys that were seen, ascending, and a null last, if there was one. The error is that of `finalize_unique`.
+fn named_keys(
+    alloc: Global,
+    keys: PrimitiveRangedUniqueState<u32>,
+    entries: &AnyArray,
+) -> Result<PrimitiveArray<u32>, ComputeError>
+    ensures rows { MatchResult result (λ array. number_rows (λ x. pos x) array ≡ finalised (λ v. Int v) keys) (IsFinalFault (Some entries.now) keys) }
+    ensures entries { IfOk result (λ _. NamesEntries (len_of entries.now) keys) }
+{
+    name_entries(&keys, entries.len())?;
+    let array = keys.finalize_unique(alloc)?;
+    Ok(array)
+}
+
 impl RangedUniqueKernel for DictionaryRangedUniqueState {
     ghost use Rattle.std.specs.Prelude.{Some};
     ghost use Rattle.polars_arrays_flat.specs.Row.{Int};
@@ -171,10 +187,13 @@ impl RangedUniqueKernel for DictionaryRangedUniqueState {
 
     fn finalize_unique(self, alloc: Global) -> Result<DictionaryArray, ComputeError> {
         let DictionaryRangedUniqueState { keys, entries } = self;
-        name_entries(&keys, entries.len())?;
-        let keys = keys.finalize_unique(alloc)?;
-        let array = keyed_array(alloc, keys, entries)?;
-        Ok(array)
+        match named_keys(alloc, keys, &entries) {
+            Ok(keys) => keyed_array(alloc, keys, entries),
+            Err(refused) => {
+                drop(entries);
+                Err(refused)
+            }
+        }
     }
 
     fn finalize_n_unique(&self) -> usize {
