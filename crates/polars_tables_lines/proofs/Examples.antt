@@ -1,5 +1,5 @@
 -- Worked examples of the definitions: the check computes both sides of each.
-use Rattle.std.proofs.Common.{◌≡◌, ℕ, [], ◌∷◌, ◌++◌, Ok, Err, refl, codes}
+use Rattle.std.proofs.Common.{◌≡◌, [], ◌∷◌, ◌++◌, Ok, Err, refl, codes}
 use Rattle.std.specs.Fmt.{digits}
 use Rattle.polars_tables_rows.specs.declared.fault.LineError.TheVariants.{Op, TypeName, Row as RowError, Length, Range}
 use Rattle.polars_tables_lines.specs.declared.program.Command.TheVariants.{Lines, Demo, Usage}

@@ -1,3 +1,4 @@
+pub mod Added
 pub mod Cuts
 pub mod Examples
 pub mod Known

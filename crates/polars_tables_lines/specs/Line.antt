@@ -1,5 +1,5 @@
 -- What a line means: the text of its answer, or its first fault.
-use Rattle.std.specs.Prelude.{ℕ, cond, List, [], ◌∷◌, Result, Err}
+use Rattle.std.specs.Prelude.{ℕ, cond, List, [], ◌∷◌, Err}
 use Rattle.polars_tables_operations.specs.Answers.{Answer, answer_of}
 use Rattle.polars_tables_operations.specs.Operations.{operation_of, takes}
 use Rattle.polars_tables_operations.specs.declared.operation.Operation.{Operation}
