@@ -1,6 +1,6 @@
 -- Worked examples of the definitions: the check computes both sides of each.
-use Rattle.std.specs.Prelude.{◌≡◌, ℕ, ℤ, pos, negsuc, true, false, [], ◌∷◌, Some, None, length, refl}
-use Rattle.polars_arrays_flat.specs.Row.{Row, Null, Int, Truth}
+use Rattle.std.specs.Prelude.{◌≡◌, pos, negsuc, true, false, [], ◌∷◌, length, refl}
+use Rattle.polars_arrays_flat.specs.Row.{Null, Int, Truth}
 use Rattle.polars_compute_slots.specs.Slots.{place, slot_of, slot_state}
 use Rattle.polars_compute_slots.specs.State.{State, all_seen, any_null, appended, appended_all, are_within, distinct, distinct_values, finalised, fullpoint, holds, is_full, is_value, is_within, merged, new_state, numbers_between, numbers_from, range_of, rows_read, set_of, truth_numbers, truth_row, whole_blocks}
 

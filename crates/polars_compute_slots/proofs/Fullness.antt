@@ -1,5 +1,5 @@
 -- When all values of a state were seen, and how many rows are read by then.
-use Rattle.std.proofs.Common.{◌≡◌, ◌<◌, ◌≤◌, ◌+◌, ◌-◌, ◌*◌, ◌/◌, ◌∙◌, ◌&&◌, ◌++◌, ℕ, zero, suc, Bool, true, false, cond, not, List, [], ◌∷◌, length, take, drop, map, get_or, pos, count_by, min, refl, sym, ap, ap₂, subst, arith}
+use Rattle.std.proofs.Common.{◌≡◌, ◌<◌, ◌≤◌, ◌+◌, ◌*◌, ◌/◌, ◌∙◌, ◌&&◌, ℕ, zero, suc, Bool, true, false, cond, not, List, [], ◌∷◌, length, take, drop, map, get_or, pos, count_by, min, refl, sym, ap, subst, arith}
 use Rattle.std.specs.Prelude.{ℤ, ◌+ℤ◌}
 use Rattle.std.specs.List.{list_all, range_with_len}
 use Rattle.std.proofs.Math.Numerals.{add-one}
@@ -8,7 +8,7 @@ use Rattle.std.proofs.lemmas.List.Folds.{list_all-append}
 use Rattle.std.proofs.lemmas.List.FromFn.{map-range_with_len_more}
 use Rattle.std.proofs.lemmas.List.Recursion.{is_count_by}
 use Rattle.std.proofs.lemmas.List.Sums.{count_by-le-length}
-use Rattle.polars_arrays_flat.specs.Row.{Row, Int}
+use Rattle.polars_arrays_flat.specs.Row.{Row}
 use Rattle.polars_arrays_flat.specs.StoredRows.{masked, number_slots}
 use Rattle.polars_compute_slots.specs.Slots.{Marks, slot_state}
 use Rattle.polars_compute_slots.specs.State.{State, any_null, appended, fullpoint, is_full, rows_read, whole_blocks}

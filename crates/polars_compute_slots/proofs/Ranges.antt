@@ -1,18 +1,18 @@
 -- Rows that lie in a range.
-use Rattle.std.proofs.Common.{◌≡◌, ◌<◌, ◌≤◌, ◌+◌, ◌-◌, ◌∙◌, ◌||◌, ◌&&◌, ℕ, zero, suc, Bool, true, false, List, [], ◌∷◌, length, take, map, get_or, pos, replicate, refl, sym, ap, ap₂, subst, arith}
-use Rattle.std.specs.Prelude.{ℤ, ◌+ℤ◌, ◌≤ℤ◌, ◌<ℤ◌, slice_index_or, Option, Some, None, IsTrue}
-use Rattle.std.specs.List.{list_all, list_any, range_with_len}
+use Rattle.std.proofs.Common.{◌≡◌, ◌<◌, ◌≤◌, ◌+◌, ◌∙◌, ◌||◌, ℕ, zero, suc, Bool, true, false, List, [], ◌∷◌, length, map, get_or, pos, replicate, refl, sym, ap, ap₂, arith}
+use Rattle.std.specs.Prelude.{ℤ, ◌+ℤ◌, ◌≤ℤ◌, ◌<ℤ◌, slice_index_or, Option, Some, None}
+use Rattle.std.specs.List.{list_any, range_with_len}
 use Rattle.std.specs.Ordering.{int_eq}
 use Rattle.std.specs.Simd.Lanes.{zip2}
 use Rattle.std.proofs.lemmas.Bool.Decides.{Decides-int_eq, same_from_decides}
 use Rattle.std.proofs.lemmas.Int.{ints}
 use Rattle.std.proofs.lemmas.List.{get_or-replicate}
 use Rattle.std.proofs.lemmas.Simd.{get_or-zip2, zip2-map}
-use Rattle.polars_arrays_flat.specs.Row.{Row, Null, Int}
+use Rattle.polars_arrays_flat.specs.Row.{Row, Int}
 use Rattle.polars_arrays_flat.specs.StoredRows.{kept, masked, number_slots, row, rows_under}
 use Rattle.polars_arrays_flat.specs.Validity.{HasBits, is_present}
 use Rattle.polars_compute_slots.specs.Slots.{HasSlot, HaveSlots, place, slot_state}
-use Rattle.polars_compute_slots.specs.State.{State, are_within, is_value, is_within, merged, new_state, numbers_from}
+use Rattle.polars_compute_slots.specs.State.{State, are_within, is_within, merged, new_state, numbers_from}
 use Rattle.polars_compute_slots.proofs.Marked.{map_range, place-is}
 use Rattle.polars_compute_slots.proofs.RowPlaces.{length-masked_slots, length-slots, row-masked_slots, row-slots}
 use Rattle.polars_compute_slots.proofs.States.{and-first, and-second}

@@ -1,11 +1,11 @@
 -- Rows of stored numbers, place by place and block by block.
-use Rattle.std.proofs.Common.{◌≡◌, ◌<◌, ◌≤◌, ◌+◌, ◌-◌, ◌∙◌, ℕ, zero, suc, Bool, true, false, List, [], ◌∷◌, length, take, drop, get_or, map, refl, sym, ap, subst, arith}
+use Rattle.std.proofs.Common.{◌≡◌, ◌<◌, ◌≤◌, ◌+◌, ◌∙◌, ℕ, zero, suc, Bool, false, List, [], ◌∷◌, length, take, drop, get_or, refl, sym, ap, subst, arith}
 use Rattle.std.specs.Prelude.{ℤ, slice_index_or, Option, Some, None}
-use Rattle.std.proofs.lemmas.List.{take_all, length-drop, length-map, length-take-le, get_or-map, get_or-take, get_or-drop, take-map, drop-map}
+use Rattle.std.proofs.lemmas.List.{length-drop, length-map, length-take-le, get_or-map, get_or-take, get_or-drop, take-map, drop-map}
 use Rattle.polars_arrays_flat.specs.Row.{Row, Null, Int}
 use Rattle.polars_arrays_flat.specs.StoredRows.{row, kept, masked, number_slots, rows_under}
 use Rattle.polars_arrays_flat.specs.Validity.{HasBits}
-use Rattle.polars_compute_slots.specs.Slots.{HasSlot, HaveSlots, Marks}
+use Rattle.polars_compute_slots.specs.Slots.{HasSlot, HaveSlots}
 
 length-masked : (bits : List Bool) (rows : List Row) → length bits ≡ length rows → length (masked bits rows) ≡ length rows
 length-masked [] [] e = refl

@@ -2,10 +2,8 @@
 use Rattle.std.proofs.Common.{◌≡◌, ◌<◌, ◌≤◌, ◌+◌, ◌-◌, ◌∙◌, ◌&&◌, ◌++◌, ℕ, zero, suc, Bool, true, false, cond, eqb, List, [], ◌∷◌, length, take, map, get_or, pos, count_by, replicate, refl, sym, ap, ap₂, subst, arith}
 use Rattle.std.specs.Prelude.{ℤ, ◌+ℤ◌, ◌≤ℤ◌, ◌<ℤ◌, All, Contains, filter}
 use Rattle.std.specs.List.{range_with_len}
-use Rattle.std.specs.Ordering.{int_eq}
 use Rattle.std.proofs.Math.Numerals.{add-one}
-use Rattle.std.proofs.lemmas.Bool.{cases_lt}
-use Rattle.std.proofs.lemmas.Bool.Decides.{Decides-int_eq, nat_tests}
+use Rattle.std.proofs.lemmas.Bool.Decides.{nat_tests}
 use Rattle.std.proofs.lemmas.Int.{ints}
 use Rattle.std.proofs.lemmas.List.{length-append, length-map, map-append}
 use Rattle.std.proofs.lemmas.List.Elements.{All-push, Contains-append_left, Contains-push}
@@ -13,11 +11,10 @@ use Rattle.std.proofs.lemmas.List.FromFn.{filter_of_map_range_with_len_more, get
 use Rattle.polars_arrays_flat.specs.Row.{Row, Null, Int}
 use Rattle.polars_arrays_flat.specs.StoredRows.{masked, number_slots}
 use Rattle.polars_compute_slots.specs.Slots.{slot_state}
-use Rattle.polars_compute_slots.specs.State.{IsLeastFrom, State, all_seen, finalised, is_full, numbers_from, range_of, set_of}
+use Rattle.polars_compute_slots.specs.State.{IsLeastFrom, State, all_seen, finalised, numbers_from, range_of, set_of}
 use Rattle.polars_compute_slots.proofs.Fullness.{count-le, is-full, not-full}
 use Rattle.polars_compute_slots.proofs.Marked.{map_range}
 use Rattle.polars_compute_slots.proofs.WordBits.{count-more}
-use mathlib.Core.Logic.{⊎_elim}
 use mir.Val.{bool_byte}
 
 module _ (least : ℤ) (slots : List Bool) where

@@ -1,11 +1,10 @@
 -- Slots in a word, and how many of a list are set.
-use Rattle.std.proofs.Common.{◌≡◌, ◌≢◌, ◌<◌, ◌≤◌, ◌+◌, ◌-◌, ◌*◌, ◌/◌, ◌%◌, ◌^◌, ◌∙◌, ◌||◌, ℕ, zero, suc, Bool, true, false, cond, eqb, List, length, take, get_or, map, replicate, count_by, refl, sym, ap, ap₂, arith, bit_and, bit_or, max, min}
-use Rattle.std.specs.Prelude.{slice_get, slice_set, Option, Some}
+use Rattle.std.proofs.Common.{◌≡◌, ◌<◌, ◌≤◌, ◌+◌, ◌-◌, ◌*◌, ◌/◌, ◌%◌, ◌^◌, ◌∙◌, ◌||◌, ℕ, zero, suc, Bool, true, false, cond, eqb, List, length, take, get_or, replicate, count_by, refl, sym, ap, ap₂, arith, bit_and, bit_or, max}
+use Rattle.std.specs.Prelude.{slice_get, slice_set, Some}
 use Rattle.std.specs.Int.{bit_at, w128}
 use Rattle.std.specs.Int.RustNames.{count_ones}
-use Rattle.std.specs.List.{range_with_len}
 use Rattle.std.specs.Simd.Lanes.{zip2}
-use Rattle.std.proofs.Math.Nat.{add_comm, mod-le, mod-one, mod-eq_of_lt}
+use Rattle.std.proofs.Math.Nat.{add_comm, mod-one, mod-eq_of_lt}
 use Rattle.std.proofs.Math.Pow.{pow-lt}
 use Rattle.std.proofs.Math.Numerals.{add-one}
 use Rattle.std.proofs.lemmas.Nat.{mod-pow-add, pow-add, mod_below, ones_cat, or_lt, pow_pos}

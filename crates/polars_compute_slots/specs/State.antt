@@ -1,5 +1,5 @@
 -- Distinct values: what a state is, and what rows and other states make of it.
-use Rattle.std.specs.Prelude.{◌≡◌, ◌+ℤ◌, ◌-ℤ◌, ◌≤ℤ◌, ◌<ℤ◌, ◌+◌, ◌-◌, ◌^◌, ◌*◌, ◌/◌, ◌||◌, ◌&&◌, ◌++◌, ℕ, zero, suc, ℤ, pos, Bool, true, false, cond, List, [], ◌∷◌, length, map, filter, min, unsigned_abs, All, Contains}
+use Rattle.std.specs.Prelude.{◌+ℤ◌, ◌-ℤ◌, ◌≤ℤ◌, ◌<ℤ◌, ◌+◌, ◌-◌, ◌^◌, ◌*◌, ◌/◌, ◌||◌, ◌&&◌, ◌++◌, ℕ, suc, ℤ, pos, Bool, false, cond, List, [], ◌∷◌, length, map, filter, min, unsigned_abs, All, Contains}
 use Rattle.std.specs.List.{list_all, list_any, range_with_len}
 use Rattle.std.specs.Ordering.{int_eq}
 use Rattle.std.specs.Simd.Lanes.{zip2}

@@ -1,10 +1,10 @@
 -- The keys of a finalised state name entries where those that were seen do.
-use Rattle.std.proofs.Common.{◌≡◌, ◌<◌, ◌≤◌, ◌+◌, ◌-◌, ◌∙◌, ◌++◌, ℕ, zero, suc, Bool, true, false, cond, List, [], ◌∷◌, length, map, get_or, pos, refl, sym, ap, subst, arith}
-use Rattle.std.specs.Prelude.{ℤ, ◌<ℤ◌, Option, Some, None, All, slice_index_or}
+use Rattle.std.proofs.Common.{◌≡◌, ◌<◌, ◌≤◌, ◌-◌, ◌∙◌, ℕ, zero, suc, Bool, true, false, cond, List, [], ◌∷◌, length, map, get_or, pos, refl, sym, ap, subst, arith}
+use Rattle.std.specs.Prelude.{ℤ, ◌<ℤ◌, Option, Some, None, slice_index_or}
 use Rattle.std.proofs.lemmas.Bool.{cases_lt}
 use Rattle.std.proofs.lemmas.Int.{ints}
 use Rattle.std.proofs.lemmas.List.{get_or-append_right, get_or_append_left, get_or-map, get_or_past, length-map}
-use Rattle.polars_arrays_bytes.specs.OffsetStrings.{place_at, places}
+use Rattle.polars_arrays_bytes.specs.OffsetStrings.{places}
 use Rattle.polars_arrays_flat.specs.Row.{Row, Null, Int}
 use Rattle.polars_arrays_flat.specs.StoredRows.{kept, masked, number_slots, row, rows_under}
 use Rattle.polars_arrays_flat.specs.Validity.{is_present}

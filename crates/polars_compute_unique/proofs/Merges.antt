@@ -1,8 +1,8 @@
 -- What appending and merging leave of a range.
-use Rattle.std.proofs.Common.{◌≡◌, ◌<◌, ◌+◌, ◌∙◌, ◌||◌, ◌++◌, ℕ, zero, suc, Bool, List, [], ◌∷◌, length, take, map, get_or, refl, sym, ap, ap₂, subst, arith}
+use Rattle.std.proofs.Common.{◌≡◌, ◌<◌, ◌+◌, ◌∙◌, ◌||◌, ◌++◌, ℕ, Bool, List, [], ◌∷◌, length, take, map, get_or, refl, sym, ap, subst}
 use Rattle.std.specs.Prelude.{ℤ}
 use Rattle.std.specs.Simd.Lanes.{zip2}
-use Rattle.std.proofs.lemmas.List.{map-append, take_all, take_more}
+use Rattle.std.proofs.lemmas.List.{map-append, take_more}
 use Rattle.polars_arrays_flat.specs.Row.{Row}
 use Rattle.polars_compute_slots.specs.State.{State, appended, appended_all, merged, range_of}
 use Rattle.polars_compute_unique.specs.Trees.{HaveRange, leftmost, merged_tree}

@@ -1,14 +1,13 @@
 -- What rows of truth values hold, as counts tell it.
-use Rattle.std.proofs.Common.{◌≡◌, ◌<◌, ◌≤◌, ◌+◌, ◌-◌, ◌∙◌, ◌&&◌, ◌||◌, ℕ, zero, suc, Bool, true, false, cond, not, ltb, List, [], ◌∷◌, length, map, pos, count_by, refl, sym, ap, ap₂, subst, arith}
-use Rattle.std.specs.Prelude.{ℤ, Option, Some, None}
-use Rattle.std.specs.List.{list_all, list_any}
+use Rattle.std.proofs.Common.{◌≡◌, ◌<◌, ◌≤◌, ◌+◌, ◌-◌, ◌∙◌, ◌&&◌, ◌||◌, ℕ, Bool, true, false, cond, ltb, List, [], ◌∷◌, length, pos, count_by, refl, sym, ap, ap₂, arith}
+use Rattle.std.specs.Prelude.{Option, Some, None}
+use Rattle.std.specs.List.{list_any}
 use Rattle.std.specs.Simd.Lanes.{zip2}
 use Rattle.std.proofs.lemmas.Bool.Decides.{Decides-ltb, same_from_decides}
 use Rattle.polars_arrays_flat.specs.ArrayRows.{is_null}
 use Rattle.polars_arrays_flat.specs.Row.{Row, Null, Truth}
 use Rattle.polars_arrays_flat.specs.StoredRows.{kept, masked, rows_under, truth_slots}
-use Rattle.polars_arrays_flat.specs.Validity.{HasBits}
-use Rattle.polars_compute_slots.specs.State.{any_null, are_within, holds, is_value, is_within, truth_numbers}
+use Rattle.polars_compute_slots.specs.State.{are_within, holds, is_value, is_within, truth_numbers}
 use Rattle.polars_compute_slots.proofs.Fullness.{tally, tally-is}
 
 -- ---- counts and tests

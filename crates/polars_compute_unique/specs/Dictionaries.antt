@@ -1,7 +1,7 @@
 -- States whose values are the keys of a dictionary.
-use Rattle.std.specs.Prelude.{◌≡◌, ◌<ℤ◌, ◌≤◌, ℕ, ℤ, pos, Bool, true, false, List, [], Option, Some, None, All, Contains, ⊤}
+use Rattle.std.specs.Prelude.{◌≡◌, ◌<ℤ◌, ◌≤◌, ℕ, pos, Bool, true, false, List, [], Option, Some, None, All, Contains, ⊤}
 use Rattle.polars_arrays_bits.specs.declared.error.ComputeError.{ComputeError}
-use Rattle.polars_arrays_bits.specs.declared.error.ComputeError.TheVariants.{Memory, Unsupported, KeyOutOfRange}
+use Rattle.polars_arrays_bits.specs.declared.error.ComputeError.TheVariants.{Memory, KeyOutOfRange}
 use Rattle.polars_arrays_flat.specs.ArrayRows.{number_rows}
 use Rattle.polars_arrays_flat.specs.Row.{Row}
 use Rattle.polars_arrays_nested.specs.Lengths.{len_of}

@@ -1,5 +1,5 @@
 -- States of truth values.
-use Rattle.std.specs.Prelude.{◌++◌, Bool, true, false, cond, List, [], ◌∷◌, map, pos}
+use Rattle.std.specs.Prelude.{◌++◌, Bool, false, cond, List, [], ◌∷◌, map, pos}
 use Rattle.std.specs.Ordering.{int_eq}
 use Rattle.polars_compute_slots.specs.State.{State, set_of}
 

@@ -96,7 +96,29 @@ impl DictionaryRangedUniqueState {
     }
 }
 
-// An array of keys over entries that they name, and which is good. The error is `Memory`.
+// A value in a box. The error is `Memory`.
+fn boxed<T: Drop>(alloc: Global, value: T) -> Result<Box<T>, ComputeError>
+    ensures { MatchResult result (λ boxed. boxed.value ≡ value) IsMemory }
+{
+    let boxed = Box::new(alloc, value)?;
+    Ok(boxed)
+}
+
+// The array of keys over entries that they name, which is good.
+fn array_of(keys: PrimitiveArray<u32>, entries: Box<AnyArray>) -> DictionaryArray
+    requires good { IsGood entries.value }
+    requires named { AreKeys (len_of entries.value) (DictKeys.UInt32 keys) }
+    ensures keys { dictionary_keys result ≡ DictKeys.UInt32 keys }
+    ensures entries { dictionary_values result ≡ entries.value }
+    ensures good { IsGood (Dictionary result) }
+{
+    let Ok(array) = DictionaryArray::try_new(DictKeys::UInt32(keys), entries) else {
+        unreachable!();
+    };
+    array
+}
+
+// The same over entries that are put into a box. The error is `Memory`.
 fn keyed_array(
     alloc: Global,
     keys: PrimitiveArray<u32>,
@@ -108,11 +130,13 @@ fn keyed_array(
     ensures entries { IfOk result (λ array. dictionary_values array ≡ entries) }
     ensures good { IfOk result (λ array. IsGood (Dictionary array)) }
 {
-    let entries = Box::new(alloc, entries)?;
-    let Ok(array) = DictionaryArray::try_new(DictKeys::UInt32(keys), entries) else {
-        unreachable!();
-    };
-    Ok(array)
+    match boxed(alloc, entries) {
+        Ok(entries) => Ok(array_of(keys, entries)),
+        Err(refused) => {
+            drop(keys);
+            Err(refused)
+        }
+    }
 }
 
 // That each key that was seen names one of `len` entries, or else the least one that does not.

@@ -1,4 +1,4 @@
-use Rattle.std.proofs.Common.{◌∙◌, Bool, ap, sym, true}
+use Rattle.std.proofs.Common.{◌∙◌, Bool, ap, sym}
 use Rattle.polars_arrays_flat.specs.Row.{Int}
 use Rattle.polars_arrays_flat.specs.StoredRows.{kept}
 use Rattle.polars_compute_slots.specs.State.{is_within, numbers_from}

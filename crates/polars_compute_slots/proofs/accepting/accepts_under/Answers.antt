@@ -1,8 +1,8 @@
-use Rattle.std.proofs.Common.{◌≡◌, ◌<◌, ◌≤◌, ◌∙◌, ◌&&◌, Bool, List, ap, ap₂, sym, arith, length, true, false}
+use Rattle.std.proofs.Common.{◌∙◌, ◌&&◌, Bool, ap, ap₂, sym, arith}
 use Rattle.std.specs.Option.{option_copied}
 use Rattle.std.proofs.lemmas.List.{take_all}
 use Rattle.std.proofs.lemmas.List.Folds.{list_all_at, list_all_more}
-use Rattle.polars_arrays_flat.specs.Row.{Int, Null, Row}
+use Rattle.polars_arrays_flat.specs.Row.{Int, Null}
 use Rattle.polars_arrays_flat.specs.StoredRows.{kept, number_slots, rows_under}
 use Rattle.polars_compute_slots.specs.State.{are_within, is_within, numbers_from}
 use Rattle.polars_compute_slots.proofs.Ranges.{length-rows-under, row-under}

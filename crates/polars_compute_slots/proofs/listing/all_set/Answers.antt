@@ -1,4 +1,4 @@
-use Rattle.std.proofs.Common.{arith, false, sym}
+use Rattle.std.proofs.Common.{false, sym}
 use Rattle.std.proofs.lemmas.Option.{get_or_from_slice_get}
 use Rattle.polars_compute_slots.proofs.Sets.{not-all, seen-all}
 use Rattle.polars_compute_slots.proofs.listing.all_set.Goals as goal

@@ -1,4 +1,4 @@
-use Rattle.std.proofs.Common.{◌≡◌, ◌≤◌, arith, false}
+use Rattle.std.proofs.Common.{arith, false}
 use Rattle.std.proofs.lemmas.Option.{get_or_from_slice_get}
 use Rattle.polars_compute_slots.proofs.Fullness.{count-le}
 use Rattle.polars_compute_slots.proofs.Sets.{byte-le, count-finalised}

@@ -1,11 +1,6 @@
-use Rattle.std.proofs.Common.{◌≡◌, ◌<◌, ◌≤◌, ◌+◌, ◌∙◌, ◌++◌, ℕ, List, [], ◌∷◌, cond, length, map, ap, ap₂, arith, sym, get_or, false, pos, count_by, take}
-use Rattle.std.specs.Prelude.{ℤ, ◌+ℤ◌}
-use Rattle.std.proofs.lemmas.List.{length-map}
+use Rattle.std.proofs.Common.{◌∙◌, ap, arith, sym, false}
 use Rattle.std.proofs.lemmas.Option.{get_or_from_slice_get}
-use Rattle.polars_arrays_flat.specs.Row.{Row, Int}
 use Rattle.polars_arrays_flat.specs.StoredRows.{number_slots}
-use Rattle.polars_compute_slots.specs.Slots.{slot_state}
-use Rattle.polars_compute_slots.specs.State.{set_of}
 use Rattle.polars_compute_slots.proofs.Sets.{count-mono, listed-more, length-listed}
 use Rattle.polars_compute_slots.proofs.listing.list_numbers.Goals as goal
 

@@ -1,8 +1,8 @@
-use Rattle.std.proofs.Common.{◌≡◌, ◌∙◌, ◌++◌, List, [], ◌∷◌, ap, sym, arith, true, false}
+use Rattle.std.proofs.Common.{◌∙◌, false}
 use Rattle.std.proofs.lemmas.Option.{get_or_from_slice_get}
-use Rattle.polars_arrays_flat.specs.Row.{Row, Int, Null}
+use Rattle.polars_arrays_flat.specs.Row.{Int}
 use Rattle.polars_compute_slots.specs.Slots.{slot_state}
-use Rattle.polars_compute_slots.proofs.Sets.{finalised-null, finalised-present}
+use Rattle.polars_compute_slots.proofs.Sets.{finalised-present}
 use Rattle.polars_compute_slots.proofs.listing.list_set.Goals as goal
 
 pub returns-else-is_set : goal.returns-else-is_set

@@ -1,5 +1,5 @@
-use Rattle.std.proofs.Common.{◌≡◌, ◌<◌, ◌∙◌, sym, ap, arith, length}
-use Rattle.polars_arrays_flat.specs.Row.{Row, Int}
+use Rattle.std.proofs.Common.{◌<◌, ◌∙◌, sym, ap, arith, length}
+use Rattle.polars_arrays_flat.specs.Row.{Int}
 use Rattle.polars_arrays_flat.specs.StoredRows.{number_slots}
 use Rattle.polars_compute_slots.specs.Slots.{slot_of}
 use Rattle.polars_compute_slots.proofs.Marked.{Marks-end, Marks-more, Marks-none, slot-below}

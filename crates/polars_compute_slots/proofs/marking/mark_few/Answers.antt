@@ -1,6 +1,6 @@
 use Rattle.std.proofs.Common.{◌≡◌, ◌<◌, ◌∙◌, List, Bool, false, sym, ap, arith, length}
 use Rattle.std.specs.Prelude.{slice_index_or}
-use Rattle.polars_arrays_flat.specs.Row.{Row, Int}
+use Rattle.polars_arrays_flat.specs.Row.{Int}
 use Rattle.polars_arrays_flat.specs.StoredRows.{kept, masked, number_slots}
 use Rattle.std.proofs.lemmas.Option.{get_or_from_slice_get}
 use Rattle.polars_compute_slots.specs.Slots.{slot_of}

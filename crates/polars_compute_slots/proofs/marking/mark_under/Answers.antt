@@ -1,4 +1,4 @@
-use Rattle.std.proofs.Common.{◌≡◌, ◌∙◌, ◌<◌, ◌+◌, List, sym, ap, subst, length, arith}
+use Rattle.std.proofs.Common.{◌∙◌, ◌+◌, List, sym, ap, subst, arith}
 use Rattle.polars_arrays_flat.specs.Row.{Row}
 use Rattle.polars_arrays_flat.specs.StoredRows.{masked, number_slots}
 use Rattle.polars_compute_slots.specs.Slots.{HaveSlots, Marks, slot_state}

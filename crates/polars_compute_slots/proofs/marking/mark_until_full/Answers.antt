@@ -1,10 +1,10 @@
-use Rattle.std.proofs.Common.{◌≡◌, ◌∙◌, ◌<◌, ◌+◌, ◌-◌, ◌*◌, ◌/◌, ◌≤◌, ℕ, List, sym, ap, subst, take, drop, length, arith, true, false}
+use Rattle.std.proofs.Common.{◌≡◌, ◌∙◌, ◌<◌, ◌+◌, ◌-◌, ◌*◌, ◌/◌, List, sym, ap, subst, take, length, arith, false}
 use Rattle.polars_arrays_flat.specs.Row.{Row}
 use Rattle.polars_arrays_flat.specs.StoredRows.{number_slots}
 use Rattle.polars_compute_slots.specs.Slots.{HaveSlots, Marks, slot_state}
 use Rattle.polars_compute_slots.specs.State.{appended, is_full}
-use Rattle.polars_compute_slots.proofs.Fullness.{Marks-full, drop-number_rows, is-full, not-full, number-rows, read-end, read-full, still-needed}
-use Rattle.polars_compute_slots.proofs.Marked.{Marks-block, Marks-end, Marks-none}
+use Rattle.polars_compute_slots.proofs.Fullness.{Marks-full, drop-number_rows, is-full, not-full, number-rows, read-full, still-needed}
+use Rattle.polars_compute_slots.proofs.Marked.{Marks-block, Marks-none}
 use Rattle.polars_compute_slots.proofs.RowPlaces.{block_slots, length-slots, window_slots}
 use Rattle.polars_compute_slots.proofs.marking.mark_until_full.Goals as goal
 

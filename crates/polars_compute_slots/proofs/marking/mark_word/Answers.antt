@@ -1,6 +1,6 @@
 use Rattle.std.proofs.Common.{◌≡◌, ◌<◌, ◌∙◌, List, Bool, false, sym, ap, arith, length, ◌/◌, ◌^◌, eqb, bit_and}
 use Rattle.std.specs.Prelude.{slice_index_or}
-use Rattle.polars_arrays_flat.specs.Row.{Row, Int}
+use Rattle.polars_arrays_flat.specs.Row.{Int}
 use Rattle.polars_arrays_flat.specs.StoredRows.{kept, masked, number_slots}
 use Rattle.polars_arrays_words.specs.Bits.{first_of, is_bit as bit_at}
 use Rattle.polars_compute_slots.proofs.WordBits.{length-first, word-bit}

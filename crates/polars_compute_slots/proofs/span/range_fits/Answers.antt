@@ -1,4 +1,3 @@
-use Rattle.std.proofs.Common.{arith}
 use Rattle.polars_compute_slots.proofs.Casts.{difference-is, fits-miss, fits-test}
 use Rattle.polars_compute_slots.proofs.span.range_fits.Goals as goal
 

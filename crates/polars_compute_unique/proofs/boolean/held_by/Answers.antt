@@ -1,4 +1,4 @@
-use Rattle.std.proofs.Common.{◌≡◌, ◌≤◌, ◌∙◌, length, sym, arith, pos}
+use Rattle.std.proofs.Common.{◌∙◌, sym, pos}
 use Rattle.polars_arrays_flat.specs.ArrayRows.{is_null, truth_rows}
 use Rattle.polars_compute_slots.specs.State.{is_value}
 use Rattle.polars_compute_slots.proofs.RowPlaces.{length-rows}

@@ -1,4 +1,4 @@
-use Rattle.std.proofs.Common.{◌≡◌, ◌∙◌, ◌&&◌, List, Bool, ap, ap₂, sym, count_by, pos}
+use Rattle.std.proofs.Common.{◌∙◌, ◌&&◌, List, Bool, ap, count_by, pos}
 use Rattle.std.specs.Prelude.{Option}
 use Rattle.std.specs.Simd.Lanes.{zip2}
 use Rattle.polars_arrays_flat.specs.StoredRows.{rows_under, truth_slots}

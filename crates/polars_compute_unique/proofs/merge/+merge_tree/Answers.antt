@@ -1,4 +1,4 @@
-use Rattle.std.proofs.Common.{◌≡◌, ◌∙◌, ap, rules, subst, sym}
+use Rattle.std.proofs.Common.{◌∙◌, ap, rules, subst, sym}
 use Rattle.polars_compute_slots.specs.State.{range_of}
 use Rattle.polars_compute_unique.specs.Trees.{HaveRange, leftmost}
 use Rattle.polars_compute_unique.specs.declared.merge.MergeTree.{MergeTree, the_lemmas}

@@ -1,5 +1,5 @@
-use Rattle.std.proofs.Common.{◌≡◌, ◌∙◌, List, ap, map, sym, subst, take, true}
-use Rattle.std.specs.Prelude.{ℤ, IsTrue}
+use Rattle.std.proofs.Common.{◌∙◌, List, ap, map, take}
+use Rattle.std.specs.Prelude.{ℤ}
 use Rattle.polars_compute_slots.specs.State.{are_within, range_of}
 use Rattle.polars_compute_unique.proofs.Merges.{append-more, range-all}
 use Rattle.polars_compute_unique.proofs.merge.append_all.Goals as goal

@@ -1,5 +1,3 @@
-use Rattle.std.proofs.Common.{arith}
-use Rattle.std.proofs.lemmas.Int.{ints}
 use Rattle.polars_compute_slots.proofs.Casts.{between-count, between-numbers}
 use Rattle.polars_compute_slots.proofs.span.Span.between.Goals as goal
 

@@ -1,4 +1,4 @@
-use Rattle.std.proofs.Common.{◌≡◌, ◌∙◌, List, ap, sym}
+use Rattle.std.proofs.Common.{◌∙◌, List, ap, sym}
 use Rattle.std.specs.Prelude.{ℤ}
 use Rattle.polars_arrays_flat.specs.ArrayRows.{truth_rows}
 use Rattle.polars_compute_slots.specs.State.{are_within, range_of}

@@ -1,9 +1,8 @@
-use Rattle.std.proofs.Common.{◌≡◌, ◌∙◌, ℕ, ap}
+use Rattle.std.proofs.Common.{◌∙◌, ℕ, ap}
 use Rattle.polars_compute_slots.specs.Slots.{slot_state}
 use Rattle.polars_compute_slots.specs.State.{new_state, numbers_from}
 use Rattle.polars_compute_slots.proofs.Casts.{few-slots}
 use Rattle.polars_compute_slots.proofs.Ranges.{new-slots}
-use Rattle.polars_compute_unique.specs.Seen.{seen_slots}
 use Rattle.polars_compute_unique.proofs.primitive.PrimitiveRangedUniqueState.new.Goals as goal
 
 pub returns-in_err-seen-clause-few : goal.returns-in_err-seen-clause-few

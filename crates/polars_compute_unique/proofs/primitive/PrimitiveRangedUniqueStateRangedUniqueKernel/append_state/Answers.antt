@@ -1,4 +1,4 @@
-use Rattle.std.proofs.Common.{◌≡◌, ◌∙◌, ◌+◌, ◌≤◌, ℕ, ap, ap₂, sym, arith, length}
+use Rattle.std.proofs.Common.{◌≡◌, ◌∙◌, ◌+◌, ℕ, ap, ap₂, sym, arith, length}
 use Rattle.std.specs.Prelude.{nat_le}
 use Rattle.std.proofs.lemmas.Simd.{length-zip2}
 use Rattle.std.proofs.Common.{◌||◌}
@@ -6,7 +6,7 @@ use Rattle.polars_compute_slots.specs.Slots.{slot_state}
 use Rattle.polars_compute_slots.specs.State.{merged, numbers_from, range_of}
 use Rattle.polars_compute_slots.proofs.Ranges.{merged-slots}
 use Rattle.polars_compute_slots.proofs.Sets.{range-slots, same-count}
-use Rattle.polars_compute_unique.specs.Seen.{in_word, seen_slots}
+use Rattle.polars_compute_unique.specs.Seen.{seen_slots}
 use Rattle.polars_compute_unique.proofs.primitive.PrimitiveRangedUniqueStateRangedUniqueKernel.append_state.Goals as goal
 
 pub join_seen-requires-clause-size : goal.join_seen-requires-clause-size
