@@ -4,6 +4,7 @@
 //! same orders in another way: other numbers lie under the null list, and its dictionary has the cities in another order.
 #![tactic(auto)]
 
+ghost use Rattle.std.specs.List.{All};
 ghost use Rattle.std.specs.Prelude.{IfOk};
 ghost use Rattle.polars_arrays_nested.specs.GoodParts.{IsGood};
 
@@ -41,27 +42,41 @@ struct Parts<'a> {
     cities: &'a str,
 }
 
+/// The items of all orders.
+fn items(alloc: Global, parts: &Parts) -> Result<Box<AnyArray>, Fault>
+    ensures { IfOk result (λ array. IsGood array.value) }
+{
+    let items = PrimitiveArray::from_vec(Vec::from_slice(alloc, parts.items)?);
+    Ok(Box::new(alloc, AnyArray::Int32(items))?)
+}
+
 /// The lists of items.
 fn lists(alloc: Global, parts: &Parts) -> Result<AnyArray, Fault>
     ensures { IfOk result (λ array. IsGood array) }
 {
-    let items = PrimitiveArray::from_vec(Vec::from_slice(alloc, parts.items)?);
-    let items = Box::new(alloc, AnyArray::Int32(items))?;
     let validity = Bitmap::from_bools(alloc, parts.present)?;
-    let offsets = ListOffsets::Small(Buffer::from_vec(Vec::from_slice(alloc, parts.offsets)?));
-    let array = ListArray::try_new(offsets, items, Some(validity))?;
+    let offsets = Buffer::from_vec(Vec::from_slice(alloc, parts.offsets)?);
+    let items = items(alloc, parts)?;
+    let array = ListArray::try_new(ListOffsets::Small(offsets), items, Some(validity))?;
     Ok(AnyArray::List(array))
 }
 
-/// The cities, each of which a key names.
-fn cities(alloc: Global, parts: &Parts) -> Result<AnyArray, Fault>
-    ensures { IfOk result (λ array. IsGood array) }
+/// The cities.
+fn cities(alloc: Global, parts: &Parts) -> Result<Box<AnyArray>, Fault>
+    ensures { IfOk result (λ array. IsGood array.value) }
 {
     let ends = Buffer::from_vec(Vec::from_slice(alloc, parts.ends)?);
     let bytes = Buffer::from_vec(Vec::from_slice(alloc, parts.cities.as_bytes())?);
-    let entries = AnyArray::Utf8(Utf8Array::try_new(ends, bytes, None)?);
-    let entries = Box::new(alloc, entries)?;
+    let array = Utf8Array::try_new(ends, bytes, None)?;
+    Ok(Box::new(alloc, AnyArray::Utf8(array))?)
+}
+
+/// The city of each order, which a key names.
+fn named_cities(alloc: Global, parts: &Parts) -> Result<AnyArray, Fault>
+    ensures { IfOk result (λ array. IsGood array) }
+{
     let keys = PrimitiveArray::from_vec(Vec::from_slice(alloc, parts.keys)?);
+    let entries = cities(alloc, parts)?;
     let array = DictionaryArray::try_new(DictKeys::UInt8(keys), entries)?;
     Ok(AnyArray::Dictionary(array))
 }
@@ -83,14 +98,23 @@ fn fields(alloc: Global) -> Result<Vec<Field>, Fault> {
     Ok(fields)
 }
 
+/// The two columns that orders are made of.
+fn columns(alloc: Global, parts: &Parts) -> Result<Vec<AnyArray>, Fault>
+    ensures { IfOk result (λ columns. All IsGood columns.items) }
+{
+    let mut columns = Vec::new(alloc);
+    columns.push(lists(alloc, parts)?)?;
+    columns.push(named_cities(alloc, parts)?)?;
+    Ok(columns)
+}
+
 /// The column of orders that the parts make.
 fn orders(alloc: Global, parts: &Parts) -> Result<Box<AnyArray>, Fault>
     ensures { IfOk result (λ array. IsGood array.value) }
 {
-    let mut columns = Vec::new(alloc);
-    columns.push(lists(alloc, parts)?)?;
-    columns.push(cities(alloc, parts)?)?;
-    let array = StructArray::try_new(fields(alloc)?, parts.keys.len(), columns, None)?;
+    let fields = fields(alloc)?;
+    let columns = columns(alloc, parts)?;
+    let array = StructArray::try_new(fields, parts.keys.len(), columns, None)?;
     Ok(Box::new(alloc, AnyArray::Struct(array))?)
 }
 

@@ -1,28 +1,48 @@
 //! Answers that are no bits, as text.
 
+use polars_arrays_bits::bitmap::Bitmap;
+use recorded_text::bits_text::write_bits;
 use recorded_text::fault::Fault;
 use std::alloc::Global;
 use std::fmt::Display;
 
+/// The text of a value.
+pub fn write_value<N: Display + Drop>(alloc: Global, value: N) -> Result<String, Fault> {
+    Ok(value.to_string(alloc)?)
+}
+
 /// What was found, or `none`.
 pub fn write_found<N: Display + Drop>(alloc: Global, found: Option<N>) -> Result<String, Fault> {
     match found {
-        Some(found) => Ok(found.to_string(alloc)?),
-        None => Ok("none".to_string(alloc)?),
+        Some(found) => write_value(alloc, found),
+        None => write_value(alloc, "none"),
     }
 }
 
 /// Numbers between brackets, parted by one space.
 pub fn write_numbers<N: Display>(alloc: Global, numbers: &[N]) -> Result<String, Fault> {
     let mut text = String::from_str(alloc, "[")?;
-    for (i, number) in numbers.iter().enumerate() {
+    push_numbers(alloc, &mut text, numbers)?;
+    text.push(']')?;
+    Ok(text)
+}
+
+/// Adds numbers to a text, parted by one space.
+fn push_numbers<N: Display>(alloc: Global, text: &mut String, numbers: &[N]) -> Result<(), Fault> {
+    for i in 0..numbers.len() {
         if i > 0 {
             text.push(' ')?;
         }
-        text.push_str(&number.to_string(alloc)?)?;
+        push_number(alloc, text, &numbers[i])?;
     }
-    text.push(']')?;
-    Ok(text)
+    Ok(())
+}
+
+/// Adds a number to a text.
+fn push_number<N: Display>(alloc: Global, text: &mut String, number: &N) -> Result<(), Fault> {
+    let number = number.to_string(alloc)?;
+    text.push_str(&number)?;
+    Ok(())
 }
 
 /// The answers to the operations of one line, parted by one space.
@@ -46,6 +66,23 @@ impl Told {
         }
         self.text.push_str(answer)?;
         Ok(())
+    }
+
+    /// One answer more, where there is one.
+    pub fn add_text(&mut self, answer: Result<String, Fault>) -> Result<(), Fault> {
+        let answer = answer?;
+        self.add(&answer)
+    }
+
+    /// One answer more, a value.
+    pub fn add_value<N: Display + Drop>(&mut self, alloc: Global, value: N) -> Result<(), Fault> {
+        self.add_text(write_value(alloc, value))
+    }
+
+    /// All answers, with bits as the last one.
+    pub fn with_bits(mut self, alloc: Global, bits: &Bitmap) -> Result<String, Fault> {
+        self.add_text(write_bits(alloc, bits))?;
+        Ok(self.into_text())
     }
 
     /// All answers.

@@ -20,7 +20,7 @@
 
 ghost use Rattle.std.specs.Prelude.{◌↔◌, ◌+◌, ◌≤◌, IsTrue};
 
-use crate::answer_text::write_found;
+use crate::answer_text::{write_found, write_value};
 use crate::truth_values::{CostlyBits, SingleBits};
 use polars_arrays_bits::bitmap::Bitmap;
 use polars_arrays_bits::error::ComputeError;
@@ -76,6 +76,13 @@ pub fn read_truth(words: &mut Words) -> Result<bool, Fault> {
         "false" => Ok(false),
         _ => Err(Fault::Word),
     }
+}
+
+/// The two places that the next words write.
+pub fn read_places(words: &mut Words) -> Result<(usize, usize), Fault> {
+    let first = words.read_number()?;
+    let second = words.read_number()?;
+    Ok((first, second))
 }
 
 /// The bits that the next word writes.
@@ -148,11 +155,6 @@ pub fn write_read(alloc: Global, bits: Result<Bitmap, Fault>) -> Result<String, 
     write_bits(alloc, &bits?)
 }
 
-/// The text of a number.
-pub fn write_number(alloc: Global, number: usize) -> Result<String, Fault> {
-    Ok(number.to_string(alloc)?)
-}
-
 // The answer to a call on one bitmap.
 fn of_one(alloc: Global, call: &str, words: &mut Words) -> Result<String, Fault> {
     let x = read_bitmap(alloc, words)?;
@@ -167,30 +169,29 @@ fn ask_one(alloc: Global, call: &str, x: &Bitmap, words: &mut Words) -> Result<S
         "bitmap_share" => write_read(alloc, share(alloc, x)),
         "from_values" => write_made(alloc, one_by_one(alloc, x, false)),
         "from_wide_values" => write_made(alloc, one_by_one(alloc, x, true)),
-        "set_bits" => write_number(alloc, x.set_bits()),
-        "unset_bits" => write_number(alloc, x.unset_bits()),
-        "bitmap_len" => write_number(alloc, x.len()),
-        "get_bit" => bit(alloc, x, words.read_number()?),
-        "bitmap_get" => write_found(alloc, x.get(words.read_number()?)),
-        "bitmap_slice" => {
-            let (at, n) = (words.read_number()?, words.read_number()?);
-            write_read(alloc, cut(alloc, x, at, n))
-        }
+        "set_bits" => write_value(alloc, x.set_bits()),
+        "unset_bits" => write_value(alloc, x.unset_bits()),
+        "bitmap_len" => write_value(alloc, x.len()),
+        "get_bit" | "bitmap_get" => ask_bit(alloc, call, x, words),
         _ => ask_clones(alloc, call, x, words),
+    }
+}
+
+// What is asked of one bit.
+fn ask_bit(alloc: Global, call: &str, x: &Bitmap, words: &mut Words) -> Result<String, Fault> {
+    let i = words.read_number()?;
+    match call {
+        "get_bit" => bit(alloc, x, i),
+        _ => write_found(alloc, x.get(i)),
     }
 }
 
 // What is asked of a bitmap and of clones of it.
 fn ask_clones(alloc: Global, call: &str, x: &Bitmap, words: &mut Words) -> Result<String, Fault> {
     match call {
-        "slice_clone" => {
-            let (at, n) = (words.read_number()?, words.read_number()?);
-            slice_clone(alloc, share(alloc, x), at, n)
-        }
-        "meet_shared" => {
-            let (p, q) = (words.read_number()?, words.read_number()?);
-            meet(alloc, share(alloc, x), p, q, words.read_number()?)
-        }
+        "bitmap_slice" => slice(alloc, x, words),
+        "slice_clone" => slice_clone(alloc, x, words),
+        "meet_shared" => meet_shared(alloc, x, words),
         "from_counted" => of_counted(alloc, x, words),
         _ => Err(Fault::Word),
     }
@@ -211,34 +212,46 @@ fn bit(alloc: Global, x: &Bitmap, i: usize) -> Result<String, Fault> {
     if i >= x.len() {
         return Err(Fault::Case);
     }
-    Ok(x.get_bit(i).to_string(alloc)?)
+    write_value(alloc, x.get_bit(i))
 }
 
-// A window of a clone, and then the bitmap itself.
-fn slice_clone(
+// A window of a clone.
+fn slice(alloc: Global, x: &Bitmap, words: &mut Words) -> Result<String, Fault> {
+    let (at, n) = read_places(words)?;
+    write_read(alloc, cut(alloc, x, at, n))
+}
+
+// A window of a clone of shared words, and then the bitmap itself.
+fn slice_clone(alloc: Global, x: &Bitmap, words: &mut Words) -> Result<String, Fault> {
+    let (at, n) = read_places(words)?;
+    let x = share(alloc, x)?;
+    write_both(alloc, cut(alloc, &x, at, n), &x)
+}
+
+// Bits that were found, and others behind them.
+fn write_both(
     alloc: Global,
-    x: Result<Bitmap, Fault>,
-    at: usize,
-    n: usize,
+    first: Result<Bitmap, Fault>,
+    second: &Bitmap,
 ) -> Result<String, Fault> {
-    let x = x?;
-    let mut text = write_read(alloc, cut(alloc, &x, at, n))?;
+    let mut text = write_read(alloc, first)?;
     text.push(' ')?;
-    push_bits(&mut text, &x)?;
+    push_bits(&mut text, second)?;
     Ok(text)
 }
 
+// How many bits are true in two windows of a bitmap, of which clones share the words.
+fn meet_shared(alloc: Global, x: &Bitmap, words: &mut Words) -> Result<String, Fault> {
+    let (p, q) = read_places(words)?;
+    let n = words.read_number()?;
+    let x = share(alloc, x)?;
+    write_count(alloc, meet(alloc, &x, p, q, n))
+}
+
 // How many of `n` bits are true in two windows of a bitmap.
-fn meet(
-    alloc: Global,
-    x: Result<Bitmap, Fault>,
-    p: usize,
-    q: usize,
-    n: usize,
-) -> Result<String, Fault> {
-    let x = x?;
-    let left = cut(alloc, &x, p, n)?;
-    write_count(alloc, count_shared(alloc, &left, &x, q, n))
+fn meet(alloc: Global, x: &Bitmap, p: usize, q: usize, n: usize) -> Result<usize, Fault> {
+    let left = cut(alloc, x, p, n)?;
+    count_shared(alloc, &left, x, q, n)
 }
 
 // How many bits are true in a bitmap and in a window of another.
@@ -255,7 +268,7 @@ fn count_shared(
 
 // The text of a count, where there is one.
 fn write_count(alloc: Global, count: Result<usize, Fault>) -> Result<String, Fault> {
-    write_number(alloc, count?)
+    write_value(alloc, count?)
 }
 
 // The answer to a call on two bitmaps.
@@ -302,7 +315,7 @@ fn read_filled(alloc: Global, words: &mut Words) -> Result<Bitmap, Fault> {
 // How many of these bits are true.
 fn count_filled(alloc: Global, words: &mut Words) -> Result<String, Fault> {
     let bits = read_filled(alloc, words)?;
-    write_number(alloc, bits.set_bits())
+    write_value(alloc, bits.set_bits())
 }
 
 // The bits of truth values.
@@ -318,7 +331,7 @@ fn read_bools(alloc: Global, words: &mut Words) -> Result<Bitmap, Fault> {
 // The bits of words from a bit on.
 fn read_words(alloc: Global, words: &mut Words) -> Result<Bitmap, Fault> {
     let numbers = read_numbers::<u64>(alloc, words)?;
-    let (at, n) = (words.read_number()?, words.read_number()?);
+    let (at, n) = read_places(words)?;
     match numbers.len().checked_mul(64) {
         Some(all) if is_within(at, n, all) => Ok(Bitmap::from_words(numbers, at, n)),
         _ => Err(Fault::Case),

@@ -43,9 +43,20 @@ fn operate<T: NativeType + Display + FromStr<Err: Drop>>(
     alloc: Global,
     words: &mut Words,
 ) -> Result<String, Fault> {
-    let mut buffer = read_numbers::<T>(alloc, words)?;
-    let mut first = None;
+    let buffer = read_numbers::<T>(alloc, words)?;
     let mut told = Told::new(alloc);
+    apply_all(alloc, buffer, words, &mut told)?;
+    Ok(told.into_text())
+}
+
+// What the operations before `end` do to a buffer, and answer.
+fn apply_all<T: NativeType + Display + FromStr<Err: Drop>>(
+    alloc: Global,
+    mut buffer: Buffer<T>,
+    words: &mut Words,
+    told: &mut Told,
+) -> Result<(), Fault> {
+    let mut first = None;
     for _ in 0..u64::MAX {
         match words.read()? {
             "end" => break,
@@ -55,11 +66,11 @@ fn operate<T: NativeType + Display + FromStr<Err: Drop>>(
                 first = Some(buffer);
                 buffer = copy;
             }
-            "first" => told.add(&list(alloc, &first)?)?,
-            operation => apply(alloc, &mut buffer, operation, words, &mut told)?,
+            "first" => told.add_text(list(alloc, &first))?,
+            operation => apply(alloc, &mut buffer, operation, words, told)?,
         }
     }
-    Ok(told.into_text())
+    Ok(())
 }
 
 // The elements of the buffer that was cloned last.
@@ -82,15 +93,25 @@ fn apply<T: NativeType + Display + FromStr<Err: Drop>>(
     told: &mut Told,
 ) -> Result<(), Fault> {
     match operation {
+        "is_owned" => told.add_value(alloc, buffer.is_owned()),
+        "len" => told.add_value(alloc, buffer.len()),
+        "list" => told.add_text(write_numbers(alloc, buffer.as_slice())),
         "slice" => slice(buffer, words.read_number()?, words.read_number()?),
-        "get_mut" => {
-            let written = write_if_owned(buffer, words.read_number()?, words.read_number()?)?;
-            told.add(if written { "some" } else { "none" })
-        }
-        "as_mut_slice" => write_owned(buffer, words.read_number()?, words.read_number()?),
-        "is_owned" => told.add(&buffer.is_owned().to_string(alloc)?),
-        "len" => told.add(&buffer.len().to_string(alloc)?),
-        "list" => told.add(&write_numbers(alloc, buffer.as_slice())?),
+        _ => write(buffer, operation, words, told),
+    }
+}
+
+// Writes an element of a buffer in the way that an operation names, and says whether it is written where it asks that.
+fn write<T: NativeType + FromStr<Err: Drop>>(
+    buffer: &mut Buffer<T>,
+    operation: &str,
+    words: &mut Words,
+    told: &mut Told,
+) -> Result<(), Fault> {
+    let (i, element) = (words.read_number()?, words.read_number()?);
+    match operation {
+        "get_mut" => told.add(write_if_owned(buffer, i, element)?),
+        "as_mut_slice" => write_owned(buffer, i, element),
         _ => Err(Fault::Word),
     }
 }
@@ -113,18 +134,18 @@ fn write_at<T: NativeType>(elements: &mut [T], i: usize, element: T) -> Result<(
     Ok(())
 }
 
-// Writes an element of a buffer that owns its elements. Whether it does.
+// Writes an element of a buffer that owns its elements: `some` where it does, or `none`.
 fn write_if_owned<T: NativeType>(
     buffer: &mut Buffer<T>,
     i: usize,
     element: T,
-) -> Result<bool, Fault> {
+) -> Result<&'static str, Fault> {
     match buffer.get_mut() {
         Some(elements) => {
             write_at(elements, i, element)?;
-            Ok(true)
+            Ok("some")
         }
-        None => Ok(false),
+        None => Ok("none"),
     }
 }
 

@@ -18,7 +18,6 @@ use crate::bits::{read_bitmap, read_truth};
 use crate::truth_values::SingleBits;
 use polars_arrays_bits::bitmap::Bitmap;
 use polars_arrays_bits::builder::BitmapBuilder;
-use recorded_text::bits_text::write_bits;
 use recorded_text::fault::Fault;
 use recorded_text::words::Words;
 use std::alloc::Global;
@@ -34,25 +33,53 @@ pub fn answer(alloc: Global, call: &str, words: &mut Words) -> Result<Option<Str
 // What the operations of a line answer.
 fn operate(alloc: Global, words: &mut Words) -> Result<String, Fault> {
     let mut builder = BitmapBuilder::with_capacity(alloc, words.read_number()?)?;
-    let room = builder.room();
     let mut told = Told::new(alloc);
+    apply_all(alloc, &mut builder, words, &mut told)?;
+    told.with_bits(alloc, &builder.freeze())
+}
+
+// What the operations before `freeze` do to a builder, and answer.
+fn apply_all(
+    alloc: Global,
+    builder: &mut BitmapBuilder,
+    words: &mut Words,
+    told: &mut Told,
+) -> Result<(), Fault> {
+    let room = builder.room();
     for _ in 0..u64::MAX {
         match words.read()? {
             "freeze" => break,
-            "len" => told.add(&builder.len().to_string(alloc)?)?,
-            "room" => {
-                let n: usize = words.read_number()?;
-                told.add(&(n <= builder.room()).to_string(alloc)?)?;
-            }
-            "fallen" => {
-                let fallen = room.saturating_sub(builder.room());
-                told.add(&fallen.to_string(alloc)?)?;
-            }
-            operation => extend(alloc, &mut builder, operation, words)?,
+            operation => apply(alloc, builder, room, operation, words, told)?,
         }
     }
-    told.add(&write_bits(alloc, &builder.freeze())?)?;
-    Ok(told.into_text())
+    Ok(())
+}
+
+// What an operation does to a builder that had so much room, and answers.
+fn apply(
+    alloc: Global,
+    builder: &mut BitmapBuilder,
+    room: usize,
+    operation: &str,
+    words: &mut Words,
+    told: &mut Told,
+) -> Result<(), Fault> {
+    match operation {
+        "len" => told.add_value(alloc, builder.len()),
+        "room" => tell_room(alloc, builder, words.read_number()?, told),
+        "fallen" => told.add_value(alloc, room.saturating_sub(builder.room())),
+        _ => extend(alloc, builder, operation, words),
+    }
+}
+
+// Tells whether `n` bits more may be pushed.
+fn tell_room(
+    alloc: Global,
+    builder: &BitmapBuilder,
+    n: usize,
+    told: &mut Told,
+) -> Result<(), Fault> {
+    told.add_value(alloc, n <= builder.room())
 }
 
 // Pushes what an operation says, where there is room for it.

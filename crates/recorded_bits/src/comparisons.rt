@@ -9,8 +9,10 @@
 //! | `compare_windows COMPARISON TYPE LIST AT LIST AT N` | the same of N numbers each from a place on |
 //! | `compare_constant COMPARISON TYPE LIST NUMBER` | which numbers pass with the last one |
 
+use crate::answer_text::write_value;
 use crate::bits::is_within;
 use crate::numbers::{at_number_type, at_type};
+use polars_arrays_bits::buffer::Buffer;
 use polars_arrays_bits::slices::{compare_constant, compare_pairs, compare_windows};
 use polars_arrays_numbers::comparison::{
     Comparison, Equal, Greater, GreaterOrEqual, Less, LessOrEqual, Unequal,
@@ -27,12 +29,16 @@ use std::str::FromStr;
 pub fn answer(alloc: Global, call: &str, words: &mut Words) -> Result<Option<String>, Fault> {
     match call {
         "compare" | "packs_by_bit" | "compare_pairs" | "compare_windows" | "compare_constant" => {
-            let comparison = words.read()?;
-            let answer = at_number_type!(words.read()?, by_test(alloc, call, comparison, words))?;
-            Ok(Some(answer))
+            Ok(Some(by_name(alloc, call, words)?))
         }
         _ => Ok(None),
     }
+}
+
+// The answer to a call with the comparison and at the type that the next words name.
+fn by_name(alloc: Global, call: &str, words: &mut Words) -> Result<String, Fault> {
+    let comparison = words.read()?;
+    at_number_type!(words.read()?, by_test(alloc, call, comparison, words))
 }
 
 // The answer to a call with the comparison of a name.
@@ -60,16 +66,24 @@ fn ask<T: NativeType + FromStr<Err: Drop>, E: Comparison<T, T>>(
     words: &mut Words,
 ) -> Result<String, Fault> {
     match call {
-        "compare" => {
-            let (left, right) = (words.read_number()?, words.read_number()?);
-            Ok(comparison.compare(left, right).to_string(alloc)?)
-        }
-        "packs_by_bit" => Ok(comparison.packs_by_bit().to_string(alloc)?),
+        "compare" => two::<T, E>(alloc, comparison, words),
+        "packs_by_bit" => write_value(alloc, comparison.packs_by_bit()),
         "compare_pairs" => pairs::<T, E>(alloc, comparison, words),
         "compare_windows" => windows::<T, E>(alloc, comparison, words),
         "compare_constant" => constant::<T, E>(alloc, comparison, words),
         _ => Err(Fault::Word),
     }
+}
+
+// Whether two numbers pass.
+fn two<T: NativeType + FromStr<Err: Drop>, E: Comparison<T, T>>(
+    alloc: Global,
+    comparison: &E,
+    words: &mut Words,
+) -> Result<String, Fault> {
+    let left = words.read_number()?;
+    let right = words.read_number()?;
+    write_value(alloc, comparison.compare(left, right))
 }
 
 // Which pairs of two lists pass.
@@ -96,32 +110,47 @@ fn write_pairs<T: NativeType, E: Comparison<T, T>>(
     write_made(alloc, compare_pairs(alloc, comparison, left, right))
 }
 
+// A list of numbers, and a place in it.
+#[derive(Drop)]
+struct Part<T: NativeType> {
+    numbers: Buffer<T>,
+    at: usize,
+}
+
+// The list that words write, and the place behind it.
+fn read_part<T: NativeType + FromStr<Err: Drop>>(
+    alloc: Global,
+    words: &mut Words,
+) -> Result<Part<T>, Fault> {
+    let numbers = read_numbers(alloc, words)?;
+    let at = words.read_number()?;
+    Ok(Part { numbers, at })
+}
+
 // Which pairs of two windows pass.
 fn windows<T: NativeType + FromStr<Err: Drop>, E: Comparison<T, T>>(
     alloc: Global,
     comparison: &E,
     words: &mut Words,
 ) -> Result<String, Fault> {
-    let left = read_numbers::<T>(alloc, words)?;
-    let left_at = words.read_number()?;
-    with_right(alloc, comparison, left.as_slice(), left_at, words)
+    let left = read_part::<T>(alloc, words)?;
+    let right = read_part::<T>(alloc, words)?;
+    write_windows(alloc, comparison, &left, &right, words.read_number()?)
 }
 
-// The same, of which the right window is not read yet.
-fn with_right<T: NativeType + FromStr<Err: Drop>, E: Comparison<T, T>>(
+// Which pairs pass, of `count` numbers each.
+fn write_windows<T: NativeType, E: Comparison<T, T>>(
     alloc: Global,
     comparison: &E,
-    left: &[T],
-    left_at: usize,
-    words: &mut Words,
+    left: &Part<T>,
+    right: &Part<T>,
+    count: usize,
 ) -> Result<String, Fault> {
-    let right = read_numbers::<T>(alloc, words)?;
-    let (right_at, count) = (words.read_number()?, words.read_number()?);
-    if !is_within(left_at, count, left.len()) || !is_within(right_at, count, right.len()) {
+    let (these, those) = (left.numbers.as_slice(), right.numbers.as_slice());
+    if !is_within(left.at, count, these.len()) || !is_within(right.at, count, those.len()) {
         return Err(Fault::Case);
     }
-    let right = right.as_slice();
-    let bits = compare_windows(alloc, comparison, left, left_at, right, right_at, count);
+    let bits = compare_windows(alloc, comparison, these, left.at, those, right.at, count);
     write_made(alloc, bits)
 }
 

@@ -30,32 +30,32 @@ fn read_compute_error(words: &mut Words) -> Result<ComputeError, Fault> {
     match words.read()? {
         "memory" => Ok(ComputeError::Memory(AllocError)),
         "unsupported" => Ok(ComputeError::Unsupported),
-        "key" => Ok(ComputeError::KeyOutOfRange {
-            key: words.read_number()?,
-            len: words.read_number()?,
-        }),
+        "key" => read_key_error(words),
         _ => Err(Fault::Word),
     }
+}
+
+fn read_key_error(words: &mut Words) -> Result<ComputeError, Fault> {
+    let key = words.read_number()?;
+    let len = words.read_number()?;
+    Ok(ComputeError::KeyOutOfRange { key, len })
 }
 
 fn read_array_error(words: &mut Words) -> Result<ArrayError, Fault> {
     match words.read()? {
         "length" => Ok(ArrayError::Length),
-        "offsets" => Ok(ArrayError::Offsets {
-            row: words.read_number()?,
-        }),
-        "field" => Ok(ArrayError::Field {
-            at: words.read_number()?,
-        }),
-        "view" => Ok(ArrayError::View {
-            row: words.read_number()?,
-        }),
-        "not_utf8" => Ok(ArrayError::NotUtf8 {
-            row: words.read_number()?,
-        }),
-        "key" => Ok(ArrayError::Key {
-            row: words.read_number()?,
-        }),
+        name => error_at(name, words.read_number()?),
+    }
+}
+
+// The error of that name, which is about a place.
+fn error_at(name: &str, at: usize) -> Result<ArrayError, Fault> {
+    match name {
+        "offsets" => Ok(ArrayError::Offsets { row: at }),
+        "field" => Ok(ArrayError::Field { at }),
+        "view" => Ok(ArrayError::View { row: at }),
+        "not_utf8" => Ok(ArrayError::NotUtf8 { row: at }),
+        "key" => Ok(ArrayError::Key { row: at }),
         _ => Err(Fault::Word),
     }
 }

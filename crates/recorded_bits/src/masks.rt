@@ -13,9 +13,10 @@
 //! | `all_set MASK AT N` | whether the N bits from place AT on are all true |
 //! | `all_in_blocks MASK WIDTH N` | whether all bits are true, of each of N blocks of WIDTH bits |
 
-ghost use Rattle.std.specs.Prelude.{◌≡◌, length, IfOk};
+ghost use Rattle.std.specs.Prelude.{◌≡◌, ◌+◌, ◌≤◌, length, IfOk};
 
-use crate::bits::{is_within, read_bitmap, write_number, write_read};
+use crate::answer_text::write_value;
+use crate::bits::{is_within, read_bitmap, read_places, write_read};
 use polars_arrays_bits::bit_mask::BitMask;
 use polars_arrays_bits::bitmap::Bitmap;
 use recorded_text::bits_text::write_made;
@@ -53,10 +54,30 @@ pub fn window_of<'a>(bits: &'a Bitmap, at: usize, n: usize) -> Result<BitMask<'a
     Ok(BitMask::from_bitmap(bits).window(at, n))
 }
 
-// The window of bits that the next two words say.
-fn read_window<'a>(bits: &'a Bitmap, words: &mut Words) -> Result<BitMask<'a>, Fault> {
-    let (at, n) = (words.read_number()?, words.read_number()?);
-    window_of(bits, at, n)
+// Bits, and a window of them.
+#[derive(Drop)]
+struct Window {
+    bits: Bitmap,
+    at: usize,
+    n: usize,
+    ghost within: { at + n ≤ length bits },
+}
+
+impl Window {
+    // The bits and the window that the next three words write.
+    fn read(alloc: Global, words: &mut Words) -> Result<Window, Fault> {
+        let bits = read_bitmap(alloc, words)?;
+        let (at, n) = read_places(words)?;
+        if !is_within(at, n, bits.len()) {
+            return Err(Fault::Case);
+        }
+        Ok(Window { bits, at, n })
+    }
+
+    // The window, borrowed.
+    fn mask(&self) -> BitMask<'_> {
+        BitMask::from_bitmap(&self.bits).window(self.at, self.n)
+    }
 }
 
 /// The operator of this name on the bits of two windows.
@@ -123,9 +144,8 @@ pub fn fold_blocks(
 
 // The answer to a call on one window.
 fn of_one(alloc: Global, call: &str, words: &mut Words) -> Result<String, Fault> {
-    let bits = read_bitmap(alloc, words)?;
-    let mask = read_window(&bits, words)?;
-    ask_one(alloc, call, &mask, words)
+    let window = Window::read(alloc, words)?;
+    ask_one(alloc, call, &window.mask(), words)
 }
 
 // What is asked of one window.
@@ -138,16 +158,10 @@ fn ask_one(
     match call {
         "mask_not" => write_made(alloc, mask.not(alloc)),
         "to_bitmap" => write_made(alloc, mask.to_bitmap(alloc)),
-        "mask_len" => write_number(alloc, mask.len()),
-        "mask_unset_bits" => write_number(alloc, mask.unset_bits()),
+        "mask_len" => write_value(alloc, mask.len()),
+        "mask_unset_bits" => write_value(alloc, mask.unset_bits()),
         "mask_get" => bit(alloc, mask, words.read_number()?),
-        _ => ask_part(
-            alloc,
-            call,
-            mask,
-            words.read_number()?,
-            words.read_number()?,
-        ),
+        _ => ask_part(alloc, call, mask, read_places(words)?),
     }
 }
 
@@ -156,12 +170,11 @@ fn ask_part(
     alloc: Global,
     call: &str,
     mask: &BitMask<'_>,
-    first: usize,
-    second: usize,
+    (first, second): (usize, usize),
 ) -> Result<String, Fault> {
     match call {
         "window" => part(alloc, mask, first, second),
-        "all_set" => Ok(is_all_set(mask, first, second)?.to_string(alloc)?),
+        "all_set" => write_value(alloc, is_all_set(mask, first, second)?),
         "all_in_blocks" => write_read(alloc, fold_blocks(alloc, mask, first, second)),
         _ => Err(Fault::Word),
     }
@@ -180,35 +193,21 @@ fn bit(alloc: Global, mask: &BitMask<'_>, i: usize) -> Result<String, Fault> {
     if i >= mask.len() {
         return Err(Fault::Case);
     }
-    Ok(mask.get(i).to_string(alloc)?)
+    write_value(alloc, mask.get(i))
 }
 
 // The answer to a call on two windows.
 fn of_two(alloc: Global, call: &str, words: &mut Words) -> Result<String, Fault> {
-    let left = read_bitmap(alloc, words)?;
-    let x = read_window(&left, words)?;
-    with_second(alloc, call, &x, words)
-}
-
-// The answer to a call on two windows, of which the last is not read yet.
-fn with_second(
-    alloc: Global,
-    call: &str,
-    x: &BitMask<'_>,
-    words: &mut Words,
-) -> Result<String, Fault> {
-    let right = read_bitmap(alloc, words)?;
-    let y = read_window(&right, words)?;
-    write_read(alloc, combine(alloc, call, x, &y))
+    let x = Window::read(alloc, words)?;
+    let y = Window::read(alloc, words)?;
+    write_read(alloc, combine(alloc, call, &x.mask(), &y.mask()))
 }
 
 // The answer to a call on three windows.
 fn of_three(alloc: Global, call: &str, words: &mut Words) -> Result<String, Fault> {
-    let values = read_bitmap(alloc, words)?;
-    let q = read_window(&values, words)?;
-    let left = read_bitmap(alloc, words)?;
-    let l = read_window(&left, words)?;
-    with_third(alloc, call, &q, &l, words)
+    let q = Window::read(alloc, words)?;
+    let l = Window::read(alloc, words)?;
+    with_third(alloc, call, &q.mask(), &l.mask(), words)
 }
 
 // The answer to a call on three windows, of which the last is not read yet.
@@ -219,7 +218,6 @@ fn with_third(
     l: &BitMask<'_>,
     words: &mut Words,
 ) -> Result<String, Fault> {
-    let right = read_bitmap(alloc, words)?;
-    let r = read_window(&right, words)?;
-    write_read(alloc, combine_three(alloc, call, q, l, &r))
+    let r = Window::read(alloc, words)?;
+    write_read(alloc, combine_three(alloc, call, q, l, &r.mask()))
 }

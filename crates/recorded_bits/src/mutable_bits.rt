@@ -13,11 +13,10 @@
 //! | `len`, `count` | how many bits there are, and are true |
 //! | `freeze` | all bits |
 
-use crate::answer_text::Told;
+use crate::answer_text::{Told, write_value};
 use crate::bits::{read_bitmap, read_truth};
 use polars_arrays_bits::bitmap::Bitmap;
 use polars_arrays_bits::mutable_bitmap::MutableBitmap;
-use recorded_text::bits_text::write_bits;
 use recorded_text::fault::Fault;
 use recorded_text::words::Words;
 use std::alloc::Global;
@@ -43,20 +42,40 @@ fn begin(alloc: Global, words: &mut Words) -> Result<MutableBitmap, Fault> {
 fn operate(alloc: Global, words: &mut Words) -> Result<String, Fault> {
     let mut bits = begin(alloc, words)?;
     let mut told = Told::new(alloc);
+    apply_all(alloc, &mut bits, words, &mut told)?;
+    told.with_bits(alloc, &bits.freeze())
+}
+
+// What the operations before `freeze` do to bits, and answer.
+fn apply_all(
+    alloc: Global,
+    bits: &mut MutableBitmap,
+    words: &mut Words,
+    told: &mut Told,
+) -> Result<(), Fault> {
     for _ in 0..u64::MAX {
         match words.read()? {
             "freeze" => break,
-            "len" => told.add(&bits.len().to_string(alloc)?)?,
-            "count" => told.add(&bits.set_bits().to_string(alloc)?)?,
-            "get" => {
-                let bit = get(&bits, words.read_number()?)?;
-                told.add(&bit.to_string(alloc)?)?;
-            }
-            operation => change(alloc, &mut bits, operation, words)?,
+            operation => apply(alloc, bits, operation, words, told)?,
         }
     }
-    told.add(&write_bits(alloc, &bits.freeze())?)?;
-    Ok(told.into_text())
+    Ok(())
+}
+
+// What an operation does to bits, and answers.
+fn apply(
+    alloc: Global,
+    bits: &mut MutableBitmap,
+    operation: &str,
+    words: &mut Words,
+    told: &mut Told,
+) -> Result<(), Fault> {
+    match operation {
+        "len" => told.add_value(alloc, bits.len()),
+        "count" => told.add_value(alloc, bits.set_bits()),
+        "get" => told.add_text(bit(alloc, bits, words.read_number()?)),
+        _ => change(alloc, bits, operation, words),
+    }
 }
 
 // Changes the bits as an operation says.
@@ -75,11 +94,11 @@ fn change(
 }
 
 // Bit `i`, where there is one.
-fn get(bits: &MutableBitmap, i: usize) -> Result<bool, Fault> {
+fn bit(alloc: Global, bits: &MutableBitmap, i: usize) -> Result<String, Fault> {
     if i >= bits.len() {
         return Err(Fault::Case);
     }
-    Ok(bits.get(i))
+    write_value(alloc, bits.get(i))
 }
 
 // Bit `i` becomes `value`, where there is one.

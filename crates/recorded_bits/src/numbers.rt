@@ -9,7 +9,7 @@
 //! | `to_entry TYPE KEY` | the entry that the key names, or `none` |
 //! | `steps N NUMBER..`, `default_steps N NUMBER..` | what a counter shows to which the N numbers were added |
 
-use crate::answer_text::write_found;
+use crate::answer_text::{write_found, write_value};
 use polars_arrays_numbers::dictionary_key::DictionaryKey;
 use polars_arrays_numbers::native_type::{
     NativeType, greatest_value, has_wide_values, least_value,
@@ -48,31 +48,43 @@ pub(crate) use at_type;
 pub fn answer(alloc: Global, call: &str, words: &mut Words) -> Result<Option<String>, Fault> {
     let answer = match call {
         "least_value" | "greatest_value" | "number_width" | "is_signed" | "has_wide_values" => {
-            at_number_type!(words.read()?, ask_type(alloc, call))?
+            of_type(alloc, call, words)
         }
-        "to_place" | "place" => {
-            at_type!(words.read()?, ask_offset(alloc, call, words), "i32" i32, "i64" i64)?
-        }
-        "to_entry" => at_type!(words.read()?, entry(alloc, words), "i8" i8, "i16" i16, "i32" i32,
-            "i64" i64, "u8" u8, "u16" u16, "u32" u32, "u64" u64)?,
-        "steps" => count(alloc, Steps::new(), words)?,
-        "default_steps" => count(alloc, Steps::default(), words)?,
+        "to_place" | "place" => of_offset(alloc, call, words),
+        "to_entry" => of_key(alloc, words),
+        "steps" => count(alloc, Steps::new(), words),
+        "default_steps" => count(alloc, Steps::default(), words),
         _ => return Ok(None),
     };
-    Ok(Some(answer))
+    Ok(Some(answer?))
+}
+
+// What is asked of the number type that the next word names.
+fn of_type(alloc: Global, call: &str, words: &mut Words) -> Result<String, Fault> {
+    at_number_type!(words.read()?, ask_type(alloc, call))
+}
+
+// What is asked of an offset of the type that the next word names.
+fn of_offset(alloc: Global, call: &str, words: &mut Words) -> Result<String, Fault> {
+    at_type!(words.read()?, ask_offset(alloc, call, words), "i32" i32, "i64" i64)
+}
+
+// The entry that a key of the type that the next word names stands for.
+fn of_key(alloc: Global, words: &mut Words) -> Result<String, Fault> {
+    at_type!(words.read()?, entry(alloc, words), "i8" i8, "i16" i16, "i32" i32, "i64" i64,
+        "u8" u8, "u16" u16, "u32" u32, "u64" u64)
 }
 
 // What is asked of a number type.
 fn ask_type<T: NativeType + Display>(alloc: Global, call: &str) -> Result<String, Fault> {
-    let answer = match call {
-        "least_value" => least_value::<T>().to_string(alloc)?,
-        "greatest_value" => greatest_value::<T>().to_string(alloc)?,
-        "number_width" => T::width().to_string(alloc)?,
-        "is_signed" => T::is_signed().to_string(alloc)?,
-        "has_wide_values" => has_wide_values::<T>().to_string(alloc)?,
-        _ => return Err(Fault::Word),
-    };
-    Ok(answer)
+    match call {
+        "least_value" => write_value(alloc, least_value::<T>()),
+        "greatest_value" => write_value(alloc, greatest_value::<T>()),
+        "number_width" => write_value(alloc, T::width()),
+        "is_signed" => write_value(alloc, T::is_signed()),
+        "has_wide_values" => write_value(alloc, has_wide_values::<T>()),
+        _ => Err(Fault::Word),
+    }
 }
 
 // What is asked of an offset.
@@ -88,7 +100,7 @@ fn ask_offset<O: Offset + FromStr<Err: Drop>>(
     if offset.to_place().is_none() {
         return Err(Fault::Case);
     }
-    Ok(offset.place().to_string(alloc)?)
+    write_value(alloc, offset.place())
 }
 
 // The entry that a key names.
@@ -102,8 +114,14 @@ fn entry<K: DictionaryKey + FromStr<Err: Drop>>(
 
 // What a counter shows to which numbers are added.
 fn count(alloc: Global, mut steps: Steps, words: &mut Words) -> Result<String, Fault> {
-    for number in read_numbers::<u64>(alloc, words)?.as_slice() {
+    let numbers = read_numbers::<u64>(alloc, words)?;
+    add_all(&mut steps, numbers.as_slice());
+    write_value(alloc, steps.seen())
+}
+
+// Adds numbers to a counter.
+fn add_all(steps: &mut Steps, numbers: &[u64]) {
+    for number in numbers {
         steps.add(*number as usize);
     }
-    Ok(steps.seen().to_string(alloc)?)
 }

@@ -12,6 +12,7 @@ use crate::flat::{
 };
 use crate::parts::{Kept, read_numbers, read_validity};
 use crate::words::Words;
+use polars_arrays_bits::bitmap::Bitmap;
 use polars_arrays_flat::data_type::Field;
 use polars_arrays_flat::null::NullArray;
 use polars_arrays_nested::any_array::AnyArray;
@@ -140,9 +141,37 @@ fn read_list(
 {
     let offsets = read_offsets(alloc, kept, words, kind)?;
     let validity = read_validity(alloc, kept, words)?;
-    let values = Box::new(alloc, read_array(alloc, kept, words, depth)?)?;
-    let array = ListArray::try_new(offsets, values, validity)?;
-    Ok(array)
+    list_of(
+        offsets,
+        boxed(alloc, read_array(alloc, kept, words, depth)),
+        validity,
+    )
+}
+
+// Lists of these parts.
+fn list_of(
+    offsets: ListOffsets,
+    values: Result<Box<AnyArray>, Fault>,
+    validity: Option<Bitmap>,
+) -> Result<ListArray, Fault>
+    requires { IfOk values (λ a. IsGood a.value) }
+    ensures { IfOk result (λ a. IsGood (List a)) }
+{
+    match values {
+        Ok(values) => Ok(ListArray::try_new(offsets, values, validity)?),
+        Err(fault) => {
+            drop(offsets);
+            Err(fault)
+        }
+    }
+}
+
+// An array, boxed for one that holds it.
+fn boxed(alloc: Global, array: Result<AnyArray, Fault>) -> Result<Box<AnyArray>, Fault>
+    requires { IfOk array (λ a. IsGood a) }
+    ensures { IfOk result (λ a. IsGood a.value) }
+{
+    Ok(Box::new(alloc, array?)?)
 }
 
 // The offsets of lists.
@@ -172,9 +201,15 @@ fn read_fixed_list(
     let width = words.read_number()?;
     let len = words.read_number()?;
     let validity = read_validity(alloc, kept, words)?;
-    let values = Box::new(alloc, read_array(alloc, kept, words, depth)?)?;
-    let array = FixedSizeListArray::try_new(width, len, values, validity)?;
-    Ok(array)
+    let values = boxed(alloc, read_array(alloc, kept, words, depth))?;
+    Ok(FixedSizeListArray::try_new(width, len, values, validity)?)
+}
+
+// The columns of structs, and the name of each.
+#[derive(Drop)]
+struct Columns<'a> {
+    names: Vec<&'a str>,
+    values: Vec<AnyArray>,
 }
 
 // Structs: how many, how many fields, the validity, and a name and an array for each field.
@@ -188,19 +223,65 @@ fn read_struct(
     ensures { IfOk result (λ a. IsGood (Struct a)) }
 {
     let len = words.read_number()?;
-    let count: usize = words.read_number()?;
+    let count = words.read_number()?;
     let validity = read_validity(alloc, kept, words)?;
-    let mut fields = Vec::new(alloc);
+    struct_of(
+        alloc,
+        len,
+        read_columns(alloc, kept, words, depth, count),
+        validity,
+    )
+}
+
+// So many columns, a name and an array for each.
+#[cycle(read)]
+fn read_columns<'a>(
+    alloc: Global,
+    kept: Kept,
+    words: &mut Words<'a>,
+    depth: usize,
+    count: usize,
+) -> Result<Columns<'a>, Fault>
+    ensures { IfOk result (λ columns. All IsGood columns.values.items) }
+{
+    let mut names = Vec::new(alloc);
     let mut values = Vec::new(alloc);
     for _ in 0..count {
-        let name = words.read()?.to_string(alloc)?;
-        let column = read_array(alloc, kept, words, depth)?;
-        let dtype = column.dtype(alloc)?;
-        fields.push(Field { name, dtype })?;
-        values.push(column)?;
+        names.push(words.read()?)?;
+        values.push(read_array(alloc, kept, words, depth)?)?;
     }
-    let array = StructArray::try_new(fields, len, values, validity)?;
-    Ok(array)
+    Ok(Columns { names, values })
+}
+
+// Structs of these columns.
+fn struct_of(
+    alloc: Global,
+    len: usize,
+    columns: Result<Columns, Fault>,
+    validity: Option<Bitmap>,
+) -> Result<StructArray, Fault>
+    requires { IfOk columns (λ columns. All IsGood columns.values.items) }
+    ensures { IfOk result (λ a. IsGood (Struct a)) }
+{
+    let Columns { names, values } = columns?;
+    let fields = fields_of(alloc, &names, &values)?;
+    Ok(StructArray::try_new(fields, len, values, validity)?)
+}
+
+// A field for each column, of its name and type.
+fn fields_of(alloc: Global, names: &[&str], columns: &[AnyArray]) -> Result<Vec<Field>, Fault> {
+    let mut fields = Vec::new(alloc);
+    for (name, column) in names.iter().zip(columns) {
+        fields.push(field_of(alloc, name, column)?)?;
+    }
+    Ok(fields)
+}
+
+// A field of that name and of an array's type.
+fn field_of(alloc: Global, name: &str, column: &AnyArray) -> Result<Field, Fault> {
+    let dtype = column.dtype(alloc)?;
+    let name = name.to_string(alloc)?;
+    Ok(Field { name, dtype })
 }
 
 // A dictionary array: the type of its keys, the keys, their validity, and the entries.
@@ -214,9 +295,24 @@ fn read_dictionary(
     ensures { IfOk result (λ a. IsGood (Dictionary a)) }
 {
     let keys = read_keys(alloc, kept, words)?;
-    let values = Box::new(alloc, read_array(alloc, kept, words, depth)?)?;
-    let array = DictionaryArray::try_new(keys, values)?;
-    Ok(array)
+    dictionary_of(keys, boxed(alloc, read_array(alloc, kept, words, depth)))
+}
+
+// A dictionary array of these parts.
+fn dictionary_of(
+    keys: DictKeys,
+    values: Result<Box<AnyArray>, Fault>,
+) -> Result<DictionaryArray, Fault>
+    requires { IfOk values (λ a. IsGood a.value) }
+    ensures { IfOk result (λ a. IsGood (Dictionary a)) }
+{
+    match values {
+        Ok(values) => Ok(DictionaryArray::try_new(keys, values)?),
+        Err(fault) => {
+            drop(keys);
+            Err(fault)
+        }
+    }
 }
 
 // The keys of a dictionary array, of the type that the next word names.
