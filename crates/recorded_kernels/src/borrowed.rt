@@ -6,6 +6,7 @@
 //! | `bytes_tot_eq_kernel_broadcast ARRAY BYTES` and so on | the bits, with `x` where the row is masked |
 //! | `text_tot_eq_kernel_broadcast ARRAY BYTES` and so on | the same of a text, which is written by its bytes |
 
+ghost use Rattle.polars_arrays_nested.specs.GoodParts.{IsGood};
 ghost use Rattle.recorded_text.specs.Cases.{HasGoodArrays};
 
 use crate::kernel_names::{Equality, Order};
@@ -34,18 +35,47 @@ pub fn answer(
     let Some(call) = call.strip_suffix("_broadcast") else {
         return Ok(None);
     };
-    let answer = if let Some(name) = call.strip_prefix("bytes_") {
-        match (Equality::named(name), Order::named(name)) {
-            (Some(kernel), _) => bytes_equality(alloc, store, words, kernel),
-            (_, Some(kernel)) => bytes_order(alloc, store, words, kernel),
-            _ => return Ok(None),
-        }
+    if let Some(name) = call.strip_prefix("bytes_") {
+        of_bytes(alloc, name, store, words)
     } else if let Some(name) = call.strip_prefix("text_") {
-        match (Equality::named(name), Order::named(name)) {
-            (Some(kernel), _) => text_equality(alloc, store, words, kernel),
-            (_, Some(kernel)) => text_order(alloc, store, words, kernel),
-            _ => return Ok(None),
-        }
+        of_text(alloc, name, store, words)
+    } else {
+        Ok(None)
+    }
+}
+
+// The answer to a kernel of an array and a byte string, or None for another call.
+fn of_bytes(
+    alloc: Global,
+    name: &str,
+    store: &Store,
+    words: &mut Words,
+) -> Result<Option<String>, Fault>
+    requires { HasGoodArrays store.now }
+{
+    let answer = if let Some(kernel) = Equality::named(name) {
+        bytes_equality(alloc, store, words, kernel)
+    } else if let Some(kernel) = Order::named(name) {
+        bytes_order(alloc, store, words, kernel)
+    } else {
+        return Ok(None);
+    };
+    Ok(Some(answer?))
+}
+
+// The answer to a kernel of an array and a text, or None for another call.
+fn of_text(
+    alloc: Global,
+    name: &str,
+    store: &Store,
+    words: &mut Words,
+) -> Result<Option<String>, Fault>
+    requires { HasGoodArrays store.now }
+{
+    let answer = if let Some(kernel) = Equality::named(name) {
+        text_equality(alloc, store, words, kernel)
+    } else if let Some(kernel) = Order::named(name) {
+        text_order(alloc, store, words, kernel)
     } else {
         return Ok(None);
     };
@@ -63,7 +93,19 @@ fn bytes_equality(
 {
     let array = store.read(words)?;
     let bytes = read_bytes(alloc, words.read()?)?;
-    of_kind!(array, rows => equal_to_bytes(alloc, rows, &bytes, kernel),
+    bytes_equal_to(alloc, array, &bytes, kernel)
+}
+
+// Where the rows of an array of byte strings are equal to one.
+fn bytes_equal_to(
+    alloc: Global,
+    array: &AnyArray,
+    bytes: &[u8],
+    kernel: Equality,
+) -> Result<String, Fault>
+    requires { IsGood array.now }
+{
+    of_kind!(array, rows => equal_to_bytes(alloc, rows, bytes, kernel),
         Binary LargeBinary BinaryView FixedSizeBinary)
 }
 
@@ -96,7 +138,19 @@ fn bytes_order(
 {
     let array = store.read(words)?;
     let bytes = read_bytes(alloc, words.read()?)?;
-    of_kind!(array, rows => ordered_beside_bytes(alloc, rows, &bytes, kernel),
+    bytes_beside(alloc, array, &bytes, kernel)
+}
+
+// How the rows of an array of byte strings stand to one.
+fn bytes_beside(
+    alloc: Global,
+    array: &AnyArray,
+    bytes: &[u8],
+    kernel: Order,
+) -> Result<String, Fault>
+    requires { IsGood array.now }
+{
+    of_kind!(array, rows => ordered_beside_bytes(alloc, rows, bytes, kernel),
         Binary LargeBinary BinaryView)
 }
 
@@ -129,9 +183,26 @@ fn text_equality(
 {
     let array = store.read(words)?;
     let bytes = read_bytes(alloc, words.read()?)?;
-    let Ok(text) = from_utf8(&bytes) else {
-        return Err(Fault::Word);
-    };
+    texts_equal_to(alloc, array, text_of(&bytes)?, kernel)
+}
+
+// The text of bytes.
+fn text_of(bytes: &[u8]) -> Result<&str, Fault> {
+    match from_utf8(bytes) {
+        Ok(text) => Ok(text),
+        Err(_) => Err(Fault::Word),
+    }
+}
+
+// Where the rows of an array of texts are equal to one.
+fn texts_equal_to(
+    alloc: Global,
+    array: &AnyArray,
+    text: &str,
+    kernel: Equality,
+) -> Result<String, Fault>
+    requires { IsGood array.now }
+{
     of_kind!(array, rows => equal_to_text(alloc, rows, text, kernel), Utf8 LargeUtf8 Utf8View)
 }
 
@@ -164,9 +235,13 @@ fn text_order(
 {
     let array = store.read(words)?;
     let bytes = read_bytes(alloc, words.read()?)?;
-    let Ok(text) = from_utf8(&bytes) else {
-        return Err(Fault::Word);
-    };
+    texts_beside(alloc, array, text_of(&bytes)?, kernel)
+}
+
+// How the rows of an array of texts stand to one.
+fn texts_beside(alloc: Global, array: &AnyArray, text: &str, kernel: Order) -> Result<String, Fault>
+    requires { IsGood array.now }
+{
     of_kind!(array, rows => ordered_beside_text(alloc, rows, text, kernel), Utf8 LargeUtf8 Utf8View)
 }
 

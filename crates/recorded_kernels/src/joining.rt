@@ -51,15 +51,13 @@ fn join(alloc: Global, call: &str, words: &mut Words) -> Result<String, Fault> {
     let raw = read_bits(alloc, words.read()?)?;
     let left = read_validity(alloc, Kept::Owned, words)?;
     let right = read_validity(alloc, Kept::Owned, words)?;
-    match call {
-        "join_nulls" => nulls(alloc, relation, raw, &left, &right),
-        _ => masks(alloc, relation, raw, &left, &right),
-    }
+    join_read(alloc, call, relation, raw, &left, &right)
 }
 
-// Raw bits joined with whole validities.
-fn nulls(
+// Raw bits joined with two validities of as many bits, by a call.
+fn join_read(
     alloc: Global,
+    call: &str,
     relation: Relation,
     raw: Bitmap,
     left: &Option<Bitmap>,
@@ -68,23 +66,12 @@ fn nulls(
     if !has_bits(raw.len(), left) || !has_bits(raw.len(), right) {
         return Err(Fault::Case);
     }
-    let (left, right) = (Mask::lent(left.as_ref()), Mask::lent(right.as_ref()));
-    write_made(alloc, join_nulls(alloc, relation, raw, &left, &right))
-}
-
-// Raw bits joined with windows of validities.
-fn masks(
-    alloc: Global,
-    relation: Relation,
-    raw: Bitmap,
-    left: &Option<Bitmap>,
-    right: &Option<Bitmap>,
-) -> Result<String, Fault> {
-    if !has_bits(raw.len(), left) || !has_bits(raw.len(), right) {
-        return Err(Fault::Case);
-    }
-    write_made(
-        alloc,
-        join_masks(alloc, relation, raw, lent(left), lent(right)),
-    )
+    let joined = match call {
+        "join_nulls" => {
+            let (left, right) = (Mask::lent(left.as_ref()), Mask::lent(right.as_ref()));
+            join_nulls(alloc, relation, raw, &left, &right)
+        }
+        _ => join_masks(alloc, relation, raw, lent(left), lent(right)),
+    };
+    write_made(alloc, joined)
 }

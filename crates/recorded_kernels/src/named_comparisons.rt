@@ -9,6 +9,7 @@
 
 use crate::scalars::read_truth;
 use polars_arrays_bits::bit_mask::BitMask;
+use polars_arrays_bits::bitmap::Bitmap;
 use polars_arrays_numbers::comparison::{
     Equal, Greater, GreaterOrEqual, Less, LessOrEqual, Unequal,
 };
@@ -85,8 +86,7 @@ pub fn answer(alloc: Global, call: &str, words: &mut Words) -> Result<Option<Str
     let answer = match call {
         "truth_comparison" => truth_comparison(alloc, words),
         "truth_comparison_masks" => truth_comparison_masks(alloc, words),
-        "byte_comparison" => byte_comparison(alloc, words),
-        "byte_comparison_constant" => byte_comparison_constant(alloc, words),
+        "byte_comparison" | "byte_comparison_constant" => byte_comparison(alloc, call, words),
         _ => return Ok(None),
     };
     Ok(Some(answer?))
@@ -106,32 +106,44 @@ fn truth_comparison_masks(alloc: Global, words: &mut Words) -> Result<String, Fa
     let comparison = NamedComparison::read(words)?;
     let left = read_bits(alloc, words.read()?)?;
     let right = read_bits(alloc, words.read()?)?;
+    write_passing(alloc, comparison, &left, &right)
+}
+
+// Which bits of two bitmaps of one length pass.
+fn write_passing(
+    alloc: Global,
+    comparison: NamedComparison,
+    left: &Bitmap,
+    right: &Bitmap,
+) -> Result<String, Fault> {
     if left.len() != right.len() {
         return Err(Fault::Case);
     }
-    let (left, right) = (BitMask::from_bitmap(&left), BitMask::from_bitmap(&right));
+    let (left, right) = (BitMask::from_bitmap(left), BitMask::from_bitmap(right));
     write_made(
         alloc,
         with_comparison!(comparison, comparison => comparison.compare_masks(alloc, &left, &right)),
     )
 }
 
-// Whether two byte strings pass.
-fn byte_comparison(alloc: Global, words: &mut Words) -> Result<String, Fault> {
+// Whether two byte strings pass, by a call of `ByteComparison`.
+fn byte_comparison(alloc: Global, call: &str, words: &mut Words) -> Result<String, Fault> {
     let comparison = NamedComparison::read(words)?;
     let left = read_bytes(alloc, words.read()?)?;
     let right = read_bytes(alloc, words.read()?)?;
-    let passes =
-        with_comparison!(comparison, comparison => ByteComparison::compare(comparison, &left, &right));
+    let passes = match call {
+        "byte_comparison" => bytes_pass(comparison, &left, &right),
+        _ => bytes_pass_constant(comparison, &left, &right),
+    };
     Ok(passes.to_string(alloc)?)
 }
 
+// Whether two byte strings pass.
+fn bytes_pass(comparison: NamedComparison, left: &[u8], right: &[u8]) -> bool {
+    with_comparison!(comparison, comparison => ByteComparison::compare(comparison, left, right))
+}
+
 // Whether two byte strings pass, by the form for a right one that stays.
-fn byte_comparison_constant(alloc: Global, words: &mut Words) -> Result<String, Fault> {
-    let comparison = NamedComparison::read(words)?;
-    let left = read_bytes(alloc, words.read()?)?;
-    let right = read_bytes(alloc, words.read()?)?;
-    let passes =
-        with_comparison!(comparison, comparison => ByteComparison::compare_constant(comparison, &left, &right));
-    Ok(passes.to_string(alloc)?)
+fn bytes_pass_constant(comparison: NamedComparison, left: &[u8], right: &[u8]) -> bool {
+    with_comparison!(comparison, comparison => ByteComparison::compare_constant(comparison, left, right))
 }

@@ -25,6 +25,7 @@ use polars_arrays_numbers::comparison::{
 };
 use polars_arrays_numbers::native_type::NativeType;
 use polars_arrays_numbers::steps::Steps;
+use polars_arrays_views::binary_view::BinaryViewArray;
 use polars_compare_leaves::booleans::{compare_truth, compare_truth_windows};
 use polars_compare_leaves::bytes::{compare_byte_windows, compare_bytes};
 use polars_compare_leaves::numbers::{compare_number, compare_number_windows};
@@ -240,7 +241,17 @@ fn bytes(alloc: Global, store: &Store, words: &mut Words) -> Result<String, Faul
     let comparison = NamedComparison::read(words)?;
     let array = store.read(words)?;
     let bytes = read_bytes(alloc, words.read()?)?;
-    of_kind!(array, strings => strings_beside(alloc, comparison, strings, &bytes),
+    rows_beside(alloc, comparison, array, &bytes)
+}
+
+// Which byte strings of an array pass with one.
+fn rows_beside(
+    alloc: Global,
+    comparison: NamedComparison,
+    array: &AnyArray,
+    bytes: &[u8],
+) -> Result<String, Fault> {
+    of_kind!(array, strings => strings_beside(alloc, comparison, strings, bytes),
         Binary LargeBinary Utf8 LargeUtf8 BinaryView Utf8View FixedSizeBinary)
 }
 
@@ -264,8 +275,18 @@ fn view_bytes(alloc: Global, store: &Store, words: &mut Words) -> Result<String,
     let comparison = NamedComparison::read(words)?;
     let views = as_views(store.read(words)?)?;
     let bytes = read_bytes(alloc, words.read()?)?;
+    views_beside(alloc, comparison, views, &bytes)
+}
+
+// Which byte strings kept by views pass with one.
+fn views_beside(
+    alloc: Global,
+    comparison: NamedComparison,
+    views: &BinaryViewArray,
+    bytes: &[u8],
+) -> Result<String, Fault> {
     write_made(
         alloc,
-        with_comparison!(comparison, comparison => compare_view_bytes(alloc, comparison, views, &bytes)),
+        with_comparison!(comparison, comparison => compare_view_bytes(alloc, comparison, views, bytes)),
     )
 }

@@ -132,10 +132,23 @@ fn passes(alloc: Global, store: &Store, words: &mut Words) -> Result<String, Fau
     let (left, i) = read_row(store, words)?;
     let (right, j) = read_row(store, words)?;
     let mut steps = Steps::new();
-    let followed = &mut steps;
-    let passes =
-        with_comparison!(comparison, comparison => ViewComparison::compare(comparison, left, i, right, j, followed));
+    let passes = rows_pass(comparison, left, i, right, j, &mut steps);
     write_counted(alloc, passes, &steps)
+}
+
+// Whether a comparison holds of a row and another.
+fn rows_pass(
+    comparison: NamedComparison,
+    left: &BinaryViewArray,
+    i: usize,
+    right: &BinaryViewArray,
+    j: usize,
+    steps: &mut Steps,
+) -> bool
+    requires left { i < length left.now.views }
+    requires right { j < length right.now.views }
+{
+    with_comparison!(comparison, comparison => ViewComparison::compare(comparison, left, i, right, j, steps))
 }
 
 // Whether a row has these bytes.
@@ -175,10 +188,20 @@ fn passes_with_bytes(alloc: Global, store: &Store, words: &mut Words) -> Result<
     let comparison = NamedComparison::read(words)?;
     let (views, i) = read_row(store, words)?;
     let bytes = read_bytes(alloc, words.read()?)?;
-    let scalar = ScalarRow::new(&bytes);
-    let passes =
-        with_comparison!(comparison, comparison => ViewComparison::compare_bytes(comparison, views, i, &scalar));
+    let passes = passes_beside(comparison, views, i, &ScalarRow::new(&bytes));
     Ok(passes.to_string(alloc)?)
+}
+
+// Whether a comparison holds of a row and a byte string.
+fn passes_beside(
+    comparison: NamedComparison,
+    views: &BinaryViewArray,
+    i: usize,
+    scalar: &ScalarRow<'_>,
+) -> bool
+    requires { i < length views.now.views }
+{
+    with_comparison!(comparison, comparison => ViewComparison::compare_bytes(comparison, views, i, scalar))
 }
 
 // Where the stored rows of two arrays are equal.
