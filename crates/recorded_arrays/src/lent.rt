@@ -35,23 +35,44 @@ pub fn answer(
     requires { HasGoodArrays store.now }
 {
     let answer = match call {
-        "array_len" => len(alloc, store.read(words)?),
-        "null_count" => null_count(alloc, store.read(words)?),
-        "validity" => validity(alloc, store.read(words)?),
-        "array_is_owned" => is_owned(alloc, store.read(words)?),
-        "values" => values(alloc, store.read(words)?),
-        "offsets" => offsets(alloc, store.read(words)?),
-        "views" => views(alloc, store.read(words)?),
-        "array_buffers" => buffers(alloc, store.read(words)?),
-        "keys" => keys(alloc, store.read(words)?),
+        "array_len"
+        | "null_count"
+        | "validity"
+        | "array_is_owned"
+        | "values"
+        | "offsets"
+        | "views"
+        | "array_buffers"
+        | "keys"
+        | "array_count"
+        | "width"
+        | "size" => { lent(alloc, call, store.read(words)?) }
         "key_value" => key_value(alloc, store.read(words)?, words.read_number()?),
         "column" => column(alloc, store.read(words)?, words.read_number()?),
-        "array_count" => count(alloc, store.read(words)?),
-        "width" => width(alloc, store.read(words)?),
-        "size" => size(alloc, store.read(words)?),
         _ => return Ok(None),
     };
     Ok(Some(answer?))
+}
+
+// What an array lends by a call.
+fn lent(alloc: Global, call: &str, array: &AnyArray) -> Result<String, Fault>
+    requires { IsGood array.now }
+{
+    match call {
+        "array_len" => len(alloc, array),
+        "null_count" => null_count(alloc, array),
+        "validity" => validity(alloc, array),
+        "array_is_owned" => is_owned(alloc, array),
+        "values" => values(alloc, array),
+        "offsets" => offsets(alloc, array),
+        "views" => views(alloc, array),
+        "array_buffers" => buffers(alloc, array),
+        "keys" => keys(alloc, array),
+        "array_count" => count(alloc, array),
+        "width" => width(alloc, array),
+        "size" => size(alloc, array),
+        _ => Err(Fault::Word),
+    }
 }
 
 // How many rows there are.
@@ -85,13 +106,24 @@ fn is_owned(alloc: Global, array: &AnyArray) -> Result<String, Fault> {
 // Numbers, parted by spaces.
 fn write_numbers<T: Copy + Display>(alloc: Global, numbers: &[T]) -> Result<String, Fault> {
     let mut text = String::new(alloc);
-    for (i, number) in numbers.iter().enumerate() {
+    for i in 0..numbers.len() {
         if i > 0 {
             text.push(' ')?;
         }
-        text.push_str(&number.to_string(alloc)?)?;
+        push_number(alloc, &mut text, numbers[i])?;
     }
     Ok(text)
+}
+
+// Adds a number to a text.
+fn push_number<T: Copy + Display>(
+    alloc: Global,
+    text: &mut String,
+    number: T,
+) -> Result<(), Fault> {
+    let number = number.to_string(alloc)?;
+    text.push_str(&number)?;
+    Ok(())
 }
 
 // The stored values, those of null rows and of no row too; of arrays that hold an array, its rows.
@@ -246,11 +278,12 @@ fn entry_of(alloc: Global, array: &DictionaryArray, i: usize) -> Result<String, 
 
 // How many lists of one width or structs there are.
 fn count(alloc: Global, array: &AnyArray) -> Result<String, Fault> {
-    match array {
-        AnyArray::FixedSizeList(array) => Ok(array.len().to_string(alloc)?),
-        AnyArray::Struct(array) => Ok(array.len().to_string(alloc)?),
-        _ => Err(Fault::Case),
-    }
+    let count = match array {
+        AnyArray::FixedSizeList(array) => array.len(),
+        AnyArray::Struct(array) => array.len(),
+        _ => return Err(Fault::Case),
+    };
+    Ok(count.to_string(alloc)?)
 }
 
 // How many items each list has.

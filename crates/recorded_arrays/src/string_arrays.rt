@@ -4,6 +4,8 @@ ghost use Rattle.std.specs.Prelude.{◌≡◌};
 ghost use Rattle.recorded_text.specs.Cases.{HasGoodArrays};
 
 use crate::kinds::of_strings;
+use crate::types::write_made_type;
+use polars_arrays_bits::error::ComputeError;
 use polars_arrays_bytes::fixed_size::FixedSizeBinaryArray;
 use polars_arrays_bytes::of_size::OfSize;
 use polars_arrays_bytes::offset_type::OffsetType;
@@ -19,7 +21,6 @@ use recorded_text::bytes_text::{write_bytes, write_strings};
 use recorded_text::fault::Fault;
 use recorded_text::parts::read_bytes;
 use recorded_text::store::Store;
-use recorded_text::type_text::write_type;
 use recorded_text::words::Words;
 use std::alloc::Global;
 
@@ -108,7 +109,7 @@ fn as_binary(alloc: Global, array: &AnyArray) -> Result<String, Fault> {
 // The type and the byte strings of the array that texts are kept in.
 fn binary_of<O: OffsetType>(alloc: Global, array: &Utf8Array<O>) -> Result<String, Fault> {
     let binary = array.as_binary();
-    write_typed(alloc, &binary.dtype(alloc)?, binary)
+    write_typed(alloc, binary.dtype(alloc), binary)
 }
 
 // The type and the byte strings of the array that texts by views are kept in.
@@ -117,16 +118,16 @@ fn as_binview(alloc: Global, array: &AnyArray) -> Result<String, Fault> {
         return Err(Fault::Case);
     };
     let binary = array.as_binview();
-    write_typed(alloc, &binary.dtype(alloc)?, binary)
+    write_typed(alloc, binary.dtype(alloc), binary)
 }
 
 // A type and byte strings.
 fn write_typed<A: ByteRows>(
     alloc: Global,
-    dtype: &ArrowDataType,
+    dtype: Result<ArrowDataType, ComputeError>,
     strings: &A,
 ) -> Result<String, Fault> {
-    let mut text = write_type(alloc, dtype)?;
+    let mut text = write_made_type(alloc, dtype)?;
     text.push_str(": ")?;
     text.push_str(&write_strings(alloc, strings)?)?;
     Ok(text)

@@ -93,30 +93,59 @@ fn is_told(
 ) -> Result<bool, Fault> {
     match comparison {
         NamedComparison::SameType => Ok(left.same_type(right)),
-        NamedComparison::HasType => Ok(left.has_type(&right.dtype(alloc)?)),
-        NamedComparison::SameKind => same_kinds(&left.dtype(alloc)?, right.dtype(alloc)),
-        NamedComparison::Equal => equal_types(&left.dtype(alloc)?, right.dtype(alloc)),
+        NamedComparison::HasType => has_type(left, right.dtype(alloc)),
+        NamedComparison::SameKind | NamedComparison::Equal => {
+            compare_types(alloc, left, right, comparison)
+        }
         NamedComparison::SameFields => Ok(same_fields(fields(left)?, fields(right)?)),
-        NamedComparison::StructOf => Ok(is_struct_of(fields(left)?, &right.dtype(alloc)?)),
+        NamedComparison::StructOf => has_fields(fields(left)?, right.dtype(alloc)),
         NamedComparison::SameField => Ok(first_field(left)?.same_field(first_field(right)?)),
         NamedComparison::EqualField => Ok(first_field(left)? == first_field(right)?),
     }
 }
 
-// Whether two types are of one kind.
-fn same_kinds(
-    left: &ArrowDataType,
-    right: Result<ArrowDataType, ComputeError>,
-) -> Result<bool, Fault> {
-    Ok(left.same_kind(&right?))
+// Whether an array has a type.
+fn has_type(array: &AnyArray, dtype: Result<ArrowDataType, ComputeError>) -> Result<bool, Fault> {
+    let dtype = dtype?;
+    let holds = array.has_type(&dtype);
+    drop(dtype);
+    Ok(holds)
 }
 
-// Whether two types are equal.
-fn equal_types(
+// Whether a type is that of structs of these fields.
+fn has_fields(fields: &[Field], dtype: Result<ArrowDataType, ComputeError>) -> Result<bool, Fault> {
+    let dtype = dtype?;
+    let holds = is_struct_of(fields, &dtype);
+    drop(dtype);
+    Ok(holds)
+}
+
+// Whether the types of two arrays are equal, or only of one kind.
+fn compare_types(
+    alloc: Global,
+    left: &AnyArray,
+    right: &AnyArray,
+    comparison: NamedComparison,
+) -> Result<bool, Fault> {
+    let dtype = left.dtype(alloc)?;
+    let holds = compare_type(&dtype, right.dtype(alloc), comparison);
+    drop(dtype);
+    holds
+}
+
+// Whether two types are equal, or only of one kind.
+fn compare_type(
     left: &ArrowDataType,
     right: Result<ArrowDataType, ComputeError>,
+    comparison: NamedComparison,
 ) -> Result<bool, Fault> {
-    Ok(*left == right?)
+    let right = right?;
+    let holds = match comparison {
+        NamedComparison::SameKind => left.same_kind(&right),
+        _ => *left == right,
+    };
+    drop(right);
+    Ok(holds)
 }
 
 // The fields of structs.
@@ -135,27 +164,40 @@ fn first_field(array: &AnyArray) -> Result<&Field, Fault> {
     }
 }
 
+// The text of a type that was made to be written.
+pub fn write_made_type(
+    alloc: Global,
+    made: Result<ArrowDataType, ComputeError>,
+) -> Result<String, Fault> {
+    let dtype = made?;
+    let text = write_type(alloc, &dtype);
+    drop(dtype);
+    text
+}
+
 // The type of an array.
 fn dtype(alloc: Global, array: &AnyArray) -> Result<String, Fault> {
-    write_type(alloc, &array.dtype(alloc)?)
+    write_made_type(alloc, array.dtype(alloc))
 }
 
 // A copy of the type of an array.
 fn copied_type(alloc: Global, array: &AnyArray) -> Result<String, Fault> {
     let dtype = array.dtype(alloc)?;
-    write_type(alloc, &clone_type(alloc, &dtype)?)
+    let copy = clone_type(alloc, &dtype);
+    drop(dtype);
+    write_made_type(alloc, copy)
 }
 
 // The type of an array of numbers.
 fn arrow_data_type<T: ArrowType>(alloc: Global) -> Result<String, Fault> {
-    write_type(alloc, &T::arrow_data_type())
+    write_made_type(alloc, Ok(T::arrow_data_type()))
 }
 
 // The type of an array of byte strings between offsets.
 fn binary_data_type(alloc: Global, offsets: &str) -> Result<String, Fault> {
     match offsets {
-        "i32" => write_type(alloc, &<i32 as OffsetType>::binary_data_type()),
-        "i64" => write_type(alloc, &<i64 as OffsetType>::binary_data_type()),
+        "i32" => write_made_type(alloc, Ok(<i32 as OffsetType>::binary_data_type())),
+        "i64" => write_made_type(alloc, Ok(<i64 as OffsetType>::binary_data_type())),
         _ => Err(Fault::Word),
     }
 }
@@ -163,8 +205,8 @@ fn binary_data_type(alloc: Global, offsets: &str) -> Result<String, Fault> {
 // The type of an array of texts between offsets.
 fn text_data_type(alloc: Global, offsets: &str) -> Result<String, Fault> {
     match offsets {
-        "i32" => write_type(alloc, &<i32 as OffsetType>::text_data_type()),
-        "i64" => write_type(alloc, &<i64 as OffsetType>::text_data_type()),
+        "i32" => write_made_type(alloc, Ok(<i32 as OffsetType>::text_data_type())),
+        "i64" => write_made_type(alloc, Ok(<i64 as OffsetType>::text_data_type())),
         _ => Err(Fault::Word),
     }
 }
