@@ -7,13 +7,11 @@ by std alone, from a file of its own of the same lines. Both run five times in t
 ratio, and the most memory that the program had, beside its input and output together; then the same of ten million lines, for the program
 alone.
 """
-import os
 import pathlib
 import random
 import subprocess
 import sys
 import tempfile
-import time
 
 HERE = pathlib.Path(__file__).parent
 sys.path.insert(0, str(HERE.parent / "crates/recorded_cases/outside"))
@@ -22,6 +20,7 @@ from lines import ANSWERS, Chance, TYPES  # noqa: E402
 
 LINES = 1_000_000
 RUNS = 5
+MANY_RUNS = 3
 # how many different lines there are; a million of these are drawn
 KINDS_OF_LINES = 20_000
 
@@ -46,13 +45,22 @@ def sample():
     return lines
 
 
+# Runs a program in a process of its own, since a child's most memory counts that of the process that forked it, and prints seconds and KiB.
+MEASURE = """
+import os, subprocess, sys, time
+began = time.perf_counter()
+process = subprocess.Popen([sys.argv[1]])
+_, _, used = os.wait4(process.pid, 0)
+print(time.perf_counter() - began, used.ru_maxrss, file=sys.stderr)
+"""
+
+
 def run(program, given, printed):
     """The seconds that a run takes, and the most bytes of memory that it has."""
     with open(given, "rb") as source, open(printed, "wb") as target:
-        began = time.perf_counter()
-        process = subprocess.Popen([program], stdin=source, stdout=target)
-        _, _, used = os.wait4(process.pid, 0)
-        return time.perf_counter() - began, used.ru_maxrss * 1024
+        told = subprocess.run([sys.executable, "-c", MEASURE, program], stdin=source, stdout=target, stderr=subprocess.PIPE, check=True)
+        seconds, kibibytes = told.stderr.split()[-2:]
+        return float(seconds), int(kibibytes) * 1024
 
 
 def best(runs):
@@ -77,7 +85,7 @@ def main(program):
         print(f"{LINES} lines, {both / 1e6:.0f} MB in and out: {our_time:.2f} s, plain Rust {their_time:.2f} s, ratio {our_time / their_time:.2f}; "
               f"{memory / 1e6:.0f} MB, {memory / both:.2f} x in and out")
         (folder / "many").write_text(10 * text, encoding="utf-8")
-        many_time, many_memory = run(program, folder / "many", folder / "out")
+        many_time, many_memory = best([run(program, folder / "many", folder / "out") for _ in range(MANY_RUNS)])
         print(f"{10 * LINES} lines: {many_time:.2f} s, {many_time / our_time:.1f} x; {many_memory / 1e6:.0f} MB, {many_memory / memory:.1f} x")
 
 
