@@ -2,29 +2,33 @@
 
 usage: slices.py --part              prints the questions of data/slices.txt
        slices.py --answers           prints what the program must print for them
-       slices.py --all PROGRAM..     asks a built program of all slices, and ends with status 1 where an answer is another one
+       slices.py --all PROGRAM..     asks a built program of all slices; status 1 where an answer is another one
 
-Of each kind there is an array of 70 rows, of which every third is null (of null arrays each), over stored values that are
-no row of it. It is sliced at each place from 0 to 70, with the lengths 0, 1, 63, 64, 65 and all that are left, where they
-fit. `w` is the whole array, `a0` a slice, `b0` an array that is built afresh from its rows, and `c0` one that differs in a
-row; `a1`, `b1` and `c1` are those of the next length. The answers are found from rows, and so are the same for a slice and
-the array built afresh.
+Of each kind there is an array of 70 rows, of which every third is null (of null arrays each), over stored values that
+are no row of it. It is sliced at each place from 0 to 70, with the lengths 0, 1, 63, 64, 65 and all that are left, where
+they fit.
+
+`w` is the whole array, `a0` a slice, `b0` an array that is built afresh from its rows, and `c0` one that differs in a
+row; `a1`, `b1` and `c1` are those of the next length. `d` are divisors, `v` has as many rows as `w` has entries, and `s0`
+are the items of a list. Answers are found from rows, so a slice has those of the array built afresh. All is drawn at
+random and the same in each run: each seed is the name of the kind, with the place.
 """
 import subprocess
 import sys
-import time
 
 from arithmetic import BINARY_IN_PLACE, FROM_NUMBERS, KINDS, OPERATIONS, UNARY_IN_PLACE, array_line, wrapped
 from bits import TYPES
 from reductions import COUNTS, JOINS, NAMES, NOT_DISPATCHED, VIEWS, shown
-from slices_answers import answer, is_ordered
+from slices_answers import ORDERS, answer, is_ordered
 from slices_arrays import Keyed, Leaves
 from slices_kinds import ALL_KINDS, DictKind, FixedListKind, Keeper, ListKind, Numbers
 
 ROWS = 70
 LENGTHS = (0, 1, 63, 64, 65)
-# the places of the part that is stored as data, of which each kind takes every second one
+# the places of the part that is stored as data, of which each array has every second one
 PLACES = (0, 1, 2, 3, 5, 6, 7, 31, 62, 63, 64, 65, 69, 70)
+# of the questions beside the first three the part asks every fourth one
+SHARE = 4
 
 
 def lengths(at):
@@ -139,21 +143,16 @@ class Subject:
             yield from asked_of_keys(self.kind)
 
     def broadcasts(self, keeper):
-        """Comparisons with one scalar, a row of the array where it has one."""
-        scalar = shown(keeper.random.choice([row for row in self.rows if row is not None])) if is_leaf(self.whole) else "b{k}"
-        if "list" in self.whole.kind:
-            scalar = "s{k}"
+        """Comparisons with one scalar: a row of the array, the items of a list, or what is not supported."""
+        kind, scalar = self.whole.kind, "s{k}" if "list" in self.whole.kind else "b{k}"
+        if isinstance(self.whole, Leaves):
+            scalar = shown(keeper.random.choice([row for row in self.rows if row is not None]))
         for name in ("eq_kernel", "ne_missing_kernel", "eq_missing_kernel", "ne_kernel"):
             yield f"tot_{name}_broadcast a{{k}} {scalar}"
-        if not is_ordered(self.whole.kind):
-            return
-        before = "" if self.whole.kind in TYPES or self.whole.kind == "bool" else keeper.random.choice(("", borrowed(self.whole.kind)))
-        for name in ("lt", "le", "gt", "ge"):
-            yield f"{before}tot_{name}_kernel_broadcast a{{k}} {scalar}"
-
-
-def is_leaf(array):
-    return isinstance(array, Leaves)
+        if is_ordered(kind):
+            before = keeper.random.choice(("", borrowed(kind)))
+            for name in ORDERS:
+                yield f"{before}tot_{name}_kernel_broadcast a{{k}} {scalar}"
 
 
 def is_computed(kind):
@@ -162,6 +161,9 @@ def is_computed(kind):
 
 
 def borrowed(kind):
+    """What stands before the names of calls that lend or borrow strings of a kind."""
+    if kind in TYPES or kind == "bool":
+        return ""
     return "bytes_" if "binary" in kind else "text_"
 
 
@@ -176,10 +178,12 @@ def divisors(kind, keeper):
 def asked_of_all(keeper, n):
     yield "array_tot_eq_missing_kernel_counted c{k} a{k}"
     yield "array_tot_ne_missing_kernel_counted b{k} a{k}"
-    yield from ("tot_eq_kernel a{k} b{k}", "tot_ne_kernel a{k} c{k}", "tot_eq_kernel c{k} a{k}", "tot_ne_kernel b{k} a{k}")
+    yield from ("tot_eq_kernel a{k} b{k}", "tot_ne_kernel a{k} c{k}")
+    yield from ("tot_eq_kernel c{k} a{k}", "tot_ne_kernel b{k} a{k}")
     yield from ("tot_eq_missing_kernel a{k} c{k}", "tot_ne_missing_kernel a{k} b{k}")
     yield "equal_windows w {at} c{k} 0 {n}"
-    yield from ("null_count a{k}", "null_count b{k}", "validity a{k}", "validity b{k}", "leaves a{k} b{k}", "rows b{k}", "copy a{k}")
+    yield from ("null_count a{k}", "null_count b{k}", "validity a{k}", "validity b{k}")
+    yield from ("leaves a{k} b{k}", "rows b{k}", "copy a{k}")
     first = keeper.random.randint(0, n)
     yield f"array_slice a{{k}} {first} {keeper.random.randint(0, n - first)}"
     for name in NAMES:
@@ -188,12 +192,11 @@ def asked_of_all(keeper, n):
 
 
 def asked_of_ordered(kind):
-    for name in ("lt", "le", "gt", "ge"):
+    for name in ORDERS:
         yield f"tot_{name}_kernel a{{k}} c{{k}}"
         yield f"tot_{name}_kernel b{{k}} a{{k}}"
-    before = "" if kind in TYPES or kind == "bool" else borrowed(kind)
     for name in NAMES:
-        yield f"{before}{name}_kernel a{{k}}"
+        yield f"{borrowed(kind)}{name}_kernel a{{k}}"
     if kind in VIEWS:
         yield from ("followed a{k} b{k}", "followed a{k} c{k}")
 
@@ -233,16 +236,17 @@ def asked_of_span(kind):
 
 
 def asked_of_truths():
-    yield from ("unique a{k}", "n_unique a{k}", "n_unique_non_null a{k}", "append_all_truths a{k}", "stored_truths a{k}")
-    yield from ("state_truths a{k} | c{k}", "merge_tree_truths c{k} a{k} +", "accepts_truths a{k}")
+    yield from ("unique a{k}", "n_unique a{k}", "n_unique_non_null a{k}", "accepts_truths a{k}")
+    yield from ("append_all_truths a{k}", "stored_truths a{k}")
+    yield from ("state_truths a{k} | c{k}", "merge_tree_truths c{k} a{k} +")
 
 
 def asked_of_keys(kind):
     """States of keys, which are of 32 bits; no others are accepted."""
     yield "accepts_keys v a{k}"
     if kind.keys == "u32":
-        yield from ("append_all_keys v a{k} b{k}", "stored_keys v a{k}", "accepts_keys v b{k}", "state_keys v a{k} | v b{k}")
-        yield "merge_tree_keys v b{k} v a{k} +"
+        yield from ("append_all_keys v a{k} b{k}", "stored_keys v a{k}", "accepts_keys v b{k}")
+        yield from ("state_keys v a{k} | v b{k}", "merge_tree_keys v b{k} v a{k} +")
 
 
 def all_cases(subject):
@@ -258,7 +262,7 @@ def part_cases(subject):
         sizes = lengths(at)
         sizes = [sizes[(subject.number + turn) // 2 % len(sizes)]]
         case = subject.case(at, sizes)
-        subject.ask(case, at, sizes, 4)
+        subject.ask(case, at, sizes, SHARE)
         yield case
 
 
@@ -283,13 +287,13 @@ def compare(subject, program):
 
 def check_all(program):
     """Asks a program of all slices of all kinds, and says how many lines it printed otherwise."""
-    begun, lines, slices, differing = time.monotonic(), 0, 0, 0
+    lines = slices = differing = 0
     for subject in subjects():
         compared, wrong = compare(subject, program)
         lines, slices, differing = lines + compared, slices + subject.slices, differing + len(wrong)
         for line in wrong[:5]:
             print(f"{subject.kind.name}: {line}")
-    print(f"{slices} slices of {len(ALL_KINDS)} arrays: {lines} lines compared, {differing} differ; {time.monotonic() - begun:.0f} s")
+    print(f"{slices} slices of {len(ALL_KINDS)} arrays: {lines} lines compared, {differing} differ")
     return 1 if differing else 0
 
 

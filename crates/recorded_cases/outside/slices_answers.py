@@ -45,8 +45,8 @@ def windows(arrays, left, a, right, b, n):
     return f"{bits} in {left.tally(right, a, b, n)} comparisons"
 
 
-def scalar_row(array, word, arrays):
-    """The row that a word writes for an array of its kind."""
+def scalar_row(arrays, array, word):
+    """The row that a word writes for an array of its kind, or the items that it names."""
     if array.kind in TYPES:
         return int(word)
     if array.kind == "bool":
@@ -58,7 +58,7 @@ def broadcast(name, arrays, array, word):
     array = arrays[array]
     if array.kind in ("null", "struct", "dict"):
         return UNSUPPORTED
-    return compared(name, array.kind, array.rows(), array.n * [scalar_row(array, word, arrays)])
+    return compared(name, array.kind, array.rows(), array.n * [scalar_row(arrays, array, word)])
 
 
 def followed(arrays, left, right):
@@ -87,17 +87,16 @@ OWN = {
     "followed": followed,
     "equal_windows": windows,
 }
-for relation in (*EQUALITIES, *ORDERS):
-    for end in ("kernel", "missing_kernel") if relation in EQUALITIES else ("kernel",):
-        OWN[f"tot_{relation}_{end}"] = lambda *words, name=f"{relation}_{end}": of_two(name, *words)
-        for before in ("", "bytes_", "text_"):
-            OWN[f"{before}tot_{relation}_{end}_broadcast"] = lambda *words, name=f"{relation}_{end}": broadcast(name, *words)
-for relation in EQUALITIES:
-    OWN[f"array_tot_{relation}_missing_kernel_counted"] = lambda *words, name=f"{relation}_missing_kernel": counted(name, *words)
+for called in ("eq_missing_kernel", "ne_missing_kernel", *(f"{relation}_kernel" for relation in (*EQUALITIES, *ORDERS))):
+    OWN["tot_" + called] = lambda *words, name=called: of_two(name, *words)
+    for before in ("", "bytes_", "text_"):
+        OWN[f"{before}tot_{called}_broadcast"] = lambda *words, name=called: broadcast(name, *words)
+    if "missing" in called:
+        OWN[f"array_tot_{called}_counted"] = lambda *words, name=called: counted(name, *words)
 
 
 def flat(array):
-    """What the scripts of reductions, arithmetic and states take for an array: stored values, of dictionaries the keys."""
+    """What the other scripts take for an array: stored values and which are present, of dictionaries the keys."""
     present = [array.is_present(i) for i in range(array.n)]
     if isinstance(array, Leaves):
         return states.Rows(array.kind, array.window(), present)

@@ -1,7 +1,7 @@
 """Arrays of any kind, as the words of a line keep them, and what is said of their rows by the Arrow layout.
 
-A row is null (None), a truth value, a whole number, a byte string, the rows of a list, the fields of a struct, or what the
-key of a dictionary names. A row whose validity bit is 0 is null, whatever is stored there.
+A row is null (None), a truth value, a whole number, a byte string, the rows of a list, the fields of a struct, or what
+the key of a dictionary names. A row whose validity bit is 0 is null, whatever is stored there.
 """
 import copy
 from typing import NamedTuple
@@ -59,7 +59,8 @@ def row_text(row):
 
 def raw_bits(left, right, passes):
     """Where two rows pass, with `x` where one of them is null."""
-    return "b0:" + "".join("x" if is_null(a) or is_null(b) else "01"[passes(a, b)] for a, b in zip(left, right, strict=True))
+    pairs = zip(left, right, strict=True)
+    return "b0:" + "".join("x" if is_null(a) or is_null(b) else "01"[passes(a, b)] for a, b in pairs)
 
 
 def missing_bits(left, right, wanted):

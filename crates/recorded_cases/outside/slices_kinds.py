@@ -1,13 +1,14 @@
 """Kinds of arrays: how rows are drawn, and how they are kept, with junk under nulls or without.
 
-A keeper with junk puts rows between others, begins validity in mid-word, spreads long strings over buffers, begins offsets
-past 0, and stores under each null what no row of the array is. One without begins at 0 and keeps no more than it must.
+A keeper with junk puts rows between others, begins validity in mid-word, spreads long strings over buffers, begins
+offsets past 0, and stores under each null what no row of the array is, where the kind has so many rows. One without
+begins at 0, and keeps no more than it must.
 """
 import itertools
 
-from arithmetic import KINDS
+from arithmetic import wrapped
 from bits import TYPES, highest, lowest
-from reductions import VIEWS, Columns
+from reductions import STRINGS, VIEWS, Columns
 from slices_arrays import Entry, Fields, FixedLists, Keyed, Leaves, Lists, Nulls, Rows, Structs
 
 SHARE_OF_NULLS = 0.25
@@ -44,11 +45,11 @@ class Keeper(Columns):
         """The rows, with what is stored under each null in its place: as told, or no row of the array."""
         taken, stored = {*rows, *under.values(), *self.taken}, list(rows)
         for i in (i for i, row in enumerate(rows) if row is None):
-            stored[i] = under[i] if i in under else self.fresh_junk(kind, taken)
+            stored[i] = under[i] if i in under else self.junk_beside(kind, taken)
             taken.add(stored[i])
         return stored
 
-    def fresh_junk(self, kind, taken):
+    def junk_beside(self, kind, taken):
         """Junk that is not yet taken, where the kind has so many rows."""
         drawn = (kind.junk(self) for _ in range(TRIES))
         return next((row for row in drawn if row not in taken), kind.junk(self))
@@ -74,8 +75,8 @@ class Keeper(Columns):
                 places[value] = (to, len(buffers[to]))
                 buffers[to] += value
         views = [view_of(value, places.get(value)) for value in values]
-        words = [len(views), *("x" + view.hex() for view in views), len(buffers), *("x" + each.hex() for each in buffers)]
-        return " ".join(map(str, words))
+        words = [str(len(views)), *("x" + view.hex() for view in views)]
+        return " ".join([*words, str(len(buffers)), *("x" + buffer.hex() for buffer in buffers)])
 
 
 def view_of(value, place):
@@ -83,6 +84,11 @@ def view_of(value, place):
     if len(value) <= 12:
         return size + value.ljust(12, b"\0")
     return size + value[:4] + b"".join(number.to_bytes(4, "little") for number in place)
+
+
+def few_bits(chance, width):
+    """Ones in about an eighth of the places."""
+    return chance.random.getrandbits(width) & chance.random.getrandbits(width) & chance.random.getrandbits(width)
 
 
 class Kind:
@@ -128,9 +134,7 @@ class Numbers(LeafKind):
     def __init__(self, kind, size=0):
         self.kind, self.name, self.span = kind, kind, None
         chance = Columns(f"bits of {kind}")
-        width = TYPES[kind][1] if kind in KINDS else 0
-        self.ones, self.zeros = (chance.random.getrandbits(width + 1) & chance.random.getrandbits(width + 1)
-                                 & chance.random.getrandbits(width + 1) for _ in range(2))
+        self.ones, self.zeros = (few_bits(chance, TYPES[kind][1]) for _ in range(2))
         if size:
             least = chance.random.choice((lowest(kind), highest(kind) - size + 1, 0))
             self.span, self.name = range(least, least + size), f"{kind} of {size} values"
@@ -138,14 +142,14 @@ class Numbers(LeafKind):
     def row(self, chance):
         if self.span:
             return chance.random.choice((self.span[0], self.span[-1], *chance.random.choices(self.span, k=9)))
-        number = chance.number(self.kind) & ~self.zeros | self.ones
-        return lowest(self.kind) + (number - lowest(self.kind)) % 2 ** TYPES[self.kind][1]
+        return wrapped(self.kind, chance.number(self.kind) & ~self.zeros | self.ones)
 
     def junk(self, chance):
         """A number outside of the range, or any."""
-        drawn = (chance.random.choice((lowest(self.kind), highest(self.kind), 0, chance.number(self.kind),
-                                       chance.random.randint(lowest(self.kind), highest(self.kind)))) for _ in range(TRIES))
-        return next((number for number in drawn if not self.span or number not in self.span), 0)
+        low, high = lowest(self.kind), highest(self.kind)
+        numbers = [low, high, 0, chance.number(self.kind), *(chance.random.randint(low, high) for _ in range(TRIES))]
+        others = [number for number in numbers if not self.span or number not in self.span]
+        return chance.random.choice(others[:5])
 
     def words(self, _, stored):
         return " ".join(map(str, [len(stored), *stored]))
@@ -232,7 +236,9 @@ class ListKind(Kind):
         return Rows(row.rows[:-1]) if row.rows and chance.chance(0.5) else Rows((*row.rows, self.item.some(chance)))
 
     def kept(self, keeper, rows, under=None):
-        stored = keeper.under(self, rows, under or {}) if keeper.has_junk or under else [row or Rows(()) for row in rows]
+        if not keeper.has_junk:
+            under = {**dict.fromkeys(range(len(rows)), Rows(())), **(under or {})}
+        stored = keeper.under(self, rows, under or {})
         front, behind = keeper.edge(self.item, 2), keeper.edge(self.item, 2)
         offsets = list(itertools.accumulate((len(row.rows) for row in stored), initial=len(front)))
         items = [*front, *(item for row in stored for item in row.rows), *behind]
@@ -290,13 +296,17 @@ class DictKind(Kind):
     def row(self, chance):
         return Entry(chance.random.choice(self.pool))
 
+    def other(self, chance, row):
+        """Another row; in place of a null one often a key to a null entry, which is almost the same."""
+        return Entry(None) if row is None and chance.chance(0.5) else super().other(chance, row)
+
     def junk_key(self, keeper, entries):
         """A key that may name no entry."""
         return keeper.random.choice((lowest(self.keys), highest(self.keys), len(entries), 0, max(len(entries) - 1, 0),
                                      keeper.random.randint(lowest(self.keys), highest(self.keys))))
 
     def entries(self, keeper, rows):
-        """The entries that rows name, in any order; where there is junk, some of them twice and some that none names."""
+        """The entries that rows name; where there is junk, in any order, with some twice and some that none names."""
         entries = list(dict.fromkeys(row.row for row in rows if row is not None))
         if keeper.has_junk:
             entries += [keeper.random.choice(self.pool) for _ in range(3)]
@@ -304,12 +314,13 @@ class DictKind(Kind):
         return entries
 
     def kept(self, keeper, rows, under=None):
-        named = [*rows, *(row for row in (under or {}).values() if row is not None)]
-        entries = self.entries(keeper, named)
-        places = {row: [at for at, entry in enumerate(entries) if entry == row] for row in entries}
         stored = [(under or {}).get(i) if row is None else row for i, row in enumerate(rows)]
-        keys = [self.junk_key(keeper, entries) if row is None else keeper.random.choice(places[row.row]) for row in stored]
+        entries = self.entries(keeper, stored)
+        keys = [self.junk_key(keeper, entries) if row is None else self.key_of(keeper, row, entries) for row in stored]
         return self.keyed(keeper, keys, entries, rows)
+
+    def key_of(self, keeper, row, entries):
+        return keeper.random.choice([at for at, entry in enumerate(entries) if entry == row.row])
 
     def keyed(self, keeper, keys, entries, rows):
         present = [row is not None for row in rows]
@@ -325,8 +336,14 @@ class DictKind(Kind):
 # how many values the numbers of each type have that states are asked of: about 127 stand in a word
 SPANS = {"i8": 3, "i16": 126, "i32": 127, "i64": 128, "u8": 150, "u16": 5, "u32": 40, "u64": 1}
 
-LEAVES = [NullKind(), *(Truths(share) for share in (0.5, 0.04, 0.96)), *map(Numbers, TYPES), *itertools.starmap(Numbers, SPANS.items()),
-          *map(Strings, ("binary", "largebinary", "utf8", "largeutf8", "binaryview", "utf8view")), Sized(5), Sized(0)]
+LEAVES = [
+    NullKind(),
+    *(Truths(share) for share in (0.5, 0.04, 0.96)),
+    *map(Numbers, TYPES),
+    *itertools.starmap(Numbers, SPANS.items()),
+    *map(Strings, (*STRINGS, *VIEWS)),
+    *map(Sized, (5, 0)),
+]
 
 NESTED = [
     ListKind("list", Numbers("i32")),
