@@ -16,7 +16,7 @@ random and the same in each run: each seed is the name of the kind, with the pla
 import subprocess
 import sys
 
-from arithmetic import BINARY_IN_PLACE, FROM_NUMBERS, KINDS, OPERATIONS, UNARY_IN_PLACE, array_line, wrapped
+from arithmetic import BINARY_IN_PLACE, FROM_NUMBERS, KINDS, OPERATIONS, UNARY_IN_PLACE, wrapped
 from bits import TYPES
 from reductions import COUNTS, JOINS, NAMES, NOT_DISPATCHED, VIEWS, shown
 from slices_answers import ORDERS, answer, is_ordered
@@ -257,9 +257,9 @@ def all_cases(subject):
 
 
 def part_cases(subject):
-    """Every second place, each with one length."""
+    """Every second place, each with one length, which is 0 at the end alone."""
     for turn, at in list(enumerate(PLACES))[subject.number % 2 :: 2]:
-        sizes = lengths(at)
+        sizes = lengths(at)[1:] or [0]
         sizes = [sizes[(subject.number + turn) // 2 % len(sizes)]]
         case = subject.case(at, sizes)
         subject.ask(case, at, sizes, SHARE)
