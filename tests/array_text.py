@@ -319,7 +319,7 @@ class Mutation:
         return self.random.choice(((SHORT, first, number, at), (n, first, at, number)))
 
     def width(self, tokens, i):
-        """A width or size about the one that stands there, or one whose product with a length wraps to what is there."""
+        """A width or size about the one that stands there, or one whose product with some length wraps to it."""
         items = tokens[i][2]
         if self.random.random() < 0.6:
             self.count(tokens, i)

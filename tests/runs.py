@@ -24,7 +24,10 @@ def options(doc, name):
     parser.add_argument("--jobs", type=int, default=2, help="how many processes (2)")
     parser.add_argument("--program", default=str(ROOT / "crates" / name / "out" / name), help="the built program")
     parser.add_argument("--keep", help="the file that failing inputs are written to (/tmp/SCRIPT.failed)")
-    return parser.parse_args()
+    chosen = parser.parse_args()
+    if not pathlib.Path(chosen.program).exists():
+        parser.error(f"{chosen.program} is not built: `rt run < /dev/null` in crates/{name}")
+    return chosen
 
 
 def run(program, given):
@@ -54,13 +57,16 @@ def sizes(number, size):
 
 
 def try_all(try_part, parts, jobs):
-    """Tries each part, and returns what they counted and what failed. A part gives a Counter and a list of
-    failures, each of which is a complaint and the input to keep."""
+    """Tries each part until many inputs failed, and returns what they counted and what failed. A part gives a Counter
+    and a list of failures, each of which is a complaint and the input to keep."""
     counts, failures = collections.Counter(), []
     with multiprocessing.Pool(jobs) as pool:
         for counted, failed in pool.imap(try_part, parts):
             counts.update(counted)
             failures.extend(failed)
+            if len(failures) >= MOST_KEPT:
+                print("stopped, as many inputs failed")
+                break
     return counts, failures
 
 
