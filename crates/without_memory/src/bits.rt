@@ -12,25 +12,49 @@ use std::alloc::Global;
 
 /// Makes the calls.
 pub fn answer(alloc: Global, told: &mut Told) -> Result<(), Fault> {
+    answer_words(alloc, told)?;
+    answer_bits(alloc, told)?;
+    answer_built(alloc, told)?;
+    answer_written(alloc, told)?;
+    answer_buffer(alloc, told)
+}
+
+// Bits of words.
+fn answer_words(alloc: Global, told: &mut Told) -> Result<(), Fault> {
     let words = buffer(alloc, &[9, 1])?;
     told.begin(alloc)?;
     tell_words(told, words);
-    told.end(alloc)?;
-    let (left, right) = (
-        Bitmap::from_bools(alloc, &[true, false, true, true])?,
-        Bitmap::from_bools(alloc, &[true, true, false, true])?,
-    );
+    told.end(alloc)
+}
+
+// Bits of truth values.
+fn answer_bits(alloc: Global, told: &mut Told) -> Result<(), Fault> {
+    let left = Bitmap::from_bools(alloc, &[true, false, true, true])?;
+    let right = Bitmap::from_bools(alloc, &[true, true, false, true])?;
     told.begin(alloc)?;
     tell_bits(told, &left, &right);
-    told.end(alloc)?;
+    told.end(alloc)
+}
+
+// Bits in the making.
+fn answer_built(alloc: Global, told: &mut Told) -> Result<(), Fault> {
     let builder = BitmapBuilder::with_capacity(alloc, 3)?;
     told.begin(alloc)?;
     tell_built(told, builder);
-    told.end(alloc)?;
+    told.end(alloc)
+}
+
+// Bits that change.
+fn answer_written(alloc: Global, told: &mut Told) -> Result<(), Fault> {
     let bits = MutableBitmap::from_len_zeroed(alloc, 4)?;
+    let other = Bitmap::from_bools(alloc, &[true, true, false, true])?;
     told.begin(alloc)?;
-    tell_written(told, bits, &right);
-    told.end(alloc)?;
+    tell_written(told, bits, &other);
+    told.end(alloc)
+}
+
+// A buffer.
+fn answer_buffer(alloc: Global, told: &mut Told) -> Result<(), Fault> {
     let numbers = buffer(alloc, &[5u8, 6, 7])?;
     told.begin(alloc)?;
     tell_buffer(told, numbers);

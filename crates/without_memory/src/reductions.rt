@@ -33,6 +33,7 @@ pub fn answer(told: &mut Told, store: &Store) -> Result<(), Fault>
     tell_operators::<PrimitiveArray<i8>>(told, "12 10", 12, 10);
     tell_operators::<BooleanArray>(told, "true false", true, false);
     tell_single(told);
+    tell_divided(told);
     Ok(())
 }
 
@@ -79,50 +80,31 @@ fn tell_distinct(told: &mut Told, name: &str, array: &BooleanArray) {
     told.tell("n_unique_non_null", name, array.n_unique_non_null());
 }
 
-// Operations on single numbers.
+// Operations on single numbers, wrapped to 8 bits.
 fn tell_single(told: &mut Told) {
-    let least = -128i8;
-    told.tell(
-        "WrappingAdd::wrapping_add",
-        "127 1",
-        WrappingAdd::wrapping_add(&127i8, &1),
-    );
-    told.tell("wrapping_abs", "-128", PlNumArithmetic::wrapping_abs(least));
+    let sum = WrappingAdd::wrapping_add(&127i8, &1);
+    told.tell("WrappingAdd::wrapping_add", "127 1", sum);
+    let magnitude = PlNumArithmetic::wrapping_abs(-128i8);
+    told.tell("wrapping_abs", "-128", magnitude);
     told.tell("wrapping_neg", "7", PlNumArithmetic::wrapping_neg(7i8));
-    told.tell(
-        "wrapping_add",
-        "100 100",
-        PlNumArithmetic::wrapping_add(100i8, 100),
-    );
-    told.tell(
-        "wrapping_sub",
-        "-100 100",
-        PlNumArithmetic::wrapping_sub(-100i8, 100),
-    );
-    told.tell(
-        "wrapping_mul",
-        "100 3",
-        PlNumArithmetic::wrapping_mul(100i8, 3),
-    );
-    told.tell(
-        "wrapping_floor_div",
-        "-7 2",
-        PlNumArithmetic::wrapping_floor_div(-7i8, 2),
-    );
-    told.tell(
-        "wrapping_floor_div",
-        "7 0",
-        PlNumArithmetic::wrapping_floor_div(7i8, 0),
-    );
-    told.tell(
-        "wrapping_trunc_div",
-        "-7 2",
-        PlNumArithmetic::wrapping_trunc_div(-7i8, 2),
-    );
-    told.tell(
-        "wrapping_mod",
-        "-7 2",
-        PlNumArithmetic::wrapping_mod(-7i8, 2),
-    );
-    told.tell("legacy_div", "-7 2", PlNumArithmetic::legacy_div(-7i8, 2));
+    let sum = PlNumArithmetic::wrapping_add(100i8, 100);
+    told.tell("wrapping_add", "100 100", sum);
+    let difference = PlNumArithmetic::wrapping_sub(-100i8, 100);
+    told.tell("wrapping_sub", "-100 100", difference);
+    let product = PlNumArithmetic::wrapping_mul(100i8, 3);
+    told.tell("wrapping_mul", "100 3", product);
+}
+
+// Divisions of single numbers.
+fn tell_divided(told: &mut Told) {
+    let quotient = PlNumArithmetic::wrapping_floor_div(-7i8, 2);
+    told.tell("wrapping_floor_div", "-7 2", quotient);
+    let quotient = PlNumArithmetic::wrapping_floor_div(7i8, 0);
+    told.tell("wrapping_floor_div", "7 0", quotient);
+    let quotient = PlNumArithmetic::wrapping_trunc_div(-7i8, 2);
+    told.tell("wrapping_trunc_div", "-7 2", quotient);
+    let modulus = PlNumArithmetic::wrapping_mod(-7i8, 2);
+    told.tell("wrapping_mod", "-7 2", modulus);
+    let quotient = PlNumArithmetic::legacy_div(-7i8, 2);
+    told.tell("legacy_div", "-7 2", quotient);
 }

@@ -21,11 +21,18 @@ use std::slice;
 /// Makes the calls.
 pub fn answer(alloc: Global, told: &mut Told) -> Result<(), Fault> {
     let store = store(alloc)?;
+    answer_from(alloc, told, &store)
+}
+
+// Makes the calls on the arrays of a store.
+fn answer_from(alloc: Global, told: &mut Told, store: &Store) -> Result<(), Fault>
+    requires { HasGoodArrays store.now }
+{
     told.begin(alloc)?;
-    tell_states(alloc, told, &store)?;
+    tell_states(alloc, told, store)?;
     told.end(alloc)?;
     let left = Box::new(alloc, MergeTree::Leaf(BooleanUniqueKernelState::new()))?;
-    let right = Box::new(alloc, MergeTree::Leaf(truths_seen(&store)?))?;
+    let right = Box::new(alloc, MergeTree::Leaf(truths_seen(store)?))?;
     told.begin(alloc)?;
     tell_merged(told, MergeTree::Node(left, right));
     told.end(alloc)
