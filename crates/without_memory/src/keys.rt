@@ -2,7 +2,7 @@
 
 ghost use Rattle.polars_arrays_nested.specs.GoodParts.{IsGood};
 
-use crate::operands::array;
+use crate::operands::boxed;
 use crate::states::{append, new_state, tell_state};
 use crate::told::Told;
 use polars_arrays_flat::null::NullArray;
@@ -32,9 +32,9 @@ fn tell_many(alloc: Global, told: &mut Told) -> Result<(), Fault> {
 
 // A state of two entries, in which keys from 0 to 9 are put.
 fn tell_two(alloc: Global, told: &mut Told, keys: &PrimitiveArray<u32>) -> Result<(), Fault> {
-    let entries = array(alloc, "0 2 utf8 3 0 1 2 x7879 -")?;
+    let entries = boxed(alloc, "0 2 utf8 3 0 1 2 x7879 -")?;
     told.begin(alloc)?;
-    tell_out_of_range(alloc, told, entries, keys)?;
+    tell_out_of_range(alloc, told, Box::into_inner(entries), keys)?;
     told.end(alloc)
 }
 
