@@ -19,9 +19,10 @@ MIXED = ("list", "struct", "dict")
 SHAPES = (MIXED, ("list",), ("fixedlist",), ("struct",), ("dict",))
 BRACKETS = {"list": "[]", "fixedlist": "[]", "struct": "{}", "dict": "<>"}
 TYPE_NAMES = {"list": "list(", "fixedlist": "fixedlist(1 ", "struct": "struct(f ", "dict": "dict(i32 "}
-# how deep arrays lie in others at the most: in words, and where they are wrapped
-READ_DEPTH = 1000
-WRAPPED_DEPTH = 100_000
+# how deep arrays lie in others at the most: in words, where they are wrapped, and where the stack is said to be larger
+READ_DEPTH = 500
+WRAPPED_DEPTH = 1000
+FAR_DEPTH = 100_000
 LARGE_STACK = 1 << 30
 
 
@@ -75,10 +76,11 @@ class Deep:
         present = validity([row is not None for row in self.rows])
         return f"0 {len(stored)} {self.leaf} {numbers(stored)} {present}"
 
-    def wrapped(self):
+    def wrapped(self, word=None):
         """The array in words that name the kinds once."""
+        word = word or ("wrapped" if self.levels <= WRAPPED_DEPTH else "wrapped_far")
         assert not any(isinstance(row, tuple) for row in self.rows)
-        return f"wrapped {self.levels} {','.join(self.kinds)} {self.leaf_words()}"
+        return f"{word} {self.levels} {','.join(self.kinds)} {self.leaf_words()}"
 
     def row_text(self, row):
         depth = self.null_level(row)
@@ -175,10 +177,11 @@ def refused_case():
     arrays = {
         "words": Deep(READ_DEPTH + 1, ("list",), [1]).words(),
         "mixed": Deep(READ_DEPTH + 1, MIXED, [1]).words(),
-        "wrapped": Deep(WRAPPED_DEPTH + 1, ("list",), [1]).wrapped(),
-        "far": Deep(2**63, ("struct",), [1]).wrapped(),
+        "wrapped": Deep(WRAPPED_DEPTH + 1, ("list",), [1]).wrapped("wrapped"),
+        "most": Deep(2**63, ("struct",), [1]).wrapped("wrapped"),
+        "far": Deep(FAR_DEPTH + 1, ("dict",), [1]).wrapped(),
     }
-    depths = {"words": READ_DEPTH, "mixed": READ_DEPTH, "wrapped": WRAPPED_DEPTH, "far": WRAPPED_DEPTH}
+    depths = {"words": READ_DEPTH, "mixed": READ_DEPTH, "wrapped": WRAPPED_DEPTH, "most": WRAPPED_DEPTH, "far": FAR_DEPTH}
     lines = [f"# {heading}", *(f"{name} = {words}" for name, words in arrays.items()), ""]
     said = [f"{name} = refused: arrays hold arrays more than {depth} levels deep" for name, depth in depths.items()]
     return lines, [f"# {heading}", *said]
@@ -281,6 +284,8 @@ def gate_cases():
         for kinds in SHAPES:
             yield deep_case(levels, kinds)
         yield null_case(levels, MIXED)
+    for kinds in SHAPES:
+        yield wrapped_case(WRAPPED_DEPTH, kinds)
     yield null_case(200, ("fixedlist", "dict", "struct", "list"))
     yield refused_case()
     yield entries_case()

@@ -9,12 +9,12 @@ Where that is at most as many as a line may ask for, runs just below and just ab
 import functools
 import sys
 
-from deep import READ_DEPTH, SHAPES, WRAPPED_DEPTH, Deep, run
+from deep import FAR_DEPTH, READ_DEPTH, SHAPES, Deep, run
 
 STACK = 8 << 20
 PAGE = 4096
 SMALLEST, LARGEST = 32 << 10, 256 << 20
-FEW, MANY = 500, 1000
+FEW, MANY = 250, 500
 # structs keep the types of all that they hold, so that arrays of far more levels of them would take too much memory
 MOST_STRUCTS = 6000
 QUESTIONS = {
@@ -78,7 +78,7 @@ def tried(program, lines_at, levels, most):
 def print_row(program, kinds, name, question, is_read):
     lines_at = functools.partial(lines_of, kinds=kinds, question=question, is_read=is_read)
     level, levels = held(program, lines_at)
-    most = READ_DEPTH if is_read else MOST_STRUCTS if "struct" in kinds else WRAPPED_DEPTH
+    most = READ_DEPTH if is_read else MOST_STRUCTS if "struct" in kinds else FAR_DEPTH
     said = "no end" if levels is None else f"{levels} levels"
     print(f"{', '.join(kinds):20} {name:26} {level:8.0f} {said:>16} {tried(program, lines_at, levels, most)}", flush=True)
 

@@ -10,7 +10,7 @@ use recorded_text::fault::Fault;
 use recorded_text::nested::read_any;
 use recorded_text::store::Store;
 use recorded_text::words::Words;
-use recorded_text::wrapped::read_wrapped;
+use recorded_text::wrapped::{FAR_LEVELS, LEVELS, read_wrapped};
 use std::alloc::Global;
 
 /// The answer to a line, where it has one.
@@ -69,8 +69,8 @@ fn answer_question(
     Ok(answer)
 }
 
-// Names a copy of an array after the word `copy`, an array in many others after `wrapped`, or else the array
-// that words write, or says why there is none.
+// Names a copy of an array after the word `copy`, an array in many others after `wrapped`, and in more than the usual
+// stack may hold after `wrapped_far`, or else the array that words write, or says why there is none.
 fn define(
     alloc: Global,
     store: &mut Store,
@@ -85,7 +85,11 @@ fn define(
         return add(alloc, store, name, words, copy);
     }
     if words.take("wrapped") {
-        let wrapped = read_wrapped(alloc, words);
+        let wrapped = read_wrapped(alloc, words, LEVELS);
+        return add_made(alloc, store, name, words, wrapped);
+    }
+    if words.take("wrapped_far") {
+        let wrapped = read_wrapped(alloc, words, FAR_LEVELS);
         return add_made(alloc, store, name, words, wrapped);
     }
     let array = read_any(alloc, words);

@@ -24,8 +24,8 @@ use polars_arrays_nested::list_offsets::ListOffsets;
 use polars_arrays_nested::struct_array::StructArray;
 use std::alloc::Global;
 
-/// How deep arrays hold arrays at the most.
-const DEPTH: usize = 1000;
+/// How deep arrays hold arrays at the most. A stack of 8 MiB holds more than twice as many levels of this reader.
+const DEPTH: usize = 500;
 
 /// The array that words write, in parts that are kept as the first of them says. The error is `Depth`, where
 /// it holds arrays too deep.

@@ -22,18 +22,21 @@ use polars_arrays_nested::list_offsets::ListOffsets;
 use polars_arrays_nested::struct_array::StructArray;
 use std::alloc::Global;
 
-/// How many levels a line may ask for. Arrays of so many need a larger stack than the usual one.
-const LEVELS: usize = 100_000;
+/// How many levels a line may ask for where the stack is the usual one of 8 MiB.
+pub const LEVELS: usize = 1000;
+
+/// How many levels it may ask for where it says that the stack is larger.
+pub const FAR_LEVELS: usize = 100_000;
 
 /// The array that words write in other arrays: how many levels of these, their kinds from the outermost on,
-/// parted by commas and taken again and again, and the array. The error is `Depth`, where there are too many
-/// levels.
-pub fn read_wrapped(alloc: Global, words: &mut Words) -> Result<AnyArray, Fault>
+/// parted by commas and taken again and again, and the array. The error is `Depth`, where there are more than
+/// `most` levels.
+pub fn read_wrapped(alloc: Global, words: &mut Words, most: usize) -> Result<AnyArray, Fault>
     ensures { IfOk result (λ a. IsGood a) }
 {
     let levels: usize = words.read_number()?;
-    if levels > LEVELS {
-        return Err(Fault::Depth(LEVELS));
+    if levels > most {
+        return Err(Fault::Depth(most));
     }
     let kinds: Vec<&str> = words.read()?.split(',').collect(alloc)?;
     wrap_all(alloc, levels, &kinds, read_any(alloc, words)?)
