@@ -1,6 +1,6 @@
 //! A case: an input or the demo, and how often its reader and its writer succeed.
 
-use crate::calls::Calls;
+use crate::manner::Manner;
 use crate::slow_reader::SlowReader;
 use crate::slow_writer::SlowWriter;
 use anyhow::{Context, Result};
@@ -10,23 +10,51 @@ use std::alloc::Global;
 
 /// What a run or the demo said, and the bytes that its writer took.
 pub fn answer(alloc: Global, line: &str) -> Result<String> {
-    let (line, interrupting) = match line.strip_prefix("interrupted ") {
-        Some(rest) => (rest, true),
-        None => (line, false),
-    };
-    match line.strip_prefix("demo ") {
-        Some(writes) => answer_demo(alloc, writes, interrupting),
-        None => answer_run(alloc, line, interrupting),
+    let (manner, line) = Manner::read(line)?;
+    if let Some(writes) = line.strip_prefix("demo ") {
+        return answer_demo(alloc, writes, manner);
     }
+    let (reads, rest) = line.split_once(' ').context("no reads")?;
+    let (writes, bytes) = rest.split_once(' ').context("no writes")?;
+    let input = read_input(alloc, bytes)?;
+    answer_run(alloc, &input, reads.parse()?, writes.parse()?, manner)
+}
+
+/// The bytes that a word writes, and behind them those of another word as often as a number says, if these follow.
+fn read_input(alloc: Global, text: &str) -> Result<Vec<u8>> {
+    let Some((bytes, more)) = text.split_once(' ') else {
+        return read_bytes(alloc, text);
+    };
+    let (times, piece) = more.split_once(' ').context("no bytes to repeat")?;
+    let mut input = read_bytes(alloc, bytes)?;
+    push_repeated(&mut input, times.parse()?, &read_bytes(alloc, piece)?)?;
+    Ok(input)
+}
+
+/// The bytes that a word writes.
+fn read_bytes(alloc: Global, word: &str) -> Result<Vec<u8>> {
+    let digits = word.strip_prefix('x').context("no bytes")?;
+    Ok(hex::decode(alloc, digits)?)
+}
+
+/// Adds bytes so many times.
+fn push_repeated(input: &mut Vec<u8>, times: u32, piece: &[u8]) -> Result<()> {
+    for _ in 0..times {
+        input.extend_from_slice(piece)?;
+    }
+    Ok(())
 }
 
 /// What a run said, and the bytes that its writer took.
-fn answer_run(alloc: Global, line: &str, interrupting: bool) -> Result<String> {
-    let (reads, rest) = line.split_once(' ').context("no reads")?;
-    let (writes, digits) = rest.split_once(" x").context("no bytes")?;
-    let input = hex::decode(alloc, digits)?;
-    let mut reader = SlowReader::new(&input, Calls::new(reads.parse()?, interrupting));
-    let mut writer = SlowWriter::new(alloc, Calls::new(writes.parse()?, interrupting));
+fn answer_run(
+    alloc: Global,
+    input: &[u8],
+    reads: usize,
+    writes: usize,
+    manner: Manner,
+) -> Result<String> {
+    let mut reader = SlowReader::new(input, reads, manner);
+    let mut writer = SlowWriter::new(alloc, writes, manner);
     let outcome = run(alloc, &mut reader, &mut writer);
     let outcome = outcome_text(alloc, &outcome)?;
     let taken = hex::encode(alloc, writer.taken())?;
@@ -34,8 +62,8 @@ fn answer_run(alloc: Global, line: &str, interrupting: bool) -> Result<String> {
 }
 
 /// What the demo said, and the bytes that its writer took.
-fn answer_demo(alloc: Global, writes: &str, interrupting: bool) -> Result<String> {
-    let mut writer = SlowWriter::new(alloc, Calls::new(writes.parse()?, interrupting));
+fn answer_demo(alloc: Global, writes: &str, manner: Manner) -> Result<String> {
+    let mut writer = SlowWriter::new(alloc, writes.parse()?, manner);
     let outcome = match demo(alloc, &mut writer) {
         Ok(()) => "ok".to_string(alloc)?,
         Err(fault) => fault.to_string(alloc)?,

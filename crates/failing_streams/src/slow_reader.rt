@@ -1,33 +1,43 @@
-//! A reader that gives a byte at a time, and fails.
+//! A reader that gives a few bytes at a time, and fails.
 
 use crate::calls::Calls;
+use crate::manner::Manner;
 use std::io;
 use std::io::Read;
 
-/// Gives its bytes one at a time, and fails once it was read as often as it may be.
+/// Gives its bytes a few at a time, and fails once it was read as often as it may be.
 #[derive(Drop)]
 pub struct SlowReader<'a> {
     bytes: &'a [u8],
     reads: Calls,
+    manner: Manner,
 }
 
 impl<'a> SlowReader<'a> {
-    pub fn new(bytes: &'a [u8], reads: Calls) -> SlowReader<'a> {
-        SlowReader { bytes, reads }
+    pub fn new(bytes: &'a [u8], reads: usize, manner: Manner) -> SlowReader<'a> {
+        SlowReader {
+            bytes,
+            reads: Calls::new(reads, manner.interrupting),
+            manner,
+        }
+    }
+
+    /// How many bytes a read gives that has room for so many.
+    fn given(&self, room: usize) -> usize {
+        self.manner.pace.min(room).min(self.bytes.len())
     }
 }
 
 impl Read for SlowReader<'_> {
     fn read(&mut self, buf: &mut [u8]) -> io::Result<usize> {
         self.reads.count()?;
-        let Some((first, rest)) = self.bytes.split_first() else {
-            return Ok(0);
-        };
-        let Some(place) = buf.first_mut() else {
-            return Ok(0);
-        };
-        *place = *first;
+        let n = self.given(buf.len());
+        let (first, rest) = self.bytes.split_at(n);
+        buf[..n].copy_from_slice(first);
         self.bytes = rest;
-        Ok(1)
+        if self.manner.boasting && 0 < n && n < buf.len() {
+            return Ok(n + 1);
+        }
+        Ok(n)
     }
 }

@@ -1,22 +1,25 @@
-//! A writer that takes a byte at a time, and fails.
+//! A writer that takes a few bytes at a time, and fails.
 
 use crate::calls::Calls;
+use crate::manner::Manner;
 use std::alloc::Global;
 use std::io;
 use std::io::Write;
 
-/// Takes a byte at a time, and fails once it was written to as often as it may be.
+/// Takes a few bytes at a time, and fails or stops once it was written to as often as it may be.
 #[derive(Drop)]
 pub struct SlowWriter {
     taken: Vec<u8>,
     writes: Calls,
+    manner: Manner,
 }
 
 impl SlowWriter {
-    pub fn new(alloc: Global, writes: Calls) -> SlowWriter {
+    pub fn new(alloc: Global, writes: usize, manner: Manner) -> SlowWriter {
         SlowWriter {
             taken: Vec::new(alloc),
-            writes,
+            writes: Calls::new(writes, manner.interrupting),
+            manner,
         }
     }
 
@@ -28,12 +31,15 @@ impl SlowWriter {
 
 impl Write for SlowWriter {
     fn write(&mut self, buf: &[u8]) -> io::Result<usize> {
-        self.writes.count()?;
-        let Some(first) = buf.first() else {
-            return Ok(0);
-        };
-        self.taken.push(*first)?;
-        Ok(1)
+        if let Err(error) = self.writes.count() {
+            if self.manner.stopping && error.kind() != io::ErrorKind::Interrupted {
+                return Ok(0);
+            }
+            return Err(error);
+        }
+        let n = self.manner.pace.min(buf.len());
+        self.taken.extend_from_slice(&buf[..n])?;
+        Ok(n)
     }
 
     fn flush(&mut self) -> io::Result<()> {

@@ -285,6 +285,13 @@ def key_state(case):
     return state.shown()
 
 
+def key_state_accepts(case):
+    """Whether a state of keys whose range was written from outside accepts keys."""
+    case.array()
+    state, array = State(case.span("u32")), case.array()
+    return text(array.kind == "u32" and state.accepts(array.keys()))
+
+
 def range_fits(case):
     kind = case.word()
     least, greatest = case.number(), case.number()
@@ -368,6 +375,7 @@ CALLS = {
     "state_keys": state_keys,
     "state_keys_rows": state_keys_rows,
     "key_state": key_state,
+    "key_state_accepts": key_state_accepts,
     "range_fits": range_fits,
     "keys_fit": lambda case: text(case.array().size() <= MOST_ENTRIES),
     "accepts_numbers": accepts_numbers,

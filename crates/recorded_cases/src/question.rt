@@ -1,5 +1,6 @@
 //! A line of a file of cases, and what it is answered.
 
+ghost use Rattle.std.specs.Prelude.{IfOk};
 ghost use Rattle.polars_arrays_nested.specs.GoodParts.{IsGood};
 ghost use Rattle.recorded_text.specs.Cases.{HasGoodArrays};
 
@@ -9,6 +10,7 @@ use recorded_text::fault::Fault;
 use recorded_text::nested::read_any;
 use recorded_text::store::Store;
 use recorded_text::words::Words;
+use recorded_text::wrapped::{FAR_LEVELS, LEVELS, read_wrapped};
 use std::alloc::Global;
 
 /// The answer to a line, where it has one.
@@ -67,8 +69,8 @@ fn answer_question(
     Ok(answer)
 }
 
-// Names a copy of an array after the word `copy`, or else the array that words write, or says why its parts
-// make none.
+// Names a copy of an array after the word `copy`, an array in many others after `wrapped`, and in more than the usual
+// stack may hold after `wrapped_far`, or else the array that words write, or says why there is none.
 fn define(
     alloc: Global,
     store: &mut Store,
@@ -82,7 +84,31 @@ fn define(
         let copy = store.read(words)?.clone_array(alloc)?;
         return add(alloc, store, name, words, copy);
     }
-    match read_any(alloc, words) {
+    if words.take("wrapped") {
+        let wrapped = read_wrapped(alloc, words, LEVELS);
+        return add_made(alloc, store, name, words, wrapped);
+    }
+    if words.take("wrapped_far") {
+        let wrapped = read_wrapped(alloc, words, FAR_LEVELS);
+        return add_made(alloc, store, name, words, wrapped);
+    }
+    let array = read_any(alloc, words);
+    add_made(alloc, store, name, words, array)
+}
+
+// Names an array that was made, or says why it was not.
+fn add_made(
+    alloc: Global,
+    store: &mut Store,
+    name: &str,
+    words: &Words,
+    made: Result<AnyArray, Fault>,
+) -> Result<Option<String>, Fault>
+    requires arrays { HasGoodArrays store.old }
+    requires array { IfOk made (λ array. IsGood array) }
+    ensures { HasGoodArrays store.new }
+{
+    match made {
         Ok(array) => add(alloc, store, name, words, array),
         Err(fault) => refuse(alloc, name, fault),
     }
@@ -108,10 +134,11 @@ fn add(
     Ok(None)
 }
 
-// Says why parts make no array. Another fault is one of the line.
+// Says why parts make no array, or that it would be too deep. Another fault is one of the line.
 fn refuse(alloc: Global, name: &str, fault: Fault) -> Result<Option<String>, Fault> {
     match fault {
         Fault::Parts(error) => Ok(Some(format!(in alloc; "{name} = refused: {error}")?)),
+        Fault::Depth(_) => Ok(Some(format!(in alloc; "{name} = refused: {fault}")?)),
         fault => Err(fault),
     }
 }

@@ -3,6 +3,7 @@
 //! | Call | Answer |
 //! |---|---|
 //! | `key_state V MIN MAX A..` | the state over the entries V, as `seen` says, in which one of the numbers from MIN to MAX was put in the place of that of its keys, and to which the arrays of type `u32` were then appended |
+//! | `key_state_accepts V MIN MAX A` | whether that state accepts the dictionary array A |
 
 ghost use Rattle.polars_arrays_nested.specs.GoodParts.{IsGood};
 ghost use Rattle.polars_arrays_nested.specs.declared.any_array.AnyArray.{Dictionary};
@@ -13,6 +14,7 @@ use crate::new_states::{Entries, NewStates, NumberRange, new_state_over};
 use crate::pairs::{either_way, read_joined};
 use crate::questions::{Question, answer_question};
 use crate::seen::write_seen;
+use crate::state_kinds::RecordedState;
 use crate::trees::merge_leaves;
 use polars_arrays_flat::primitive::PrimitiveArray;
 use polars_arrays_nested::any_array::AnyArray;
@@ -53,6 +55,7 @@ pub fn answer(
     }
     let answer = match call {
         "key_state" => write_state(alloc, store, words),
+        "key_state_accepts" => write_accepted(alloc, store, words),
         "state_keys" => either_way::<Entries>(alloc, store, words),
         "state_keys_rows" => write_joined(alloc, store, words),
         "merge_tree_keys" => merge_leaves::<Entries>(alloc, store, words),
@@ -88,6 +91,33 @@ fn write_put(
             Err(fault)
         }
     }
+}
+
+// Whether a state whose state of keys is another one accepts a dictionary array.
+fn write_accepted(alloc: Global, store: &Store, words: &mut Words) -> Result<String, Fault>
+    requires { HasGoodArrays store.now }
+{
+    let entries = store.read(words)?;
+    let range: NumberRange<u32> = NumberRange::read(alloc, store, words)?;
+    let array = DictionaryRangedUniqueState::rows_in(store.read(words)?)?;
+    let accepts = accepts_put(alloc, entries, range.new_state(alloc)?, array)?;
+    Ok(accepts.to_string(alloc)?)
+}
+
+// Whether the state over entries in which a state of keys is put accepts a dictionary array.
+fn accepts_put(
+    alloc: Global,
+    entries: &AnyArray,
+    keys: PrimitiveRangedUniqueState<u32>,
+    array: &DictionaryArray,
+) -> Result<bool, Fault>
+    requires { IsGood entries.now }
+{
+    let mut state = new_state_over(alloc, entries)?;
+    *state.key_state() = keys;
+    let accepts = state.accepts(array);
+    drop(state);
+    Ok(accepts)
 }
 
 // Puts another state of keys in the place of the present one, and appends arrays to it.

@@ -14,6 +14,9 @@ pub enum Fault {
     /// A word is missing, or is not what should stand in its place.
     #[error("a word is missing or is another one than should stand there")]
     Word,
+    /// Arrays lie deeper in others than the reader allows, which is so many levels.
+    #[error("arrays hold arrays more than {0} levels deep")]
+    Depth(usize),
     /// The parts of an array do not fit each other.
     #[error("no array: {0}")]
     Parts(ArrayError),

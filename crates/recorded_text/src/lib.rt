@@ -16,3 +16,4 @@ pub mod row_text;
 pub mod store;
 pub mod type_text;
 pub mod words;
+pub mod wrapped;

@@ -24,10 +24,11 @@ use polars_arrays_nested::list_offsets::ListOffsets;
 use polars_arrays_nested::struct_array::StructArray;
 use std::alloc::Global;
 
-/// How deep arrays hold arrays at the most.
-const DEPTH: usize = 1000;
+/// How deep arrays hold arrays at the most. A stack of 8 MiB holds more than twice as many levels of this reader.
+const DEPTH: usize = 500;
 
-/// The array that words write, in parts that are kept as the first of them says.
+/// The array that words write, in parts that are kept as the first of them says. The error is `Depth`, where
+/// it holds arrays too deep.
 pub fn read_any(alloc: Global, words: &mut Words) -> Result<AnyArray, Fault>
     ensures { IfOk result (λ a. IsGood a) }
 {
@@ -77,7 +78,7 @@ fn read_whole(alloc: Global, kept: Kept, words: &mut Words, depth: usize) -> Res
         "fixedbinary" => Ok(AnyArray::FixedSizeBinary(read_sized(alloc, kept, words)?)),
         "list" | "largelist" | "fixedlist" | "struct" | "dict" => {
             if depth == 0 {
-                return Err(Fault::Word);
+                return Err(Fault::Depth(DEPTH));
             }
             read_holder(alloc, kept, words, kind, depth - 1)
         }
@@ -277,8 +278,8 @@ fn fields_of(alloc: Global, names: &[&str], columns: &[AnyArray]) -> Result<Vec<
     Ok(fields)
 }
 
-// A field of that name and of an array's type.
-fn field_of(alloc: Global, name: &str, column: &AnyArray) -> Result<Field, Fault> {
+/// A field of that name and of an array's type.
+pub fn field_of(alloc: Global, name: &str, column: &AnyArray) -> Result<Field, Fault> {
     let dtype = column.dtype(alloc)?;
     let name = name.to_string(alloc)?;
     Ok(Field { name, dtype })

@@ -1,0 +1,88 @@
+//! States of the keys of dictionaries.
+
+ghost use Rattle.polars_arrays_nested.specs.GoodParts.{IsGood};
+
+use crate::operands::boxed;
+use crate::states::{append, new_state, tell_state};
+use crate::told::Told;
+use polars_arrays_flat::null::NullArray;
+use polars_arrays_flat::primitive::PrimitiveArray;
+use polars_arrays_nested::any_array::AnyArray;
+use polars_compute_unique::dictionary::{DictionaryRangedUniqueState, keys_fit};
+use polars_compute_unique::kernel::RangedUniqueKernel;
+use recorded_text::fault::Fault;
+use std::alloc::Global;
+
+/// Makes the calls.
+pub fn answer(alloc: Global, told: &mut Told) -> Result<(), Fault> {
+    told.begin(alloc)?;
+    tell_many(alloc, told)?;
+    told.end(alloc)?;
+    let keys = PrimitiveArray::from_vec(Vec::from_slice(alloc, &[7u32, 4])?);
+    tell_two(alloc, told, &keys)
+}
+
+// A state of 127 entries.
+fn tell_many(alloc: Global, told: &mut Told) -> Result<(), Fault> {
+    let state = state_over(alloc, AnyArray::Null(NullArray::new(127)))?;
+    tell_state(told, "127 entries", &state);
+    drop(state);
+    Ok(())
+}
+
+// A state of two entries, in which keys from 0 to 9 are put.
+fn tell_two(alloc: Global, told: &mut Told, keys: &PrimitiveArray<u32>) -> Result<(), Fault> {
+    let entries = boxed(alloc, "0 2 utf8 3 0 1 2 x7879 -")?;
+    told.begin(alloc)?;
+    tell_out_of_range(alloc, told, Box::into_inner(entries), keys)?;
+    told.end(alloc)
+}
+
+// What is finalised of a state of entries whose keys are from 0 to 9.
+fn tell_out_of_range(
+    alloc: Global,
+    told: &mut Told,
+    entries: AnyArray,
+    keys: &PrimitiveArray<u32>,
+) -> Result<(), Fault>
+    requires { IsGood entries }
+{
+    let mut state = state_over(alloc, entries)?;
+    let put = put_keys(alloc, told, &mut state, keys);
+    tell_finalised(alloc, told, "2 entries, keys 7 4", state);
+    put
+}
+
+// A state of the keys of these entries.
+fn state_over(alloc: Global, entries: AnyArray) -> Result<DictionaryRangedUniqueState, Fault>
+    requires { IsGood entries }
+{
+    if !keys_fit(&entries) {
+        drop(entries);
+        return Err(Fault::Case);
+    }
+    Ok(DictionaryRangedUniqueState::new(alloc, entries)?)
+}
+
+// Puts a state of keys from 0 to 9 in the place of the present one, and appends keys to it.
+fn put_keys(
+    alloc: Global,
+    told: &mut Told,
+    state: &mut DictionaryRangedUniqueState,
+    keys: &PrimitiveArray<u32>,
+) -> Result<(), Fault> {
+    let key_state = state.key_state();
+    *key_state = new_state(alloc, 0, 9)?;
+    append(told, "keys 0 to 9, and 7 4", key_state, keys);
+    Ok(())
+}
+
+// Whether a state is finalised, or why not.
+fn tell_finalised<S: RangedUniqueKernel<Array: Drop> + Drop>(
+    alloc: Global,
+    told: &mut Told,
+    name: &str,
+    state: S,
+) {
+    told.tell_outcome("finalize_unique", name, state.finalize_unique(alloc));
+}

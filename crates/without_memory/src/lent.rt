@@ -1,0 +1,29 @@
+//! Calls that read arrays.
+
+ghost use Rattle.recorded_text.specs.Cases.{HasGoodArrays};
+
+use crate::operands::store;
+use crate::told::Told;
+use crate::{conditions, extremes, reductions, refused, types};
+use recorded_text::fault::Fault;
+use recorded_text::store::Store;
+use std::alloc::Global;
+
+/// Makes the calls.
+pub fn answer(alloc: Global, told: &mut Told) -> Result<(), Fault> {
+    let store = store(alloc)?;
+    told.begin(alloc)?;
+    answer_lent(alloc, told, &store)?;
+    told.end(alloc)
+}
+
+// Makes the calls, and asks for no memory.
+fn answer_lent(alloc: Global, told: &mut Told, store: &Store) -> Result<(), Fault>
+    requires { HasGoodArrays store.now }
+{
+    refused::answer(alloc, told, store)?;
+    extremes::answer(told, store)?;
+    reductions::answer(told, store)?;
+    conditions::answer(told, store)?;
+    types::answer(alloc, told, store)
+}

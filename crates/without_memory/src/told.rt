@@ -1,0 +1,215 @@
+//! Answers as lines, in room that was made before, and the requests that say where calls begin and end.
+
+use polars_arrays_bits::bitmap::Bitmap;
+use polars_arrays_bits::error::ComputeError;
+use polars_arrays_flat::array::Array;
+use polars_arrays_flat::primitive::PrimitiveArray;
+use polars_arrays_numbers::native_type::NativeType;
+use recorded_text::bits_text::{is_null, push_bits};
+use recorded_text::bytes_text::push_bytes;
+use recorded_text::fault::Fault;
+use std::alloc::Global;
+use std::fmt::Display;
+
+/// How many bytes there is room for.
+const ROOM: usize = 32_768;
+
+/// How large the block is that is asked for before calls that may ask for nothing.
+const BEGIN: usize = 77_777;
+
+/// How large the block is that is asked for behind them.
+const END: usize = 88_888;
+
+/// Lines of answers.
+#[derive(Drop)]
+pub struct Told {
+    text: String,
+    // The block that was asked for last.
+    block: Vec<u8>,
+    // Whether an answer was not written.
+    is_short: bool,
+}
+
+impl Told {
+    /// No answers, and room for all.
+    pub fn new(alloc: Global) -> Result<Told, Fault> {
+        let text = String::with_capacity(alloc, ROOM)?;
+        let block = Vec::new(alloc);
+        Ok(Told {
+            text,
+            block,
+            is_short: false,
+        })
+    }
+
+    /// Asks for the block behind which nothing may be asked for.
+    pub fn begin(&mut self, alloc: Global) -> Result<(), Fault> {
+        self.block = Vec::with_capacity(alloc, BEGIN)?;
+        Ok(())
+    }
+
+    /// Asks for the block behind which memory may be asked for again.
+    pub fn end(&mut self, alloc: Global) -> Result<(), Fault> {
+        self.block = Vec::with_capacity(alloc, END)?;
+        Ok(())
+    }
+
+    /// All lines. The error is `Memory`, where one was not written.
+    pub fn lines(&self) -> Result<&str, Fault> {
+        if self.is_short {
+            return Err(Fault::Memory);
+        }
+        Ok(self.text.trim_end())
+    }
+
+    // Notes whether an answer was written.
+    fn note(&mut self, written: Result<(), Fault>) {
+        self.is_short |= written.is_err();
+    }
+
+    /// The answer of a call.
+    pub fn tell<T: Copy + Display>(&mut self, call: &str, operands: &str, answer: T) {
+        let written = write_line(&mut self.text, call, operands, answer);
+        self.note(written);
+    }
+
+    /// What a call found, or that it found nothing.
+    pub fn tell_found<T: Copy + Display>(&mut self, call: &str, operands: &str, found: Option<T>) {
+        match found {
+            Some(found) => self.tell(call, operands, found),
+            None => self.tell(call, operands, "none"),
+        }
+    }
+
+    /// What two a call found, or that it found nothing.
+    pub fn tell_pair<T: Copy + Display>(
+        &mut self,
+        call: &str,
+        operands: &str,
+        found: Option<(T, T)>,
+    ) {
+        match found {
+            Some((least, greatest)) => {
+                self.tell(call, operands, least);
+                self.tell("and", operands, greatest);
+            }
+            None => self.tell(call, operands, "none"),
+        }
+    }
+
+    /// What byte string a call found.
+    pub fn tell_bytes(&mut self, call: &str, operands: &str, found: Option<&[u8]>) {
+        let written = write_bytes(&mut self.text, call, operands, found);
+        self.note(written);
+    }
+
+    /// What bits a call gives.
+    pub fn tell_bits(&mut self, call: &str, operands: &str, bits: &Bitmap) {
+        let written = write_bits(&mut self.text, call, operands, bits);
+        self.note(written);
+    }
+
+    /// What numbers a call gives.
+    pub fn tell_rows<T: NativeType + Display>(
+        &mut self,
+        call: &str,
+        operands: &str,
+        array: &PrimitiveArray<T>,
+    ) {
+        let written = write_rows(&mut self.text, call, operands, array);
+        self.note(written);
+    }
+
+    /// Whether a call succeeded, or why not.
+    pub fn tell_outcome<T: Drop>(
+        &mut self,
+        call: &str,
+        operands: &str,
+        outcome: Result<T, ComputeError>,
+    ) {
+        match outcome {
+            Ok(_) => self.tell(call, operands, "ok"),
+            Err(refused) => self.tell_refusal(call, operands, &refused),
+        }
+    }
+
+    /// Why a call gave nothing.
+    pub fn tell_refusal<E: Display>(&mut self, call: &str, operands: &str, refused: &E) {
+        let written = write_refusal(&mut self.text, call, operands, refused);
+        self.note(written);
+    }
+}
+
+// Writes what stands before an answer.
+fn write_call(text: &mut String, call: &str, operands: &str) -> Result<(), Fault> {
+    write!(text, "{call} {operands} ->")?;
+    Ok(())
+}
+
+// Writes an answer.
+fn write_line<T: Copy + Display>(
+    text: &mut String,
+    call: &str,
+    operands: &str,
+    answer: T,
+) -> Result<(), Fault> {
+    writeln!(text, "{call} {operands} -> {answer}")?;
+    Ok(())
+}
+
+// Writes why there is no answer.
+fn write_refusal<E: Display>(
+    text: &mut String,
+    call: &str,
+    operands: &str,
+    refused: &E,
+) -> Result<(), Fault> {
+    writeln!(text, "{call} {operands} -> refused: {refused}")?;
+    Ok(())
+}
+
+// Writes a byte string.
+fn write_bytes(
+    text: &mut String,
+    call: &str,
+    operands: &str,
+    found: Option<&[u8]>,
+) -> Result<(), Fault> {
+    write_call(text, call, operands)?;
+    text.push(' ')?;
+    match found {
+        Some(bytes) => push_bytes(text, bytes)?,
+        None => text.push_str("none")?,
+    }
+    text.push('\n')?;
+    Ok(())
+}
+
+// Writes bits.
+fn write_bits(text: &mut String, call: &str, operands: &str, bits: &Bitmap) -> Result<(), Fault> {
+    write_call(text, call, operands)?;
+    text.push(' ')?;
+    push_bits(text, bits)?;
+    text.push('\n')?;
+    Ok(())
+}
+
+// Writes the rows of an array.
+fn write_rows<T: NativeType + Display>(
+    text: &mut String,
+    call: &str,
+    operands: &str,
+    array: &PrimitiveArray<T>,
+) -> Result<(), Fault> {
+    write_call(text, call, operands)?;
+    let validity = array.validity();
+    for (i, value) in array.values().iter().enumerate() {
+        if is_null(validity, i) {
+            text.push_str(" null")?;
+        } else {
+            write!(text, " {value}")?;
+        }
+    }
+    text.push('\n')?;
+    Ok(())
+}

@@ -1,0 +1,67 @@
+//! The types of arrays of one level, and second copies that need no memory.
+
+ghost use Rattle.recorded_text.specs.Cases.{HasGoodArrays};
+
+use crate::told::Told;
+use polars_arrays_bits::error::ComputeError;
+use polars_arrays_flat::data_type::ArrowDataType;
+use polars_arrays_nested::any_array::AnyArray;
+use recorded_text::fault::Fault;
+use recorded_text::store::Store;
+use std::alloc::Global;
+
+/// The arrays of one level.
+const OF_ONE_LEVEL: [&str; 8] = [
+    "numbers",
+    "truths",
+    "bytes",
+    "texts",
+    "views",
+    "texts_by_views",
+    "sized",
+    "nulls",
+];
+
+/// Makes the calls.
+pub fn answer(alloc: Global, told: &mut Told, store: &Store) -> Result<(), Fault>
+    requires { HasGoodArrays store.now }
+{
+    for name in OF_ONE_LEVEL {
+        tell_type(alloc, told, name, store.array(name)?);
+    }
+    if let AnyArray::Null(array) = store.array("nulls")? {
+        told.tell_outcome("clone_array", "nulls", array.clone_array(alloc));
+    }
+    Ok(())
+}
+
+// The type of an array.
+fn tell_type(alloc: Global, told: &mut Told, name: &str, array: &AnyArray) {
+    match array {
+        AnyArray::Int8(array) => tell_name(told, name, array.dtype(alloc)),
+        AnyArray::Boolean(array) => tell_name(told, name, array.dtype(alloc)),
+        AnyArray::Binary(array) => tell_name(told, name, array.dtype(alloc)),
+        AnyArray::Utf8(array) => tell_name(told, name, array.dtype(alloc)),
+        AnyArray::BinaryView(array) => tell_name(told, name, array.dtype(alloc)),
+        AnyArray::Utf8View(array) => tell_name(told, name, array.dtype(alloc)),
+        AnyArray::FixedSizeBinary(array) => tell_name(told, name, array.dtype(alloc)),
+        AnyArray::Null(array) => tell_name(told, name, array.dtype(alloc)),
+        _ => {}
+    }
+}
+
+// The name of a type, or why there is none.
+fn tell_name(told: &mut Told, name: &str, dtype: Result<ArrowDataType, ComputeError>) {
+    match dtype {
+        Ok(ArrowDataType::Int8) => told.tell("dtype", name, "Int8"),
+        Ok(ArrowDataType::Boolean) => told.tell("dtype", name, "Boolean"),
+        Ok(ArrowDataType::Binary) => told.tell("dtype", name, "Binary"),
+        Ok(ArrowDataType::Utf8) => told.tell("dtype", name, "Utf8"),
+        Ok(ArrowDataType::BinaryView) => told.tell("dtype", name, "BinaryView"),
+        Ok(ArrowDataType::Utf8View) => told.tell("dtype", name, "Utf8View"),
+        Ok(ArrowDataType::FixedSizeBinary(2)) => told.tell("dtype", name, "FixedSizeBinary(2)"),
+        Ok(ArrowDataType::Null) => told.tell("dtype", name, "Null"),
+        Ok(_) => told.tell("dtype", name, "another one"),
+        Err(refused) => told.tell_refusal("dtype", name, &refused),
+    }
+}
