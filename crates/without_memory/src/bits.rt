@@ -124,7 +124,9 @@ fn tell_written(told: &mut Told, bits: MutableBitmap, other: &Bitmap) {
     bits.set(2, true);
     told.tell("set_bits of the mutable bitmap", "0110", bits.set_bits());
     bits.and_assign(other);
-    told.tell("get 1 of the mutable bitmap", "0110 and 1101", bits.get(1));
+    if 1 < bits.len() {
+        told.tell("get 1 of the mutable bitmap", "0110 and 1101", bits.get(1));
+    }
     told.tell_bits(
         "freeze of the mutable bitmap",
         "0110 and 1101",

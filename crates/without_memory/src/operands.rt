@@ -60,7 +60,8 @@ pub fn store(alloc: Global) -> Result<Store, Fault>
     ensures { IfOk result (λ store. HasGoodArrays store) }
 {
     let mut store = Store::new(alloc);
-    for (name, text) in ARRAYS {
+    for named in ARRAYS {
+        let (name, text) = named;
         store.add(alloc, name, array(alloc, text)?)?;
     }
     Ok(store)
