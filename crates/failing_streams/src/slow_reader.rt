@@ -1,5 +1,7 @@
 //! A reader that gives a few bytes at a time, and fails.
 
+ghost use Rattle.std.specs.Prelude.{◌≤◌};
+
 use crate::calls::Calls;
 use crate::manner::Manner;
 use std::io;
@@ -21,18 +23,22 @@ impl<'a> SlowReader<'a> {
             manner,
         }
     }
+}
 
-    /// How many bytes a read gives that has room for so many.
-    fn given(&self, room: usize) -> usize {
-        self.manner.pace.min(room).min(self.bytes.len())
-    }
+// How many bytes a read gives at that pace that has room for so many, of so many that are left.
+fn given(pace: usize, room: usize, left: usize) -> usize
+    ensures room { result ≤ room }
+    ensures left { result ≤ left }
+{
+    pace.min(room).min(left)
 }
 
 impl Read for SlowReader<'_> {
     fn read(&mut self, buf: &mut [u8]) -> io::Result<usize> {
         self.reads.count()?;
-        let n = self.given(buf.len());
-        let (first, rest) = self.bytes.split_at(n);
+        let bytes = self.bytes;
+        let n = given(self.manner.pace, buf.len(), bytes.len());
+        let (first, rest) = bytes.split_at(n);
         buf[..n].copy_from_slice(first);
         self.bytes = rest;
         if self.manner.boasting && 0 < n && n < buf.len() {
