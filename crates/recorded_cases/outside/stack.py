@@ -69,9 +69,9 @@ def held(program, lines_at):
 
 def tried(program, lines_at, levels, most):
     """What runs just below and just above a number of levels say with 8 MiB, where lines may ask for so many."""
-    if levels is None or levels * 1.03 > most:
+    if levels is None or levels * 1.05 > most:
         return ""
-    below, above = (ends_well(program, lines_at(int(levels * share)), STACK) for share in (0.97, 1.03))
+    below, above = (ends_well(program, lines_at(int(levels * share)), STACK) for share in (0.95, 1.05))
     return "tried" if below and not above else f"NOT so: {below} {above}"
 
 
