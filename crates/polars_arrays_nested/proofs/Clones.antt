@@ -5,11 +5,11 @@ use Rattle.std.proofs.lemmas.Bool.{cases_lt}
 use Rattle.std.proofs.lemmas.List.{get_or_append_left, get_or_default}
 use Rattle.polars_arrays_flat.specs.DataType.{kind_of, kinds_of}
 use Rattle.polars_arrays_flat.specs.Kind.{StructKind}
-use Rattle.polars_arrays_flat.specs.Row.{Rows, Entry}
+use Rattle.polars_arrays_flat.specs.Row.{Rows}
 use Rattle.polars_arrays_flat.specs.StoredRows.{kept}
 use Rattle.polars_arrays_flat.specs.Validity.{is_present}
 use Rattle.polars_arrays_flat.specs.declared.data_type.Field.{Field}
-use Rattle.polars_arrays_nested.specs.AnyRows.{row}
+use Rattle.polars_arrays_nested.specs.AnyRows.{entry_row, row}
 use Rattle.polars_arrays_nested.specs.Clones.{IsClone}
 use Rattle.polars_arrays_nested.specs.Columns.{AreColumns, ColumnsAlike, columns_leaves, rows_at}
 use Rattle.polars_arrays_nested.specs.ColumnLaws.{alike-struct, good-struct, leaves-struct, row-struct, struct-good}
@@ -82,7 +82,7 @@ clone-dictionary a b keys child = record {
   one_type = rw (keys, child.one_type) refl;
   as_long = rw keys refl;
   same_rows = λ i.
-      rw keys (ap (λ r. kept (is_present (key_validity b.keys) i) (Entry r)) (child.same_rows (key_at b.keys i)));
+      rw keys (ap (λ r. kept (is_present (key_validity b.keys) i) (entry_row r)) (child.same_rows (key_at b.keys i)));
   same_leaves = λ i m.
       totals_agree
       (λ k. cond (is_present (key_validity a.keys) k) (leaves a.values.value (key_at a.keys k) 1) 0)

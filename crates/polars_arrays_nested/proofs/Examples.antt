@@ -11,6 +11,7 @@ use Rattle.polars_arrays_nested.specs.KeptAlike.{KeptAlike}
 use Rattle.polars_arrays_nested.specs.Leaves.{leaves, leaves_across, total}
 use Rattle.polars_arrays_nested.specs.Lengths.{len_of}
 use Rattle.polars_arrays_nested.specs.ListOffsets.{list_count, offset_at, span}
+use Rattle.polars_arrays_nested.specs.Masks.{mask_of}
 use Rattle.polars_arrays_nested.specs.Types.{kind_of_lists, type_of}
 use Rattle.polars_arrays_nested.specs.declared.any_array.AnyArray.{AnyArray, Int32, List', FixedSizeList', Dictionary', end_of-AnyArray, more_of-AnyArray}
 use Rattle.polars_arrays_nested.specs.declared.any_array.AnyArray.{Null as Nulls}
@@ -87,11 +88,30 @@ leaves_across-two : leaves_across (more_of-AnyArray some (more_of-AnyArray some 
 unfolding some
 leaves_across-two = refl
 
--- a present key to a null entry is an entry and not null; a masked key may be anything
+-- a present key to a null entry is null; a masked key may be anything
 rows-dictionary : (p : _) → rows (Dictionary' (UInt8 (record { values = 2 ∷ 99 ∷ 1 ∷ []; validity = Some (true ∷ false ∷ true ∷ []); owned = true })) p some)
-    ≡ Entry (Int (pos 9)) ∷ Null ∷ Entry Null ∷ []
+    ≡ Entry (Int (pos 9)) ∷ Null ∷ Null ∷ []
 unfolding some
 rows-dictionary p = refl
+
+-- its mask says so, though the validity leaves the last key
+mask-dictionary : (p : _) → mask_of (Dictionary' (UInt8 (record { values = 2 ∷ 99 ∷ 1 ∷ []; validity = Some (true ∷ false ∷ true ∷ []); owned = true })) p some)
+    ≡ Some (true ∷ false ∷ false ∷ [])
+unfolding some
+mask-dictionary p = refl
+
+-- a dictionary of a dictionary is followed to its last entry
+mask-two_levels : (p q : _) → mask_of (Dictionary' (Int8 (record { values = pos 0 ∷ pos 1 ∷ []; validity = None; owned = true })) p
+    (Dictionary' (UInt8 (record { values = 1 ∷ 2 ∷ []; validity = None; owned = true })) q some)) ≡ Some (false ∷ true ∷ [])
+unfolding some
+mask-two_levels p q = refl
+
+-- keys to nulls make nulls, though a null array itself masks none
+mask-of_nulls : (p : _) → mask_of (Dictionary' (UInt8 (record { values = 0 ∷ []; validity = None; owned = true })) p (Nulls 1)) ≡ Some (false ∷ [])
+mask-of_nulls p = refl
+
+mask-nulls : mask_of (Nulls 1) ≡ None
+mask-nulls = refl
 
 -- an entry's leaf slots count once for each present key
 leaves-dictionary : (p : _) → leaves (Dictionary' (UInt8 (record { values = 2 ∷ 99 ∷ 2 ∷ []; validity = Some (true ∷ false ∷ true ∷ []); owned = true })) p some) 0 3 ≡ 2

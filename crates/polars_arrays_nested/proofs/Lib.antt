@@ -8,6 +8,7 @@ pub mod LeafSlots
 pub mod Lengths
 pub mod NullCounts
 pub mod Places
+pub mod Presence
 pub mod RowLists
 pub mod SameTypes
 pub mod Structs

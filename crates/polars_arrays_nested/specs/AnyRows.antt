@@ -20,8 +20,13 @@ abbrev pub rows_from : (ℕ → Row) → ℕ → ℕ → RowList
 rows_from f from zero = no_rows
 rows_from f from (suc count) = more_rows (f from) (rows_from f (from + 1) count)
 
+-- the row that a present key makes of its entry: Null of a null entry (our own choice), else the entry
+abbrev pub entry_row : Row → Row
+entry_row Missing = Missing
+entry_row entry = Entry entry
+
 abbrev mutual
-  -- row i of an array: Null where it is masked; of a list its items between two offsets, of a list of one width as many items from width * i on, of a struct its fields' rows at that place, of a dictionary the entry that the key names (the Arrow layout)
+  -- row i of an array: Null where it is masked; of a list its items between two offsets, of a list of one width as many items from width * i on, of a struct its fields' rows at that place, of a dictionary the entry that the key names, or Null where that is (the Arrow layout)
   pub row : AnyArray → ℕ → Row
   row (Null a) i = Missing
   row (Boolean a) i = row_at (truth_rows a) i
@@ -47,7 +52,7 @@ abbrev mutual
   row (FixedSizeList' width len p values validity) i =
       kept (is_present validity i) (Rows (rows_from (λ k. row values k) (width * i) width))
   row (Struct' fields len p values validity) i = kept (is_present validity i) (Fields (across values i))
-  row (Dictionary' keys p values) i = kept (is_present (key_validity keys) i) (Entry (row values (key_at keys i)))
+  row (Dictionary' keys p values) i = kept (is_present (key_validity keys) i) (entry_row (row values (key_at keys i)))
 
   -- row i of each array
   pub across : {m : _} → Row_of-AnyArray m → ℕ → RowList

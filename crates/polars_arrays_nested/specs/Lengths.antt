@@ -1,4 +1,4 @@
--- How many rows any array has, its validity, and which of its rows are present.
+-- How many rows any array has, and its validity.
 use Rattle.std.specs.Prelude.{ℕ, Bool, List, Option, None, length}
 use Rattle.polars_arrays_bytes.specs.OffsetStrings.{row_count}
 use Rattle.polars_arrays_nested.specs.DictKeys.{key_count, key_validity}
@@ -56,7 +56,3 @@ validity_of (List' offsets p values validity) = validity
 validity_of (FixedSizeList' width len p values validity) = validity
 validity_of (Struct' fields len p values validity) = validity
 validity_of (Dictionary' keys p values) = key_validity keys
-
--- which rows are present, where not all are: those that the validity does not mask, whatever the entries of a dictionary are
-abbrev pub mask_of : AnyArray → Option (List Bool)
-mask_of a = validity_of a

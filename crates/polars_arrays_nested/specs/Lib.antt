@@ -10,6 +10,8 @@ pub mod KeptAlike
 pub mod Leaves
 pub mod Lengths
 pub mod ListOffsets
+pub mod MaskLaws
+pub mod Masks
 pub mod Parts
 pub mod Places
 pub mod StoredRowLaws

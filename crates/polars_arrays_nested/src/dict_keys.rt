@@ -89,7 +89,7 @@ impl DictKeys {
 
     /// Key `i` as a place among the entries, also where it is masked. A negative one, which only a masked
     /// row of an array may have, gives 0.
-    #[inline]
+    #[inline(always)]
     #[tactic(auto, using(crate::proofs::Places::places_of))]
     pub fn key(&self, i: usize) -> usize
         requires { i < key_count self.now }
@@ -135,6 +135,7 @@ impl DictKeys {
 }
 
 // Key `i` as a place, or 0 where it is negative.
+#[inline(always)]
 #[tactic(auto, using(crate::proofs::Places::places_of))]
 fn entry_of<K: DictionaryKey>(keys: &[K], i: usize) -> usize
     requires { i < length keys.now }

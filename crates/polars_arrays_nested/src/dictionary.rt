@@ -3,16 +3,17 @@
 ghost use Rattle.std.specs.Prelude.{◌≡◌, ◌<◌, ◌+◌, ◌≤◌, ℕ, true, IfOk, IfErr, refl, MatchResult};
 ghost use Rattle.std.specs.Result.{OkIff};
 ghost use Rattle.polars_arrays_bits.specs.Errors.{IsMemory};
-ghost use Rattle.polars_arrays_flat.specs.Row.{Entry};
+ghost use Rattle.polars_arrays_flat.specs.ArrayRows.{is_null};
 ghost use Rattle.polars_arrays_flat.specs.StoredRows.{kept};
 ghost use Rattle.polars_arrays_flat.specs.Validity.{is_present, masked_count};
-ghost use Rattle.polars_arrays_nested.specs.AnyRows.{row};
+ghost use Rattle.polars_arrays_nested.specs.AnyRows.{entry_row, row};
 ghost use Rattle.polars_arrays_nested.specs.Clones.{IsClone};
 ghost use Rattle.polars_arrays_nested.specs.Cuts.{IsCut};
 ghost use Rattle.polars_arrays_nested.specs.DictKeys.{key_at, key_count, key_validity};
 ghost use Rattle.polars_arrays_nested.specs.Faults.{IsKeyFault};
 ghost use Rattle.polars_arrays_nested.specs.GoodParts.{AreKeys, IsGood};
 ghost use Rattle.polars_arrays_nested.specs.Lengths.{len_of};
+ghost use Rattle.polars_arrays_nested.specs.Masks.{mask_of};
 ghost use Rattle.polars_arrays_nested.specs.Parts.{dictionary_keys, dictionary_values};
 ghost use Rattle.polars_arrays_nested.specs.StoredRows.{stored_entry, stored_entries};
 ghost use Rattle.polars_arrays_nested.specs.StoredRowLaws.{listed-present};
@@ -22,13 +23,14 @@ ghost use Rattle.polars_arrays_nested.specs.declared.dictionary.DictionaryArray.
 
 use crate::any_array::AnyArray;
 use crate::dict_keys::DictKeys;
+use crate::masks::{dictionary_mask, has_entry};
 use polars_arrays_bits::bitmap::Bitmap;
 use polars_arrays_bits::error::{ArrayError, ComputeError};
 use polars_arrays_flat::array::Array;
 use polars_arrays_flat::mask::Mask;
 use std::alloc::Global;
 
-/// Rows that name entries of another array by keys, of which a validity masks some.
+/// Rows that name entries of another array by keys, of which a validity masks some. A row whose key is present is null too where the entry is.
 #[cycle(arrays)]
 #[derive(Drop)]
 pub struct DictionaryArray {
@@ -37,7 +39,7 @@ pub struct DictionaryArray {
 }
 
 impl DictionaryArray {
-    /// An array of the entries that the keys name, null where the key is. The error is `Key` with the first
+    /// An array of the entries that the keys name, null where the key or the entry is. The error is `Key` with the first
     /// row whose key is present and negative, or not below the number of entries. A key under a null may be
     /// anything.
     #[tactic(auto, using(crate::proofs::Faults::faults))]
@@ -46,7 +48,7 @@ impl DictionaryArray {
         ensures made { OkIff result (AreKeys (len_of values.value) keys) (record { keys = keys; values = values }) }
         ensures refused { IfErr result (IsKeyFault (len_of values.value) keys) }
         ensures good { IfOk result (λ a. IsGood (Dictionary a)) }
-        ensures rows { IfOk result (λ a. (i : ℕ) → row (Dictionary a) i ≡ kept (is_present (key_validity keys) i) (Entry (row values.value (key_at keys i)))) }
+        ensures rows { IfOk result (λ a. (i : ℕ) → row (Dictionary a) i ≡ kept (is_present (key_validity keys) i) (entry_row (row values.value (key_at keys i)))) }
     {
         match keys.first_bad_key(values.len()) {
             Some(row) => Err(ArrayError::Key { row }),
@@ -70,7 +72,7 @@ impl DictionaryArray {
     }
 
     /// The number of the entry that the key of a present row names.
-    #[inline]
+    #[inline(always)]
     pub fn key_value(&self, i: usize) -> usize
         requires good { IsGood (Dictionary self.now) }
         requires within { i < key_count (dictionary_keys self.now) }
@@ -79,6 +81,16 @@ impl DictionaryArray {
         ensures entry { result < len_of (dictionary_values self.now) }
     {
         self.keys.key(i)
+    }
+
+    /// Whether row `i` is null: its key is, or the entry that it names.
+    #[tactic(auto, using(crate::proofs::Presence::rows_told))]
+    pub fn is_null_row(&self, i: usize) -> bool
+        requires good { IsGood (Dictionary self.now) }
+        requires within { i < len_of (Dictionary self.now) }
+        ensures { result ≡ is_null (row (Dictionary self.now) i) }
+    {
+        !has_entry(self, i)
     }
 
     /// Keeps `n` rows from row `at` on.
@@ -109,7 +121,7 @@ impl Array for DictionaryArray {
 
     ghost validity_bits = { λ a. key_validity (dictionary_keys a) };
 
-    ghost mask = { λ a. key_validity (dictionary_keys a) };
+    ghost mask = { λ a. mask_of (Dictionary a) };
 
     ghost nulls = { λ a. masked_count (key_validity (dictionary_keys a)) };
 
@@ -128,8 +140,8 @@ impl Array for DictionaryArray {
     }
 
     #[tactic(auto, using(crate::proofs::Lengths::lengths))]
-    fn missing_mask(&self, _alloc: Global) -> Result<Mask<'_>, ComputeError> {
-        Ok(Mask::lent(self.validity()))
+    fn missing_mask(&self, alloc: Global) -> Result<Mask<'_>, ComputeError> {
+        dictionary_mask(alloc, self)
     }
 
     #[tactic(auto, using(crate::proofs::NullCounts::nulls_counted))]

@@ -1,16 +1,215 @@
 //! Which rows of an array of any kind are present, of the whole array and of windows of it.
+//!
+//! A row is null where a validity masks it, and in a dictionary also where the entry is null that its key names. No other place says so.
 
-ghost use Rattle.std.specs.Prelude.{◌≡◌, ◌+◌, ◌≤◌, MatchResult};
+ghost use Rattle.std.specs.Prelude.{◌≡◌, ◌+◌, ◌≤◌, ◌<◌, ℕ, false, IfSome, MatchResult, length};
+ghost use Rattle.std.specs.Option.{option_copied};
 ghost use Rattle.polars_arrays_bits.specs.Errors.{IsMemory};
-ghost use Rattle.polars_arrays_flat.specs.Validity.{HasBits, validity_window};
+ghost use Rattle.polars_arrays_flat.specs.ArrayRows.{is_null};
+ghost use Rattle.polars_arrays_flat.specs.Validity.{HasBits, is_present, validity_window, window};
+ghost use Rattle.polars_arrays_nested.specs.AnyRows.{row};
+ghost use Rattle.polars_arrays_nested.specs.DictKeys.{key_count, key_validity};
 ghost use Rattle.polars_arrays_nested.specs.GoodParts.{IsGood};
-ghost use Rattle.polars_arrays_nested.specs.Lengths.{len_of, mask_of};
+ghost use Rattle.polars_arrays_nested.specs.Lengths.{len_of};
+ghost use Rattle.polars_arrays_nested.specs.Masks.{has_bits, mask_of, named_bits, names_present, presence_of};
+ghost use Rattle.polars_arrays_nested.specs.Parts.{dictionary_keys, dictionary_values};
+ghost use Rattle.polars_arrays_nested.specs.declared.any_array.AnyArray.{Dictionary};
 
 use crate::any_array::{AnyArray, each_array};
+use crate::dict_keys::DictKeys;
+use crate::dictionary::DictionaryArray;
+use polars_arrays_bits::bitmap::Bitmap;
+use polars_arrays_bits::builder::BitmapBuilder;
 use polars_arrays_bits::error::ComputeError;
+use polars_arrays_bits::packing::TruthValues;
 use polars_arrays_flat::array::Array;
 use polars_arrays_flat::mask::Mask;
 use std::alloc::Global;
+
+// Whether row `i` is there and present.
+#[inline(always)]
+fn has_row(validity: Option<&Bitmap>, i: usize) -> bool
+    ensures { result ≡ is_present (option_copied validity.entry) i }
+{
+    match validity {
+        Some(bits) => i < bits.len() && bits.get_bit(i),
+        None => true,
+    }
+}
+
+// Whether an array keeps bits that say which rows are not null: a validity, its own or that of its last entries, or nulls.
+#[tactic(auto, using(crate::proofs::Presence::entries))]
+fn keeps_bits(array: &AnyArray) -> bool
+    requires { IsGood array.now }
+    ensures { result ≡ has_bits (presence_of array.now) }
+{
+    match array {
+        AnyArray::Null(_) => true,
+        AnyArray::Dictionary(array) => {
+            keeps_bits(array.values()) || array.keys().validity().is_some()
+        }
+        _ => array.validity().is_some(),
+    }
+}
+
+// Whether row `i` is not null.
+#[tactic(auto, using(crate::proofs::Presence::entries))]
+fn is_there(array: &AnyArray, i: usize) -> bool
+    requires good { IsGood array.now }
+    requires within { i < len_of array.now }
+    ensures { result ≡ is_present (presence_of array.now) i }
+{
+    match array {
+        AnyArray::Null(_) => false,
+        AnyArray::Dictionary(array) => {
+            has_row(array.keys().validity(), i) && is_there(array.values(), array.key_value(i))
+        }
+        _ => has_row(array.validity(), i),
+    }
+}
+
+// Whether key `i` of a dictionary is present, and names an entry that is.
+#[tactic(auto, using(crate::proofs::Presence::entries))]
+pub(crate) fn has_entry(array: &DictionaryArray, i: usize) -> bool
+    requires good { IsGood (Dictionary array.now) }
+    requires within { i < len_of (Dictionary array.now) }
+    ensures { result ≡ names_present (dictionary_keys array.now) (presence_of (dictionary_values array.now)) i }
+{
+    let keys = array.keys();
+    has_row(keys.validity(), i) && is_there(array.values(), array.key_value(i))
+}
+
+// For each of `n` keys from key `at` on whether it is present, and names an entry that is.
+#[derive(Drop)]
+struct NamedEntries<'m, 'a> {
+    keys: &'m DictKeys,
+    validity: Option<&'m Bitmap>,
+    entries: &'m Mask<'a>,
+    at: usize,
+    n: usize,
+    ghost of_keys: { option_copied validity ≡ key_validity keys.now },
+    ghost within: { at + n ≤ key_count keys.now },
+}
+
+impl TruthValues for NamedEntries<'_, '_> {
+    ghost values = { λ e. window e.at e.n (named_bits e.keys.now e.entries.now) };
+
+    #[tactic(auto, using(crate::proofs::Presence::windows))]
+    #[inline]
+    fn len(&self) -> usize {
+        self.n
+    }
+
+    #[tactic(auto, using(crate::proofs::Presence::windows))]
+    #[inline]
+    fn value(&self, i: usize) -> bool {
+        // No effect at run time. The proof reads from it that the sum is a number of 64 bits.
+        let _keys = self.keys.len();
+        let row = self.at + i;
+        has_row(self.validity, row) && self.entries.is_present(self.keys.key(row))
+    }
+}
+
+// Which of `n` keys from key `at` on are present and name entries that are, each entry followed to the last one. The error is `Memory`.
+#[tactic(auto, using(crate::proofs::Presence::windows))]
+fn followed_window(
+    alloc: Global,
+    array: &DictionaryArray,
+    at: usize,
+    n: usize,
+) -> Result<Bitmap, ComputeError>
+    requires good { IsGood (Dictionary array.now) }
+    requires within { at + n ≤ len_of (Dictionary array.now) }
+    ensures { MatchResult result (λ bits. bits ≡ window at n (named_bits (dictionary_keys array.now) (presence_of (dictionary_values array.now)))) IsMemory }
+{
+    // No effect at run time. The proof reads from it that the sums are numbers of 64 bits.
+    let _rows = array.keys().len();
+    let mut bits = BitmapBuilder::with_capacity(alloc, n)?;
+    for i in 0..n {
+        bits.push_reserved(has_entry(array, at + i));
+    }
+    Ok(bits.freeze())
+}
+
+// The same, with the bits of the entries at hand where they are a validity. The error is `Memory`.
+#[tactic(auto, using(crate::proofs::Presence::windows, crate::proofs::Presence::entries))]
+fn named_window(
+    alloc: Global,
+    array: &DictionaryArray,
+    at: usize,
+    n: usize,
+) -> Result<Bitmap, ComputeError>
+    requires good { IsGood (Dictionary array.now) }
+    requires within { at + n ≤ len_of (Dictionary array.now) }
+    ensures { MatchResult result (λ bits. bits ≡ window at n (named_bits (dictionary_keys array.now) (presence_of (dictionary_values array.now)))) IsMemory }
+{
+    match array.values() {
+        AnyArray::Null(_) | AnyArray::Dictionary(_) => followed_window(alloc, array, at, n),
+        entries => {
+            let keys = array.keys();
+            let validity = keys.validity();
+            let entries = &Mask::lent(entries.validity());
+            Bitmap::from_values(
+                alloc,
+                &NamedEntries {
+                    keys,
+                    validity,
+                    entries,
+                    at,
+                    n,
+                },
+            )
+        }
+    }
+}
+
+// Which of `n` rows from row `at` on are present. The error is `Memory`.
+#[tactic(auto, using(crate::proofs::Presence::windows))]
+fn dictionary_window(
+    alloc: Global,
+    array: &DictionaryArray,
+    at: usize,
+    n: usize,
+) -> Result<Mask<'_>, ComputeError>
+    requires good { IsGood (Dictionary array.now) }
+    requires within { at + n ≤ len_of (Dictionary array.now) }
+    ensures mask { MatchResult result (λ present. present ≡ validity_window at n (mask_of (Dictionary array.now))) IsMemory }
+    ensures bits { HasBits n (validity_window at n (mask_of (Dictionary array.now))) }
+{
+    if keeps_bits(array.values()) {
+        let bits = named_window(alloc, array, at, n)?;
+        return Ok(Mask::owned(bits));
+    }
+    Ok(lent_window(array.keys().validity(), at, n))
+}
+
+// Which rows of a dictionary are present. The error is `Memory`.
+#[tactic(auto, using(crate::proofs::Presence::windows))]
+pub(crate) fn dictionary_mask(
+    alloc: Global,
+    array: &DictionaryArray,
+) -> Result<Mask<'_>, ComputeError>
+    requires { IsGood (Dictionary array.now) }
+    ensures mask { MatchResult result (λ present. present ≡ mask_of (Dictionary array.now)) IsMemory }
+    ensures bits { HasBits (len_of (Dictionary array.now)) (mask_of (Dictionary array.now)) }
+{
+    let keys = array.keys();
+    // No effect at run time. The proof reads from it that a validity has a bit for each key.
+    let _validity = keys.validity();
+    dictionary_window(alloc, array, 0, keys.len())
+}
+
+// The bits of `n` rows from row `at` on, lent.
+#[inline(always)]
+fn lent_window<'a>(validity: Option<&'a Bitmap>, at: usize, n: usize) -> Mask<'a>
+    requires { IfSome (option_copied validity) (λ bits. at + n ≤ length bits) }
+    ensures { result ≡ validity_window at n (option_copied validity.entry) }
+{
+    match validity {
+        Some(bits) => Mask::lent_window(bits, at, n),
+        None => Mask::all(),
+    }
+}
 
 impl AnyArray {
     /// Which rows are present, lent by the array or made for it. The error is `Memory`.
@@ -25,17 +224,36 @@ impl AnyArray {
 
     /// Which of the `n` rows from row `at` on are present. No more bits are made than there are such rows, so that the
     /// windows of an array cost no more than their rows. The error is `Memory`.
-    #[tactic(auto, using(crate::proofs::Windows::window_bits))]
+    #[tactic(auto, using(crate::proofs::Presence::windows))]
     #[inline(always)]
-    pub fn window_mask(&self, _alloc: Global, at: usize, n: usize) -> Result<Mask<'_>, ComputeError>
+    pub fn window_mask(&self, alloc: Global, at: usize, n: usize) -> Result<Mask<'_>, ComputeError>
         requires good { IsGood self.now }
         requires within { at + n ≤ len_of self.now }
         ensures mask { MatchResult result (λ present. present ≡ validity_window at n (mask_of self.now)) IsMemory }
         ensures bits { HasBits n (validity_window at n (mask_of self.now)) }
     {
-        match self.validity() {
-            Some(bits) => Ok(Mask::lent_window(bits, at, n)),
-            None => Ok(Mask::all()),
+        match self {
+            AnyArray::Dictionary(array) => dictionary_window(alloc, array, at, n),
+            _ => Ok(lent_window(self.validity(), at, n)),
         }
+    }
+
+    /// Whether a row may be null: where not, none is. A validity in which no bit is unset leaves it open.
+    #[tactic(auto, using(crate::proofs::Presence::rows_told))]
+    pub fn may_have_nulls(&self) -> bool
+        requires { IsGood self.now }
+        ensures { result ≡ false → (i : ℕ) → i < len_of self.now → is_null (row self.now i) ≡ false }
+    {
+        keeps_bits(self)
+    }
+
+    /// Whether row `i` is null: a validity masks it, the array is one of nulls, or it names an entry that is null.
+    #[tactic(auto, using(crate::proofs::Presence::rows_told))]
+    pub fn is_null_row(&self, i: usize) -> bool
+        requires good { IsGood self.now }
+        requires within { i < len_of self.now }
+        ensures { result ≡ is_null (row self.now i) }
+    {
+        !is_there(self, i)
     }
 }

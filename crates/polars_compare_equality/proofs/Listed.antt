@@ -9,7 +9,7 @@ use Rattle.polars_arrays_flat.specs.StoredRows.{kept}
 use Rattle.polars_arrays_flat.specs.StoredRows.{row as row_at}
 use Rattle.polars_arrays_flat.specs.Validity.{is_present}
 use Rattle.polars_arrays_nested.specs.AnyRows.{row}
-use Rattle.polars_arrays_nested.specs.Lengths.{mask_of}
+use Rattle.polars_arrays_nested.specs.Masks.{mask_of}
 use Rattle.polars_arrays_nested.specs.StoredRows.{listed}
 use Rattle.polars_arrays_nested.specs.Types.{type_of}
 use Rattle.polars_arrays_nested.specs.declared.any_array.AnyArray.{AnyArray}
@@ -26,18 +26,18 @@ from-zero i = omega arith
 listed-at : (f : ℕ → Row) (n i : ℕ) → i < n → row_at (listed f n) i ≡ f i
 listed-at f n i within = get_or-map-range_with_len f 0 n i i Null within (from-zero i)
 
--- the rows of an array are its stored ones, those that f gives, where they are present
-abbrev IsStored : AnyArray → (ℕ → Row) → Type 0
-IsStored x f = (i : ℕ) → row x i ≡ kept (is_present (mask_of x) i) (f i)
+-- the n rows of an array are its stored ones, those that f gives, where they are present
+abbrev IsStored : AnyArray → (ℕ → Row) → ℕ → Type 0
+IsStored x f n = (i : ℕ) → i < n → row x i ≡ kept (is_present (mask_of x) i) (f i)
 
 -- a present row is the stored one
-stored-at : (x : AnyArray) (f : ℕ → Row) (n i : ℕ) → IsStored x f → i < n → IsTrue (is_present (mask_of x) i) → row_at (listed f n) i ≡ row x i
+stored-at : (x : AnyArray) (f : ℕ → Row) (n i : ℕ) → IsStored x f n → i < n → IsTrue (is_present (mask_of x) i) → row_at (listed f n) i ≡ row x i
 stored-at x f n i stored within present =
-    listed-at f n i within ∙ sym (stored i ∙ ap (λ (b : Bool). kept b (f i)) present)
+    listed-at f n i within ∙ sym (stored i within ∙ ap (λ (b : Bool). kept b (f i)) present)
 
 -- bits of whole arrays of one type are raw equality
 pub equal-bits :
-    (x y : AnyArray) (f g : ℕ → Row) (k n m : ℕ) (bits : List Bool) → IsStored x f → IsStored y g → k ≡ n → n ≡ m → type_of x ≡ type_of y
+    (x y : AnyArray) (f g : ℕ → Row) (k n m : ℕ) (bits : List Bool) → IsStored x f n → IsStored y g m → k ≡ n → n ≡ m → type_of x ≡ type_of y
     → RawBits same_leaf x 0 y 0 k bits
     → RawEquality true (type_of x ≡ type_of y) (mask_of x) (mask_of y) (listed f n) (listed g m) bits
 equal-bits x y f g k n m bits left right all as_long one_type raw = record {

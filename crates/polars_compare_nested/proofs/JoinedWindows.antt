@@ -6,7 +6,9 @@ use Rattle.polars_arrays_flat.specs.Row.{Row, Int, Truth, Bytes, Rows, Fields, E
 use Rattle.polars_arrays_flat.specs.Row.{Null as Missing}
 use Rattle.polars_arrays_flat.specs.Validity.{HasBits, is_present, validity_window}
 use Rattle.polars_arrays_nested.specs.AnyRows.{row}
-use Rattle.polars_arrays_nested.specs.Lengths.{len_of, mask_of}
+use Rattle.polars_arrays_nested.specs.GoodParts.{IsGood}
+use Rattle.polars_arrays_nested.specs.Lengths.{len_of}
+use Rattle.polars_arrays_nested.specs.Masks.{mask_of}
 use Rattle.polars_arrays_nested.specs.Types.{type_of}
 use Rattle.polars_arrays_nested.specs.declared.any_array.AnyArray.{AnyArray}
 use Rattle.polars_compare_leaves.specs.Joining.{Joined, joined_bit}
@@ -51,14 +53,14 @@ joined_same agree x y raw false true left_null right_null left_there right_there
 joined_same agree x y raw false false left_null right_null left_there right_there told =
     rw (left_null refl, right_null refl) refl
 
-pub joined_windows : (agree : Row → Row → Bool) (x y : AnyArray) (a b n : ℕ) (raw bits : List Bool) → type_of x ≡ type_of y → a + n ≤ len_of x → b + n ≤ len_of y → Joined true (validity_window a n (mask_of x)) (validity_window b n (mask_of y)) raw bits → RawBits agree x a y b n raw → SameBits agree x a y b n bits
-joined_windows agree x y a b n raw bits e low low' joined told = record {
+pub joined_windows : (agree : Row → Row → Bool) (x y : AnyArray) (a b n : ℕ) (raw bits : List Bool) → IsGood x → IsGood y → type_of x ≡ type_of y → a + n ≤ len_of x → b + n ≤ len_of y → Joined true (validity_window a n (mask_of x)) (validity_window b n (mask_of y)) raw bits → RawBits agree x a y b n raw → SameBits agree x a y b n bits
+joined_windows agree x y a b n raw bits good good' e low low' joined told = record {
   size = omega (arith, joined.size, told.size);
   at_each = λ i below.
       rw (joined.at_each i (omega (arith, below, told.size)), present-window a n (mask_of x) i below, present-window b n (mask_of y) i below)
       (joined_same agree (row x (a + i)) (row y (b + i)) (get_or raw i false) (is_present (mask_of x) (a + i)) (is_present (mask_of y) (b + i))
-      (masked_null x (a + i)) (masked_null y (b + i))
-      (λ here there. present_there x y (a + i) (b + i) e (omega (arith, low, below)) here there)
-      (λ there here. present_there y x (b + i) (a + i) (sym e) (omega (arith, low', below)) there here)
+      (masked_null x (a + i) good (omega (arith, low, below))) (masked_null y (b + i) good' (omega (arith, low', below)))
+      (λ here there. present_there x y (a + i) (b + i) e good (omega (arith, low, below)) here there)
+      (λ there here. present_there y x (b + i) (a + i) (sym e) good' (omega (arith, low', below)) there here)
       (λ here there. told.at_present i below (here, there)));
 }

@@ -1,6 +1,9 @@
 -- What a test of stored leaves, place by place, tells of the rows that are present.
-use Rattle.std.proofs.Common.{◌≡◌, ◌<◌, ◌≤◌, ◌+◌, ◌∙◌, ℕ, ℤ, zero, suc, Bool, true, false, IsTrue, List, [], ◌∷◌, Option, Some, None, length, map, drop, refl, sym, ap, arith, slice_index_or}
+use Rattle.std.proofs.Common.{◌≡◌, ◌<◌, ◌≤◌, ◌+◌, ◌∙◌, ℕ, ℤ, zero, suc, Bool, true, false, IsTrue, List, [], ◌∷◌, Option, Some, None, length, map, drop, refl, sym, ap, arith, slice_get, slice_index_or}
+use Rattle.std.specs.Bool.{beq}
+use Rattle.std.specs.Ordering.{int_eq}
 use Rattle.std.specs.Simd.Lanes.{zip2}
+use Rattle.std.specs.Str.{bytes_eq}
 use Rattle.std.proofs.lemmas.Simd.{get_or-zip2}
 use Rattle.std.proofs.lemmas.List.{get_or-drop, get_or-map, get_or-take, length-drop, length-map, length-take}
 use Rattle.polars_arrays_flat.specs.ArrayRows.{number_rows, truth_rows}
@@ -11,7 +14,7 @@ use Rattle.polars_arrays_flat.specs.StoredRows.{masked, rows_under, number_slots
 use Rattle.polars_arrays_flat.specs.StoredRows.{row as row_at}
 use Rattle.polars_arrays_flat.specs.Validity.{is_present, window}
 use Rattle.polars_compare_leaves.specs.Sameness.{same_leaf, same_row}
-use Rattle.polars_compare_nested.specs.Bits.{PresentBits}
+use Rattle.polars_compare_nested.specs.Bits.{PresentBit, PresentBits}
 use Rattle.polars_compare_views.specs.Pairs.{ComparesPairs}
 
 present-masked : (bits : List Bool) (xs : List Row) (i : ℕ) → IsTrue (slice_index_or bits i false) → row_at (masked bits xs) i ≡ row_at xs i
@@ -133,3 +136,45 @@ pair-bits l r xs ys a b n bits left_in right_in pairs = record {
       rw (byte-row l xs (a + i) here.0 (omega (arith, lt, left_in)), byte-row r ys (b + i) here.1 (omega (arith, lt, right_in)))
       (pairs.at_each i lt);
 }
+
+-- the row of a stored element
+stored-at : {A : Type 0} (f : A → Row) (xs : List A) (i : ℕ) (x : A) → slice_get xs i ≡ Some x → row_at (map f xs) i ≡ f x
+stored-at f [] i x e = cc
+stored-at f (y ∷ xs) zero x e = cc
+stored-at f (y ∷ xs) (suc i) x e = stored-at f xs i x e
+
+-- a test of two stored rows
+stored-bit :
+    (l r : Option (List Bool)) (xs ys : List Row) (a b : ℕ) (bit : Bool) → bit ≡ same_leaf (row_at xs a) (row_at ys b)
+    → PresentBit same_leaf (row_at (rows_under l xs)) l a (row_at (rows_under r ys)) r b bit
+stored-bit l r xs ys a b bit e = record {
+  at_present = λ here. rw (present-row l xs a here.0, present-row r ys b here.1) e;
+}
+
+pub byte-bit :
+    (l r : Option (List Bool)) (xs ys : List (List ℕ)) (a b : ℕ) (bit : Bool) → a < length xs → b < length ys
+    → bit ≡ bytes_eq (slice_index_or xs a []) (slice_index_or ys b [])
+    → PresentBit same_leaf (row_at (rows_under l (byte_slots xs))) l a (row_at (rows_under r (byte_slots ys))) r b bit
+byte-bit l r xs ys a b bit left_in right_in e =
+    stored-bit l r (byte_slots xs) (byte_slots ys) a b bit
+    (rw (get_or-map Bytes xs a [] Null left_in, get_or-map Bytes ys b [] Null right_in) e)
+
+-- the row of an element that was read by its place
+read-at : {A : Type 0} (f : A → Row) (xs : List A) (i : ℕ) (x : A) → i < length xs → x ≡ slice_index_or xs i x → row_at (map f xs) i ≡ f x
+read-at f xs i x low e = get_or-map f xs i x Null low ∙ ap f (sym e)
+
+pub number-bit :
+    {A : Type 0} (value : A → ℤ) (l r : Numbers A) (a b : ℕ) (x y : A) (bit : Bool) → a < length l.values → b < length r.values
+    → x ≡ slice_index_or l.values a x → y ≡ slice_index_or r.values b y → bit ≡ int_eq (value x) (value y)
+    → PresentBit same_leaf (row_at (number_rows value l)) l.validity a (row_at (number_rows value r)) r.validity b bit
+number-bit value l r a b x y bit left_in right_in here there e =
+    stored-bit l.validity r.validity (number_slots value l.values) (number_slots value r.values) a b bit
+    (rw (read-at (λ x. Int (value x)) l.values a x left_in here, read-at (λ x. Int (value x)) r.values b y right_in there) e)
+
+pub truth-bit :
+    (l r : Flat Bool) (a b : ℕ) (x y bit : Bool) → slice_get l.values a ≡ Some x → slice_get r.values b ≡ Some y
+    → bit ≡ beq x y
+    → PresentBit same_leaf (row_at (truth_rows l)) l.validity a (row_at (truth_rows r)) r.validity b bit
+truth-bit l r a b x y bit here there e =
+    stored-bit l.validity r.validity (truth_slots l.values) (truth_slots r.values) a b bit
+    (rw (stored-at Truth l.values a x here, stored-at Truth r.values b y there) e)

@@ -1,7 +1,8 @@
 -- The rows of leaf arrays are leaves, and of one sort where the arrays are of one type.
-use Rattle.std.proofs.Common.{◌≡◌, ◌<◌, ◌≤◌, ◌+◌, ◌-◌, ◌∙◌, ℕ, ℤ, pos, zero, suc, Bool, true, false, IsTrue, List, [], ◌∷◌, Option, Some, None, length, map, refl, sym, ap, subst, arith, slice_index_or}
+use Rattle.std.proofs.Common.{◌≡◌, ◌<◌, ◌≤◌, ◌+◌, ◌-◌, ◌∙◌, ℕ, ℤ, pos, zero, suc, Bool, true, false, IsTrue, List, [], ◌∷◌, Option, Some, None, length, map, refl, sym, ap, subst, arith, add-zero, get_or, slice_get, slice_index_or}
 use Rattle.std.specs.List.{range_with_len}
 use Rattle.std.proofs.lemmas.List.{length-map}
+use Rattle.std.proofs.lemmas.Option.{get_or_from_slice_get}
 use Rattle.std.proofs.lemmas.List.FromFn.{length-range_with_len}
 use Rattle.polars_arrays_bytes.specs.OffsetStrings.{row_count, places, strings_between, string_between}
 use Rattle.polars_arrays_bytes.specs.SizedStrings.{sized_string}
@@ -11,7 +12,8 @@ use Rattle.polars_arrays_flat.specs.StoredRows.{masked, rows_under}
 use Rattle.polars_arrays_flat.specs.StoredRows.{row as row_at}
 use Rattle.polars_arrays_flat.specs.Validity.{is_present}
 use Rattle.polars_arrays_nested.specs.AnyRows.{row}
-use Rattle.polars_arrays_nested.specs.Lengths.{len_of, mask_of}
+use Rattle.polars_arrays_nested.specs.Lengths.{len_of}
+use Rattle.polars_arrays_nested.specs.Masks.{mask_of}
 use Rattle.polars_arrays_nested.specs.Types.{type_of}
 use Rattle.polars_arrays_nested.specs.declared.any_array.AnyArray.{AnyArray, Boolean, Int8, Int16, Int32, Int64, Int128, UInt8, UInt16, UInt32, UInt64, UInt128, Binary, LargeBinary, Utf8, LargeUtf8, BinaryView, Utf8View, FixedSizeBinary, FixedSizeList, Struct, Dictionary, List', FixedSizeList', Struct', Dictionary', roll-AnyArray, roll-out-AnyArray}
 use Rattle.polars_arrays_nested.specs.declared.any_array.AnyArray.{List as Lists, Null as Nulls}
@@ -21,7 +23,7 @@ use Rattle.polars_arrays_nested.specs.declared.list_offsets.ListOffsets.TheVaria
 use Rattle.polars_arrays_nested.specs.declared.struct_array.StructArray.{StructArray}
 use Rattle.polars_arrays_views.specs.Views.{row_bytes}
 use Rattle.polars_compare_leaves.specs.Sameness.{same}
-use Rattle.polars_compare_nested.specs.Bits.{LeafBits, RawBits}
+use Rattle.polars_compare_nested.specs.Bits.{LeafBit, LeafBits, RawBits, SamePresent}
 use Rattle.polars_compare_nested.specs.Leaf.{is_leaf}
 use Rattle.polars_compare_nested.specs.Tally.{tally}
 
@@ -142,16 +144,37 @@ same-leaves agree (Truth p) (Truth q) e low = refl
 same-leaves agree (Bytes xs) (Bytes ys) e low = refl
 same-leaves agree _ _ e low = absurd (omega arith)
 
+-- of two present leaves sameness is what `agree` says
+present_leaves : (agree : Row → Row → Bool) (x y : AnyArray) (i j : ℕ) → IsTrue (is_leaf (type_of x)) → type_of x ≡ type_of y → i < len_of x → j < len_of y → IsTrue (is_present (mask_of x) i) × IsTrue (is_present (mask_of y) j) → agree (row x i) (row y j) ≡ same agree (row x i) (row y j)
+present_leaves agree x y i j leaf one_type left_in right_in both =
+    let left = leaf-sort x i leaf both.0 left_in in
+    let right = leaf-sort y j (subst (λ k. IsTrue (is_leaf k)) one_type leaf) both.1 right_in in
+    let one_sort : row_sort (row x i) ≡ row_sort (row y j) = left ∙ ap kind_sort one_type ∙ sym right in
+    same-leaves agree (row x i) (row y j) one_sort (omega (arith, left, kind_sort-low (type_of x) leaf))
+
 -- bits of two windows of leaves say whether present rows are the same
 pub leaf_bits : (agree : Row → Row → Bool) (x y : AnyArray) (a b n : ℕ) (bits : List Bool) → IsTrue (is_leaf (type_of x)) → type_of x ≡ type_of y → a + n ≤ len_of x → b + n ≤ len_of y → LeafBits agree x a y b n bits → RawBits agree x a y b n bits
 leaf_bits agree x y a b n bits leaf one_type left_in right_in h = record {
   size = h.size;
   at_present = λ i low both.
-      let left = leaf-sort x (a + i) leaf both.0 (omega (arith, low, left_in)) in
-      let right = leaf-sort y (b + i) (subst (λ k. IsTrue (is_leaf k)) one_type leaf) both.1 (omega (arith, low, right_in)) in
-      let one_sort : row_sort (row x (a + i)) ≡ row_sort (row y (b + i)) = left ∙ ap kind_sort one_type ∙ sym right in
       h.at_present i low both
-      ∙ same-leaves agree (row x (a + i)) (row y (b + i)) one_sort (omega (arith, left, kind_sort-low (type_of x) leaf));
+      ∙ present_leaves agree x y (a + i) (b + i) leaf one_type (omega (arith, low, left_in)) (omega (arith, low, right_in)) both;
+}
+
+-- the bit of two leaves says it of them
+pub leaf_bit : (agree : Row → Row → Bool) (x y : AnyArray) (a b : ℕ) (bit : Bool) → IsTrue (is_leaf (type_of x)) → type_of x ≡ type_of y → a + 1 ≤ len_of x → b + 1 ≤ len_of y → LeafBit agree x a y b bit → SamePresent agree x a y b bit
+leaf_bit agree x y a b bit leaf one_type left_in right_in h both =
+    let here : IsTrue (is_present (mask_of x) a) = rw (add-zero a) at both.0 in
+    let there : IsTrue (is_present (mask_of y) b) = rw (add-zero b) at both.1 in
+    h.at_present (here, there)
+    ∙ present_leaves agree x y a b leaf one_type (omega (arith, left_in)) (omega (arith, right_in)) (here, there)
+
+-- the bit of a window of one leaf
+pub leaf_first : (agree : Row → Row → Bool) (x : AnyArray) (a : ℕ) (y : AnyArray) (b : ℕ) (bits : List Bool) (bit : Bool) → LeafBits agree x a y b 1 bits → slice_get bits 0 ≡ Some bit → LeafBit agree x a y b bit
+leaf_first agree x a y b bits bit h read = record {
+  at_present = λ both.
+      let at : get_or bits 0 false ≡ agree (row x (a + 0)) (row y (b + 0)) = h.at_present 0 (omega arith) (rw (add-zero a, add-zero b) both) in
+      sym (get_or_from_slice_get bits 0 bit false read) ∙ rw (add-zero a, add-zero b) at at;
 }
 
 -- a window of leaves costs a comparison a row

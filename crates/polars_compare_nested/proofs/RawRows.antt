@@ -1,5 +1,5 @@
 -- Raw bits of windows, as they grow, and as they come from those of what the rows hold.
-use Rattle.std.proofs.Common.{◌≡◌, ◌<◌, ◌≤◌, ◌+◌, ◌-◌, ◌*◌, ◌∙◌, ℕ, Bool, true, false, IsTrue, cond, List, [], ◌∷◌, ◌++◌, Some, length, length-append, get_or, refl, sym, ap, subst, arith, add-zero, inl, inr, slice_get}
+use Rattle.std.proofs.Common.{◌≡◌, ◌<◌, ◌≤◌, ◌+◌, ◌-◌, ◌*◌, ◌∙◌, ℕ, Bool, true, false, not, IsTrue, cond, List, [], ◌∷◌, ◌++◌, Some, length, length-append, get_or, refl, sym, ap, ap₂, subst, arith, add-zero, inl, inr, slice_get}
 use Rattle.std.proofs.lemmas.Bool.{cases_lt}
 use Rattle.std.proofs.lemmas.List.FromFn.{length-map-range_with_len, get_or-map-range_with_len}
 use Rattle.std.specs.List.{list_all}
@@ -8,19 +8,25 @@ use Rattle.std.proofs.Math.Nat.{mul-add, mul-one, mul-le-mul_left}
 use Rattle.std.proofs.Math.Seq.{get_or-append_seam}
 use Rattle.std.proofs.lemmas.Option.{get_or_from_slice_get}
 use Rattle.polars_arrays_bits.specs.Blocks.{blocks_all}
-use Rattle.polars_arrays_flat.specs.Row.{Row, Rows, Entry}
+use Rattle.polars_arrays_flat.specs.ArrayRows.{is_null}
+use Rattle.polars_arrays_flat.specs.Row.{Row, Null, Int, Truth, Bytes, Rows, Fields, Entry}
 use Rattle.polars_arrays_flat.specs.StoredRows.{kept}
 use Rattle.polars_arrays_flat.specs.Validity.{is_present, window}
-use Rattle.polars_arrays_nested.specs.AnyRows.{row, rows_from}
-use Rattle.polars_arrays_nested.specs.DictKeys.{key_at, key_validity}
+use Rattle.polars_arrays_nested.specs.AnyRows.{entry_row, row, rows_from}
+use Rattle.polars_arrays_nested.specs.DictKeys.{key_at, key_count, key_validity}
+use Rattle.polars_arrays_nested.specs.GoodParts.{IsGood}
+use Rattle.polars_arrays_nested.specs.MaskLaws.{dictionary-row, presence-told}
+use Rattle.polars_arrays_nested.specs.Lengths.{len_of}
+use Rattle.polars_arrays_nested.specs.Masks.{mask_of, presence_of}
 use Rattle.polars_arrays_nested.specs.Parts.{dictionary_keys, dictionary_values, fixed_validity, fixed_values, fixed_width}
 use Rattle.polars_arrays_nested.specs.Types.{type_of}
 use Rattle.polars_arrays_nested.specs.declared.any_array.AnyArray.{AnyArray, FixedSizeList, Dictionary}
+use Rattle.polars_arrays_nested.specs.declared.any_array.AnyArray.{Null as Nulls}
 use Rattle.polars_arrays_nested.specs.declared.dictionary.DictionaryArray.{DictionaryArray}
 use Rattle.polars_arrays_nested.specs.declared.fixed_size_list.FixedSizeListArray.{FixedSizeListArray}
 use Rattle.polars_compare_leaves.specs.Sameness.{same, same_rows}
 use Rattle.polars_compare_nested.specs.Bits.{AddsRawBits, RawBits, SameBits, SamePresent}
-use Rattle.polars_compare_nested.specs.Entries.{AreEntries}
+use Rattle.polars_compare_nested.specs.Entries.{AreEntries, both_present}
 use Rattle.polars_compare_nested.specs.Tally.{tally, entry_tally}
 use Rattle.polars_compare_nested.specs.declared.entries.EntryPair.{EntryPair}
 use Rattle.polars_compare_nested.proofs.WindowBits.{part_same}
@@ -104,17 +110,64 @@ fixed_bits agree l r a b n x y from at count width items bits ex ey ef ea ec ew 
           ∙ sym (both_kept agree (is_present (fixed_validity l) (a + i)) (is_present (fixed_validity r) (b + i)) (Rows (rows_from (row (fixed_values l)) (fixed_width l * (a + i)) (fixed_width l))) (Rows (rows_from (row (fixed_values r)) (fixed_width r * (b + i)) (fixed_width r))) both.0 both.1);
     }
 
--- the bit of two dictionary rows, of that of their entries
-pub entry_bit : (agree : Row → Row → Bool) (l r : DictionaryArray) (i j : ℕ) (x y : AnyArray) (pair : EntryPair) (bits : List Bool) (bit : Bool) → x ≡ dictionary_values l → y ≡ dictionary_values r → AreEntries l i r j pair → SameBits agree x pair.left y pair.right 1 bits → slice_get bits 0 ≡ Some bit → SamePresent agree (Dictionary l) i (Dictionary r) j bit
-entry_bit agree l r i j x y pair bits bit ex ey entries h read both =
-    let here : IsTrue (is_present (key_validity (dictionary_keys l)) i) = rw (add-zero i) at both.0 in
-    let there : IsTrue (is_present (key_validity (dictionary_keys r)) j) = rw (add-zero j) at both.1 in
-    let at : get_or bits 0 false ≡ same agree (row x (pair.left + 0)) (row y (pair.right + 0)) = h.at_each 0 (omega arith) in
-    let at' : get_or bits 0 false ≡ same agree (row (dictionary_values l) (key_at (dictionary_keys l) i)) (row (dictionary_values r) (key_at (dictionary_keys r) j)) =
-    rw (ex, ey, add-zero, add-zero, entries.left_is, entries.right_is) at at in
-    sym (get_or_from_slice_get bits 0 bit false read)
-    ∙ at'
-    ∙ sym (both_kept agree (is_present (key_validity (dictionary_keys l)) i) (is_present (key_validity (dictionary_keys r)) j) (Entry (row (dictionary_values l) (key_at (dictionary_keys l) i))) (Entry (row (dictionary_values r) (key_at (dictionary_keys r) j))) here there)
+-- the bit of a window of one row
+pub same_first : (agree : Row → Row → Bool) (l : AnyArray) (a : ℕ) (r : AnyArray) (b : ℕ) (bits : List Bool) (bit : Bool) → SameBits agree l a r b 1 bits → slice_get bits 0 ≡ Some bit → SamePresent agree l a r b bit
+same_first agree l a r b bits bit h read both =
+    let at : get_or bits 0 false ≡ same agree (row l (a + 0)) (row r (b + 0)) = h.at_each 0 (omega arith) in
+    sym (get_or_from_slice_get bits 0 bit false read) ∙ rw (add-zero a, add-zero b) at at
+
+entry_not_null : (here there : Bool) (x : Row) → there ≡ not (is_null (kept here (entry_row x))) → there ≡ true → true ≡ not (is_null x)
+entry_not_null true there Null told h = cc
+entry_not_null false there Null told h = cc
+entry_not_null here there (Int n) told h = refl
+entry_not_null here there (Truth b) told h = refl
+entry_not_null here there (Bytes xs) told h = refl
+entry_not_null here there (Rows xs) told h = refl
+entry_not_null here there (Fields xs) told h = refl
+entry_not_null here there (Entry x) told h = refl
+
+-- a row that is not Null is not masked
+unmasked : (x : AnyArray) (i : ℕ) → is_present (presence_of x) i ≡ true → is_present (mask_of x) i ≡ true
+unmasked (Nulls a) i h = refl
+unmasked _ i h = h
+
+-- a row of a dictionary that is present names an entry that is
+entry_there : (a : DictionaryArray) (i : ℕ) → IsGood (Dictionary a) → i < key_count (dictionary_keys a) → key_at (dictionary_keys a) i < len_of (dictionary_values a) → IsTrue (is_present (mask_of (Dictionary a)) i) → IsTrue (is_present (mask_of (dictionary_values a)) (key_at (dictionary_keys a) i))
+entry_there a i good low entry h =
+    let k = key_at (dictionary_keys a) i in
+    unmasked (dictionary_values a) k
+    (presence-told (dictionary_values a) k good.1 entry
+    ∙ sym (entry_not_null (is_present (key_validity (dictionary_keys a)) i) (is_present (mask_of (Dictionary a)) i) (row (dictionary_values a) k) (presence-told (Dictionary a) i good low) h))
+
+-- the bit of two dictionary rows is that of their entries, where these are present
+pub entry_bit : (agree : Row → Row → Bool) (l r : DictionaryArray) (i j : ℕ) (x y : AnyArray) (pair : EntryPair) (bit : Bool) → IsGood (Dictionary l) → IsGood (Dictionary r) → i < key_count (dictionary_keys l) → j < key_count (dictionary_keys r) → x ≡ dictionary_values l → y ≡ dictionary_values r → AreEntries l i r j pair → SamePresent agree x pair.left y pair.right bit → SamePresent agree (Dictionary l) i (Dictionary r) j bit
+entry_bit agree l r i j x y pair bit good good' low low' ex ey entries h both =
+    let here : IsTrue (is_present (mask_of (Dictionary l)) i) = rw (add-zero i) at both.0 in
+    let there : IsTrue (is_present (mask_of (Dictionary r)) j) = rw (add-zero j) at both.1 in
+    let k = key_at (dictionary_keys l) i in
+    let m = key_at (dictionary_keys r) j in
+    let in_left : k < len_of (dictionary_values l) = rw entries.left_is at entries.left_in in
+    let in_right : m < len_of (dictionary_values r) = rw entries.right_is at entries.right_in in
+    let told : SamePresent agree (dictionary_values l) k (dictionary_values r) m bit = rw (ex, ey, entries.left_is, entries.right_is) at h in
+    told (rw (add-zero k) (entry_there l i good low in_left here), rw (add-zero m) (entry_there r j good' low' in_right there))
+    ∙ sym (both_kept agree (is_present (mask_of (Dictionary l)) i) (is_present (mask_of (Dictionary r)) j) (Entry (row (dictionary_values l) k)) (Entry (row (dictionary_values r) m)) here there)
+    ∙ sym (ap₂ (same agree) (dictionary-row l i good low) (dictionary-row r j good' low'))
+
+key_there : (here there : Bool) (x : Row) → there ≡ not (is_null (kept here (entry_row x))) → there ≡ true → here ≡ true
+key_there true there x told h = refl
+key_there false there x told h = cc
+
+-- a row of a dictionary that is present has a present key
+present_key : (a : DictionaryArray) (i : ℕ) → IsGood (Dictionary a) → i < key_count (dictionary_keys a) → IsTrue (is_present (mask_of (Dictionary a)) i) → is_present (key_validity (dictionary_keys a)) i ≡ true
+present_key a i good low h =
+    key_there (is_present (key_validity (dictionary_keys a)) i) (is_present (mask_of (Dictionary a)) i) (row (dictionary_values a) (key_at (dictionary_keys a) i)) (presence-told (Dictionary a) i good low) h
+
+-- where a key is masked any bit may stand
+pub entry_none : (agree : Row → Row → Bool) (l r : DictionaryArray) (i j : ℕ) (bit : Bool) → IsGood (Dictionary l) → IsGood (Dictionary r) → i < key_count (dictionary_keys l) → j < key_count (dictionary_keys r) → both_present l i r j ≡ false → SamePresent agree (Dictionary l) i (Dictionary r) j bit
+entry_none agree l r i j bit good good' low low' none both =
+    let here : is_present (key_validity (dictionary_keys l)) i ≡ true = present_key l i good low (rw (add-zero i) at both.0) in
+    let there : is_present (key_validity (dictionary_keys r)) j ≡ true = present_key r j good' low' (rw (add-zero j) at both.1) in
+    absurd (let e : ⊥ = cc in e)
 
 -- two dictionary rows cost what their entries cost
 pub entry_count : (l r : DictionaryArray) (i j : ℕ) (x y : AnyArray) (pair : EntryPair) → x ≡ dictionary_values l → y ≡ dictionary_values r → AreEntries l i r j pair → tally x y pair.left pair.right 1 ≡ tally (Dictionary l) (Dictionary r) i j 1

@@ -3,7 +3,7 @@ use Rattle.std.specs.Prelude.{◌≡◌, ◌+◌, ◌<◌, ℕ, Bool, false, IsT
 use Rattle.polars_arrays_flat.specs.Row.{Row}
 use Rattle.polars_arrays_flat.specs.Validity.{is_present}
 use Rattle.polars_arrays_nested.specs.AnyRows.{row}
-use Rattle.polars_arrays_nested.specs.Lengths.{mask_of}
+use Rattle.polars_arrays_nested.specs.Masks.{mask_of}
 use Rattle.polars_arrays_nested.specs.declared.any_array.AnyArray.{AnyArray}
 use Rattle.polars_compare_leaves.specs.Sameness.{same}
 
@@ -32,6 +32,14 @@ pub record PresentBits (agree : Row → Row → Bool) (left : ℕ → Row) (left
 -- each bit of two leaf rows that are both present says whether they agree
 abbrev pub LeafBits : (Row → Row → Bool) → AnyArray → ℕ → AnyArray → ℕ → ℕ → List Bool → Type 0
 LeafBits agree left a right b n = PresentBits agree (row left) (mask_of left) a (row right) (mask_of right) b n
+
+-- Where row a of the left array and row b of the right one are both present, the bit says whether they agree; at other rows any bit may stand. `left` and `right` give a row by its place.
+pub record PresentBit (agree : Row → Row → Bool) (left : ℕ → Row) (left_mask : Option (List Bool)) (a : ℕ) (right : ℕ → Row) (right_mask : Option (List Bool)) (b : ℕ) (bit : Bool) : Type 0 where
+  pub at_present : IsTrue (is_present left_mask a) × IsTrue (is_present right_mask b) → bit ≡ agree (left a) (right b)
+
+-- the same of two leaf rows
+abbrev pub LeafBit : (Row → Row → Bool) → AnyArray → ℕ → AnyArray → ℕ → Bool → Type 0
+LeafBit agree left a right b = PresentBit agree (row left) (mask_of left) a (row right) (mask_of right) b
 
 -- bits for n rows are added to old ones; at rows that are both present they say whether these are the same
 pub record AddsRawBits (agree : Row → Row → Bool) (left : AnyArray) (a : ℕ) (right : AnyArray) (b n : ℕ) (old new : List Bool) : Type 0 where

@@ -5,10 +5,11 @@ ghost use Rattle.polars_arrays_bits.specs.Errors.{IsMemory};
 ghost use Rattle.polars_arrays_flat.specs.Row.{Row};
 ghost use Rattle.polars_arrays_nested.specs.Types.{type_of};
 ghost use Rattle.polars_compare_leaves.specs.Sameness.{same_leaf};
-ghost use Rattle.polars_compare_nested.specs.Bits.{LeafBits};
+ghost use Rattle.polars_compare_nested.specs.Bits.{LeafBit, LeafBits};
 ghost use Rattle.polars_compare_nested.specs.Leaf.{is_leaf};
 ghost use Rattle.polars_compare_nested.specs.Windows.{AreWindows};
 
+use crate::leaf_rows::leaf_rows;
 use crate::leaf_windows::leaf_windows;
 use polars_arrays_bits::bitmap::Bitmap;
 use polars_arrays_bits::error::ComputeError;
@@ -43,6 +44,28 @@ pub trait LeafKernel {
         ensures told { MatchResult result (LeafBits agree left.now a right.now b n) IsMemory }
         ensures counted { IfOk result (λ _. count self.new ≡ count self.old + n) }
         ensures kept { count self.old ≤ count self.new };
+
+    /// Whether leaf `a` of the left array and leaf `b` of the right one agree. Where a row is masked on either
+    /// side the answer means nothing. The count rises by 1. The error is `Memory`, and then the count has not
+    /// fallen. As it stands it asks for a window of one row; a kernel that needs no memory for two leaves may
+    /// answer by itself.
+    fn leaf_row_eq(
+        &mut self,
+        alloc: Global,
+        left: &AnyArray,
+        a: usize,
+        right: &AnyArray,
+        b: usize,
+    ) -> Result<bool, ComputeError>
+        requires leaves { IsTrue (is_leaf (type_of left.now)) }
+        requires windows { AreWindows left.now a right.now b 1 }
+        ensures told { MatchResult result (LeafBit agree left.now a right.now b) IsMemory }
+        ensures counted { IfOk result (λ _. count self.new ≡ count self.old + 1) }
+        ensures kept { count self.old ≤ count self.new }
+    {
+        let bits = self.leaf_eq(alloc, left, a, right, b, 1)?;
+        Ok(bits.get_bit(0))
+    }
 }
 
 impl LeafKernel for Steps {
@@ -62,5 +85,19 @@ impl LeafKernel for Steps {
         let bits = leaf_windows(alloc, left, a, right, b, n)?;
         self.add(n);
         Ok(bits)
+    }
+
+    // No memory is needed, and so there is no error.
+    #[inline(always)]
+    fn leaf_row_eq(
+        &mut self,
+        _alloc: Global,
+        left: &AnyArray,
+        a: usize,
+        right: &AnyArray,
+        b: usize,
+    ) -> Result<bool, ComputeError> {
+        self.add(1);
+        Ok(leaf_rows(left, a, right, b))
     }
 }

@@ -8,6 +8,7 @@ mod items;
 pub mod kernels;
 pub mod laws;
 pub mod leaf_kernel;
+mod leaf_rows;
 mod leaf_windows;
 mod masks;
 mod runs;

@@ -4,7 +4,7 @@
 //! Nested arrays are compared by windows of the arrays that they hold, and no array is copied. For a struct
 //! these are one window of each column; for lists of one width, one window of all their items; for lists
 //! between offsets, one window for each run of lists that match, whose items lie one after another on both
-//! sides; for a dictionary, one entry for each row. Leaves are compared by a `LeafKernel` alone.
+//! sides; for a dictionary, one pair of entries for each row. Leaves are compared by a `LeafKernel` alone.
 
 ghost use Rattle.std.specs.Prelude.{◌≡◌, ◌+◌, ◌-◌, ◌<◌, ◌≤◌, length, IfOk, MatchResult};
 ghost use Rattle.polars_arrays_bits.specs.Errors.{IsMemory};
@@ -238,9 +238,10 @@ pub fn dictionary_windows<K: LeafKernel>(
     Ok(bits.freeze())
 }
 
-// Whether the entries of two rows are the same; false where a row is masked on either side. The error is
-// `Memory`.
+// Whether the entries of two rows are the same. Where a row is masked on either side the answer means nothing.
+// The error is `Memory`.
 #[cycle(equal)]
+#[inline(always)]
 fn equal_entries<K: LeafKernel>(
     alloc: Global,
     left: &DictionaryArray,
@@ -257,9 +258,60 @@ fn equal_entries<K: LeafKernel>(
     match row_entries(left, a, right, b) {
         Some(pair) => {
             let (entries, others) = (left.values(), right.values());
-            let same = equal_windows(alloc, entries, pair.left, others, pair.right, 1, steps)?;
-            Ok(same.get_bit(0))
+            let same = raw_row(alloc, entries, pair.left, others, pair.right, steps)?;
+            Ok(same)
         }
         None => Ok(false),
+    }
+}
+
+// Whether two rows are the same, without a look at the validities of the two arrays: where a row is masked on
+// either side the answer means nothing. No bits are made for a leaf. The error is `Memory`.
+#[cycle(equal)]
+#[inline(always)]
+fn raw_row<K: LeafKernel>(
+    alloc: Global,
+    left: &AnyArray,
+    a: usize,
+    right: &AnyArray,
+    b: usize,
+    steps: &mut K,
+) -> Result<bool, ComputeError>
+    requires { AreWindows left.now a right.now b 1 }
+    ensures told { MatchResult result (λ bit. SamePresent K.agree left.now a right.now b bit) IsMemory }
+    ensures counted { IfOk result (λ _. K.count steps.new ≡ K.count steps.old + tally left.now right.now a b 1) }
+    ensures kept { K.count steps.old ≤ K.count steps.new }
+{
+    match left {
+        AnyArray::Null(_)
+        | AnyArray::List(_)
+        | AnyArray::FixedSizeList(_)
+        | AnyArray::Struct(_)
+        | AnyArray::Dictionary(_) => nested_row(alloc, left, a, right, b, steps),
+        _ => steps.leaf_row_eq(alloc, left, a, right, b),
+    }
+}
+
+// The same of any rows, of which `raw_row` answers the leaves by itself. No bits are made for an entry of a dictionary.
+#[cycle(equal)]
+fn nested_row<K: LeafKernel>(
+    alloc: Global,
+    left: &AnyArray,
+    a: usize,
+    right: &AnyArray,
+    b: usize,
+    steps: &mut K,
+) -> Result<bool, ComputeError>
+    requires { AreWindows left.now a right.now b 1 }
+    ensures told { MatchResult result (λ bit. SamePresent K.agree left.now a right.now b bit) IsMemory }
+    ensures counted { IfOk result (λ _. K.count steps.new ≡ K.count steps.old + tally left.now right.now a b 1) }
+    ensures kept { K.count steps.old ≤ K.count steps.new }
+{
+    match left {
+        AnyArray::Dictionary(left) => equal_entries(alloc, left, a, as_dictionary(right), b, steps),
+        _ => {
+            let bits = equal_windows(alloc, left, a, right, b, 1, steps)?;
+            Ok(bits.get_bit(0))
+        }
     }
 }

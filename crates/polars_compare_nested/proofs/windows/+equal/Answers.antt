@@ -4,9 +4,9 @@ use Rattle.std.proofs.lemmas.Result.{MatchResult-weaker}
 use Rattle.polars_arrays_nested.specs.Parts.{columns}
 use Rattle.polars_arrays_nested.specs.declared.any_array.AnyArray.{List, Dictionary}
 use Rattle.polars_compare_nested.proofs.Columns.{columns_tally-take, more_columns, no_columns, struct_bits, struct_count, struct_tally}
-use Rattle.polars_compare_nested.proofs.LeafSorts.{leaf_bits, leaf_case, leaf_tally}
+use Rattle.polars_compare_nested.proofs.LeafSorts.{leaf_bit, leaf_bits, leaf_case, leaf_tally}
 use Rattle.polars_compare_nested.proofs.ListRuns.{apart_bits, run_bits, run_tally}
-use Rattle.polars_compare_nested.proofs.RawRows.{adds_one, entry_bit, entry_count, fixed_bits, joined, raw_adds, raw_none}
+use Rattle.polars_compare_nested.proofs.RawRows.{adds_one, entry_bit, entry_count, entry_none, fixed_bits, joined, raw_adds, raw_none, same_first}
 use Rattle.polars_compare_nested.proofs.TallyAdds.{tally-adds}
 use Rattle.polars_compare_nested.proofs.windows.+equal.Goals as goal
 
@@ -152,7 +152,7 @@ pub equal_entries-returns-in_ok-same-in-Some-clause-told :
     goal.equal_entries-returns-in_ok-same-in-Some-clause-told
 equal_entries-returns-in_ok-same-in-Some-clause-told g t c =
     let entries = rw c.in-Some.is at c.row_entries.ensures in
-    entry_bit _ c.args.left.now c.args.right.now c.args.a c.args.b _ _ c.in-Some.pair c.in_ok-same-in-Some.same _ c.values-entries.ensures.values c.values-others.ensures.values entries c.in_ok-same-in-Some.ensures.told c.get_bit.ensures
+    entry_bit g.K.LeafKernel.agree c.args.left.now c.args.right.now c.args.a c.args.b _ _ c.in-Some.pair c.in_ok-same-in-Some.same c.requires.left_good c.requires.right_good (omega (arith, c.requires.left_in)) (omega (arith, c.requires.right_in)) c.values-entries.ensures.values c.values-others.ensures.values entries c.in_ok-same-in-Some.ensures.told
 
 pub equal_entries-returns-in_ok-same-in-Some-clause-counted :
     goal.equal_entries-returns-in_ok-same-in-Some-clause-counted
@@ -160,3 +160,34 @@ equal_entries-returns-in_ok-same-in-Some-clause-counted g t c =
     let entries = rw c.in-Some.is at c.row_entries.ensures in
     c.in_ok-same-in-Some.ensures.counted
     ∙ ap (λ (k : ℕ). g.K.LeafKernel.count c.args.steps.now + k) (entry_count c.args.left.now c.args.right.now c.args.a c.args.b _ _ c.in-Some.pair c.values-entries.ensures.values c.values-others.ensures.values entries)
+
+pub equal_entries-returns-in-None-clause-told : goal.equal_entries-returns-in-None-clause-told
+equal_entries-returns-in-None-clause-told g t c =
+    entry_none _ c.args.left.now c.args.right.now c.args.a c.args.b _ c.requires.left_good c.requires.right_good (omega (arith, c.requires.left_in)) (omega (arith, c.requires.right_in)) (rw c.in-None.is at c.row_entries.ensures)
+
+pub raw_row-leaf_row_eq-requires : goal.raw_row-leaf_row_eq-requires
+raw_row-leaf_row_eq-requires g t c = record {
+  leaves = leaf_case c.args.left.now c.in_default.not-Null c.in_default.not-List c.in_default.not-FixedSizeList c.in_default.not-Struct c.in_default.not-Dictionary;
+  windows = c.requires;
+}
+
+pub raw_row-returns-in_default : goal.raw_row-returns-in_default
+raw_row-returns-in_default g t c =
+    let leaves = leaf_case c.args.left.now c.in_default.not-Null c.in_default.not-List c.in_default.not-FixedSizeList c.in_default.not-Struct c.in_default.not-Dictionary in
+    record {
+      told =
+          MatchResult-weaker c.leaf_row_eq.result c.leaf_row_eq.ensures.told
+          (λ bit says. leaf_bit g.K.LeafKernel.agree c.args.left.now c.args.right.now c.args.a c.args.b bit leaves c.requires.one_type c.requires.left_in c.requires.right_in says)
+          (λ e memory. memory);
+      counted =
+          subst (λ (k : ℕ). IfOk c.leaf_row_eq.result (λ _. g.K.LeafKernel.count c.leaf_row_eq.new.self ≡ g.K.LeafKernel.count c.args.steps.now + k))
+          (sym (leaf_tally c.args.left.now c.args.right.now c.args.a c.args.b 1 leaves)) c.leaf_row_eq.ensures.counted;
+      kept = c.leaf_row_eq.ensures.kept;
+    }
+
+pub nested_row-returns-in_ok-bits-in_default : goal.nested_row-returns-in_ok-bits-in_default
+nested_row-returns-in_ok-bits-in_default g t c = record {
+  told = same_first g.K.LeafKernel.agree c.args.left.now c.args.a c.args.right.now c.args.b c.in_ok-bits-in_default.bits _ c.in_ok-bits-in_default.ensures.told c.get_bit.ensures;
+  counted = c.in_ok-bits-in_default.ensures.counted;
+  kept = c.in_ok-bits-in_default.ensures.kept;
+}

@@ -1,0 +1,12 @@
+use Rattle.std.proofs.Common.{arith}
+use Rattle.std.proofs.lemmas.List.{length-map}
+use Rattle.polars_arrays_views.specs.Parts.{view_strings}
+use Rattle.polars_arrays_views.specs.Views.{row_bytes}
+use Rattle.polars_compare_nested.proofs.LeafRows.{byte-bit}
+use Rattle.polars_compare_nested.proofs.leaf_rows.same_view.Goals as goal
+
+pub returns : goal.returns
+returns c =
+    let l = c.args.left.now in
+    let r = c.args.right.now in
+    byte-bit l.validity r.validity (view_strings l) (view_strings r) c.args.a c.args.b _ (omega (arith, c.requires.left_in, length-map l.views (row_bytes l.buffers))) (omega (arith, c.requires.right_in, length-map r.views (row_bytes r.buffers))) c.rows_equal.ensures.same
