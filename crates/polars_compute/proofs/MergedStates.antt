@@ -9,22 +9,22 @@ use Rattle.polars_compute.specs.StateLaws.{MergesAsAppended, MergesEitherWay, Me
 use Rattle.polars_compute_slots.specs.State.{State, any_null, appended, appended_all, finalised, holds, is_full, merged, new_state, range_of, rows_read}
 
 -- a state of its two parts
-abbrev made : List (ℤ × Bool) → Bool → State
+abbrev pub made : List (ℤ × Bool) → Bool → State
 made values has_null = record { values = values; has_null = has_null }
 
 -- the values of two states merged
-abbrev joined : List (ℤ × Bool) → List (ℤ × Bool) → List (ℤ × Bool)
+abbrev pub joined : List (ℤ × Bool) → List (ℤ × Bool) → List (ℤ × Bool)
 joined vs ws = zip2 (λ (v w : ℤ × Bool). (v.0, v.1 || w.1)) vs ws
 
 -- the values of a state joined with those that a test tells
-abbrev added : (ℤ → Bool) → List (ℤ × Bool) → List (ℤ × Bool)
+abbrev pub added : (ℤ → Bool) → List (ℤ × Bool) → List (ℤ × Bool)
 added p vs = map {B = ℤ × Bool} (λ (v : ℤ × Bool). (v.0, v.1 || p v.0)) vs
 
 -- the values alone
-abbrev names : List (ℤ × Bool) → List ℤ
+abbrev pub names : List (ℤ × Bool) → List ℤ
 names vs = map {B = ℤ} (λ (v : ℤ × Bool). v.0) vs
 
-abbrev put_first : ℤ × Bool → List (ℤ × Bool) → List (ℤ × Bool)
+abbrev pub put_first : ℤ × Bool → List (ℤ × Bool) → List (ℤ × Bool)
 put_first v vs = v ∷ vs
 
 or-comm : (a b : Bool) → (a || b) ≡ (b || a)
@@ -136,19 +136,19 @@ merges-as_appended range first more =
 
 -- ---- once all were seen
 
-and-first : (a b : Bool) → (a && b) ≡ true → a ≡ true
+pub and-first : (a b : Bool) → (a && b) ≡ true → a ≡ true
 and-first true b e = refl
 and-first false b e = e
 
-and-second : (a b : Bool) → (a && b) ≡ true → b ≡ true
+pub and-second : (a b : Bool) → (a && b) ≡ true → b ≡ true
 and-second true b e = e
 and-second false b e = cc
 
-or-seen : (a b : Bool) → a ≡ true → (a || b) ≡ a
+pub or-seen : (a b : Bool) → a ≡ true → (a || b) ≡ a
 or-seen true b e = refl
 or-seen false b e = cc
 
-abbrev all_in : List (ℤ × Bool) → Bool
+abbrev pub all_in : List (ℤ × Bool) → Bool
 all_in vs = list_all (λ (v : ℤ × Bool). v.1) vs
 
 added-seen : (p : ℤ → Bool) (vs : List (ℤ × Bool)) → all_in vs ≡ true → added p vs ≡ vs

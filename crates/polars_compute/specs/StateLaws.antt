@@ -1,8 +1,8 @@
 -- Laws of states that gather distinct values.
-use Rattle.std.specs.Prelude.{◌≡◌, ◌++◌, ℕ, ℤ, true, List, IsTrue}
+use Rattle.std.specs.Prelude.{◌≡◌, ◌++◌, ℕ, ℤ, Bool, true, List, IsTrue}
 use Rattle.polars_arrays_flat.specs.Row.{Row}
 use Rattle.polars_compute.specs.ReductionLaws.{ByRows}
-use Rattle.polars_compute_slots.specs.State.{State, all_seen, appended, appended_all, are_within, finalised, merged, new_state, range_of, rows_read}
+use Rattle.polars_compute_slots.specs.State.{State, all_seen, appended, appended_all, are_within, finalised, merged, new_state, range_of, read_by, rows_read}
 
 -- two columns that keep the same rows make the same of a state
 abbrev pub StatesByRows : Type 0
@@ -37,3 +37,13 @@ StaysWhenAppended = (put : ℤ → Row) (s : State) (rows : List Row) → IsTrue
 -- nor does a state of the same range
 abbrev pub StaysWhenMerged : Type 0
 StaysWhenMerged = (put : ℤ → Row) (s t : State) → IsTrue (all_seen s) → range_of s ≡ range_of t → finalised put (merged s t) ≡ finalised put s
+
+-- the same where some values stand for null, as keys to null entries do: once all were seen as the state is read, an array that it takes changes nothing of the answer
+abbrev pub ReadStaysWhenAppended : Type 0
+ReadStaysWhenAppended = (null : ℤ → Bool) (put : ℤ → Row) (s : State) (rows : List Row) → IsTrue (all_seen (read_by null s)) → IsTrue (are_within (range_of s) rows)
+    → finalised put (read_by null (appended rows s)) ≡ finalised put (read_by null s)
+
+-- nor does a state of the same range
+abbrev pub ReadStaysWhenMerged : Type 0
+ReadStaysWhenMerged = (null : ℤ → Bool) (put : ℤ → Row) (s t : State) → IsTrue (all_seen (read_by null s)) → range_of s ≡ range_of t
+    → finalised put (read_by null (merged s t)) ≡ finalised put (read_by null s)

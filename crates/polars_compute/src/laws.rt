@@ -5,7 +5,7 @@ ghost use Rattle.num_traits.specs.Laws.{bit_len};
 ghost use Rattle.polars_arrays_flat.specs.Row.{Bytes, Int, Truth};
 ghost use Rattle.polars_compute.specs.ArithmeticLaws.{AnswersByRows, DividesBack, NumberOnLeft, NumberOnRight, ResultsByRows};
 ghost use Rattle.polars_compute.specs.ReductionLaws.{AnyBothByRows, AnyExtremesByRows, BothByRows, CountsByRows, ExtremesByRows, ReductionsByRows, SumsByRows};
-ghost use Rattle.polars_compute.specs.StateLaws.{MergesAsAppended, MergesEitherWay, MergesInGroups, MergesWithItself, ReadsByRows, StatesByRows, StaysWhenAppended, StaysWhenMerged};
+ghost use Rattle.polars_compute.specs.StateLaws.{MergesAsAppended, MergesEitherWay, MergesInGroups, MergesWithItself, ReadStaysWhenAppended, ReadStaysWhenMerged, ReadsByRows, StatesByRows, StaysWhenAppended, StaysWhenMerged};
 ghost use Rattle.polars_compute.specs.SumLaw.{SumsJoin};
 
 use polars_compute_arithmetic::arithmetic::pl_num::PlNumArithmetic;
@@ -57,8 +57,10 @@ pub fn law_7()
 {}
 
 /// Once a state has seen all values of its range and a null, no array that it takes and no state of its range changes what it
-/// answers.
+/// answers. A state of keys has seen all as it is read, where the keys to null entries stand for null.
 pub fn law_8()
     ensures appended { StaysWhenAppended }
     ensures merged { StaysWhenMerged }
+    ensures read_appended { ReadStaysWhenAppended }
+    ensures read_merged { ReadStaysWhenMerged }
 {}

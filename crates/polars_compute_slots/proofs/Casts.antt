@@ -83,3 +83,7 @@ few-slots m n count order is few =
     let whole = pos-nat_abs (m -ℤ n +ℤ pos 1) (yes_non_neg more) in
     let count_is : pos count ≡ m -ℤ n +ℤ pos 1 = ap pos is ∙ whole in
     omega (arith, ints)
+
+-- a number between -2^64 and 2^64 is passed on as it is
+pub whole-is : (a m : ℤ) → (neg_ℤ (pos (2 ^ 64)) ≤ℤ a) × (a ≤ℤ pos (2 ^ 64)) → a ≡ m → to_z w128 (of_z w128 a) ≡ m
+whole-is a m na is = to_z-of_z w128 a (fits a (omega (arith, ints, na.0)) (omega (arith, ints, na.1))) ∙ is

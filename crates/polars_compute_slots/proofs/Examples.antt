@@ -1,8 +1,9 @@
 -- Worked examples of the definitions: the check computes both sides of each.
 use Rattle.std.specs.Prelude.{◌≡◌, pos, negsuc, true, false, [], ◌∷◌, length, refl}
+use Rattle.std.specs.Ordering.{int_eq}
 use Rattle.polars_arrays_flat.specs.Row.{Null, Int, Truth}
 use Rattle.polars_compute_slots.specs.Slots.{place, slot_of, slot_state}
-use Rattle.polars_compute_slots.specs.State.{State, all_seen, any_null, appended, appended_all, are_within, distinct, distinct_values, finalised, fullpoint, holds, is_full, is_value, is_within, merged, new_state, numbers_between, numbers_from, range_of, rows_read, set_of, truth_numbers, truth_row, whole_blocks}
+use Rattle.polars_compute_slots.specs.State.{State, all_seen, any_null, appended, appended_all, are_within, distinct, distinct_values, finalised, fullpoint, holds, is_full, is_value, is_within, merged, new_state, numbers_between, numbers_from, range_of, read_by, rows_read, set_of, truth_numbers, truth_row, whole_blocks}
 
 numbers-from : numbers_from (negsuc 1) 3 ≡ negsuc 1 ∷ negsuc 0 ∷ pos 0 ∷ []
 numbers-from = refl
@@ -105,3 +106,11 @@ slot-of-null = refl
 
 slots-seen : set_of (slot_state (negsuc 0) 3 (true ∷ false ∷ true ∷ true ∷ [])) ≡ negsuc 0 ∷ pos 1 ∷ []
 slots-seen = refl
+
+-- of the values 0 to 2, of which 0 and 2 were seen, 0 stands for null: 1 and 2 are left, 2 of them was seen, and so was a null
+read-as_null : read_by (int_eq (pos 0)) (slot_state (pos 0) 3 (true ∷ false ∷ true ∷ false ∷ [])) ≡ record { values = (pos 1, false) ∷ (pos 2, true) ∷ []; has_null = true }
+read-as_null = refl
+
+-- one that was not seen leaves the range alone
+read-unseen : read_by (int_eq (pos 1)) (slot_state (pos 0) 3 (true ∷ false ∷ true ∷ false ∷ [])) ≡ record { values = (pos 0, true) ∷ (pos 2, true) ∷ []; has_null = false }
+read-unseen = refl

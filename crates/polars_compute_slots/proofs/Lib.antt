@@ -3,6 +3,7 @@ pub mod Examples
 pub mod Fullness
 pub mod Marked
 pub mod Ranges
+pub mod ReadValues
 pub mod RowPlaces
 pub mod Sets
 pub mod States

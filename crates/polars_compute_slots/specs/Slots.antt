@@ -3,7 +3,8 @@ use Rattle.std.specs.Prelude.{◌≡◌, ◌+ℤ◌, ◌-ℤ◌, ◌≤ℤ◌, �
 use Rattle.std.specs.List.{range_with_len}
 use Rattle.polars_arrays_flat.specs.Row.{Row, Null, Int}
 use Rattle.polars_arrays_flat.specs.StoredRows.{row}
-use Rattle.polars_compute_slots.specs.State.{State, appended}
+use Rattle.polars_compute_slots.specs.State.{State, appended, set_of}
+use Rattle.polars_compute_slots.specs.declared.reading.ReadCounts.{ReadCounts}
 
 -- the state that slots are: value i of a range of n from `least` on was seen where slot i is set, and a null where slot n is
 abbrev pub slot_state : ℤ → ℕ → List Bool → State
@@ -32,6 +33,12 @@ abbrev pub HasSlot : ℤ → ℕ → Row → Type 0
 HasSlot least count (Int n) = (least ≤ℤ n) × (n <ℤ (least +ℤ pos count))
 HasSlot least count Null = ⊤
 HasSlot least count row = ⊥
+
+-- a state has so many values, so many of them were seen, and a null was or was not
+pub record IsCounted (s : State) (counts : ReadCounts) : Type 0 where
+  pub values : counts.values ≡ length s.values
+  pub seen : counts.seen ≡ length (set_of s)
+  pub has_null : counts.has_null ≡ s.has_null
 
 -- all rows are
 pub record HaveSlots (least : ℤ) (count : ℕ) (rows : List Row) : Type 0 where

@@ -1,5 +1,5 @@
 -- Distinct values: what a state is, and what rows and other states make of it.
-use Rattle.std.specs.Prelude.{◌+ℤ◌, ◌-ℤ◌, ◌≤ℤ◌, ◌<ℤ◌, ◌+◌, ◌-◌, ◌^◌, ◌*◌, ◌/◌, ◌||◌, ◌&&◌, ◌++◌, ℕ, suc, ℤ, pos, Bool, false, cond, List, [], ◌∷◌, length, map, filter, min, unsigned_abs, All, Contains}
+use Rattle.std.specs.Prelude.{◌+ℤ◌, ◌-ℤ◌, ◌≤ℤ◌, ◌<ℤ◌, ◌+◌, ◌-◌, ◌^◌, ◌*◌, ◌/◌, ◌||◌, ◌&&◌, ◌++◌, ℕ, suc, ℤ, pos, Bool, false, cond, not, List, [], ◌∷◌, length, map, filter, min, unsigned_abs, All, Contains}
 use Rattle.std.specs.List.{list_all, list_any, range_with_len}
 use Rattle.std.specs.Ordering.{int_eq}
 use Rattle.std.specs.Simd.Lanes.{zip2}
@@ -77,6 +77,15 @@ appended_all (rows ∷ more) s = appended_all more (appended rows s)
 -- two states of one range: both sets joined, and either flag
 abbrev pub merged : State → State → State
 merged s t = record { values = zip2 (λ v w. (v.0, v.1 || w.1)) s.values t.values; has_null = s.has_null || t.has_null }
+
+-- ---- what a state is read as
+
+-- a state as it is read where some values stand for null, as keys to null entries do: they leave the range and the set, and one that was seen raises the flag
+abbrev pub read_by : (ℤ → Bool) → State → State
+read_by null s = record {
+  values = filter (λ v. not (null v.0)) s.values;
+  has_null = s.has_null || list_any (λ v. v.1 && null v.0) s.values;
+}
 
 -- ---- what a state answers
 

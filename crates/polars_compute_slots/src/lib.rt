@@ -5,5 +5,6 @@ pub mod accepting;
 pub mod listing;
 pub mod marking;
 pub mod number;
+pub mod reading;
 pub mod slots;
 pub mod span;

@@ -43,7 +43,7 @@ pub fn count_rows<S: Slots>(slots: &S, count: usize) -> usize
 }
 
 // A number is pushed, where it is in the set.
-fn push_if<T: UniqueNumber>(numbers: &mut Vec<T>, in_set: bool, number: T)
+pub(crate) fn push_if<T: UniqueNumber>(numbers: &mut Vec<T>, in_set: bool, number: T)
     requires { vec_len numbers.old < vec_capacity numbers.old }
     ensures items { numbers.new.items ≡ numbers.old.items ++ cond in_set (number ∷ []) [] }
     ensures room { vec_capacity numbers.new ≡ vec_capacity numbers.old }
@@ -84,7 +84,7 @@ pub fn last_masked(alloc: Global, n: usize) -> Result<Bitmap, ComputeError>
 }
 
 // An array of numbers and a last row that is null, over a 0.
-fn with_null<T: UniqueNumber>(
+pub(crate) fn with_null<T: UniqueNumber>(
     alloc: Global,
     numbers: Vec<T>,
 ) -> Result<PrimitiveArray<T>, ComputeError>

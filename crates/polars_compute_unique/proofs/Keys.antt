@@ -1,16 +1,22 @@
 -- The keys of a finalised state name entries where those that were seen do.
-use Rattle.std.proofs.Common.{◌≡◌, ◌<◌, ◌≤◌, ◌-◌, ◌∙◌, ℕ, zero, suc, Bool, true, false, cond, List, [], ◌∷◌, length, map, get_or, pos, refl, sym, ap, subst, arith}
-use Rattle.std.specs.Prelude.{ℤ, ◌<ℤ◌, Option, Some, None, slice_index_or}
+use Rattle.std.proofs.Common.{◌≡◌, ◌<◌, ◌≤◌, ◌-◌, ◌∙◌, ℕ, zero, suc, Bool, true, false, cond, not, List, [], ◌∷◌, length, map, get_or, pos, refl, sym, ap, subst, arith}
+use Rattle.std.specs.Prelude.{ℤ, ◌<ℤ◌, Option, Some, None, All, filter, slice_index_or}
 use Rattle.std.proofs.lemmas.Bool.{cases_lt}
 use Rattle.std.proofs.lemmas.Int.{ints}
+use Rattle.std.proofs.lemmas.List.Elements.{All-cons}
 use Rattle.std.proofs.lemmas.List.{get_or-append_right, get_or_append_left, get_or-map, get_or_past, length-map}
+use Rattle.polars_arrays_bits.specs.Errors.{IsMemory}
+use Rattle.polars_arrays_bits.specs.declared.error.ComputeError.{ComputeError}
+use Rattle.polars_arrays_bits.specs.declared.error.ComputeError.TheVariants.{Memory, Unsupported, KeyOutOfRange}
 use Rattle.polars_arrays_bytes.specs.OffsetStrings.{places}
 use Rattle.polars_arrays_flat.specs.Row.{Row, Null, Int}
 use Rattle.polars_arrays_flat.specs.StoredRows.{kept, masked, number_slots, row, rows_under}
 use Rattle.polars_arrays_flat.specs.Validity.{is_present}
 use Rattle.polars_arrays_nested.specs.DictKeys.{IsEntry, NameEntries}
-use Rattle.polars_compute_slots.specs.State.{State, finalised, set_of}
-use Rattle.polars_compute_unique.specs.Dictionaries.{NamesEntries}
+use Rattle.polars_arrays_nested.specs.Lengths.{len_of}
+use Rattle.polars_arrays_nested.specs.declared.any_array.AnyArray.{AnyArray}
+use Rattle.polars_compute_slots.specs.State.{State, finalised, read_by, set_of}
+use Rattle.polars_compute_unique.specs.Dictionaries.{IsFinalFault, NamesEntries}
 use mathlib.Core.Logic.{⊎_elim}
 
 tail-null : (b : Bool) (k : ℕ) → get_or (cond b (Null ∷ []) []) k Null ≡ Null
@@ -56,3 +62,29 @@ keys-named values validity s n rows named i lt present =
     let stored : i < length (number_slots (λ (x : ℕ). pos x) values) = omega (arith, length-map values (λ (x : ℕ). Int (pos x))) in
     let is : row (finalised (λ v. Int v) s) i ≡ Int (pos (get_or values i 0)) = ap (λ (rs : List Row). row rs i) (sym rows) ∙ row-present validity (number_slots (λ (x : ℕ). pos x) values) i stored present ∙ get_or-map (λ (x : ℕ). Int (pos x)) values i 0 Null within in
     subst (IsEntry n) (sym (get_or-map (λ (x : ℕ). Some x) values i 0 None within)) (member s n i (get_or values i 0) named is)
+
+abbrev names_less : ℕ → List (ℤ × Bool) → Type 0
+names_less n vs = All (λ (key : ℤ). key <ℤ pos n) (map {B = ℤ} (λ (v : ℤ × Bool). v.0) (filter (λ (v : ℤ × Bool). v.1) vs))
+
+all-tail : (P : ℤ → Type 0) (x : ℤ) (xs : List ℤ) → All P (x ∷ xs) → All P xs
+all-tail P x xs all = λ i d low. all (suc i) d (omega (arith, low))
+
+named-one : (n : ℕ) (null : ℤ → Bool) (v : ℤ) (seen : Bool) (vs : List (ℤ × Bool)) (b : Bool) → null v ≡ b → names_less n ((v, seen) ∷ vs) → (names_less n vs → names_less n (filter (λ (w : ℤ × Bool). not (null w.0)) vs)) → names_less n (filter (λ (w : ℤ × Bool). not (null w.0)) ((v, seen) ∷ vs))
+named-one n null v false vs true is all rest = rw is (rest all)
+named-one n null v false vs false is all rest = rw is (rest all)
+named-one n null v true vs true is all rest = rw is (rest (all-tail (λ (key : ℤ). key <ℤ pos n) v _ all))
+named-one n null v true vs false is all rest = rw is (All-cons (λ (key : ℤ). key <ℤ pos n) v _ (all 0 (pos 0) (omega arith)) (rest (all-tail (λ (key : ℤ). key <ℤ pos n) v _ all)))
+
+-- keys that name entries do so too where the state is read with some of them as nulls
+named-values : (n : ℕ) (null : ℤ → Bool) (vs : List (ℤ × Bool)) → names_less n vs → names_less n (filter (λ (w : ℤ × Bool). not (null w.0)) vs)
+named-values n null [] all = all
+named-values n null ((v, seen) ∷ vs) all = named-one n null v seen vs (null v) refl all (named-values n null vs)
+
+pub read-named : (n : ℕ) (null : ℤ → Bool) (s : State) → NamesEntries n s → NamesEntries n (read_by null s)
+read-named n null s all = named-values n null s.values all
+
+-- where the keys that were seen name entries, a refused growth is the one reason to give no array
+pub memory-final : (entries : AnyArray) (s : State) → NamesEntries (len_of entries) s → (e : ComputeError) → IsMemory e → IsFinalFault (Some entries) s e
+memory-final entries s named (Memory e) is = named
+memory-final entries s named Unsupported is = absurd is
+memory-final entries s named (KeyOutOfRange key len) is = absurd is

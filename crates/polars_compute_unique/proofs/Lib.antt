@@ -1,4 +1,6 @@
+pub mod Counted
 pub mod Examples
 pub mod Keys
 pub mod Merges
+pub mod NullKeys
 pub mod TruthCounts

@@ -1,9 +1,10 @@
 -- States whose values are the keys of a dictionary.
-use Rattle.std.specs.Prelude.{◌≡◌, ◌<ℤ◌, ◌≤◌, ℕ, pos, Bool, true, false, List, [], Option, Some, None, All, Contains, ⊤}
+use Rattle.std.specs.Prelude.{◌≡◌, ◌<ℤ◌, ◌≤◌, ◌&&◌, ℕ, ℤ, ltb, pos, negsuc, Bool, true, false, List, [], Option, Some, None, All, Contains, ⊤}
 use Rattle.polars_arrays_bits.specs.declared.error.ComputeError.{ComputeError}
 use Rattle.polars_arrays_bits.specs.declared.error.ComputeError.TheVariants.{Memory, KeyOutOfRange}
-use Rattle.polars_arrays_flat.specs.ArrayRows.{number_rows}
+use Rattle.polars_arrays_flat.specs.ArrayRows.{is_null, number_rows}
 use Rattle.polars_arrays_flat.specs.Row.{Row}
+use Rattle.polars_arrays_nested.specs.AnyRows.{row}
 use Rattle.polars_arrays_nested.specs.Lengths.{len_of}
 use Rattle.polars_arrays_nested.specs.declared.any_array.AnyArray.{AnyArray}
 use Rattle.polars_arrays_nested.specs.declared.dict_keys.DictKeys.{DictKeys}
@@ -19,6 +20,11 @@ key_rows keys = []
 abbrev pub are_u32 : DictKeys → Bool
 are_u32 (UInt32 keys) = true
 are_u32 keys = false
+
+-- whether a key names an entry that is null; one without an entry names none
+abbrev pub names_null : AnyArray → ℤ → Bool
+names_null entries (pos key) = ltb key (len_of entries) && is_null (row entries key)
+names_null entries (negsuc n) = false
 
 -- each key that was seen names one of n entries
 abbrev pub NamesEntries : ℕ → State → Type 0

@@ -140,6 +140,8 @@ impl RangedUniqueKernel for BooleanUniqueKernelState {
 
     ghost state = { λ s. s };
 
+    ghost read = { λ s. s };
+
     ghost dictionary = { λ s. None };
 
     ghost fed = { truth_rows };

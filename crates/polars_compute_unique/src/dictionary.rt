@@ -1,7 +1,7 @@
 //! States of the keys of dictionaries.
 
 ghost use Rattle.std.specs.Borrow.{sem};
-ghost use Rattle.std.specs.Prelude.{◌≡◌, ◌↔◌, ◌≤◌, ◌^◌, pos, IfOk, IsOk, IsTrue, MatchResult, Some};
+ghost use Rattle.std.specs.Prelude.{◌≡◌, ◌↔◌, ◌+◌, ◌<◌, ◌≤◌, ◌^◌, pos, IfOk, IsOk, IsTrue, MatchResult, Some};
 ghost use Rattle.polars_arrays_bits.specs.Errors.{IsMemory};
 ghost use Rattle.polars_arrays_flat.specs.ArrayRows.{number_rows};
 ghost use Rattle.polars_arrays_flat.specs.Row.{Int};
@@ -9,8 +9,9 @@ ghost use Rattle.polars_arrays_nested.specs.GoodParts.{AreKeys, IsGood};
 ghost use Rattle.polars_arrays_nested.specs.Lengths.{len_of};
 ghost use Rattle.polars_arrays_nested.specs.Parts.{dictionary_keys, dictionary_values};
 ghost use Rattle.polars_arrays_nested.specs.declared.any_array.AnyArray.{Dictionary};
-ghost use Rattle.polars_compute_slots.specs.State.{finalised, new_state, numbers_from};
-ghost use Rattle.polars_compute_unique.specs.Dictionaries.{IsFinalFault, IsMissingKey, NamesEntries};
+ghost use Rattle.polars_compute_slots.specs.Slots.{IsCounted};
+ghost use Rattle.polars_compute_slots.specs.State.{finalised, new_state, numbers_from, read_by};
+ghost use Rattle.polars_compute_unique.specs.Dictionaries.{IsFinalFault, IsMissingKey, NamesEntries, names_null};
 
 use crate::kernel::RangedUniqueKernel;
 use crate::primitive::PrimitiveRangedUniqueState;
@@ -19,13 +20,15 @@ use polars_arrays_flat::primitive::PrimitiveArray;
 use polars_arrays_nested::any_array::AnyArray;
 use polars_arrays_nested::dict_keys::DictKeys;
 use polars_arrays_nested::dictionary::DictionaryArray;
+use polars_compute_slots::reading::{NullValues, ReadCounts};
 use std::alloc::Global;
 use std::marker::Model;
 
 // How many entries keys of type `u32` can name.
 const MOST_ENTRIES: usize = 1 << 32;
 
-/// A state of the keys that name the entries of a dictionary. Only keys are read and counted: two equal entries count twice.
+/// A state of the keys that name the entries of a dictionary. Only keys are gathered: two equal entries count twice. A key that names a
+/// null entry is gathered as any other, and stands for null where the state is asked what it has seen.
 #[derive(Drop)]
 pub struct DictionaryRangedUniqueState {
     keys: PrimitiveRangedUniqueState<u32>,
@@ -94,6 +97,14 @@ impl DictionaryRangedUniqueState {
     {
         &mut self.keys
     }
+
+    // What has been seen, where the keys to null entries stand for null.
+    fn read_counts(&self) -> ReadCounts
+        ensures counted { IsCounted (read_by (names_null self.now.entries) self.now.keys) result }
+        ensures few { result.seen + 1 < 2 ^ 64 }
+    {
+        self.keys.read_counts(&EntryNulls::of(&self.entries))
+    }
 }
 
 // A value in a box. The error is `Memory`.
@@ -149,17 +160,55 @@ fn name_entries(keys: &PrimitiveRangedUniqueState<u32>, len: usize) -> Result<()
     }
 }
 
+// Which keys name null entries.
+#[derive(Drop)]
+struct EntryNulls<'a> {
+    entries: &'a AnyArray,
+}
+
+impl<'a> EntryNulls<'a> {
+    fn of(entries: &'a AnyArray) -> EntryNulls<'a>
+        ensures { result.entries.now ≡ entries.now }
+    {
+        EntryNulls { entries }
+    }
+}
+
+impl NullValues for EntryNulls<'_> {
+    ghost use Rattle.polars_arrays_nested.specs.GoodParts.{IsGood};
+    ghost use Rattle.polars_compute_unique.specs.Dictionaries.{names_null};
+
+    ghost good = { λ n. IsGood n.entries.now };
+
+    ghost is_null = { λ n. names_null n.entries.now };
+
+    #[tactic(auto, using(crate::proofs::NullKeys::null_keys))]
+    fn may_be_null(&self) -> bool {
+        self.entries.may_have_nulls()
+    }
+
+    #[tactic(auto, using(crate::proofs::NullKeys::null_keys))]
+    fn stands_for_null(&self, value: i128) -> bool {
+        let len = self.entries.len();
+        match usize::try_from(value) {
+            Ok(key) => key < len && self.entries.is_null_row(key),
+            Err(_) => false,
+        }
+    }
+}
+
 // The keys that were seen, ascending, and a null last, if there was one. The error is that of `finalize_unique`.
 fn named_keys(
     alloc: Global,
     keys: PrimitiveRangedUniqueState<u32>,
     entries: &AnyArray,
 ) -> Result<PrimitiveArray<u32>, ComputeError>
-    ensures rows { MatchResult result (λ array. number_rows (λ x. pos x) array ≡ finalised (λ v. Int v) keys) (IsFinalFault (Some entries.now) keys) }
+    requires good { IsGood entries.now }
+    ensures rows { MatchResult result (λ array. number_rows (λ x. pos x) array ≡ finalised (λ v. Int v) (read_by (names_null entries.now) keys)) (IsFinalFault (Some entries.now) keys) }
     ensures entries { IfOk result (λ _. NamesEntries (len_of entries.now) keys) }
 {
     name_entries(&keys, entries.len())?;
-    let array = keys.finalize_unique(alloc)?;
+    let array = keys.list_read(alloc, &EntryNulls::of(entries))?;
     Ok(array)
 }
 
@@ -167,11 +216,14 @@ impl RangedUniqueKernel for DictionaryRangedUniqueState {
     ghost use Rattle.std.specs.Prelude.{Some};
     ghost use Rattle.polars_arrays_flat.specs.Row.{Int};
     ghost use Rattle.polars_arrays_nested.specs.Parts.{dictionary_keys, dictionary_values};
-    ghost use Rattle.polars_compute_unique.specs.Dictionaries.{are_u32, key_rows};
+    ghost use Rattle.polars_compute_slots.specs.State.{read_by};
+    ghost use Rattle.polars_compute_unique.specs.Dictionaries.{are_u32, key_rows, names_null};
 
     type Array = DictionaryArray;
 
     ghost state = { λ s. s.keys };
+
+    ghost read = { λ s. read_by (names_null s.entries) s.keys };
 
     ghost dictionary = { λ s. Some s.entries };
 
@@ -184,7 +236,8 @@ impl RangedUniqueKernel for DictionaryRangedUniqueState {
     ghost value_row = { λ v. Int v };
 
     fn has_seen_all(&self) -> bool {
-        self.keys.has_seen_all()
+        let counts = self.read_counts();
+        counts.seen == counts.values && counts.has_null
     }
 
     fn accepts(&self, array: &DictionaryArray) -> bool {
@@ -221,10 +274,11 @@ impl RangedUniqueKernel for DictionaryRangedUniqueState {
     }
 
     fn finalize_n_unique(&self) -> usize {
-        self.keys.finalize_n_unique()
+        let counts = self.read_counts();
+        counts.seen + usize::from(counts.has_null)
     }
 
     fn finalize_n_unique_non_null(&self) -> usize {
-        self.keys.finalize_n_unique_non_null()
+        self.read_counts().seen
     }
 }

@@ -22,6 +22,9 @@ pub trait RangedUniqueKernel {
     // The range, the set of its values that were seen, and whether a null was.
     ghost state: { Self → State };
 
+    // The state as its own dictionary reads it, where the values are keys: one that names a null entry stands for null.
+    ghost read: { Self → State };
+
     // The dictionary whose keys the values are, where they are keys.
     ghost dictionary: { Self → Option AnyArray };
 
@@ -37,9 +40,9 @@ pub trait RangedUniqueKernel {
     // The row that a value of the range is.
     ghost value_row: { ℤ → Row };
 
-    /// Whether all values of the range were seen, and a null.
+    /// Whether all values of the range were seen, and a null. Of a dictionary's keys those that name null entries stand for null.
     fn has_seen_all(&self) -> bool
-        ensures { result ≡ all_seen (state self.now) };
+        ensures { result ≡ all_seen (read self.now) };
 
     /// Whether the state takes the array: each present row is in the range, and a dictionary has keys of type `u32`.
     fn accepts(&self, array: &Self::Array) -> bool
@@ -65,18 +68,18 @@ pub trait RangedUniqueKernel {
     /// The set, ascending, and a null last, if there was one. The error is `KeyOutOfRange`, with the least key that was seen and has no
     /// entry in the dictionary and the number of entries, or else `Memory`.
     fn finalize_unique(self, alloc: Global) -> Result<Self::Array, ComputeError>
-        ensures rows { MatchResult result (λ array. fed array ≡ finalised value_row (state self)) (IsFinalFault (dictionary self) (state self)) }
+        ensures rows { MatchResult result (λ array. fed array ≡ finalised value_row (read self)) (IsFinalFault (dictionary self) (state self)) }
         ensures entries { IfOk result (λ array. HasEntries (dictionary self) (state self)) }
         ensures dictionary { IfOk result (λ array. array_dictionary array ≡ dictionary self) }
         ensures good { IfOk result (λ array. Self.Array.good array) };
 
     /// How many rows `finalize_unique` gives, or would give.
     fn finalize_n_unique(&self) -> usize
-        ensures { result ≡ length (finalised value_row (state self.now)) };
+        ensures { result ≡ length (finalised value_row (read self.now)) };
 
     /// How many of them are present.
     fn finalize_n_unique_non_null(&self) -> usize
-        ensures { result ≡ length (set_of (state self.now)) };
+        ensures { result ≡ length (set_of (read self.now)) };
 }
 
 /// The distinct rows of one array, as a state to which it alone is appended gives them.

@@ -1,10 +1,12 @@
 //! States of numbers in a range.
 
-ghost use Rattle.std.specs.Prelude.{◌≡◌, ◌↔◌, ◌+◌, ◌≤◌, ◌||◌, ◌+ℤ◌, ◌-ℤ◌, ◌<ℤ◌, ◌≤ℤ◌, [], pos, true, false, IsOk, IsTrue, nat_le, MatchOption, MatchResult, All, None, length, replicate};
+ghost use Rattle.std.specs.Prelude.{◌≡◌, ◌↔◌, ◌+◌, ◌<◌, ◌≤◌, ◌^◌, ◌||◌, ◌+ℤ◌, ◌-ℤ◌, ◌<ℤ◌, ◌≤ℤ◌, [], pos, true, false, IsOk, IsTrue, nat_le, MatchOption, MatchResult, All, None, length, replicate};
 ghost use Rattle.std.specs.Simd.Lanes.{zip2};
 ghost use Rattle.polars_arrays_bits.specs.Errors.{IsMemory};
 ghost use Rattle.polars_arrays_flat.specs.ArrayRows.{number_rows};
-ghost use Rattle.polars_compute_slots.specs.State.{IsLeastFrom, RangeFits, appended, are_within, new_state, numbers_between, range_of, rows_read, set_of};
+ghost use Rattle.polars_arrays_flat.specs.Row.{Int};
+ghost use Rattle.polars_compute_slots.specs.Slots.{IsCounted};
+ghost use Rattle.polars_compute_slots.specs.State.{IsLeastFrom, RangeFits, appended, are_within, finalised, new_state, numbers_between, range_of, read_by, rows_read, set_of};
 ghost use Rattle.polars_compute_unique.specs.Seen.{in_word, seen_slots};
 
 use crate::kernel::RangedUniqueKernel;
@@ -16,6 +18,7 @@ use polars_compute_slots::accepting::accepts_rows;
 use polars_compute_slots::listing::{all_set, count_rows, count_set, least_from, list_set};
 use polars_compute_slots::marking::mark_rows;
 use polars_compute_slots::number::UniqueNumber;
+use polars_compute_slots::reading::{NullValues, ReadCounts, list_read, read_counts};
 use polars_compute_slots::slots::{Slots, WORD_SLOTS, WordSlots};
 use polars_compute_slots::span::{Span, range_fits as span_fits};
 use std::alloc::Global;
@@ -128,6 +131,34 @@ impl<T: UniqueNumber> PrimitiveRangedUniqueState<T> {
         }
     }
 
+    // What the state has where some values stand for null.
+    pub(crate) fn read_counts<N: NullValues>(&self, nulls: &N) -> ReadCounts
+        requires { N.good nulls.now }
+        ensures counted { IsCounted (read_by (N.is_null nulls.now) self.now) result }
+        ensures few { result.seen + 1 < 2 ^ 64 }
+    {
+        match &self.seen {
+            Seen::Few(slots) => read_counts(slots, &self.span, nulls),
+            Seen::Many(slots) => read_counts(slots, &self.span, nulls),
+        }
+    }
+
+    // The numbers that were seen, ascending, and a null last, if there was one, where some values stand for null. The error is
+    // `Memory`.
+    pub(crate) fn list_read<N: NullValues>(
+        &self,
+        alloc: Global,
+        nulls: &N,
+    ) -> Result<PrimitiveArray<T>, ComputeError>
+        requires { N.good nulls.now }
+        ensures { MatchResult result (λ array. number_rows T.value array ≡ finalised Int (read_by (N.is_null nulls.now) self.now)) IsMemory }
+    {
+        match &self.seen {
+            Seen::Few(slots) => list_read(alloc, slots, &self.span, nulls),
+            Seen::Many(slots) => list_read(alloc, slots, &self.span, nulls),
+        }
+    }
+
     // The least number from a bound on that was seen.
     pub(crate) fn least_from(&self, bound: i128) -> Option<T>
         ensures { MatchOption result (All (λ v. v <ℤ bound) (set_of self.now)) (λ x. IsLeastFrom bound (set_of self.now) (T.value x)) }
@@ -147,6 +178,8 @@ impl<T: UniqueNumber> RangedUniqueKernel for PrimitiveRangedUniqueState<T> {
     type Array = PrimitiveArray<T>;
 
     ghost state = { λ s. s };
+
+    ghost read = { λ s. s };
 
     ghost dictionary = { λ s. None };
 

@@ -1,0 +1,151 @@
+//! What slots hold where some values of the range stand for null, as the keys to null entries of a dictionary do.
+
+ghost use Rattle.std.specs.Prelude.{◌≡◌, ◌+◌, ◌<◌, ◌≤◌, ◌^◌, ◌&&◌, ◌||◌, ℤ, Bool, false, cond, not, length, map, vec_len, vec_capacity, IfOk, MatchResult};
+ghost use Rattle.polars_arrays_bits.specs.Errors.{IsMemory};
+ghost use Rattle.polars_arrays_flat.specs.ArrayRows.{number_rows};
+ghost use Rattle.polars_arrays_flat.specs.Row.{Int};
+ghost use Rattle.polars_arrays_flat.specs.StoredRows.{number_slots};
+ghost use Rattle.polars_compute_slots.specs.Slots.{AreNumbers, IsCounted, slot_state};
+ghost use Rattle.polars_compute_slots.specs.State.{finalised, read_by, set_of};
+
+use crate::listing::{list_set, push_if, with_null};
+use crate::number::UniqueNumber;
+use crate::slots::Slots;
+use crate::span::Span;
+use polars_arrays_bits::error::ComputeError;
+use polars_arrays_flat::primitive::PrimitiveArray;
+use std::alloc::{AllocError, Global};
+
+/// Which values of a range stand for null.
+pub trait NullValues {
+    // What is asked of it.
+    ghost good: { Self → Type 0 };
+
+    // Whether a value stands for null.
+    ghost is_null: { Self → ℤ → Bool };
+
+    /// Whether a value may stand for null: where not, none does.
+    fn may_be_null(&self) -> bool
+        requires { good self.now }
+        ensures { result ≡ false → (value : ℤ) → is_null self.now value ≡ false };
+
+    /// Whether a value stands for null.
+    fn stands_for_null(&self, value: i128) -> bool
+        requires { good self.now }
+        ensures { result ≡ is_null self.now value };
+}
+
+/// How many values a state has as it is read, how many of them were seen, and whether a null was.
+#[derive(Clone, Copy, Drop)]
+pub struct ReadCounts {
+    pub values: usize,
+    pub seen: usize,
+    pub has_null: bool,
+}
+
+impl ReadCounts {
+    // A value more, of which it is known whether it stands for null and whether it was seen.
+    fn add(&mut self, is_null: bool, is_seen: bool)
+        requires values { self.old.values + 1 < 2 ^ 64 }
+        requires seen { self.old.seen + 1 < 2 ^ 64 }
+        ensures values { self.new.values ≡ self.old.values + cond (not is_null) 1 0 }
+        ensures seen { self.new.seen ≡ self.old.seen + cond (is_seen && not is_null) 1 0 }
+        ensures has_null { self.new.has_null ≡ (self.old.has_null || (is_seen && is_null)) }
+    {
+        self.values += usize::from(!is_null);
+        self.seen += usize::from(is_seen & !is_null);
+        self.has_null |= is_seen & is_null;
+    }
+}
+
+// What slots hold where no value stands for null.
+fn whole_counts<S: Slots>(slots: &S, count: usize) -> ReadCounts
+    requires { length (S.set_slots slots.now) ≡ count + 1 }
+    ensures counted { (least : ℤ) → IsCounted (slot_state least count (S.set_slots slots.now)) result }
+    ensures few { result.seen ≤ count }
+{
+    ReadCounts {
+        values: count,
+        seen: slots.count_values(count),
+        has_null: slots.is_set(count),
+    }
+}
+
+/// What a state has as it is read.
+pub fn read_counts<T: UniqueNumber, S: Slots, N: NullValues>(
+    slots: &S,
+    span: &Span<T>,
+    nulls: &N,
+) -> ReadCounts
+    requires good { N.good nulls.now }
+    requires size { length (S.set_slots slots.now) ≡ span.now.count + 1 }
+    requires numbers { AreNumbers T.low T.high (T.value span.now.least) span.now.count }
+    ensures counted { IsCounted (read_by (N.is_null nulls.now) (slot_state (T.value span.now.least) span.now.count (S.set_slots slots.now))) result }
+    ensures few { result.seen + 1 < 2 ^ 64 }
+{
+    if !nulls.may_be_null() {
+        return whole_counts(slots, span.count);
+    }
+    let mut counts = ReadCounts {
+        values: 0,
+        seen: 0,
+        has_null: slots.is_set(span.count),
+    };
+    for i in 0..span.count {
+        let is_null = nulls.stands_for_null(span.number(i).whole());
+        let is_seen = slots.is_set(i);
+        counts.add(is_null, is_seen);
+    }
+    counts
+}
+
+// The values that were seen and do not stand for null, ascending, with room for one more.
+fn list_values<T: UniqueNumber, S: Slots, N: NullValues>(
+    alloc: Global,
+    slots: &S,
+    span: &Span<T>,
+    nulls: &N,
+    room: usize,
+) -> Result<Vec<T>, AllocError>
+    requires good { N.good nulls.now }
+    requires size { length (S.set_slots slots.now) ≡ span.now.count + 1 }
+    requires numbers { AreNumbers T.low T.high (T.value span.now.least) span.now.count }
+    requires room { length (set_of (read_by (N.is_null nulls.now) (slot_state (T.value span.now.least) span.now.count (S.set_slots slots.now)))) < room }
+    ensures numbers { IfOk result (λ numbers. number_slots T.value numbers.items ≡ map Int (set_of (read_by (N.is_null nulls.now) (slot_state (T.value span.now.least) span.now.count (S.set_slots slots.now))))) }
+    ensures room { IfOk result (λ numbers. vec_len numbers < vec_capacity numbers) }
+{
+    let mut numbers = Vec::with_capacity(alloc, room)?;
+    for i in 0..span.count {
+        let number = span.number(i);
+        let is_null = nulls.stands_for_null(number.whole());
+        let is_seen = slots.is_set(i);
+        push_if(&mut numbers, is_seen & !is_null, number);
+    }
+    Ok(numbers)
+}
+
+/// The values that were seen and do not stand for null, ascending, and a null where one was seen or a value that stands for one.
+/// The error is `Memory`.
+pub fn list_read<T: UniqueNumber, S: Slots, N: NullValues>(
+    alloc: Global,
+    slots: &S,
+    span: &Span<T>,
+    nulls: &N,
+) -> Result<PrimitiveArray<T>, ComputeError>
+    requires good { N.good nulls.now }
+    requires size { length (S.set_slots slots.now) ≡ span.now.count + 1 }
+    requires numbers { AreNumbers T.low T.high (T.value span.now.least) span.now.count }
+    ensures { MatchResult result (λ array. number_rows T.value array ≡ finalised Int (read_by (N.is_null nulls.now) (slot_state (T.value span.now.least) span.now.count (S.set_slots slots.now)))) IsMemory }
+{
+    if !nulls.may_be_null() {
+        return list_set(alloc, slots, span);
+    }
+    let counts = read_counts(slots, span, nulls);
+    let numbers = list_values(alloc, slots, span, nulls, counts.seen + 1)?;
+    if counts.has_null {
+        let array = with_null(alloc, numbers)?;
+        Ok(array)
+    } else {
+        Ok(PrimitiveArray::from_vec(numbers))
+    }
+}
