@@ -16,7 +16,7 @@ first, then of the next one beside it, and at last that of the whole. Of one arr
 4. View i is not good: a row of at most 12 bytes stands in the view, with zeros behind it; a longer one stands in the
    buffer of that number, from the offset on and whole, and its first four bytes stand in the view too.
 5. Row i is not UTF-8, of texts: the bytes of that row by themselves.
-6. Key i is out of range: a key of a present row is negative, or not less than the number of entries.
+6. Key i is out of range: a key that no validity masks is negative, or not less than the number of entries.
 
 All of these but the last are asked of null rows too. Row i is always the first such row.
 """
@@ -140,6 +140,7 @@ class Array:
         return [self.row(i) for i in range(self.n)]
 
     def nulls(self):
+        """How many rows a validity masks; of dictionaries, how many keys."""
         return 0 if self.present is None else self.present[self.at : self.at + self.n].count("0")
 
     def slots(self, _at, n):
@@ -236,12 +237,15 @@ class Structs(Array):
 
 
 class Dictionary(Array):
+    """A row whose key names a null entry is null; its key is present all the same."""
+
     def __init__(self, kind, keys, entries, present):
         super().__init__(f"dict({kind} {entries.dtype})", len(keys), present)
         self.keys, self.entries = keys, entries
 
     def stored(self, i):
-        return "<" + self.entries.row(self.keys[i]) + ">"
+        row = self.entries.row(self.keys[i])
+        return row if row == "null" else f"<{row}>"
 
     def places(self, at, n):
         return [self.entries.at + self.keys[i] for i in range(at, at + n) if not self.is_null(i)]

@@ -8,9 +8,9 @@ among them such whose product with the length wraps. Some hundreds go to the pro
 of the same words what they make, and of each is asked:
 
 - whether the parts make an array, and else for which fault and row they don't;
-- of an array its rows; that it equals a copy or itself in every row, and the good array in the rows that are the same,
-  in at most as many comparisons as it has leaf slots; and how many these are. Of one with very many rows (of nulls, or
-  of strings and lists of width 0) only how many, and how many are null.
+- of an array its rows, and of one row whether it is null; that it equals a copy or itself in every row, and the good
+  array in the rows that are the same, in at most as many comparisons as it has leaf slots; and how many these are. Of
+  one with very many rows (of nulls, or of strings and lists of width 0) only how many, and how many a validity masks.
 
 Some cases make structs of fields and columns that need not fit (`struct_try_new`). Beside these every 50th text has its
 words dropped, exchanged or replaced, or its bytes changed, and goes to the program in a run of its own, behind a good
@@ -78,6 +78,10 @@ def questions(chance, array, good):
         name = "b"
     slots = array.all_slots()
     asked += [equality(array, array, f"a {name}"), (f"leaves a {name}", f"leaves a {name} -> {slots} {slots}".encode())]
+    if array.n > 0:
+        i = slots % array.n
+        question = f"is_null_row a {i}"
+        asked.append((question, f"{question} -> {'true' if array.row(i) == 'null' else 'false'}".encode()))
     return asked
 
 
@@ -89,7 +93,7 @@ def array_case(chance, words, good=None, heading="# array"):
         return Case([heading, line], [heading.encode(), f"a = refused: {fault}".encode()], kind_of_fault(fault))
     asked = questions(chance, array, good)
     printed = [heading.encode(), *(answer for _, answer in asked if answer is not None)]
-    counted = "accepted, and compared with the good array" if len(asked) > 4 else "accepted"
+    counted = "accepted, and compared with the good array" if len(asked) > 5 else "accepted"
     return Case([heading, line, *(question for question, _ in asked)], printed, counted)
 
 

@@ -1,4 +1,4 @@
-//! The recorded cases of arrays: what is made of parts, sliced, copied and shared, what arrays lend, and types.
+//! The recorded cases of arrays: what is made of parts, sliced, copied and shared, what arrays lend, which rows are null, and types.
 #![tactic(auto)]
 
 ghost use Rattle.recorded_text.specs.Cases.{HasGoodArrays};
@@ -6,6 +6,7 @@ ghost use Rattle.recorded_text.specs.Cases.{HasGoodArrays};
 mod arrays;
 mod kinds;
 mod lent;
+mod null_rows;
 mod number_arrays;
 mod string_arrays;
 mod structs;
@@ -38,6 +39,7 @@ pub fn answer(
     first_answer!(
         arrays::answer(alloc, call, store, words),
         lent::answer(alloc, call, store, words),
+        null_rows::answer(alloc, call, store, words),
         number_arrays::answer(alloc, call, store, words),
         string_arrays::answer(alloc, call, store, words),
         structs::answer(alloc, call, store, words),

@@ -8,7 +8,7 @@ usage: deep.py                  prints the questions of data/deep_mixed.txt
 
 A level has one row for each row of the array that it holds: a list of that row alone, between offsets or of width 1, a
 struct whose one field `f` has it, or a key that names it. A row of the whole is thus a leaf in so many levels, or null
-at some level.
+at some level; where keys name it, it is null at the level of the first of these.
 """
 import resource
 import subprocess
@@ -50,8 +50,18 @@ class Deep:
         return self.kinds[level % len(self.kinds)]
 
     def null_level(self, row):
-        """The level at which a row is null, or how many levels there are where it is a leaf."""
+        """The level at which a row is masked, or how many levels there are where it is a leaf."""
         return row[0] if isinstance(row, tuple) else self.levels
+
+    def row_level(self, row):
+        """The level at which a row is null: that of the first key of those which name it. Else as `null_level`."""
+        level = self.null_level(row)
+        while level > 0 and self.kind(level - 1) == "dict" and self.is_null(row):
+            level -= 1
+        return level
+
+    def is_null(self, row):
+        return row is None or isinstance(row, tuple)
 
     def words(self):
         """The array in words, level by level."""
@@ -83,8 +93,8 @@ class Deep:
         return f"{word} {self.levels} {','.join(self.kinds)} {self.leaf_words()}"
 
     def row_text(self, row):
-        depth = self.null_level(row)
-        held = "null" if row is None or isinstance(row, tuple) else str(row)
+        depth = self.row_level(row)
+        held = "null" if self.is_null(row) else str(row)
         brackets = [BRACKETS[self.kind(level)] for level in range(depth)]
         return "".join(pair[0] for pair in brackets) + held + "".join(pair[1] for pair in reversed(brackets))
 
@@ -103,7 +113,7 @@ class Deep:
 
     def shown(self, row):
         """What a row is, as a value: what lies under a null is no part of it."""
-        return (row[0],) if isinstance(row, tuple) else row
+        return (self.row_level(row),) if self.is_null(row) else row
 
     def is_compared(self, row):
         """Whether a comparison goes on to the leaf: not under null keys and null lists between offsets."""
@@ -162,11 +172,13 @@ def deep_case(levels, kinds):
 
 
 def null_case(levels, kinds):
-    """Rows that are null at some level, over other numbers: both at one level, the left one alone, and neither."""
+    """Rows that are null at some level, over other numbers: both at one level, the left one alone, and neither; and one
+    that is null at a key on the right, and below it on the left."""
     middle, last = levels // 2, levels - 1
-    rows = [(middle, 1), (middle + 1, 2), (middle + 2, 3), (last, 4), 5, None, (middle, 6), 7]
-    others = [(middle, 8), (middle + 1, 9), (middle + 2, 1), (last - 1, 2), (last, 5), None, 6, 7]
-    left, right, other = Deep(levels, kinds, rows), Deep(levels, kinds, others), Deep(levels - 1, kinds, rows[4:5] * 8)
+    assert kinds[(middle + 1) % len(kinds)] == "dict"
+    rows = [(middle, 1), (middle + 1, 2), (middle + 2, 3), (last, 4), 5, None, (middle, 6), 7, (middle + 2, 8)]
+    others = [(middle, 8), (middle + 1, 9), (middle + 2, 1), (last - 1, 2), (last, 5), None, 6, 7, (middle + 1, 3)]
+    left, right, other = Deep(levels, kinds, rows), Deep(levels, kinds, others), Deep(levels - 1, kinds, [5] * len(rows))
     names = {"l": left.words(), "r": right.words(), "o": other.wrapped()}
     return asked(f"{levels} levels of {', '.join(kinds)}, with nulls", names, list(pair_answers(left, right, other)))
 
@@ -196,8 +208,8 @@ def entries_case():
         names[f"r_{name}"] = f"0 3 dict u64 3 1 {count - 2} {2**64 - 1} b0:110 {names[name]}"
         names[f"beyond_{name}"] = f"0 3 dict u64 3 0 {count} 5 b0:110 {names[name]}"
         pairs.append((f"keys_fit {name}", true_word(count <= 2**32)))
-        pairs.append((f"rows l_{name}", "<null> <null> null"))
-        pairs.append((f"copy r_{name}", "<null> <null> null"))
+        pairs.append((f"rows l_{name}", "null null null"))
+        pairs.append((f"copy r_{name}", "null null null"))
         pairs.append((f"array_tot_eq_missing_kernel_counted l_{name} r_{name}", "b0:111 in 0 comparisons"))
     lines, said = asked("dictionaries of 2^32 nulls and of one more", names, pairs)
     refused = [f"beyond_{name} = refused: key 1 is out of range" for name in ("most", "more")]

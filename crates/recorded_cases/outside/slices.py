@@ -9,9 +9,10 @@ are no row of it. It is sliced at each place from 0 to 70, with the lengths 0, 1
 they fit.
 
 `w` is the whole array, `a0` a slice, `b0` an array that is built afresh from its rows, and `c0` one that differs in a
-row; `a1`, `b1` and `c1` are those of the next length. `d` are divisors, `v` has as many rows as `w` has entries, and `s0`
-are the items of a list. Answers are found from rows, so a slice has those of the array built afresh. All is drawn at
-random and the same in each run: each seed is the name of the kind, with the place.
+row; `a1`, `b1` and `c1` are those of the next length. `d` are divisors, `v` has as many rows as `w` has entries, some of them
+null, and `s0` are the items of a list. Answers are found from rows, so a slice has those of the array built afresh. A null row
+of a dictionary is a masked key or one to a null entry, in `a0`, `b0` and `c0` by chance, so that `c0` may have the same rows.
+All is drawn at random and the same in each run: each seed is the name of the kind, with the place.
 """
 import subprocess
 import sys
@@ -20,7 +21,7 @@ from arithmetic import BINARY_IN_PLACE, FROM_NUMBERS, KINDS, OPERATIONS, UNARY_I
 from bits import TYPES
 from reductions import COUNTS, JOINS, NAMES, NOT_DISPATCHED, VIEWS, shown
 from slices_answers import ORDERS, answer, is_ordered
-from slices_arrays import Keyed, Leaves
+from slices_arrays import Entry, Keyed, Leaves, is_null
 from slices_kinds import ALL_KINDS, DictKind, FixedListKind, Keeper, ListKind, Numbers
 
 ROWS = 70
@@ -74,8 +75,8 @@ class Subject:
         if self.divisors:
             case.add("d", self.divisors)
         if isinstance(self.kind, DictKind):
-            entries = self.whole.entries.n
-            case.add("v", Numbers("u8").kept(keeper, list(range(entries))))
+            entries = range(self.whole.entries.n)
+            case.add("v", Numbers("u8").kept(keeper, [None if keeper.chance(0.3) else place for place in entries]))
         for k, n in enumerate(sizes):
             self.add_slice(case, keeper, str(k), at, n)
         return case
@@ -93,9 +94,12 @@ class Subject:
 
     def afresh(self, keeper, part):
         """The rows of a slice kept anew; keys that states are asked of stay what they are."""
-        if isinstance(part, Keyed) and part.key_kind == "u32":
+        if not isinstance(part, Keyed):
+            return self.kind.kept(keeper, part.rows())
+        if part.key_kind == "u32":
             return self.kind.with_keys_of(keeper, part)
-        return self.kind.kept(keeper, part.rows())
+        nulls = (None, Entry(None))
+        return self.kind.kept(keeper, [keeper.random.choice(nulls) if is_null(row) else row for row in part.rows()])
 
     def with_change(self, keeper, part):
         """The rows of a slice with one of them another one, null or present; what was stored there may stay there."""
@@ -141,6 +145,7 @@ class Subject:
             yield from asked_of_truths()
         if isinstance(self.kind, DictKind):
             yield from asked_of_keys(self.kind)
+        yield from asked_of_nulls(keeper, n)
 
     def broadcasts(self, keeper):
         """Comparisons with one scalar: a row of the array, the items of a list, or what is not supported."""
@@ -247,6 +252,12 @@ def asked_of_keys(kind):
     if kind.keys == "u32":
         yield from ("append_all_keys v a{k} b{k}", "stored_keys v a{k}", "accepts_keys v b{k}")
         yield from ("state_keys v a{k} | v b{k}", "merge_tree_keys v b{k} v a{k} +")
+
+
+def asked_of_nulls(keeper, n):
+    yield from ("missing_mask a{k}", "missing_mask b{k}")
+    if n > 0:
+        yield f"is_null_row a{{k}} {keeper.random.randrange(n)}"
 
 
 def all_cases(subject):

@@ -2,7 +2,7 @@
 import arithmetic
 import reductions
 import states
-from bits import TYPES, shown
+from bits import TYPES, shown, text
 from reductions import VIEWS
 from slices_arrays import Keyed, Leaves, Rows, is_null, missing_bits, raw_bits, row_text, same
 
@@ -73,6 +73,27 @@ def leaf_slots(arrays, *names):
     return " ".join(str(arrays[name].leaves(0, arrays[name].n)) for name in names)
 
 
+def missing_mask(arrays, name):
+    """Which rows are present, as far as bits are kept that say so; rows of nulls are not masked."""
+    bits = None if arrays[name].kind == "null" else arrays[name].presence()
+    return "none" if bits is None else shown(bits)
+
+
+def window_mask(arrays, name, at, n):
+    """The bits of n rows from row `at` on."""
+    bits = missing_mask(arrays, name)
+    return bits if bits == "none" else f"b0:{bits.removeprefix('b0:')[int(at) : int(at) + int(n)]}"
+
+
+def is_null_row(arrays, name, i):
+    return text(is_null(arrays[name].row(int(i))))
+
+
+def may_have_nulls(arrays, name):
+    """Whether bits are kept that could say of a row that it is null."""
+    return text(arrays[name].presence() is not None)
+
+
 def texts(rows):
     return " ".join(map(row_text, rows))
 
@@ -83,6 +104,12 @@ OWN = {
     "array_slice": lambda arrays, name, at, n: texts(arrays[name].rows()[int(at) : int(at) + int(n)]),
     "null_count": lambda arrays, name: str(arrays[name].null_count()),
     "validity": lambda arrays, name: arrays[name].validity_bits(),
+    "missing_mask": missing_mask,
+    "array_missing_mask": missing_mask,
+    "window_mask": window_mask,
+    "is_null_row": is_null_row,
+    "dictionary_is_null_row": is_null_row,
+    "may_have_nulls": may_have_nulls,
     "leaves": leaf_slots,
     "followed": followed,
     "equal_windows": windows,
@@ -96,14 +123,20 @@ for called in ("eq_missing_kernel", "ne_missing_kernel", *(f"{relation}_kernel" 
 
 
 def flat(array):
-    """What the other scripts take for an array: stored values and which are present, of dictionaries the keys."""
+    """What the other scripts take for an array: stored values and which are present, of dictionaries the keys; or rows as
+    texts."""
     present = [array.is_present(i) for i in range(array.n)]
     if isinstance(array, Leaves):
         return states.Rows(array.kind, array.window(), present)
     if isinstance(array, Keyed):
         keys = [array.key(i) for i in range(array.n)]
-        return states.Keyed(array.key_kind, keys, present, states.Nulls(array.entries.n))
-    return states.Nulls(array.n)
+        return states.Keyed(array.key_kind, keys, present, as_texts(array.entries))
+    return as_texts(array)
+
+
+def as_texts(array):
+    rows = array.rows()
+    return states.Rows(array.kind, list(map(row_text, rows)), [not is_null(row) for row in rows])
 
 
 def by_script(script, arrays, words):

@@ -1,16 +1,14 @@
 """Arrays of any kind, as the words of a line keep them, and what is said of their rows by the Arrow layout.
 
 A row is null (None), a truth value, a whole number, a byte string, the rows of a list, the fields of a struct, or what
-the key of a dictionary names. A row whose validity bit is 0 is null, whatever is stored there.
+the key of a dictionary names. A row whose validity bit is 0 is null, whatever is stored there, and so is one whose key
+names an entry that is null.
 """
 import copy
 from typing import NamedTuple
 
 import reductions
 from bits import shown
-
-# whether a present key to a null entry is a null row; until then it is a row of its own
-NULL_ENTRIES_ARE_NULL = False
 
 
 class Rows(NamedTuple):
@@ -32,10 +30,8 @@ class Entry(NamedTuple):
 
 
 def is_null(row):
-    """Whether a row is null. Nothing else in these scripts decides what a key to a null entry is."""
-    if NULL_ENTRIES_ARE_NULL and isinstance(row, Entry):
-        return is_null(row.row)
-    return row is None
+    """Whether a row is null, as one is whose key names a null entry. Nothing else in these scripts decides that."""
+    return is_null(row.row) if isinstance(row, Entry) else row is None
 
 
 def same(a, b):
@@ -92,6 +88,7 @@ class Array:
         return [self.row(i) for i in range(self.n)]
 
     def null_count(self):
+        """How many rows the validity masks; of dictionaries, how many keys."""
         return sum(not self.is_present(i) for i in range(self.n))
 
     def validity_bits(self):
@@ -99,6 +96,10 @@ class Array:
         if self.validity == "-":
             return "none"
         return shown([self.is_present(i) for i in range(self.n)])
+
+    def presence(self):
+        """Which rows of the window are not null, as far as bits are kept that say so; else None."""
+        return None if self.validity == "-" else [self.is_present(i) for i in range(self.n)]
 
     def text(self):
         return f"{self.at} {self.n} {self.kind} {self.parts()}"
@@ -112,6 +113,9 @@ class Nulls(Array):
 
     def stored(self, _):
         return None
+
+    def presence(self):
+        return self.n * [False]
 
     def parts(self):
         return str(len(self.present))
@@ -237,6 +241,13 @@ class Keyed(Array):
     def stored(self, i):
         has_entry = 0 <= self.key(i) < self.entries.n
         return Entry(self.entries.row(self.key(i))) if has_entry else None
+
+    def presence(self):
+        """The bits of the keys, joined with those of the entries where there are such."""
+        entries = self.entries.presence()
+        if entries is None:
+            return super().presence()
+        return [self.is_present(i) and entries[self.key(i)] for i in range(self.n)]
 
     def parts(self):
         numbers = " ".join(map(str, [len(self.keys), *self.keys]))

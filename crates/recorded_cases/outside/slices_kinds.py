@@ -297,7 +297,7 @@ class DictKind(Kind):
         return Entry(chance.random.choice(self.pool))
 
     def other(self, chance, row):
-        """Another row; in place of a null one often a key to a null entry, which is almost the same."""
+        """Another row; in place of a null one often a key to a null entry, which is the same row kept in another way."""
         return Entry(None) if row is None and chance.chance(0.5) else super().other(chance, row)
 
     def junk_key(self, keeper, entries):
@@ -370,6 +370,8 @@ NESTED = [
     DictKind("u32", Strings("largeutf8")),
     DictKind("u32", FixedListKind(2, Truths())),
     DictKind("u64", DictKind("i8", Strings("utf8view"))),
+    DictKind("i16", NullKind()),
+    DictKind("i32", DictKind("u8", DictKind("i64", Sized(2)))),
 ]
 
 ALL_KINDS = [*LEAVES, *NESTED]

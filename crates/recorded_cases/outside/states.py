@@ -4,7 +4,8 @@ usage: states.py FILE..      prints each line of the files that makes no array, 
 
 A state is a range, a set of values of it, and whether there was a null. An array adds its present rows to the set, and a
 state adds its set; the rows of a state are its set in order, and a null behind it. The values of a dictionary's rows are
-the keys, whatever they name.
+the keys, whatever they name; what was seen is told by the dictionary of the state, in which a key that names a null entry
+is null: it is no value of the range, and where it was seen there was a null. A key without an entry is a value.
 """
 import itertools
 import sys
@@ -27,6 +28,11 @@ def row_text(row):
 
 def texts(array):
     return [row_text(row) for row in array.rows()]
+
+
+def entry_text(row):
+    """An entry as a row of a dictionary, which is null where the entry is."""
+    return None if row is None else f"<{row_text(row)}>"
 
 
 class Nulls:
@@ -70,25 +76,33 @@ class Keyed(Rows):
         return Keyed(part.kind, part.values, part.present, self.entries)
 
     def rows(self):
-        """The entries that are named, as texts."""
-        entries = texts(self.entries)
-        return [None if key is None else f"<{entries[key]}>" for key in self.keys()]
+        """The entries that are named, as texts; a null one as None."""
+        entries = self.entries.rows()
+        return [None if key is None else entry_text(entries[key]) for key in self.keys()]
 
     def keys(self):
         return super().rows()
 
 
 class State:
-    """A range, the values of it that were seen, and whether a null was."""
+    """A range, the values of it that were seen, and whether a null was. Of the range some values may stand for null."""
 
-    def __init__(self, span):
+    def __init__(self, span, nulls=()):
         self.span, self.seen, self.has_null = span, set(), False
+        self.nulls = {value for value in nulls if value in span}
 
     def accepts(self, rows):
         return all(row is None or row in self.span for row in rows)
 
     def is_full(self):
-        return len(self.seen) == len(self.span)
+        return len(self.seen) == len(self.span) - len(self.nulls)
+
+    def read_by(self, entries):
+        """A state of keys as a dictionary reads it: those of null entries stand for null."""
+        read = State(self.span, [key for key, row in enumerate(entries.rows()) if row is None])
+        read.seen = self.seen - read.nulls
+        read.has_null = self.has_null or bool(self.seen & read.nulls)
+        return read
 
     def fed(self, rows):
         """The state once it has seen these rows too."""
@@ -255,24 +269,30 @@ def state_truths(case):
     return " | ".join(state.shown() for state in (first, second, first.merged(second)))
 
 
-def two_keyed(case):
-    """Two states of keys, and the entries of the first."""
+def keyed(case):
+    """A state of keys, and the entries that they name."""
     entries = case.array()
-    first = all_fed(State(key_span(entries)), case.lists("u32"))
+    return all_fed(State(key_span(entries)), case.lists("u32")), entries
+
+
+def two_keyed(case):
+    first = keyed(case)
     case.bar()
-    second = all_fed(State(key_span(case.array())), case.lists("u32"))
-    return first, second, entries
+    return first, keyed(case)
 
 
 def state_keys(case):
-    first, second, _ = two_keyed(case)
-    return " | ".join(state.shown() for state in (first, second, first.merged(second), second.merged(first)))
+    (first, entries), (second, others) = two_keyed(case)
+    read = (first.read_by(entries), second.read_by(others),
+            first.merged(second).read_by(entries), second.merged(first).read_by(others))
+    return " | ".join(state.shown() for state in read)
 
 
 def state_keys_rows(case):
-    first, second, entries = two_keyed(case)
-    named = texts(entries)
-    return " ".join("null" if key is None else f"<{named[key]}>" for key in first.merged(second).rows())
+    (first, entries), (second, _) = two_keyed(case)
+    named = entries.rows()
+    keys = first.merged(second).read_by(entries).rows()
+    return " ".join(row_text(None if key is None else entry_text(named[key])) for key in keys)
 
 
 def key_state(case):
@@ -280,9 +300,10 @@ def key_state(case):
     entries = case.array()
     state = all_fed(State(case.span("u32")), case.lists("u32"))
     missing = [key for key in state.values() if key >= entries.size()]
+    read = state.read_by(entries)
     if missing:
-        return f"{state.counts()} refused: key {missing[0]} is not below {entries.size()}"
-    return state.shown()
+        return f"{read.counts()} refused: key {missing[0]} is not below {entries.size()}"
+    return read.shown()
 
 
 def key_state_accepts(case):
@@ -323,7 +344,8 @@ def append_all_numbers(case):
 
 
 def append_all_keys(case):
-    return all_fed(State(key_span(case.array())), case.lists("u32")).shown()
+    state, entries = keyed(case)
+    return state.read_by(entries).shown()
 
 
 def stored(state, under_null):
@@ -337,7 +359,8 @@ def stored_numbers(case):
 
 
 def stored_keys(case):
-    return stored(all_fed(State(key_span(case.array())), case.lists("u32")), 0)
+    state, entries = keyed(case)
+    return stored(state.read_by(entries), 0)
 
 
 def merge_tree(case, leaf):
@@ -351,7 +374,14 @@ def merge_tree_numbers(case):
 
 
 def merge_tree_keys(case):
-    return merge_tree(case, lambda: State(key_span(case.array())).fed(case.rows("u32")))
+    """The union of what was fed, read by the dictionary of the leftmost leaf."""
+    dictionaries = []
+
+    def leaf():
+        dictionaries.append(case.array())
+        return State(key_span(dictionaries[-1])).fed(case.rows("u32"))
+
+    return merged_tree(case.tree(leaf)).read_by(dictionaries[0]).shown()
 
 
 def one_range(case, leaf):

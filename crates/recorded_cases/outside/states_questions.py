@@ -4,7 +4,8 @@ usage: states_questions.py    prints the questions of data/states_sweeps.txt
 
 A state has a slot for each value of its range and one for null; up to 128 stand in one word, and more in a bitmap. In a
 chunk without nulls it is asked before each 512 rows whether all values were seen. So many ranges have about 127 values,
-and some chunks about 512 rows.
+and some chunks about 512 rows. The dictionaries of states have null entries or none, are of nulls alone, or name entries of
+further dictionaries; those of the arrays that are appended are of nulls alone.
 """
 import itertools
 
@@ -18,6 +19,8 @@ ENTRIES = (0, 1, 2, 5, 126, 127, 128, 130)
 # of ranges of a few values: how many rows, and in which of them the last value comes
 PLACES = ((511, 0), (512, 511), (513, 512), (513, 511), (1024, 512), (1024, 1023), (1500, 511), (1500, 1499), (1500, 1024))
 ENTRY_KINDS = ("i32", "utf8", "utf8view", "largebinary", "bool")
+# pairs of entries that are null where no validity of their own says so: nulls, and dictionaries so many levels deep
+NULL_ENTRIES = (("null", 1), (1, "utf8"), (1, 2), (3, "null"), ("bool", 2))
 
 
 def spans(kind):
@@ -87,7 +90,23 @@ class Chunks(Columns):
         at, n, parts = self.parts("u32", range(max(entries, 1)), rows, lambda key: key < entries)
         return f"{name} = {at} {n} dict {parts} 0 {entries} null {entries}"
 
+    def dictionary(self, levels, n):
+        """Rows of so many dictionaries, the last of them over numbers or nulls."""
+        size = self.random.randint(1, 9)
+        entries = f"0 {size} null {size}"
+        if levels > 1:
+            entries = self.dictionary(levels - 1, size)
+        elif self.chance(0.8):
+            entries = super().numbers("", "i16", "nulls", size).removeprefix(" = ")
+        rows = self.drawn(range(size), n, self.random.choice((0, 0.2)))
+        at, n, parts = self.parts("u16", range(size), rows, lambda key: key < size)
+        return f"{at} {n} dict {parts} {entries}"
+
     def entries(self, name, kind, n):
+        if kind == "null":
+            return f"{name} = 0 {n} null {n}"
+        if not isinstance(kind, str):
+            return f"{name} = {self.dictionary(kind, n)}"
         nulls = self.random.choice(("no null", "nulls"))
         if kind == "bool":
             return self.truths(name, nulls, n)
@@ -205,9 +224,13 @@ def asked_of_keys(chance):
     yield "one_range_keys v w + fewer v + +"
 
 
+def named(kind):
+    return kind if isinstance(kind, str) else f"dictionaries {kind} deep"
+
+
 def key_case(kind, other_kind, n, chance):
     """States of the keys of two dictionaries of n entries."""
-    yield f"# keys of {n} entries: {kind} and {other_kind}"
+    yield f"# keys of {n} entries: {named(kind)} and {named(other_kind)}"
     yield chance.entries("v", kind, n)
     yield chance.entries("w", other_kind, n)
     yield chance.entries("fewer", kind, max(n - 1, 0) if n != 0 else 1)
@@ -220,10 +243,10 @@ def key_case(kind, other_kind, n, chance):
     yield from asked_of_keys(chance)
 
 
-def replaced_case(n, chance):
+def replaced_case(n, chance, kind="utf8"):
     """Key states whose range goes beyond the entries, or ends before."""
-    yield f"# a range written over that of {n} keys"
-    yield chance.entries("v", "utf8", n)
+    yield f"# a range written over that of {n} keys{'' if kind == 'utf8' else f' of {named(kind)}'}"
+    yield chance.entries("v", kind, n)
     ends = ((0, n + 9), (n, n + 200), (0, max(n - 1, 0)), (max(n - 3, 0), n), (highest("u32") - 5, highest("u32")))
     for name, (least, greatest) in zip("abcde", ends):
         span = range(least, greatest + 1)
@@ -253,6 +276,10 @@ def cases():
         yield from key_case(kind, other_kind, n, chance)
     for n in (0, 1, 2, 9, 127, 128):
         yield from replaced_case(n, chance)
+    chance = Chunks("states of keys to nulls")
+    for (kind, other_kind), n in itertools.product(NULL_ENTRIES, (1, 2, 9, 127, 130)):
+        yield from key_case(kind, other_kind, n, chance)
+        yield from replaced_case(n, chance, kind)
 
 
 if __name__ == "__main__":

@@ -22,7 +22,7 @@ use polars_arrays_numbers::steps::Steps;
 use polars_compare_nested::windows::{
     dictionary_windows, equal_windows, fixed_size_list_windows, list_windows, struct_windows,
 };
-use recorded_text::bits_text::is_null;
+use recorded_text::bits_text::write_made_unmasked;
 use recorded_text::fault::Fault;
 use recorded_text::store::Store;
 use recorded_text::words::Words;
@@ -160,7 +160,8 @@ fn compare<K: SeenKernel + Drop>(
     }
 }
 
-// The text of raw bits of two windows, and how many comparisons were counted for them.
+// The text of raw bits of two windows, which say something where both rows are present, and how many comparisons
+// were counted for them.
 fn write_raw_seen(
     alloc: Global,
     bits: Result<Bitmap, ComputeError>,
@@ -169,7 +170,9 @@ fn write_raw_seen(
 ) -> Result<String, Fault>
     requires { AreWindows windows }
 {
-    let mut text = write_raw(alloc, &bits?, windows)?;
+    let left = windows.left.window_mask(alloc, windows.a, windows.n);
+    let right = windows.right.window_mask(alloc, windows.b, windows.n);
+    let mut text = write_made_unmasked(alloc, bits, left, right)?;
     write!(text, " in {seen} comparisons")?;
     Ok(text)
 }
@@ -189,26 +192,4 @@ fn has_leaves(array: &AnyArray) -> bool
         AnyArray::BinaryView(_) | AnyArray::Utf8View(_) => true,
         _ => false,
     }
-}
-
-// The text of raw bits of two windows, which say something where both rows are present: `x` in place of
-// others.
-fn write_raw(alloc: Global, bits: &Bitmap, windows: Windows) -> Result<String, Fault>
-    requires { AreWindows windows }
-{
-    let left = windows.left.validity();
-    let right = windows.right.validity();
-    let mut text = String::new(alloc);
-    text.push_str("b0:")?;
-    for i in 0..bits.len() {
-        let here = windows.a.saturating_add(i);
-        let there = windows.b.saturating_add(i);
-        let digit = match bits.get_bit(i) {
-            _ if is_null(left, here) || is_null(right, there) => 'x',
-            true => '1',
-            false => '0',
-        };
-        text.push(digit)?;
-    }
-    Ok(text)
 }

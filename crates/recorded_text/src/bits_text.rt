@@ -1,8 +1,10 @@
 //! Bits as text.
 
 use crate::fault::Fault;
+use polars_arrays_bits::bit_mask::BitMask;
 use polars_arrays_bits::bitmap::Bitmap;
 use polars_arrays_bits::error::ComputeError;
+use polars_arrays_flat::mask::Mask;
 use std::alloc::Global;
 
 /// A bit as a digit.
@@ -28,6 +30,32 @@ pub fn write_bits(alloc: Global, bits: &Bitmap) -> Result<String, Fault> {
 /// The text of the bits that a call made.
 pub fn write_made(alloc: Global, bits: Result<Bitmap, ComputeError>) -> Result<String, Fault> {
     write_bits(alloc, &bits?)
+}
+
+/// The text of the mask that a call made: that of its bits, or `none` where it has none.
+pub fn write_made_mask(
+    alloc: Global,
+    mask: Result<Mask<'_>, ComputeError>,
+) -> Result<String, Fault> {
+    write_mask(alloc, &mask?)
+}
+
+// The text of a mask.
+fn write_mask(alloc: Global, mask: &Mask<'_>) -> Result<String, Fault> {
+    match mask.bits() {
+        Some(bits) => write_lent(alloc, &bits),
+        None => Ok("none".to_string(alloc)?),
+    }
+}
+
+// The text of bits that are lent.
+fn write_lent(alloc: Global, bits: &BitMask<'_>) -> Result<String, Fault> {
+    let mut text = String::new(alloc);
+    text.push_str("b0:")?;
+    for i in 0..bits.len() {
+        text.push(digit(bits.get(i)))?;
+    }
+    Ok(text)
 }
 
 /// Adds the text of bits to a text.
@@ -69,4 +97,31 @@ pub fn write_made_present(
     right: Option<&Bitmap>,
 ) -> Result<String, Fault> {
     write_present(alloc, &bits?, left, right)
+}
+
+/// The text of bits that a call made, which say something only where both masks have the row: `b0:` and a digit
+/// for each, or `x` in place of one.
+pub fn write_made_unmasked(
+    alloc: Global,
+    bits: Result<Bitmap, ComputeError>,
+    left: Result<Mask<'_>, ComputeError>,
+    right: Result<Mask<'_>, ComputeError>,
+) -> Result<String, Fault> {
+    write_unmasked(alloc, &bits?, &left?, &right?)
+}
+
+// The same of bits and masks that are there.
+fn write_unmasked(
+    alloc: Global,
+    bits: &Bitmap,
+    left: &Mask<'_>,
+    right: &Mask<'_>,
+) -> Result<String, Fault> {
+    let mut text = String::new(alloc);
+    text.push_str("b0:")?;
+    for i in 0..bits.len() {
+        let masked = !left.is_present(i) || !right.is_present(i);
+        text.push(digit_or_mask(bits.get_bit(i), masked))?;
+    }
+    Ok(text)
 }

@@ -2,7 +2,7 @@
 //!
 //! A row is `null`, a number, `true` or `false`, `x` and the hexadecimal digits of its bytes, the items of a
 //! list between brackets, the fields of a struct between braces, or the entry of a dictionary between `<`
-//! and `>`.
+//! and `>`. A key that names a null row is `null` too.
 
 ghost use Rattle.polars_arrays_nested.specs.GoodParts.{IsGood};
 ghost use Rattle.polars_arrays_nested.specs.declared.any_array.AnyArray.{List, FixedSizeList, Struct, Dictionary};
@@ -77,13 +77,18 @@ fn push_stored(alloc: Global, text: &mut String, array: &AnyArray, i: usize) -> 
     }
 }
 
-// Whether row `i` of an array is null, by its validity; each row of a null array is.
+// Whether row `i` of an array is null: by its validity, as each row of a null array, or as a key that names a
+// null row. A row that is not there is.
 fn is_null_row(array: &AnyArray, i: usize) -> bool
     requires { IsGood array.now }
 {
+    if i >= array.len() || !is_present(array.validity(), i) {
+        return true;
+    }
     match array {
         AnyArray::Null(_) => true,
-        _ => i >= array.len() || !is_present(array.validity(), i),
+        AnyArray::Dictionary(array) => is_null_row(array.values(), array.keys().key(i)),
+        _ => false,
     }
 }
 
@@ -165,7 +170,7 @@ fn push_struct(alloc: Global, text: &mut String, array: &StructArray, i: usize) 
     Ok(())
 }
 
-// Adds the entry that key `i` names.
+// Adds the entry that key `i` names, which is not null.
 #[cycle(walk)]
 fn push_entry(
     alloc: Global,

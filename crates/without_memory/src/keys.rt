@@ -1,8 +1,9 @@
 //! States of the keys of dictionaries.
 
 ghost use Rattle.polars_arrays_nested.specs.GoodParts.{IsGood};
+ghost use Rattle.recorded_text.specs.Cases.{HasGoodArrays};
 
-use crate::operands::boxed;
+use crate::operands::{boxed, store};
 use crate::states::{append, new_state, tell_state};
 use crate::told::Told;
 use polars_arrays_flat::null::NullArray;
@@ -11,23 +12,69 @@ use polars_arrays_nested::any_array::AnyArray;
 use polars_compute_unique::dictionary::{DictionaryRangedUniqueState, keys_fit};
 use polars_compute_unique::kernel::RangedUniqueKernel;
 use recorded_text::fault::Fault;
+use recorded_text::store::Store;
 use std::alloc::Global;
 
 /// Makes the calls.
 pub fn answer(alloc: Global, told: &mut Told) -> Result<(), Fault> {
-    told.begin(alloc)?;
-    tell_many(alloc, told)?;
-    told.end(alloc)?;
+    let store = store(alloc)?;
+    answer_from(alloc, told, &store)?;
     let keys = PrimitiveArray::from_vec(Vec::from_slice(alloc, &[7u32, 4])?);
     tell_two(alloc, told, &keys)
 }
 
-// A state of 127 entries.
-fn tell_many(alloc: Global, told: &mut Told) -> Result<(), Fault> {
-    let state = state_over(alloc, AnyArray::Null(NullArray::new(127)))?;
+// Makes the calls on the arrays of a store.
+fn answer_from(alloc: Global, told: &mut Told, store: &Store) -> Result<(), Fault>
+    requires { HasGoodArrays store.now }
+{
+    let first = store.array("entries")?;
+    let last = store.array("keys_to_nulls")?;
+    told.begin(alloc)?;
+    tell_many(alloc, told, last)?;
+    told.end(alloc)?;
+    let entries = boxed(alloc, "0 3 utf8 4 0 1 2 3 x787970 b0:110")?;
+    told.begin(alloc)?;
+    tell_three(alloc, told, Box::into_inner(entries), first, last)?;
+    told.end(alloc)
+}
+
+// A state of 127 entries, all of them null, to which key 2 is appended.
+fn tell_many(alloc: Global, told: &mut Told, last: &AnyArray) -> Result<(), Fault> {
+    let mut state = state_over(alloc, AnyArray::Null(NullArray::new(127)))?;
     tell_state(told, "127 entries", &state);
+    append_keys(told, "127 null entries, key 2", &mut state, last);
     drop(state);
     Ok(())
+}
+
+// A state of three entries, the last of them null, to which the keys of the others are appended, and then its own.
+fn tell_three(
+    alloc: Global,
+    told: &mut Told,
+    entries: AnyArray,
+    first: &AnyArray,
+    last: &AnyArray,
+) -> Result<(), Fault>
+    requires { IsGood entries }
+{
+    let mut state = state_over(alloc, entries)?;
+    append_keys(told, "entry 2 is null, keys 1 0", &mut state, first);
+    append_keys(told, "entry 2 is null, keys 1 0 2", &mut state, last);
+    drop(state);
+    Ok(())
+}
+
+// Appends the keys of a dictionary array, and tells what the state has seen.
+fn append_keys(
+    told: &mut Told,
+    name: &str,
+    state: &mut DictionaryRangedUniqueState,
+    array: &AnyArray,
+) {
+    if let AnyArray::Dictionary(array) = array {
+        append(told, name, state, array);
+        tell_state(told, name, state);
+    }
 }
 
 // A state of two entries, in which keys from 0 to 9 are put.

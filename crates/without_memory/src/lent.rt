@@ -4,7 +4,7 @@ ghost use Rattle.recorded_text.specs.Cases.{HasGoodArrays};
 
 use crate::operands::store;
 use crate::told::Told;
-use crate::{conditions, extremes, reductions, refused, types};
+use crate::{conditions, extremes, null_rows, reductions, refused, types};
 use recorded_text::fault::Fault;
 use recorded_text::store::Store;
 use std::alloc::Global;
@@ -25,5 +25,6 @@ fn answer_lent(alloc: Global, told: &mut Told, store: &Store) -> Result<(), Faul
     extremes::answer(told, store)?;
     reductions::answer(told, store)?;
     conditions::answer(told, store)?;
-    types::answer(alloc, told, store)
+    types::answer(alloc, told, store)?;
+    null_rows::answer(told, store)
 }

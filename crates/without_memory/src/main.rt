@@ -17,6 +17,7 @@ mod keys;
 mod lent;
 mod made;
 mod nested;
+mod null_rows;
 mod operands;
 mod reductions;
 mod refused;

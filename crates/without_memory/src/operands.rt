@@ -13,7 +13,7 @@ use recorded_text::words::Words;
 use std::alloc::Global;
 
 /// Arrays by their names, as `recorded_text` reads them.
-const ARRAYS: [(&str, &str); 18] = [
+const ARRAYS: [(&str, &str); 21] = [
     ("numbers", "0 3 i8 3 100 -128 7 b0:110"),
     ("others", "0 3 i8 3 100 5 7 -"),
     ("short", "0 2 i8 2 1 2 -"),
@@ -38,6 +38,15 @@ const ARRAYS: [(&str, &str); 18] = [
     ("structs", "0 1 struct 1 1 - a 0 1 i32 1 1 -"),
     ("entries", "0 2 dict u32 2 1 0 - 0 2 utf8 3 0 1 2 x7879 -"),
     ("items", "0 1 i32 1 1 -"),
+    (
+        "null_entries",
+        "0 4 dict u32 4 0 1 9 1 b0:1101 0 2 utf8 3 0 1 2 x7879 b0:01",
+    ),
+    ("keys_to_nulls", "0 1 dict u32 1 2 - 0 3 null 3"),
+    (
+        "keys_to_keys",
+        "0 3 dict u8 3 0 1 2 - 0 3 dict i64 3 0 1 -5 b0:110 0 2 utf8 3 0 1 2 x7879 b0:01",
+    ),
 ];
 
 /// The array that words write.

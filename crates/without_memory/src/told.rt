@@ -73,6 +73,12 @@ impl Told {
         self.note(written);
     }
 
+    /// The answer of a call about row `i` of an array.
+    pub fn tell_row<T: Copy + Display>(&mut self, call: &str, array: &str, i: usize, answer: T) {
+        let written = write_row(&mut self.text, call, array, i, answer);
+        self.note(written);
+    }
+
     /// What a call found, or that it found nothing.
     pub fn tell_found<T: Copy + Display>(&mut self, call: &str, operands: &str, found: Option<T>) {
         match found {
@@ -154,6 +160,18 @@ fn write_line<T: Copy + Display>(
     answer: T,
 ) -> Result<(), Fault> {
     writeln!(text, "{call} {operands} -> {answer}")?;
+    Ok(())
+}
+
+// Writes an answer about a row.
+fn write_row<T: Copy + Display>(
+    text: &mut String,
+    call: &str,
+    array: &str,
+    i: usize,
+    answer: T,
+) -> Result<(), Fault> {
+    writeln!(text, "{call} {array} {i} -> {answer}")?;
     Ok(())
 }
 
