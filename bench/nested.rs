@@ -172,13 +172,20 @@ fn of_keyed(keyed: &Keyed) -> Parts<'_> {
     Parts {
         offsets: &keyed.entries.offsets,
         items: &keyed.crossing,
+        present: &keyed.present,
         bytes: &keyed.entries.bytes,
         ..Parts::default()
     }
 }
 
-/// Hands the kernel on dictionaries to `each`.
-fn hand_dictionaries(Pair { left, right }: &Pair<Keyed>, each: &mut dyn FnMut(&Kernel)) {
+/// Hands the kernel on dictionaries to `each`, with the ratio that is asked of it.
+fn hand_dictionaries(
+    name: &str,
+    asked: f64,
+    Pair { left, right }: &Pair<Keyed>,
+    peer: Peer<Keyed>,
+    each: &mut dyn FnMut(&Kernel),
+) {
     let arrays = Arrays {
         nested_type: NestedType::Dictionaries,
         size: 0,
@@ -186,14 +193,10 @@ fn hand_dictionaries(Pair { left, right }: &Pair<Keyed>, each: &mut dyn FnMut(&K
         right: of_keyed(right),
     };
     each(&Kernel {
-        name: "tot_eq_missing dictionary of texts",
-        asked: Asked::Ratio([8.0, 8.0]),
+        name: &format!("tot_eq_missing dictionary of texts{name}"),
+        asked: Asked::Ratio([asked, asked]),
         ours: &|repeats| arrays.run_eq(repeats),
-        plain: &|repeats| {
-            plain_rows(left.keys.len(), repeats, || {
-                plain::equal_dictionaries(left, right)
-            })
-        },
+        plain: &|repeats| plain_rows(left.keys.len(), repeats, || peer(left, right)),
         beside: None,
     });
 }
@@ -212,7 +215,14 @@ pub fn for_each(nested: &Nested, each: &mut dyn FnMut(&Kernel)) {
     hand_lists(", nulls", 3.0, &nested.null_with_items, by_row, each);
     hand_lists(", longer", 3.0, &nested.longer, by_row, each);
     hand_fixed_lists(&nested.like.left.items, &nested.like.right.items, each);
-    hand_dictionaries(&nested.keyed, each);
+    hand_dictionaries("", 2.0, &nested.keyed, plain::equal_dictionaries, each);
+    hand_dictionaries(
+        ", nulls",
+        2.5,
+        &nested.keyed_with_nulls,
+        plain::equal_dictionaries_with_nulls,
+        each,
+    );
 }
 
 /// The name of the kernel on structs.

@@ -97,6 +97,8 @@ pub struct Keyed {
     /// The same keys as they cross to the library.
     pub crossing: Vec<i32>,
     pub entries: Texts,
+    /// Words of the validity of the entries, or none where no entry is null.
+    pub present: Vec<u64>,
 }
 
 impl Keyed {
@@ -105,6 +107,31 @@ impl Keyed {
             crossing: keys.iter().map(|key| *key as i32).collect(),
             keys,
             entries,
+            present: Vec::new(),
+        }
+    }
+
+    /// Makes the entries null that the test tells.
+    fn mask(mut self, is_null: impl Fn(usize) -> bool) -> Keyed {
+        self.present = vec![u64::MAX; ENTRIES.div_ceil(64)];
+        for k in (0..ENTRIES).filter(|k| is_null(*k)) {
+            self.present[k / 64] &= !(1 << (k % 64));
+        }
+        self
+    }
+
+    /// Whether the entry of a key is present.
+    #[inline]
+    pub fn has_entry(&self, key: u32) -> bool {
+        self.present[key as usize / 64] >> (key % 64) & 1 == 1
+    }
+
+    /// The same columns, in which every seventh text is null.
+    fn masked_pair(numbers: &mut Numbers, count: usize) -> Pair<Keyed> {
+        let Pair { left, right } = Keyed::pair(numbers, count);
+        Pair {
+            left: left.mask(|k| k % 7 == 6),
+            right: right.mask(|k| (ENTRIES - 1 - k) % 7 == 6),
         }
     }
 
@@ -151,6 +178,7 @@ pub struct Nested {
     pub null_with_items: Pair<Lists>,
     pub longer: Pair<Lists>,
     pub keyed: Pair<Keyed>,
+    pub keyed_with_nulls: Pair<Keyed>,
 }
 
 impl Nested {
@@ -163,6 +191,7 @@ impl Nested {
             null_with_items: lists(Seventh::NullWithItems),
             longer: lists(Seventh::Longer),
             keyed: Keyed::pair(numbers, count),
+            keyed_with_nulls: Keyed::masked_pair(numbers, count),
         }
     }
 }

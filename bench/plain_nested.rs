@@ -96,3 +96,17 @@ pub fn equal_dictionaries(left: &Keyed, right: &Keyed) -> Vec<u64> {
         entry(l, a) == entry(r, b)
     })
 }
+
+/// The text that a key names, if it is not null.
+#[inline]
+fn present_entry(keyed: &Keyed, key: u32) -> Option<&[u8]> {
+    keyed.has_entry(key).then(|| entry(&keyed.entries, key))
+}
+
+/// The same where some texts are null, which are equal to one another alone.
+#[inline(never)]
+pub fn equal_dictionaries_with_nulls(left: &Keyed, right: &Keyed) -> Vec<u64> {
+    compare_pairs(&left.keys, &right.keys, move |a, b| {
+        present_entry(left, a) == present_entry(right, b)
+    })
+}

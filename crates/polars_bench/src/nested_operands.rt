@@ -29,7 +29,8 @@ pub(crate) enum NestedType {
     FixedLists,
     /// Columns of `size` rows each, which follow one another in the items.
     Structs,
-    /// Texts, which lie between the offsets in the bytes, and of which the items name one for each row.
+    /// Texts, which lie between the offsets in the bytes, of which those are null whose bit in the words is not set, and of which the
+    /// items name one for each row.
     Dictionaries,
     /// The first item, in `size` levels of lists of one row.
     DeepLists,
@@ -180,12 +181,13 @@ fn struct_array(alloc: Global, rows: usize, values: &[i32]) -> Result<Box<AnyArr
     boxed(alloc, AnyArray::Struct(array))
 }
 
-// Texts between offsets.
+// Texts between offsets. None is null where there are no words.
 fn text_entries(alloc: Global, parts: &Parts) -> Result<Box<AnyArray>, NoOperands>
     ensures { IfOk result (λ a. IsGood a.value) }
 {
+    let validity = validity(alloc, parts.present, parts.offsets.len().saturating_sub(1))?;
     let offsets = shared(alloc, parts.offsets)?;
-    let entries = Utf8Array::try_new(offsets, shared(alloc, parts.bytes)?, None)?;
+    let entries = Utf8Array::try_new(offsets, shared(alloc, parts.bytes)?, validity)?;
     boxed(alloc, AnyArray::Utf8(entries))
 }
 
