@@ -75,13 +75,13 @@ read_stays-appended null put s rows all within =
     let flag = and-second (all_in (read null s.values)) (s.has_null || raised null s.values) all in
     ap (finalised put)
     (ap₂ made
-        (added-read null (holds rows) s.values (and-first (all_in (read null s.values)) (s.has_null || raised null s.values) all))
-        (or-kept s.has_null (raised null s.values) (s.has_null || any_null rows) (raised null (added (holds rows) s.values)) (or-first s.has_null (any_null rows)) (added-raised null (holds rows) s.values) flag ∙ sym flag))
+    (added-read null (holds rows) s.values (and-first (all_in (read null s.values)) (s.has_null || raised null s.values) all))
+    (or-kept s.has_null (raised null s.values) (s.has_null || any_null rows) (raised null (added (holds rows) s.values)) (or-first s.has_null (any_null rows)) (added-raised null (holds rows) s.values) flag ∙ sym flag))
 
 pub read_stays-merged : ReadStaysWhenMerged
 read_stays-merged null put s t all same =
     let flag = and-second (all_in (read null s.values)) (s.has_null || raised null s.values) all in
     ap (finalised put)
     (ap₂ made
-        (joined-read null s.values t.values (and-first (all_in (read null s.values)) (s.has_null || raised null s.values) all) same)
-        (or-kept s.has_null (raised null s.values) (s.has_null || t.has_null) (raised null (joined s.values t.values)) (or-first s.has_null t.has_null) (joined-raised null s.values t.values same) flag ∙ sym flag))
+    (joined-read null s.values t.values (and-first (all_in (read null s.values)) (s.has_null || raised null s.values) all) same)
+    (or-kept s.has_null (raised null s.values) (s.has_null || t.has_null) (raised null (joined s.values t.values)) (or-first s.has_null t.has_null) (joined-raised null s.values t.values same) flag ∙ sym flag))

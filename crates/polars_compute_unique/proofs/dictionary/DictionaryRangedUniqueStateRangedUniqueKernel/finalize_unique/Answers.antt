@@ -23,5 +23,5 @@ returns-in-Ok-clause-rows c =
     (λ (s : KeyState). MatchResult c.keyed_array.result (λ array. key_rows (dictionary_keys array) ≡ finalised (λ v. Int v) (read_by (names_null s.entries) s.keys)) (IsFinalFault (Some s.entries) s.keys))
     c.self.view_is
     (MatchResult-weaker c.keyed_array.result c.keyed_array.ensures.keys
-        (λ array is. ap key_rows is ∙ c.in-Ok.ensures.rows)
-        (λ error memory. memory-final c.self.inside.entries c.self.inside.keys c.in-Ok.ensures.entries error memory))
+    (λ array is. ap key_rows is ∙ c.in-Ok.ensures.rows)
+    (λ error memory. memory-final c.self.inside.entries c.self.inside.keys c.in-Ok.ensures.entries error memory))
