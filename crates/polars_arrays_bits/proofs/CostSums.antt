@@ -32,3 +32,11 @@ cost-word costs k len before between after lt so_far step =
     let second = ap (λ at. cost_of costs at (min (len - 64 * k) 64)) zero_at in
     let last = ap (cost_of costs 0) next in
     omega (arith, so_far, step, split, first, second, last)
+
+-- places that cost nothing, and such ones behind them
+pub free-append : (costs : ℕ → ℕ) (at m n : ℕ) → cost_of costs at m ≡ 0 → cost_of costs (at + m) n ≡ 0 → cost_of costs at (m + n) ≡ 0
+free-append costs at m n first next = omega (arith, cost-append costs at m n, first, next)
+
+-- one such place more
+pub free-next : (costs : ℕ → ℕ) (at n : ℕ) → cost_of costs at n ≡ 0 → costs (at + n) ≡ 0 → cost_of costs at (n + 1) ≡ 0
+free-next costs at n first next = rw add-one (omega (arith, first, next))

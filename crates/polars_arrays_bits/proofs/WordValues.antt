@@ -46,3 +46,11 @@ word-values values k at count word a n packed = record {
 -- a list by its elements
 pub first-elements : (values : List Bool) → first_of (λ i. get_or values i false) (length values) ≡ values
 first-elements values = first_is (λ i. get_or values i false) (length values) values refl (λ i d lt. get_or_default values i false d lt)
+
+-- all values of a list, packed into a word
+pub first-packed : (values : List Bool) (n word : ℕ) → length values ≡ n → IsPacked word values 0 n → first_of (is_bit word) n ≡ values
+first-packed values n word long packed =
+    first_is (is_bit word) n values long
+    (λ i d lt.
+    let place : 0 + i ≡ i = omega arith in
+    packed.bits i lt ∙ ap (λ p. get_or values p false) place ∙ get_or_default values i false d (omega arith))

@@ -1,11 +1,11 @@
 -- Windows of bits, of which some were written.
-use Rattle.std.proofs.Common.{◌≡◌, ℕ, ◌+◌, ◌-◌, ◌*◌, ◌<◌, ◌≤◌, Bool, false, List, ◌++◌, length, get_or, set, replicate, sym, ap, ◌∙◌, arith}
+use Rattle.std.proofs.Common.{◌≡◌, ℕ, ◌+◌, ◌-◌, ◌*◌, ◌<◌, ◌≤◌, Bool, false, List, ◌++◌, length, get_or, set, replicate, refl, sym, ap, ◌∙◌, arith}
 use Rattle.std.proofs.lemmas.Bool.{cases_eq, cases_lt}
 use Rattle.std.proofs.lemmas.List.{get_or-set_other, get_or-set_same, length-set, length-append, length-replicate, get_or_append_left, get_or-append_right, get_or-replicate, get_or_default}
 use mathlib.Core.Logic.{⊎_elim}
-use Rattle.polars_arrays_words.specs.Bits.{bit_of, window, IsWritten, first_of, IsMerged}
+use Rattle.polars_arrays_words.specs.Bits.{bit_of, window, IsWritten, first_of, zip3, IsChanged}
 use Rattle.polars_arrays_words.proofs.Firsts.{first_is, first_same, length-first}
-use Rattle.polars_arrays_bits.proofs.Windows.{length_is, value_is, first-zip2}
+use Rattle.polars_arrays_bits.proofs.Windows.{length_is, value_is, first-zip2, first-zip3}
 use Rattle.polars_arrays_words.specs.Packing.{AreAppended}
 use Rattle.std.specs.Simd.Lanes.{zip2}
 
@@ -63,18 +63,34 @@ window-appended old new n values xs e appended =
     ∙ sym (get_or-append_right xs values n j d long past))
     (cases_lt j n))
 
--- words merged one after the other are the bits merged
-pub window-merged :
-    (g : Bool → Bool → Bool) (f : ℕ → Bool) (old mid new : List ℕ) (at to n : ℕ) (xs : List Bool) → window 0 n old ≡ xs → IsMerged g f old mid 0 at → IsMerged g f mid new at to → n ≤ 64 * to →
-    window 0 n new ≡ zip2 g xs (first_of f (length xs))
-window-merged g f old mid new at to n xs e first second le =
-    first_same (λ i. bit_of new (0 + i)) (λ i. g (bit_of old (0 + i)) (f i)) n
+-- the elements of a list, one after the other
+first-elements : (xs : List Bool) → first_of (λ i. get_or xs i false) (length xs) ≡ xs
+first-elements xs = first_is (λ i. get_or xs i false) (length xs) xs refl (λ i d lt. get_or_default xs i false d lt)
+
+-- words changed one after the other are the bits changed
+pub window-changed :
+    (h : ℕ → Bool → Bool) (old mid new : List ℕ) (at to n : ℕ) (xs : List Bool) → window 0 n old ≡ xs → IsChanged h old mid 0 at → IsChanged h mid new at to → n ≤ 64 * to →
+    window 0 n new ≡ first_of (λ i. h i (get_or xs i false)) (length xs)
+window-changed h old mid new at to n xs e first second le =
+    first_same (λ i. bit_of new (0 + i)) (λ i. h i (get_or xs i false)) n
     (λ i lt.
     let place : 0 + i ≡ i = omega arith in
     ap (bit_of new) place
     ∙ ⊎_elim
     (λ early. second.below i early ∙ first.within i (omega arith) early)
-    (λ late. second.within i late (omega arith) ∙ ap (λ b. g b (f i)) (first.above i late))
+    (λ late. second.within i late (omega arith) ∙ ap (h i) (first.above i late))
     (cases_lt i (64 * at))
-    ∙ ap (λ p. g (bit_of old p) (f i)) (sym place))
-    ∙ first-zip2 g (λ i. bit_of old (0 + i)) f n n xs (first_of f (length xs)) e (ap (first_of f) (sym (length_is (λ i. bit_of old (0 + i)) n xs e))) (length-first f (length xs))
+    ∙ ap (h i) (front-bit old n i xs false e lt))
+    ∙ ap (first_of (λ i. h i (get_or xs i false))) (sym (length_is (λ i. bit_of old (0 + i)) n xs e))
+
+-- bits joined with the values of f
+pub changed-zip2 : (g : Bool → Bool → Bool) (f : ℕ → Bool) (xs : List Bool) → first_of (λ i. g (get_or xs i false) (f i)) (length xs) ≡ zip2 g xs (first_of f (length xs))
+changed-zip2 g f xs =
+    first-zip2 g (λ i. get_or xs i false) f (length xs) (length xs) xs (first_of f (length xs)) (first-elements xs) refl (length-first f (length xs))
+
+-- bits merged with the values of two
+pub changed-zip3 :
+    (g : Bool → Bool → Bool → Bool) (f h : ℕ → Bool) (xs : List Bool) →
+    first_of (λ i. g (get_or xs i false) (f i) (h i)) (length xs) ≡ zip3 g xs (first_of f (length xs)) (first_of h (length xs))
+changed-zip3 g f h xs =
+    first-zip3 g (λ i. get_or xs i false) f h (length xs) (length xs) (length xs) xs (first_of f (length xs)) (first_of h (length xs)) (first-elements xs) refl refl (length-first f (length xs)) (length-first h (length xs))

@@ -1,8 +1,8 @@
 //! Packed truth values that are borrowed.
 
-ghost use Rattle.std.specs.Prelude.{◌≡◌, ◌+◌, ◌*◌, ◌<◌, ◌≤◌, not, length, take, drop, count_by, slice_get};
+ghost use Rattle.std.specs.Prelude.{◌≡◌, ℕ, ◌+◌, ◌*◌, ◌<◌, ◌≤◌, false, not, length, take, drop, count_by, slice_get};
 ghost use Rattle.std.specs.List.{list_all};
-ghost use Rattle.polars_arrays_words.specs.Bits.{first_of, is_bit};
+ghost use Rattle.polars_arrays_words.specs.Bits.{first_of, is_bit, window};
 
 mod blocks;
 mod logic;
@@ -11,7 +11,7 @@ mod merges;
 use crate::bitmap::Bitmap;
 use polars_arrays_words::runs::all_set;
 use polars_arrays_words::source::{Aligned, BitSource, Shifted, count_window};
-use polars_arrays_words::words::{bit_from, place_of};
+use polars_arrays_words::words::{bit_from, low_bits, place_of, word_from};
 use std::marker::Model;
 
 /// A window of a bitmap that is borrowed.
@@ -42,6 +42,15 @@ impl<'a> BitMask<'a> {
         let (words, at) = bitmap.packed();
         let len = bitmap.len();
         BitMask { words, at, len }
+    }
+
+    // The words in which the window lies, and where it begins in the first.
+    pub(crate) fn packed(&self) -> (&'a [u64], usize)
+        ensures begin { result.1 < 64 }
+        ensures within { result.1 + length self.now ≤ 64 * length result.0.now }
+        ensures bits { window result.1 (length self.now) result.0.now ≡ self.now }
+    {
+        (self.words, self.at)
     }
 
     /// The `n` bits from `at` on.
@@ -84,6 +93,17 @@ impl<'a> BitMask<'a> {
         }
         let by = self.at;
         Shifted { words, by }.inner_word(k)
+    }
+
+    /// The `n` bits from `at` on, at most 64, as a word, the first one lowest, with zeros behind them.
+    #[inline]
+    pub fn few_bits(&self, at: usize, n: usize) -> u64
+        requires within { at + n ≤ length self.now }
+        requires few { n ≤ 64 }
+        ensures bits { first_of (is_bit result) n ≡ take n (drop at self.now) }
+        ensures rest { (i : ℕ) → n ≤ i → i < 64 → is_bit result i ≡ false }
+    {
+        word_from(self.words, self.at, at) & low_bits(n)
     }
 
     /// Whether the `n` bits from `at` on are all true.

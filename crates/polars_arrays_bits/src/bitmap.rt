@@ -9,8 +9,9 @@ mod logic;
 
 use crate::buffer::Buffer;
 use crate::error::ComputeError;
+use crate::mutable_bitmap::MutableBitmap;
 use polars_arrays_words::packing::{Bools, Packed, TruthValues};
-use polars_arrays_words::source::{BitSource, collect_words};
+use polars_arrays_words::source::{Aligned, BitSource, Shifted, collect_words};
 use polars_arrays_words::words::{WORD_BITS, bit_from, filled_word, place_of};
 use std::alloc::Global;
 use std::marker::Model;
@@ -153,6 +154,25 @@ impl Bitmap {
             at: self.at,
             len: self.len,
         })
+    }
+
+    /// The same bits, to be changed: in the same words where the bitmap owns them and begins with the first
+    /// one's lowest bit, else in new ones. The error is `Memory`.
+    pub fn into_mut(self, alloc: Global) -> Result<MutableBitmap, ComputeError>
+        ensures { MatchResult result (λ bits. bits ≡ self) IsMemory }
+    {
+        let Bitmap { words, at, len } = self;
+        if at != 0 {
+            let words = words.as_slice();
+            return MutableBitmap::from_source(alloc, &Shifted { words, by: at }, len);
+        }
+        match words.into_vec() {
+            Ok(words) => Ok(MutableBitmap::from_vec(words, len)),
+            Err(words) => {
+                let words = words.as_slice();
+                MutableBitmap::from_source(alloc, &Aligned { words }, len)
+            }
+        }
     }
 
     // The first `len` bits of words.

@@ -134,6 +134,28 @@ impl<T: Copy> Buffer<T> {
         }
     }
 
+    /// The vector of the elements, where the buffer owns them and they are all of it, else the same buffer back.
+    /// No element moves.
+    pub fn into_vec(self) -> Result<Vec<T>, Buffer<T>>
+        ensures same { MatchResult result (λ elements. elements.items ≡ self.items) (λ buffer. buffer ≡ self) }
+        ensures owned { IsOk result → IsTrue self.owned }
+    {
+        let Buffer { store, start, len } = self;
+        match store {
+            Store::Owned(elements) => {
+                if start == 0 && len == elements.len() {
+                    return Ok(elements);
+                }
+                let store = Store::Owned(elements);
+                Err(Buffer { store, start, len })
+            }
+            Store::Shared(elements) => {
+                let store = Store::Shared(elements);
+                Err(Buffer { store, start, len })
+            }
+        }
+    }
+
     /// The same elements, in a slice that later clones share and do not copy. No element moves. The error is
     /// `Memory`, and comes only of elements that are owned.
     pub fn share(self, _alloc: Global) -> Result<Buffer<T>, ComputeError>

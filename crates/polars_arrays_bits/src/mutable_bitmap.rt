@@ -1,16 +1,23 @@
 //! Packed truth values that are written.
 
-ghost use Rattle.std.specs.Prelude.{◌≡◌, ℕ, ◌*◌, ◌^◌, ◌<◌, ◌≤◌, Bool, false, true, ◌&&◌, ◌||◌, length, count_by, replicate, slice_get, slice_set, MatchResult};
+ghost use Rattle.std.specs.Prelude.{◌≡◌, ℕ, ◌*◌, ◌^◌, ◌<◌, ◌≤◌, Bool, false, true, ◌&&◌, ◌||◌, length, count_by, get_or, replicate, slice_get, slice_set, vec_len, MatchResult};
 ghost use Rattle.std.specs.Simd.Lanes.{zip2};
-ghost use Rattle.polars_arrays_words.specs.Bits.{first_of};
+ghost use Rattle.polars_arrays_words.specs.Bits.{first_of, window, zip3};
+ghost use Rattle.polars_arrays_words.specs.Logic.{or_not, merged_eq, merged_ne};
 ghost use Rattle.polars_arrays_bits.specs.Errors.{IsMemory};
 
+use crate::bit_mask::BitMask;
 use crate::bitmap::Bitmap;
 use crate::error::ComputeError;
-use polars_arrays_words::operators::{And, BinaryOperator, Or};
-use polars_arrays_words::source::{Aligned, BitSource, Shifted, count_window};
+use polars_arrays_words::changes::{
+    JoinedWith, MergedWith, WordChange, change_inner_words, change_words,
+};
+use polars_arrays_words::operators::{
+    And, BinaryOperator, MergeEq, MergeNe, Or, OrNot, TernaryOperator,
+};
+use polars_arrays_words::source::{Aligned, BitSource, Shifted, collect_words, count_window};
 use polars_arrays_words::words::{WORD_BITS, bit_from, filled_word};
-use polars_arrays_words::write::{merge_inner_words, merge_words, write_bit};
+use polars_arrays_words::write::write_bit;
 use std::alloc::Global;
 use std::marker::Model;
 
@@ -57,6 +64,26 @@ impl MutableBitmap {
         MutableBitmap::filled(alloc, true, n)
     }
 
+    // The first `len` bits of a source, in words of its own. The error is `Memory`.
+    pub(crate) fn from_source<S: BitSource>(
+        alloc: Global,
+        source: &S,
+        len: usize,
+    ) -> Result<MutableBitmap, ComputeError>
+        ensures { MatchResult result (λ bits. bits ≡ first_of (S.bit source.now) len) IsMemory }
+    {
+        let words = collect_words(alloc, source, len.div_ceil(WORD_BITS))?;
+        Ok(MutableBitmap { words, len })
+    }
+
+    // The first `len` bits of words.
+    pub(crate) fn from_vec(words: Vec<u64>, len: usize) -> MutableBitmap
+        requires { len ≤ 64 * vec_len words }
+        ensures { result ≡ window 0 len words.items }
+    {
+        MutableBitmap { words, len }
+    }
+
     /// How many bits there are.
     pub fn len(&self) -> usize
         ensures { result ≡ length self.now }
@@ -87,15 +114,84 @@ impl MutableBitmap {
         count_window(self.words.as_slice(), 0, self.len)
     }
 
-    // Each bit becomes the operator's result with the source's.
-    fn assign<O: BinaryOperator, S: BitSource>(&mut self, operator: &O, source: &S)
-        ensures { self.new ≡ zip2 O.bit self.old (first_of (S.bit source.now) (length self.old)) }
+    // Each bit becomes what the change makes of it.
+    fn change<C: WordChange>(&mut self, change: &C)
+        ensures { self.new ≡ first_of (λ i. C.bit change.now i (get_or self.old i false)) (length self.old) }
     {
         let count = self.len.div_ceil(WORD_BITS);
-        let inner = source.inner_words().min(count);
+        let inner = change.inner_words().min(count);
         let words = self.words.as_mut_slice();
-        merge_inner_words(words, operator, source, inner);
-        merge_words(words, operator, source, inner, count);
+        change_inner_words(words, change, inner);
+        change_words(words, change, inner, count);
+    }
+
+    // Each bit becomes the operator's result with the source's.
+    fn assign<O: BinaryOperator, S: BitSource + Drop>(&mut self, operator: O, source: S)
+        ensures { self.new ≡ zip2 O.bit self.old (first_of (S.bit source) (length self.old)) }
+    {
+        self.change(&JoinedWith { operator, source });
+    }
+
+    // Each bit becomes the operator's result with those of two sources.
+    fn assign_both<O: TernaryOperator, A: BitSource + Drop, B: BitSource + Drop>(
+        &mut self,
+        operator: O,
+        left: A,
+        right: B,
+    )
+        ensures { self.new ≡ zip3 O.bit self.old (first_of (A.bit left) (length self.old))
+            (first_of (B.bit right) (length self.old)) }
+    {
+        self.change(&MergedWith {
+            operator,
+            left,
+            right,
+        });
+    }
+
+    // Each bit becomes the operator's result with the window's.
+    fn join<O: BinaryOperator>(&mut self, operator: O, other: &BitMask<'_>)
+        requires { length other.now ≡ length self.old }
+        ensures { self.new ≡ zip2 O.bit self.old other.now }
+    {
+        let (words, by) = other.packed();
+        if by == 0 {
+            self.assign(operator, Aligned { words });
+        } else {
+            self.assign(operator, Shifted { words, by });
+        }
+    }
+
+    // Each bit becomes the operator's result with those of two windows.
+    fn merge<O: TernaryOperator>(&mut self, operator: O, left: &BitMask<'_>, right: &BitMask<'_>)
+        requires left { length left.now ≡ length self.old }
+        requires right { length right.now ≡ length self.old }
+        ensures { self.new ≡ zip3 O.bit self.old left.now right.now }
+    {
+        let (words, by) = left.packed();
+        if by == 0 {
+            self.merge_last(operator, Aligned { words }, right);
+        } else {
+            self.merge_last(operator, Shifted { words, by }, right);
+        }
+    }
+
+    // Each bit becomes the operator's result with those of a source and of a window.
+    fn merge_last<O: TernaryOperator, A: BitSource + Drop>(
+        &mut self,
+        operator: O,
+        left: A,
+        right: &BitMask<'_>,
+    )
+        requires { length right.now ≡ length self.old }
+        ensures { self.new ≡ zip3 O.bit self.old (first_of (A.bit left) (length self.old)) right.now }
+    {
+        let (words, by) = right.packed();
+        if by == 0 {
+            self.assign_both(operator, left, Aligned { words });
+        } else {
+            self.assign_both(operator, left, Shifted { words, by });
+        }
     }
 
     /// Each bit becomes true where the other bitmap's is.
@@ -104,7 +200,7 @@ impl MutableBitmap {
         ensures { self.new ≡ zip2 ◌||◌ self.old other.now }
     {
         let words = other.words.as_slice();
-        self.assign(&Or, &Aligned { words });
+        self.assign(Or, Aligned { words });
     }
 
     /// Each bit stays true where the other bitmap's is.
@@ -112,12 +208,45 @@ impl MutableBitmap {
         requires { length other.now ≡ length self.old }
         ensures { self.new ≡ zip2 ◌&&◌ self.old other.now }
     {
-        let (words, by) = other.packed();
-        if by == 0 {
-            self.assign(&And, &Aligned { words });
-        } else {
-            self.assign(&And, &Shifted { words, by });
-        }
+        self.and_assign_mask(&BitMask::from_bitmap(other));
+    }
+
+    /// Each bit stays true where the window's is.
+    pub fn and_assign_mask(&mut self, other: &BitMask<'_>)
+        requires { length other.now ≡ length self.old }
+        ensures { self.new ≡ zip2 ◌&&◌ self.old other.now }
+    {
+        self.join(And, other);
+    }
+
+    /// Each bit becomes true where the window's is false.
+    pub fn or_not_assign_mask(&mut self, other: &BitMask<'_>)
+        requires { length other.now ≡ length self.old }
+        ensures { self.new ≡ zip2 or_not self.old other.now }
+    {
+        self.join(OrNot, other);
+    }
+
+    /// Each bit `q` becomes `(q & l & r) | !(l | r)`: where bits say which rows' values are equal, and the
+    /// windows which rows are present on each side, they then say which rows are equal, null being equal to
+    /// null alone.
+    pub fn merge_eq_assign(&mut self, left: &BitMask<'_>, right: &BitMask<'_>)
+        requires left { length left.now ≡ length self.old }
+        requires right { length right.now ≡ length self.old }
+        ensures { self.new ≡ zip3 merged_eq self.old left.now right.now }
+    {
+        self.merge(MergeEq, left, right);
+    }
+
+    /// Each bit `q` becomes `(q & l & r) | (l ^ r)`: where bits say which rows' values are unequal, and the
+    /// windows which rows are present on each side, they then say which rows are unequal, null being equal to
+    /// null alone.
+    pub fn merge_ne_assign(&mut self, left: &BitMask<'_>, right: &BitMask<'_>)
+        requires left { length left.now ≡ length self.old }
+        requires right { length right.now ≡ length self.old }
+        ensures { self.new ≡ zip3 merged_ne self.old left.now right.now }
+    {
+        self.merge(MergeNe, left, right);
     }
 
     /// The same bits, to be read.

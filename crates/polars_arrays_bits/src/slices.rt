@@ -1,13 +1,14 @@
 //! Comparisons of the elements of slices, place by place.
 
-ghost use Rattle.std.specs.Prelude.{◌≡◌, ◌+◌, ◌≤◌, take, drop, map, length, MatchResult};
+ghost use Rattle.std.specs.Prelude.{◌≡◌, ℕ, ◌+◌, ◌<◌, ◌≤◌, false, take, drop, map, length, MatchResult};
 ghost use Rattle.std.specs.Simd.Lanes.{zip2};
+ghost use Rattle.polars_arrays_words.specs.Bits.{first_of, is_bit};
 ghost use Rattle.polars_arrays_bits.specs.Errors.{IsMemory};
 
 use crate::bitmap::Bitmap;
 use crate::error::ComputeError;
 use polars_arrays_numbers::comparison::Comparison;
-use polars_arrays_words::packing::TruthValues;
+use polars_arrays_words::packing::{TruthValues, pack_few};
 use std::alloc::Global;
 
 // A comparison of two slices, place by place.
@@ -58,6 +59,30 @@ pub fn compare_pairs<L: Copy, R: Copy, E: Comparison<L, R>>(
             left,
             right,
         },
+    )
+}
+
+/// The same of two slices of at most 64 elements, as the bits of a word, the first one lowest, with zeros
+/// behind them. No memory is needed.
+#[inline(always)]
+pub fn compare_few<L: Copy, R: Copy, E: Comparison<L, R>>(
+    comparison: &E,
+    left: &[L],
+    right: &[R],
+) -> u64
+    requires one_length { length right.now ≡ length left.now }
+    requires few { length left.now ≤ 64 }
+    ensures bits { first_of (is_bit result) (length left.now) ≡ zip2 (E.holds comparison.now) left.now right.now }
+    ensures rest { (i : ℕ) → length left.now ≤ i → i < 64 → is_bit result i ≡ false }
+{
+    pack_few(
+        &Pairs {
+            comparison,
+            left,
+            right,
+        },
+        0,
+        left.len(),
     )
 }
 

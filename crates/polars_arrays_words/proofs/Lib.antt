@@ -1,11 +1,11 @@
 pub mod Appends
 pub mod BlockPlaces
+pub mod ChangedWords
 pub mod Counts
 pub mod Examples
 pub mod Firsts
 pub mod FourFolds
 pub mod Joins
-pub mod Merges
 pub mod OperatorBits
 pub mod Packs
 pub mod Puts

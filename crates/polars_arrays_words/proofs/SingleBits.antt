@@ -1,7 +1,8 @@
 -- Single bits of numbers and of words.
-use Rattle.std.proofs.Common.{◌≡◌, ℕ, ◌+◌, ◌-◌, ◌*◌, ◌/◌, ◌%◌, ◌^◌, ◌<◌, ◌≤◌, eqb, List, [], ◌∷◌, get_or, sym, ap, ap₂, ◌∙◌, arith}
+use Rattle.std.proofs.Common.{◌≡◌, ℕ, ◌+◌, ◌-◌, ◌*◌, ◌/◌, ◌%◌, ◌^◌, ◌<◌, ◌≤◌, true, false, eqb, List, [], ◌∷◌, get_or, sym, ap, ap₂, ◌∙◌, arith}
 use Rattle.std.proofs.lemmas.Nat.{shr-shr, shr_split}
-use Rattle.std.proofs.lemmas.Nat.Bits.{bit_at_cat_low, bit_at_cat_high}
+use Rattle.std.proofs.lemmas.Nat.Bits.{bit_at_cat_low, bit_at_cat_high, bit_at_ones, bit_at_ones_above}
+use Rattle.std.proofs.Math.Pow.{pow-lt}
 use Rattle.std.proofs.lemmas.Bool.{cases_lt}
 use Rattle.std.specs.Int.{bit_at}
 use mathlib.Core.Logic.{⊎_elim}
@@ -12,6 +13,16 @@ bit_at-mod x k i h = sym (bit_at_cat_low (x / 2 ^ k) k (x % 2 ^ k) i h) ∙ ap (
 
 pub bit_at-shr : (x k i : ℕ) → bit_at (x / 2 ^ k) i ≡ bit_at x (k + i)
 bit_at-shr x k i = ap (λ y. y % 2) (shr-shr x k i)
+
+-- `(1 << n) - 1`
+pub low-ones : (n : ℕ) → n < 64 → 1 * 2 ^ n % 2 ^ 64 - 1 ≡ 2 ^ n - 1
+low-ones n lt = omega (arith, pow-lt {i = n} {j = 64} lt)
+
+pub low-true : (n i : ℕ) → n < 64 → i < n → is_bit (1 * 2 ^ n % 2 ^ 64 - 1) i ≡ true
+low-true n i fits lt = ap (λ w. is_bit w i) (low-ones n fits) ∙ ap (λ b. eqb b 1) (bit_at_ones n i lt)
+
+pub low-false : (n i : ℕ) → n < 64 → n ≤ i → is_bit (1 * 2 ^ n % 2 ^ 64 - 1) i ≡ false
+low-false n i fits past = ap (λ w. is_bit w i) (low-ones n fits) ∙ ap (λ b. eqb b 1) (bit_at_ones_above n i past)
 
 -- a bit of a word below, and of the word above it
 bit_of-low : (low high p : ℕ) → p < 64 → bit_of (low ∷ high ∷ []) p ≡ is_bit low p

@@ -1,6 +1,7 @@
 -- Runs of bits that are true throughout.
-use Rattle.std.proofs.Common.{◌≡◌, ℕ, zero, suc, ◌+◌, ◌-◌, ◌^◌, ◌<◌, ◌≤◌, Bool, true, false, eqb, ◌&&◌, List, ◌++◌, refl, sym, ap, ap₂, ◌∙◌, arith}
-use Rattle.std.proofs.Math.Dec.{leb}
+use Rattle.std.proofs.Common.{◌≡◌, ℕ, zero, suc, ◌+◌, ◌-◌, ◌/◌, ◌%◌, ◌^◌, ◌<◌, ◌≤◌, Bool, true, false, eqb, ◌&&◌, List, ◌++◌, refl, sym, ap, ap₂, ◌∙◌, arith, subst}
+use Rattle.std.proofs.Math.Dec.{leb, leb-zero}
+use Rattle.std.proofs.Math.Nat.{div-le_self}
 use Rattle.std.proofs.lemmas.Bool.{cases_lt, le-leb, lt-leb}
 use Rattle.std.proofs.lemmas.List.Folds.{list_all-append, list_all_at}
 use Rattle.std.proofs.lemmas.Nat.Bits.{bit_at-trailing_ones}
@@ -10,6 +11,7 @@ use Rattle.std.specs.List.{list_all}
 use mathlib.Core.Logic.{⊎_elim}
 use Rattle.polars_arrays_words.specs.Bits.{is_bit, bit_of, first_of, window}
 use Rattle.polars_arrays_words.proofs.Firsts.{length-first, get_or-first, first_same, first-append}
+use Rattle.polars_arrays_words.proofs.SingleBits.{bit_at-shr}
 use Rattle.polars_arrays_words.proofs.WrittenBits.{ones_bit}
 
 -- the first values are true where each of them is, and not where one is false
@@ -48,6 +50,23 @@ trailing-tells word n f fits few bits =
     le-leb n (trailing_ones w64 word) (omega (arith, all))
     ∙ sym (all-first f n (λ i lt. sym (bits i (omega arith)) ∙ ap (λ w. is_bit w i) max ∙ ones_bit i (omega arith))))
     (cases_lt (word + 1) (2 ^ 64))
+
+-- the same from a later bit on, where the word is moved by less than all of its bits
+pub later-tells :
+    (word at n : ℕ) → word < 2 ^ 64 → at + n ≤ 64 → leb n (trailing_ones w64 (word / 2 ^ (at % 64))) ≡ list_all (λ b. b) (first_of (λ i. is_bit word (at + i)) n)
+later-tells word at n fits within =
+    ⊎_elim
+    (λ below.
+    let place : at % 64 ≡ at = omega arith in
+    ap (λ k. leb n (trailing_ones w64 (word / 2 ^ k))) place
+    ∙ trailing-tells (word / 2 ^ at) n (λ i. is_bit word (at + i)) (omega (arith, fits, div-le_self word (2 ^ at))) (omega arith) (λ i lt. ap (λ b. eqb b 1) (bit_at-shr word at i)))
+    (λ past.
+    let none : 0 ≡ n = omega arith in
+    subst
+    (λ m. leb m (trailing_ones w64 (word / 2 ^ (at % 64))) ≡ list_all (λ b. b) (first_of (λ i. is_bit word (at + i)) m))
+    none
+    (leb-zero (trailing_ones w64 (word / 2 ^ (at % 64)))))
+    (cases_lt at 64)
 
 -- a run, and the one behind it
 all-append :

@@ -51,9 +51,13 @@ pub record IsPut (old new : List ℕ) (p word : ℕ) : Type 0 where
   pub before : (q : ℕ) → q < p → bit_of new q ≡ bit_of old q
   pub bits : (i : ℕ) → i < 64 → p + i < 64 * length old → bit_of new (p + i) ≡ is_bit word i
 
--- the new words have the results of g on the old ones' bits and the values of f, in the words from `from` up to `to`, and elsewhere the bits of the old ones
-pub record IsMerged (g : Bool → Bool → Bool) (f : ℕ → Bool) (old new : List ℕ) (from to : ℕ) : Type 0 where
+-- a word has become another one, each bit of it what h makes of it, where the word's bits are the k-th 64
+pub record IsChangedWord (h : ℕ → Bool → Bool) (k old new : ℕ) : Type 0 where
+  pub bits : (i : ℕ) → i < 64 → is_bit new i ≡ h (64 * k + i) (is_bit old i)
+
+-- the new words have what h makes of the old ones' bits, in the words from `from` up to `to`, and elsewhere the bits of the old ones
+pub record IsChanged (h : ℕ → Bool → Bool) (old new : List ℕ) (from to : ℕ) : Type 0 where
   pub count : length new ≡ length old
-  pub within : (p : ℕ) → 64 * from ≤ p → p < 64 * to → bit_of new p ≡ g (bit_of old p) (f p)
+  pub within : (p : ℕ) → 64 * from ≤ p → p < 64 * to → bit_of new p ≡ h p (bit_of old p)
   pub below : (p : ℕ) → p < 64 * from → bit_of new p ≡ bit_of old p
   pub above : (p : ℕ) → 64 * to ≤ p → bit_of new p ≡ bit_of old p

@@ -1,7 +1,8 @@
 //! Bits of words of 64 bits, in slices of words: read from any bit on, counted, joined by operators,
-//! packed from truth values, folded by blocks, and written.
+//! packed from truth values, folded by blocks, written, and changed in place.
 #![tactic(auto)]
 
+pub mod changes;
 pub mod folds;
 pub mod operators;
 pub mod packing;

@@ -135,10 +135,11 @@ pub(crate) fn pack_word<V: TruthValues>(values: &V, at: usize, count: usize) -> 
     }
 }
 
-// The same where `count` is found as the code runs: flags cost a few steps whatever their number, so
-// that they pay from sixteen on.
+/// The word of the `count` truth values from place `at` on, with zeros behind them, where `count` is found
+/// as the code runs.
+// Flags cost a few steps whatever their number, so that they pay from sixteen on.
 #[inline(always)]
-pub(crate) fn pack_few<V: TruthValues>(values: &V, at: usize, count: usize) -> u64
+pub fn pack_few<V: TruthValues>(values: &V, at: usize, count: usize) -> u64
     requires few { count ≤ 64 }
     requires within { at + count ≤ length (V.values values.now) }
     requires fits { at + count < 2 ^ 64 }

@@ -2,7 +2,7 @@
 
 ghost use Rattle.std.specs.Prelude.{◌≡◌, ◌+◌, ◌^◌, ◌<◌, ◌≤◌};
 ghost use Rattle.std.specs.List.{list_all};
-ghost use Rattle.polars_arrays_words.specs.Bits.{window};
+ghost use Rattle.polars_arrays_words.specs.Bits.{first_of, is_bit, window};
 
 use crate::words::{WORD_BITS, word_from};
 
@@ -45,4 +45,14 @@ pub fn all_set(words: &[u64], by: usize, at: usize, n: usize) -> bool
     } else {
         many_set(words, by, at, n)
     }
+}
+
+/// Whether the `n` bits from bit `at` on of one word are all true.
+#[inline]
+pub fn word_set(word: u64, at: usize, n: usize) -> bool
+    requires { at + n ≤ 64 }
+    ensures { result ≡ list_all (λ b. b) (first_of (λ i. is_bit word (at + i)) n) }
+{
+    // No bits may stand behind the last one, and a word can't be moved by all of its bits.
+    n <= (word >> (at % WORD_BITS)).trailing_ones() as usize
 }

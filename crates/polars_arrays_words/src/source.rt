@@ -3,7 +3,7 @@
 ghost use Rattle.std.specs.Prelude.{◌≡◌, ℕ, ◌+◌, ◌-◌, ◌*◌, ◌^◌, ◌<◌, ◌≤◌, Bool, [], length, vec_capacity, count_by, IfOk};
 ghost use Rattle.polars_arrays_words.specs.Bits.{bit_of, window, true_count, IsWord, AreWords};
 
-use crate::words::{WORD_BITS, join, word_or_zero};
+use crate::words::{WORD_BITS, join, join_lanes, word_or_zero};
 use std::alloc::{AllocError, Global};
 
 /// Bits that are read 64 at a time, each 64 of them as the bits of a word, the lowest first.
@@ -75,7 +75,7 @@ impl BitSource for Shifted<'_> {
 
     #[inline]
     fn inner_word(&self, k: usize) -> u64 {
-        join(self.words[k], self.words[k + 1], self.by)
+        join_lanes(self.words[k], self.words[k + 1], self.by)
     }
 
     #[inline]

@@ -1,6 +1,6 @@
 //! Single bits and runs of bits of 64-bit words.
 
-ghost use Rattle.std.specs.Prelude.{◌≡◌, ℕ, ◌+◌, ◌-◌, ◌*◌, ◌/◌, ◌%◌, ◌^◌, ◌<◌, ◌≤◌, List, [], ◌∷◌, length, get_or, take, drop};
+ghost use Rattle.std.specs.Prelude.{◌≡◌, ℕ, ◌+◌, ◌-◌, ◌*◌, ◌/◌, ◌%◌, ◌^◌, ◌<◌, ◌≤◌, true, false, List, [], ◌∷◌, length, get_or, take, drop};
 ghost use Rattle.polars_arrays_words.specs.Bits.{is_bit, bit_of};
 
 /// How many bits a word has.
@@ -15,7 +15,7 @@ pub(crate) fn word_or_zero(words: &[u64], k: usize) -> u64
 }
 
 // The 64 bits from bit `by` of `low` on, where `high` is the next word. Bit 0 would be a word as it
-// is, and one shift more.
+// is, and one shift more. This becomes one instruction, the best for a single word.
 #[inline]
 pub(crate) fn join(low: u64, high: u64, by: usize) -> u64
     requires some { 0 < by }
@@ -25,7 +25,18 @@ pub(crate) fn join(low: u64, high: u64, by: usize) -> u64
     (low >> by) | (high << (64 - by))
 }
 
-// The same from any bit on. This becomes one shift of two words, without a branch.
+// The same in a form for loops over words, from any bit on. The compiler makes one instruction of
+// `join`, a shift of two words, which exists for single words alone, and so a loop of it goes word by
+// word. Of these three shifts it makes vectors.
+#[inline]
+pub(crate) fn join_lanes(low: u64, high: u64, by: usize) -> u64
+    requires { by < 64 }
+    ensures { (i : ℕ) → i < 64 → is_bit result i ≡ bit_of (low ∷ high ∷ []) (by + i) }
+{
+    (low >> by) | ((high << 1) << (63 - by))
+}
+
+// The same as `join` from any bit on. This becomes one shift of two words, without a branch.
 #[inline]
 pub(crate) fn join_from(low: u64, high: u64, by: usize) -> u64
     requires { by < 64 }
@@ -34,10 +45,10 @@ pub(crate) fn join_from(low: u64, high: u64, by: usize) -> u64
     if by == 0 { low } else { join(low, high, by) }
 }
 
-// The 64 bits from bit `at` on of those that begin `by` bits into the first word, and zeros past the
-// end.
+/// The 64 bits from bit `at` on of those that begin `by` bits into the first word, and zeros past the
+/// end.
 #[inline]
-pub(crate) fn word_from(words: &[u64], by: usize, at: usize) -> u64
+pub fn word_from(words: &[u64], by: usize, at: usize) -> u64
     requires { by < 64 }
     ensures { (i : ℕ) → i < 64 → is_bit result i ≡ bit_of words.now (by + at + i) }
 {
@@ -106,4 +117,18 @@ pub fn filled_word(value: bool) -> u64
     ensures { (i : ℕ) → i < 64 → is_bit result i ≡ value }
 {
     if value { u64::MAX } else { 0 }
+}
+
+/// The word whose `n` lowest bits are true, and the others false.
+#[inline]
+pub fn low_bits(n: usize) -> u64
+    requires { n ≤ 64 }
+    ensures low { (i : ℕ) → i < n → is_bit result i ≡ true }
+    ensures rest { (i : ℕ) → n ≤ i → i < 64 → is_bit result i ≡ false }
+{
+    if n < WORD_BITS {
+        (1 << n) - 1
+    } else {
+        u64::MAX
+    }
 }

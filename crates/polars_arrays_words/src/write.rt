@@ -1,12 +1,10 @@
 //! Bits that are written into words.
 
 ghost use Rattle.std.specs.Prelude.{◌≡◌, ◌+◌, ◌*◌, ◌^◌, ◌<◌, ◌≤◌, Bool, length, slice_set};
-ghost use Rattle.polars_arrays_words.specs.Bits.{IsMerged, IsPut, IsWritten};
+ghost use Rattle.polars_arrays_words.specs.Bits.{IsPut, IsWritten};
 ghost use Rattle.polars_arrays_words.specs.Packing.{AreAppended};
 
-use crate::operators::BinaryOperator;
 use crate::packing::{TruthValues, pack_few, pack_word, put};
-use crate::source::BitSource;
 use crate::words::{WORD_BITS, filled_word, word_or_zero};
 
 /// Bit `p` becomes `value`, and no other changes.
@@ -101,41 +99,4 @@ pub fn append_values<V: TruthValues>(words: &mut [u64], from: usize, values: &V)
         from + (len - rest),
         pack_few(values, len - rest, rest),
     );
-}
-
-/// The first `to` words become the operator's results with the source's, which are read with no test
-/// for an end.
-#[inline(always)]
-pub fn merge_inner_words<O: BinaryOperator, S: BitSource>(
-    words: &mut [u64],
-    operator: &O,
-    source: &S,
-    to: usize,
-)
-    requires within { to ≤ length words.old }
-    requires inner { to ≤ S.inner source.now }
-    ensures { IsMerged O.bit (S.bit source.now) words.old words.new 0 to }
-{
-    for k in 0..to {
-        words[k] = operator.apply(words[k], source.inner_word(k));
-    }
-}
-
-/// The words from `from` to `to` become the operator's results with the source's.
-#[inline(always)]
-pub fn merge_words<O: BinaryOperator, S: BitSource>(
-    words: &mut [u64],
-    operator: &O,
-    source: &S,
-    from: usize,
-    to: usize,
-)
-    requires order { from ≤ to }
-    requires within { to ≤ length words.old }
-    requires few { to ≤ 2 ^ 58 }
-    ensures { IsMerged O.bit (S.bit source.now) words.old words.new from to }
-{
-    for k in from..to {
-        words[k] = operator.apply(words[k], source.word(k));
-    }
 }

@@ -10,6 +10,7 @@
 //! | `window MASK AT N` | N bits from place AT on |
 //! | `mask_len MASK`, `mask_unset_bits MASK` | how many bits there are, and are false |
 //! | `mask_get MASK I` | bit I |
+//! | `few_bits MASK AT N` | the N bits from place AT on as a number, the first one lowest |
 //! | `all_set MASK AT N` | whether the N bits from place AT on are all true |
 //! | `all_in_blocks MASK WIDTH N` | whether all bits are true, of each of N blocks of WIDTH bits |
 
@@ -33,6 +34,7 @@ pub fn answer(alloc: Global, call: &str, words: &mut Words) -> Result<Option<Str
         | "mask_len"
         | "mask_unset_bits"
         | "mask_get"
+        | "few_bits"
         | "all_set"
         | "all_in_blocks" => of_one(alloc, call, words),
         "mask_and" | "mask_or" | "mask_xor" | "mask_xnor" | "mask_and_not" | "mask_or_not" => {
@@ -174,6 +176,7 @@ fn ask_part(
 ) -> Result<String, Fault> {
     match call {
         "window" => part(alloc, mask, first, second),
+        "few_bits" => few_bits(alloc, mask, first, second),
         "all_set" => write_value(alloc, is_all_set(mask, first, second)?),
         "all_in_blocks" => write_read(alloc, fold_blocks(alloc, mask, first, second)),
         _ => Err(Fault::Word),
@@ -186,6 +189,14 @@ fn part(alloc: Global, mask: &BitMask<'_>, at: usize, n: usize) -> Result<String
         return Err(Fault::Case);
     }
     write_made(alloc, mask.window(at, n).to_bitmap(alloc))
+}
+
+// At most 64 bits of a window as a number, where it has them.
+fn few_bits(alloc: Global, mask: &BitMask<'_>, at: usize, n: usize) -> Result<String, Fault> {
+    if n > 64 || !is_within(at, n, mask.len()) {
+        return Err(Fault::Case);
+    }
+    write_value(alloc, mask.few_bits(at, n))
 }
 
 // Bit `i`, where there is one.

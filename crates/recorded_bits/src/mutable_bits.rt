@@ -1,20 +1,23 @@
 //! What is asked of bitmaps that are changed in place.
 //!
-//! The question is `mutable zeroed N OPERATION..` or `mutable set N OPERATION..`, for N bits that are all
-//! false or all true, up to the operation `freeze`. The answer is what the operations answer, one after the
-//! other.
+//! The question is `mutable zeroed N OPERATION..`, `mutable set N OPERATION..` or `mutable of X OPERATION..`, for N
+//! bits that are all false or all true, or for the bits of X, up to the operation `freeze`. The answer is what the
+//! operations answer, one after the other.
 //!
 //! | Operation | Answer |
 //! |---|---|
-//! | `set I VALUE` | none, as of the next two |
+//! | `set I VALUE` | none, as of the next ones |
 //! | `or X` | each bit becomes true where that of X is, which is made a bitmap of this kind |
 //! | `and X` | each bit stays true where that of X is |
+//! | `and_mask X`, `or_not_mask X` | each bit stays true where that of X is, or becomes true where that of X is false |
+//! | `merge_eq L R`, `merge_ne L R` | equality and inequality of rows by their values' bits, by L and R, which say which rows are present |
 //! | `get I` | bit I |
 //! | `len`, `count` | how many bits there are, and are true |
 //! | `freeze` | all bits |
 
 use crate::answer_text::{Told, write_value};
 use crate::bits::{read_bitmap, read_truth};
+use polars_arrays_bits::bit_mask::BitMask;
 use polars_arrays_bits::bitmap::Bitmap;
 use polars_arrays_bits::mutable_bitmap::MutableBitmap;
 use recorded_text::fault::Fault;
@@ -34,6 +37,7 @@ fn begin(alloc: Global, words: &mut Words) -> Result<MutableBitmap, Fault> {
     match words.read()? {
         "zeroed" => Ok(MutableBitmap::from_len_zeroed(alloc, words.read_number()?)?),
         "set" => Ok(MutableBitmap::from_len_set(alloc, words.read_number()?)?),
+        "of" => read_mutable(alloc, words),
         _ => Err(Fault::Word),
     }
 }
@@ -89,6 +93,11 @@ fn change(
         "set" => set(bits, words.read_number()?, read_truth(words)?),
         "or" => or_assign(bits, read_mutable(alloc, words)),
         "and" => and_assign(bits, read_bitmap(alloc, words)),
+        "and_mask" | "or_not_mask" => assign_mask(bits, operation, read_bitmap(alloc, words)),
+        "merge_eq" | "merge_ne" => {
+            let left = read_bitmap(alloc, words)?;
+            merge(bits, operation, &left, read_bitmap(alloc, words))
+        }
         _ => Err(Fault::Word),
     }
 }
@@ -113,16 +122,7 @@ fn set(bits: &mut MutableBitmap, i: usize, value: bool) -> Result<(), Fault> {
 // The bits that the next word writes, to be changed.
 fn read_mutable(alloc: Global, words: &mut Words) -> Result<MutableBitmap, Fault> {
     let bits = read_bitmap(alloc, words)?;
-    to_mutable(alloc, &bits)
-}
-
-// The bits of a bitmap, to be changed.
-fn to_mutable(alloc: Global, bits: &Bitmap) -> Result<MutableBitmap, Fault> {
-    let mut copy = MutableBitmap::from_len_zeroed(alloc, bits.len())?;
-    for i in 0..bits.len() {
-        set(&mut copy, i, bits.get_bit(i))?;
-    }
-    Ok(copy)
+    Ok(bits.into_mut(alloc)?)
 }
 
 // Each bit becomes true where the other's is, where they are as many.
@@ -142,5 +142,42 @@ fn and_assign(bits: &mut MutableBitmap, other: Result<Bitmap, Fault>) -> Result<
         return Err(Fault::Case);
     }
     bits.and_assign(&other);
+    Ok(())
+}
+
+// Each bit is joined with the other's by the operation of this name, where they are as many.
+fn assign_mask(
+    bits: &mut MutableBitmap,
+    operation: &str,
+    other: Result<Bitmap, Fault>,
+) -> Result<(), Fault> {
+    let other = other?;
+    if other.len() != bits.len() {
+        return Err(Fault::Case);
+    }
+    let other = BitMask::from_bitmap(&other);
+    match operation {
+        "and_mask" => bits.and_assign_mask(&other),
+        _ => bits.or_not_assign_mask(&other),
+    }
+    Ok(())
+}
+
+// The bits are merged with which rows are present on each side, where they are as many.
+fn merge(
+    bits: &mut MutableBitmap,
+    operation: &str,
+    left: &Bitmap,
+    right: Result<Bitmap, Fault>,
+) -> Result<(), Fault> {
+    let right = right?;
+    if left.len() != bits.len() || right.len() != bits.len() {
+        return Err(Fault::Case);
+    }
+    let (left, right) = (BitMask::from_bitmap(left), BitMask::from_bitmap(&right));
+    match operation {
+        "merge_eq" => bits.merge_eq_assign(&left, &right),
+        _ => bits.merge_ne_assign(&left, &right),
+    }
     Ok(())
 }

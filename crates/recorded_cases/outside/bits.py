@@ -131,18 +131,19 @@ def builder(words):
 
 
 def mutable(words):
-    value = {"zeroed": False, "set": True}[words.word()]
-    bits, told = words.number() * [value], []
+    begin = words.word()
+    bits = words.bits() if begin == "of" else words.number() * [{"zeroed": False, "set": True}[begin]]
+    told = []
     while True:
         operation = words.word()
         if operation == "set":
             i = words.number()
             window(bits, i, 1)
             bits[i] = words.truth()
-        elif operation in ("or", "and"):
-            other = words.bits()
-            assert len(other) == len(bits)
-            bits = [OPERATORS[operation](a, b) for a, b in zip(bits, other)]
+        elif operation in ("or", "and", "and_mask", "or_not_mask"):
+            bits = [OPERATORS[operation.removesuffix("_mask")](a, b) for a, b in zip(bits, words.bits(), strict=True)]
+        elif operation in ("merge_eq", "merge_ne"):
+            bits = [MERGES[operation](*each) for each in zip(bits, words.bits(), words.bits(), strict=True)]
         elif operation == "get":
             told.append(bits[words.number()])
         elif operation == "len":
@@ -152,6 +153,12 @@ def mutable(words):
         else:
             assert operation == "freeze"
             return (*told, shown(bits))
+
+
+def few_bits(words):
+    bits = window(words.mask(), words.number(), words.number())
+    assert len(bits) <= 64
+    return sum(bit << i for i, bit in enumerate(bits))
 
 
 def buffer(words):
@@ -294,6 +301,7 @@ CALLS = {
     "mask_len": lambda w: len(w.mask()),
     "mask_unset_bits": lambda w: w.mask().count(False),
     "mask_get": lambda w: w.mask()[w.number()],
+    "few_bits": few_bits,
     "all_set": lambda w: all(window(w.mask(), w.number(), w.number())),
     "all_in_blocks": blocks,
     "builder": builder,

@@ -14,11 +14,11 @@ loop-k-preserved g c =
     let count : c.min.result ≡ min (length values - 64 * k) 64 = c.min.ensures ∙ ap (λ l. min (l - 64 * k) 64) c.len-len.ensures in
     record {
       words =
-          are-words-more _ k c.pack_counted.result c.loop-k.words.items _ c.loop-k.invariant.words
-          (word-values values k (64 * k) c.min.result c.pack_counted.result at count c.pack_counted.ensures.packed)
+          are-words-more _ k c.count_word.result c.loop-k.words.items _ c.loop-k.invariant.words
+          (word-values values k (64 * k) c.min.result c.count_word.result at count c.count_word.ensures.packed)
           c.push_reserved.ensures.items;
       counted =
-          cost-word costs k (length values) c.args.steps.now c.loop-k.steps c.pack_counted.new.steps lt c.loop-k.invariant.counted
-          (c.pack_counted.ensures.counted ∙ ap (λ n. c.loop-k.steps + cost_of costs (64 * k) n) count);
+          cost-word costs k (length values) c.args.steps.now c.loop-k.steps c.count_word.new.steps lt c.loop-k.invariant.counted
+          (c.count_word.ensures.counted ∙ ap (λ n. c.loop-k.steps + cost_of costs (64 * k) n) count);
       room = c.push_reserved.ensures.capacity ∙ c.loop-k.invariant.room;
     }

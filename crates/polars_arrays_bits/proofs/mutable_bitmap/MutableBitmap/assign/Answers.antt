@@ -1,12 +1,6 @@
-use Rattle.std.proofs.Common.{ap, ◌∙◌, arith}
-use Rattle.std.proofs.lemmas.List.{with_items_is}
-use Rattle.polars_arrays_words.specs.Bits.{window}
-use Rattle.polars_arrays_bits.proofs.WrittenWindows.{window-merged}
+use Rattle.std.proofs.Common.{◌∙◌}
+use Rattle.polars_arrays_bits.proofs.WrittenWindows.{changed-zip2}
 use Rattle.polars_arrays_bits.proofs.mutable_bitmap.MutableBitmap.assign.Goals as goal
 
 pub returns : goal.returns
-returns g c =
-    let n = c.self.inside.len in
-    ap (λ ws. window 0 n ws) (with_items_is c.self.inside.words c.merge_words.new.words (omega (arith, c.merge_words.ensures.count, c.merge_inner_words.ensures.count)))
-    ∙ window-merged _ _ c.as_mut_slice-words.result.now c.merge_inner_words.new.words c.merge_words.new.words c.min-inner.result c.div_ceil-count.result n c.args.self.now
-    (ap (λ ws. window 0 n ws) c.as_mut_slice-words.ensures.value ∙ c.self.view_is) c.merge_inner_words.ensures c.merge_words.ensures (omega (arith, c.div_ceil-count.ensures))
+returns g c = c.change.ensures ∙ changed-zip2 g.O.BinaryOperator.bit (g.S.BitSource.bit c.args.source) c.args.self.now

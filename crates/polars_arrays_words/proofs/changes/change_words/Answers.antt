@@ -1,0 +1,8 @@
+use Rattle.std.proofs.Common.{◌<◌, length, arith}
+use Rattle.polars_arrays_words.proofs.ChangedWords.{changed-word}
+use Rattle.polars_arrays_words.proofs.changes.change_words.Goals as goal
+
+pub loop-k-preserved : goal.loop-k-preserved
+loop-k-preserved g c =
+    let there : c.loop-k.k < length c.loop-k.words = omega (arith, c.loop-k.auto.words) in
+    changed-word _ _ c.loop-k.words c.args.from c.loop-k.k c.word.result there (omega arith) c.loop-k.invariant c.word.ensures

@@ -1,0 +1,114 @@
+//! Words that are changed in place, 64 bits at a time.
+
+ghost use Rattle.std.specs.Prelude.{◌≡◌, ℕ, ◌^◌, ◌<◌, ◌≤◌, Bool, length};
+ghost use Rattle.polars_arrays_words.specs.Bits.{IsChanged, IsChangedWord};
+
+use crate::operators::{BinaryOperator, TernaryOperator};
+use crate::source::BitSource;
+
+/// What each bit of words becomes.
+pub trait WordChange {
+    ghost bit: { Self → ℕ → Bool → Bool };
+
+    ghost inner: { Self → ℕ };
+
+    /// How many of the first words `inner_word` can change.
+    fn inner_words(&self) -> usize
+        ensures { result ≡ inner self.now };
+
+    /// What word `k` becomes, with no test for an end.
+    fn inner_word(&self, k: usize, word: u64) -> u64
+        requires { k < inner self.now }
+        ensures { IsChangedWord (bit self.now) k word result };
+
+    /// What word `k` becomes.
+    fn word(&self, k: usize, word: u64) -> u64
+        requires { k < 2 ^ 58 }
+        ensures { IsChangedWord (bit self.now) k word result };
+}
+
+/// Each bit becomes the operator's result with the source's.
+#[derive(Drop)]
+pub struct JoinedWith<O, A> {
+    pub operator: O,
+    pub source: A,
+}
+
+impl<O: BinaryOperator, A: BitSource> WordChange for JoinedWith<O, A> {
+    ghost bit = { λ c p b. O.bit b (A.bit c.source p) };
+
+    ghost inner = { λ c. A.inner c.source };
+
+    #[inline]
+    fn inner_words(&self) -> usize {
+        self.source.inner_words()
+    }
+
+    #[inline]
+    fn inner_word(&self, k: usize, word: u64) -> u64 {
+        self.operator.apply(word, self.source.inner_word(k))
+    }
+
+    #[inline]
+    fn word(&self, k: usize, word: u64) -> u64 {
+        self.operator.apply(word, self.source.word(k))
+    }
+}
+
+/// Each bit becomes the operator's result with those of two sources.
+#[derive(Drop)]
+pub struct MergedWith<O, A, B> {
+    pub operator: O,
+    pub left: A,
+    pub right: B,
+}
+
+impl<O: TernaryOperator, A: BitSource, B: BitSource> WordChange for MergedWith<O, A, B> {
+    ghost use Rattle.std.specs.Prelude.{min};
+
+    ghost bit = { λ c p b. O.bit b (A.bit c.left p) (B.bit c.right p) };
+
+    ghost inner = { λ c. min (A.inner c.left) (B.inner c.right) };
+
+    #[inline]
+    fn inner_words(&self) -> usize {
+        self.left.inner_words().min(self.right.inner_words())
+    }
+
+    #[inline]
+    fn inner_word(&self, k: usize, word: u64) -> u64 {
+        self.operator
+            .apply(word, self.left.inner_word(k), self.right.inner_word(k))
+    }
+
+    #[inline]
+    fn word(&self, k: usize, word: u64) -> u64 {
+        self.operator
+            .apply(word, self.left.word(k), self.right.word(k))
+    }
+}
+
+/// The first `to` words are changed with no test for an end.
+#[inline(always)]
+pub fn change_inner_words<C: WordChange>(words: &mut [u64], change: &C, to: usize)
+    requires within { to ≤ length words.old }
+    requires inner { to ≤ C.inner change.now }
+    ensures { IsChanged (C.bit change.now) words.old words.new 0 to }
+{
+    for k in 0..to {
+        words[k] = change.inner_word(k, words[k]);
+    }
+}
+
+/// The words from `from` to `to` are changed.
+#[inline(always)]
+pub fn change_words<C: WordChange>(words: &mut [u64], change: &C, from: usize, to: usize)
+    requires order { from ≤ to }
+    requires within { to ≤ length words.old }
+    requires few { to ≤ 2 ^ 58 }
+    ensures { IsChanged (C.bit change.now) words.old words.new from to }
+{
+    for k in from..to {
+        words[k] = change.word(k, words[k]);
+    }
+}
