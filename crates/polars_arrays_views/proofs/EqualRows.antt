@@ -51,10 +51,14 @@ module _ (buffers others : List (List ℕ)) (v w xs ys : List ℕ) (good : GoodV
       let first : padded 4 xs ≡ padded 4 ys = padded_long 4 xs (omega arith) ∙ followed.1 ∙ sym (padded_long 4 ys (omega arith)) in
       other (same_head v w good.view good_too.view (len ∙ lengths ∙ sym len_too) (prefix ∙ first ∙ sym prefix_too)))
 
+  view_from_halves : take 8 v ≡ take 8 w → drop 8 v ≡ drop 8 w → v ≡ w
+  view_from_halves head tail =
+      sym (take-append-drop 8 v) ∙ ap (λ (rest : List ℕ). rest ++ drop 8 v) head ∙ ap (λ (rest : List ℕ). take 8 w ++ rest) tail ∙ take-append-drop 8 w
+
   -- where they agree, short rows are equal exactly where the last eight bytes are
   rows_from_tail : take 8 v ≡ take 8 w → view_len v ≤ 12 → drop 8 v ≡ drop 8 w → xs ≡ ys
   rows_from_tail head short tail =
-      let same : v ≡ w = sym (take-append-drop 8 v) ∙ ap (λ (rest : List ℕ). rest ++ drop 8 v) head ∙ ap (λ (rest : List ℕ). take 8 w ++ rest) tail ∙ take-append-drop 8 w in
+      let same : v ≡ w = view_from_halves head tail in
       let lengths = ap view_len same in
       sym row ∙ short_row buffers v short ∙ ap (λ (view : List ℕ). take (view_len view) (drop 4 view)) same ∙ sym (short_row others w (omega arith)) ∙ row_too
 
@@ -67,6 +71,11 @@ module _ (buffers others : List (List ℕ)) (v w xs ys : List ℕ) (good : GoodV
   pub equal_by_both : view_len v ≤ 12 → ((take 8 v ≡ take 8 w) × (drop 8 v ≡ drop 8 w)) ↔ (xs ≡ ys)
   equal_by_both short =
       ((λ both. rows_from_tail both.0 short both.1), (λ same. let head = head_from_rows same in (head, tail_from_rows head short same)))
+
+  pub equal_by_all : view_len v ≤ 12 → (v ≡ w) ↔ (xs ≡ ys)
+  equal_by_all short =
+      let told = equal_by_both short in
+      ((λ same. told.0 (ap (take 8) same, ap (drop 8) same)), (λ rows. let both = told.1 rows in view_from_halves both.0 both.1))
 
   pub not_followed-short : view_len v ≤ 12 → followed_eq xs ys ≡ false
   not_followed-short short =

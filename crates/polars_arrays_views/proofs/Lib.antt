@@ -4,5 +4,6 @@ pub mod Examples
 pub mod GoodViews
 pub mod LessRows
 pub mod Padding
+pub mod SameBytes
 pub mod Strings
 pub mod Words

@@ -1,13 +1,15 @@
 //! Equality and order of single rows, also of rows that are masked.
 
-ghost use Rattle.std.specs.Prelude.{◌≡◌, ◌<◌, ◌+◌, [], if◌then◌else◌, length, slice_index_or};
+ghost use Rattle.std.specs.Prelude.{◌≡◌, ◌<◌, ◌+◌, ℕ, List, [], IsTrue, if◌then◌else◌, length, slice_index_or, false};
 ghost use Rattle.std.specs.Str.{bytes_eq};
 ghost use Rattle.polars_arrays_flat.specs.ByteOrder.{bytes_lt};
 ghost use Rattle.polars_arrays_views.specs.Parts.{view_strings};
-ghost use Rattle.polars_arrays_views.specs.Views.{followed_eq, followed_lt};
+ghost use Rattle.polars_arrays_views.specs.Views.{GoodView, row_bytes, followed_eq, followed_lt};
 
 use crate::binary_view::BinaryViewArray;
 use crate::scalar::ScalarRow;
+use crate::view::View;
+use polars_arrays_bits::counting::Guess;
 use polars_arrays_flat::byte_order::bytes_less;
 use polars_arrays_numbers::steps::Steps;
 
@@ -37,6 +39,19 @@ pub fn rows_equal(
     }
     steps.add(1);
     left.value(i) == right.value(j)
+}
+
+/// What two views tell at a glance of whether their rows are equal. It is sure where the first row has at most
+/// 12 bytes, which all lie in its view.
+#[inline(always)]
+pub fn guess_equal(v: &View, w: &View) -> Guess
+    ensures same { (buffers others : List (List ℕ)) → GoodView buffers v.now → GoodView others w.now → IsTrue result.sure → result.value ≡ bytes_eq (row_bytes buffers v.now) (row_bytes others w.now) }
+    ensures free { (buffers others : List (List ℕ)) → GoodView buffers v.now → GoodView others w.now → IsTrue result.sure → followed_eq (row_bytes buffers v.now) (row_bytes others w.now) ≡ false }
+{
+    Guess {
+        value: v.same_bytes(w),
+        sure: v.len() <= 12,
+    }
 }
 
 /// Whether row `i` of one array is less than row `j` of another, byte by byte. A pair that is looked up in

@@ -9,6 +9,7 @@ ghost use Rattle.polars_arrays_views.specs.Views.{short_view, IsView, GoodView, 
 use polars_arrays_bits::buffer::Buffer;
 use polars_arrays_flat::byte_order::pair_less;
 use std::marker::Model;
+use std::simd::prelude::*;
 
 /// Any sixteen bytes. As a view of a row they are its length in four bytes, then up to 12 bytes of the row
 /// and zeros behind them, or, of a longer row, its first four bytes, the number of its buffer and where it
@@ -151,6 +152,15 @@ impl View {
         ensures { IsTrue result ↔ (drop 8 self.now ≡ drop 8 other.now) }
     {
         self.tail() == other.tail()
+    }
+
+    /// Whether all sixteen bytes agree, by one comparison.
+    #[inline(always)]
+    pub fn same_bytes(&self, other: &View) -> bool
+        ensures { IsTrue result ↔ (self.now ≡ other.now) }
+    {
+        let differ = u8x16::from_array(self.bytes).simd_ne(u8x16::from_array(other.bytes));
+        differ.to_bitmask() == 0
     }
 
     /// The prefix as a number, the first byte being the greatest.

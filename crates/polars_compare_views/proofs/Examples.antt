@@ -1,5 +1,5 @@
 -- Worked examples of the definitions: the check computes both sides of each.
-use Rattle.std.specs.Prelude.{◌≡◌, true, false, [], ◌∷◌, refl}
+use Rattle.std.specs.Prelude.{◌≡◌, true, [], ◌∷◌, refl}
 use Rattle.polars_arrays_views.specs.Views.{followed_eq, followed_lt}
 use Rattle.polars_compare_leaves.specs.Order.{row_less}
 use Rattle.polars_compare_leaves.specs.Sameness.{same_row}

@@ -1,5 +1,5 @@
 -- Tests of pairs, as bits.
-use Rattle.std.proofs.Common.{◌≡◌, ◌<◌, ◌∙◌, ℕ, zero, suc, Bool, false, List, [], ◌∷◌, length, map, refl, ap, sym, arith, slice_index_or}
+use Rattle.std.proofs.Common.{◌≡◌, ◌<◌, ℕ, zero, suc, Bool, false, List, [], ◌∷◌, length, map, refl, arith, slice_index_or}
 use Rattle.std.proofs.lemmas.List.FromFn.{length-map-range_with_len, get_or-map-range_with_len}
 use Rattle.polars_arrays_bits.specs.Bits.{first_of}
 use Rattle.polars_arrays_flat.specs.Row.{Row, Bytes}

@@ -1,5 +1,5 @@
 -- How many pairs of byte strings are looked up in buffers.
-use Rattle.std.specs.Prelude.{ℕ, zero, suc, ◌+◌, Bool, List, [], if◌then◌else◌, slice_index_or}
+use Rattle.std.specs.Prelude.{ℕ, ◌+◌, Bool, List, [], if◌then◌else◌, slice_index_or}
 use Rattle.polars_arrays_bits.specs.Costs.{cost_of}
 
 -- what pair k costs, from place a on of the left byte strings and from place b on of the right ones: 1 where it is followed

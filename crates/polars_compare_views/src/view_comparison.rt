@@ -1,21 +1,23 @@
 //! Comparisons of two rows of arrays of views.
 
-ghost use Rattle.std.specs.Prelude.{◌≡◌, ◌<◌, ◌+◌, ℕ, Bool, List, [], if◌then◌else◌, length, slice_index_or};
+ghost use Rattle.std.specs.Prelude.{◌≡◌, ◌<◌, ◌+◌, ℕ, Bool, List, [], IsTrue, false, if◌then◌else◌, length, slice_index_or};
 ghost use Rattle.polars_arrays_flat.specs.Row.{Row, Bytes};
 ghost use Rattle.polars_arrays_views.specs.Parts.{view_strings};
-ghost use Rattle.polars_arrays_views.specs.Views.{followed_eq, followed_lt};
+ghost use Rattle.polars_arrays_views.specs.Views.{GoodView, row_bytes, followed_eq, followed_lt};
 ghost use Rattle.polars_compare_leaves.specs.Order.{row_at_least, row_at_most, row_greater, row_less};
 ghost use Rattle.polars_compare_leaves.specs.Sameness.{other_row, same_row};
 
+use polars_arrays_bits::counting::Guess;
 use polars_arrays_numbers::comparison::{
     Equal, Greater, GreaterOrEqual, Less, LessOrEqual, Unequal,
 };
 use polars_arrays_numbers::steps::Steps;
 use polars_arrays_views::binary_view::BinaryViewArray;
 use polars_arrays_views::rows::{
-    bytes_less_row, row_equals_bytes, row_less, row_less_bytes, rows_equal,
+    bytes_less_row, guess_equal, row_equals_bytes, row_less, row_less_bytes, rows_equal,
 };
 use polars_arrays_views::scalar::ScalarRow;
+use polars_arrays_views::view::View;
 
 /// A comparison of two byte strings that are kept by views, which is one of their rows.
 pub trait ViewComparison {
@@ -39,6 +41,19 @@ pub trait ViewComparison {
         requires right { j < length right.now.views }
         ensures told { result ≡ rows (Bytes (slice_index_or (view_strings left.now) i [])) (Bytes (slice_index_or (view_strings right.now) j [])) }
         ensures counted { steps.new ≡ steps.old + (if follows (slice_index_or (view_strings left.now) i []) (slice_index_or (view_strings right.now) j []) then 1 else 0) };
+
+    /// What two views tell at a glance of whether it holds of their rows. Where this is sure, the pair is not
+    /// looked up in buffers.
+    #[inline(always)]
+    fn guess(&self, _v: &View, _w: &View) -> Guess
+        ensures told { (buffers others : List (List ℕ)) → GoodView buffers _v.now → GoodView others _w.now → IsTrue result.sure → result.value ≡ rows (Bytes (row_bytes buffers _v.now)) (Bytes (row_bytes others _w.now)) }
+        ensures free { (buffers others : List (List ℕ)) → GoodView buffers _v.now → GoodView others _w.now → IsTrue result.sure → follows (row_bytes buffers _v.now) (row_bytes others _w.now) ≡ false }
+    {
+        Guess {
+            value: false,
+            sure: false,
+        }
+    }
 
     /// Whether it holds of row `i` and a byte string, masked or not.
     fn compare_bytes(&self, left: &BinaryViewArray, i: usize, right: &ScalarRow) -> bool
@@ -64,6 +79,11 @@ impl ViewComparison for Equal {
     }
 
     #[inline(always)]
+    fn guess(&self, v: &View, w: &View) -> Guess {
+        guess_equal(v, w)
+    }
+
+    #[inline(always)]
     fn compare_bytes(&self, left: &BinaryViewArray, i: usize, right: &ScalarRow) -> bool {
         row_equals_bytes(left, i, right)
     }
@@ -84,6 +104,15 @@ impl ViewComparison for Unequal {
         steps: &mut Steps,
     ) -> bool {
         !rows_equal(left, i, right, j, steps)
+    }
+
+    #[inline(always)]
+    fn guess(&self, v: &View, w: &View) -> Guess {
+        let equal = guess_equal(v, w);
+        Guess {
+            value: !equal.value,
+            sure: equal.sure,
+        }
     }
 
     #[inline(always)]

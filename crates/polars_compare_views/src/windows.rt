@@ -1,34 +1,44 @@
 //! Comparisons of stored rows of arrays of views, place by place, whatever the validity says.
 
 ghost use Rattle.std.specs.Prelude.{◌≡◌, ◌+◌, ◌^◌, ◌<◌, ◌≤◌, length, map, IfOk, MatchResult};
+ghost use Rattle.std.specs.List.{All};
 ghost use Rattle.polars_arrays_bits.specs.Bits.{first_of};
 ghost use Rattle.polars_arrays_bits.specs.Errors.{IsMemory};
 ghost use Rattle.polars_arrays_flat.specs.Row.{Bytes};
 ghost use Rattle.polars_arrays_flat.specs.StoredRows.{byte_slots};
 ghost use Rattle.polars_arrays_views.specs.Parts.{view_strings};
+ghost use Rattle.polars_arrays_views.specs.Views.{GoodView};
 ghost use Rattle.polars_compare_views.specs.Followed.{followed, pair_cost};
 ghost use Rattle.polars_compare_views.specs.Pairs.{ComparesPairs, compared_pair};
 
 use crate::view_comparison::ViewComparison;
 use polars_arrays_bits::bitmap::Bitmap;
-use polars_arrays_bits::counting::CountedValues;
+use polars_arrays_bits::counting::{CountedValues, Guess};
 use polars_arrays_bits::error::ComputeError;
 use polars_arrays_bits::packing::TruthValues;
 use polars_arrays_flat::array::Array;
 use polars_arrays_numbers::steps::Steps;
 use polars_arrays_views::binary_view::BinaryViewArray;
 use polars_arrays_views::scalar::ScalarRow;
+use polars_arrays_views::view::View;
 use std::alloc::Global;
 
-// A comparison of `n` rows from row `a` on with as many from row `b` on, place by place.
+// A comparison of `n` rows from row `a` on with as many from row `b` on, place by place. The views stand beside
+// their arrays, so that they are found once and not for each row.
 #[derive(Drop)]
 struct ViewPairs<'a, E> {
     comparison: &'a E,
     left: &'a BinaryViewArray,
+    left_views: &'a [View],
     a: usize,
     right: &'a BinaryViewArray,
+    right_views: &'a [View],
     b: usize,
     n: usize,
+    ghost left_is: { left_views.now ≡ left.now.views },
+    ghost right_is: { right_views.now ≡ right.now.views },
+    ghost left_good: { All (GoodView left.now.buffers) left.now.views },
+    ghost right_good: { All (GoodView right.now.buffers) right.now.views },
     ghost left_in: { a + n ≤ length left.now.views },
     ghost right_in: { b + n ≤ length right.now.views },
     ghost left_fits: { a + n < 2 ^ 64 },
@@ -50,6 +60,12 @@ impl<'a, E: ViewComparison> CountedValues for ViewPairs<'a, E> {
         let (left, right) = (self.left, self.right);
         self.comparison
             .compare(left, self.a + i, right, self.b + i, steps)
+    }
+
+    #[inline(always)]
+    fn guess(&self, i: usize) -> Guess {
+        let (v, w) = (&self.left_views[self.a + i], &self.right_views[self.b + i]);
+        self.comparison.guess(v, w)
     }
 }
 
@@ -78,8 +94,10 @@ pub fn compare_view_windows<E: ViewComparison>(
     let pairs = ViewPairs {
         comparison,
         left,
+        left_views: left.views(),
         a,
         right,
+        right_views: right.views(),
         b,
         n,
     };

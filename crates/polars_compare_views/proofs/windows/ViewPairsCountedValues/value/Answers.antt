@@ -1,4 +1,4 @@
-use Rattle.std.proofs.Common.{◌≡◌, ◌<◌, ◌∙◌, ◌+◌, ◌≤◌, ◌^◌, length, sym, arith}
+use Rattle.std.proofs.Common.{◌∙◌, sym, arith}
 use Rattle.polars_arrays_views.specs.Parts.{view_strings}
 use Rattle.polars_compare_views.specs.Pairs.{compared_pair}
 use Rattle.polars_compare_views.proofs.Tested.{pair-within, pair-at}
