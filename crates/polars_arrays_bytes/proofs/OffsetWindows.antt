@@ -127,6 +127,15 @@ pub one_more : {A : Type 0} (value : A → ℤ) (m at n : ℕ) (offsets : List A
 one_more value m at n [] good within = absurd good.first
 one_more value m at n (first ∷ rest) good within = omega (arith, within)
 
+-- a string's place is that of a row between the offsets, which is good
+pub row_among : {A : Type 0} (value : A → ℤ) (a : OffsetStrings A) (offsets : List A) (i : ℕ) → offsets ≡ a.offsets → i < length (offset_strings value a) → i < row_count offsets
+row_among value a offsets i same below =
+    omega (arith, below, length-offset_strings value a.offsets a.values, ap (λ (xs : List _). row_count xs) same)
+
+pub row_good : {A : Type 0} (value : A → ℤ) (a : OffsetStrings A) (offsets : List A) (values : List ℕ) (i : ℕ) → offsets ≡ a.offsets → values ≡ a.values → AreGood (length a.values) (places value a.offsets) → i < length (offset_strings value a) → IsGoodRow (length values) (places value offsets) i
+row_good value a offsets values i same same_bytes good below =
+    rw (same, same_bytes) (good.rows i (omega (arith, below, length-strings (places value a.offsets) a.values)))
+
 pub ruleset offset_rows = (string_of-places, length-places, length-offset_strings, length-offset_slots)
 
 pub ruleset slices = (one_more, offset_strings-window, good_offsets-window, length-window)

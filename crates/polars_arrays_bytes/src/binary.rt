@@ -10,8 +10,9 @@ ghost use Rattle.polars_arrays_flat.specs.SlotLaws.{byte_slots-present};
 ghost use Rattle.polars_arrays_flat.specs.StoredRows.{rows_under, byte_slots};
 ghost use Rattle.polars_arrays_flat.specs.Validity.{masked_count, validity_window, window};
 
+use crate::lent_strings::LentStrings;
 use crate::offset_type::OffsetType;
-use crate::offsets::{first_bad_row, keep_rows, row_count, string_at};
+use crate::offsets::{first_bad_row, keep_rows, row_count, string_at, string_on};
 use polars_arrays_bits::bitmap::Bitmap;
 use polars_arrays_bits::buffer::Buffer;
 use polars_arrays_bits::error::{ArrayError, ComputeError};
@@ -84,6 +85,14 @@ impl<O: Offset> BinaryArray<O> {
         self.offsets.as_slice()
     }
 
+    // No effect at run time. A proof reads from it that the offsets are good.
+    #[inline(always)]
+    pub(crate) fn law_good(&self)
+        ensures { AreGood (length self.now.values) (places O.value self.now.offsets) }
+    {
+        let _offsets = &self.offsets;
+    }
+
     /// The bytes that the offsets lie in, also those of masked rows and of no row.
     pub fn values(&self) -> &[u8]
         ensures { result.now ≡ self.now.values }
@@ -98,6 +107,13 @@ impl<O: Offset> BinaryArray<O> {
         ensures { result.now ≡ slice_index_or (offset_strings O.value self.now) i [] }
     {
         string_at(self.offsets(), self.values(), i)
+    }
+
+    /// The array with its slices at hand, for a loop over its strings.
+    pub fn lent(&self) -> LentStrings<'_, O>
+        ensures { result.array.now ≡ self.now }
+    {
+        LentStrings::new(self)
     }
 
     /// Keeps `n` rows from row `at` on. No byte moves, and all bytes stay.
@@ -184,6 +200,12 @@ impl<O: Offset> ByteRows for BinaryArray<O> {
     #[tactic(auto, using(crate::proofs::OffsetWindows::offset_rows))]
     fn bytes(&self, i: usize) -> &[u8] {
         self.value(i)
+    }
+
+    #[inline(always)]
+    #[tactic(auto, using(crate::proofs::OffsetWindows::offset_rows))]
+    fn bytes_on(&self, i: usize) -> (&[u8], usize) {
+        string_on(self.offsets(), self.values(), i)
     }
 
     ghost slots_law = { λ a. refl };

@@ -3,6 +3,7 @@
 
 pub mod binary;
 pub mod fixed_size;
+pub mod lent_strings;
 pub mod of_size;
 pub mod offset_type;
 pub mod offsets;

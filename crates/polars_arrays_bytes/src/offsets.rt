@@ -1,6 +1,6 @@
 //! Reading offsets: how many rows they bound, where each row lies, and the first row that is bad.
 
-ghost use Rattle.std.specs.Prelude.{◌≡◌, ◌+◌, ◌<◌, ◌↔◌, IsTrue, length};
+ghost use Rattle.std.specs.Prelude.{◌≡◌, ◌+◌, ◌<◌, ◌≤◌, ◌↔◌, IsTrue, length, take};
 ghost use Rattle.std.specs.Option.{MatchOption};
 ghost use Rattle.polars_arrays_bytes.specs.Faults.{IsFirstBad};
 ghost use Rattle.polars_arrays_bytes.specs.OffsetStrings.{AreGood, between, Bounds, IsGoodRow, IsWithin, place_at, places, row_count, string_between};
@@ -80,6 +80,22 @@ pub(crate) fn string_at<'a, O: Offset>(offsets: &[O], values: &'a [u8], i: usize
 {
     let (from, to) = (offsets[i].place(), offsets[i + 1].place());
     &values[from..to]
+}
+
+// The bytes from row `i` on, up to the last, and how many of them are the row's.
+#[inline(always)]
+pub(crate) fn string_on<'a, O: Offset>(
+    offsets: &[O],
+    values: &'a [u8],
+    i: usize,
+) -> (&'a [u8], usize)
+    requires row { i < row_count offsets.now }
+    requires good { IsGoodRow (length values.now) (places O.value offsets.now) i }
+    ensures within { result.1 ≤ length result.0.now }
+    ensures string { take result.1 result.0.now ≡ string_between (places O.value offsets.now) values.now i }
+{
+    let (from, to) = (offsets[i].place(), offsets[i + 1].place());
+    (&values[from..], to - from)
 }
 
 /// Keeps the offsets of `n` rows from row `at` on.

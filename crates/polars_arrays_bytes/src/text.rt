@@ -13,6 +13,7 @@ ghost use Rattle.polars_arrays_flat.specs.StoredRows.{rows_under, byte_slots};
 ghost use Rattle.polars_arrays_flat.specs.Validity.{masked_count, validity_window, window};
 
 use crate::binary::BinaryArray;
+use crate::lent_strings::LentStrings;
 use crate::offset_type::OffsetType;
 use polars_arrays_bits::bitmap::Bitmap;
 use polars_arrays_bits::buffer::Buffer;
@@ -71,6 +72,13 @@ impl<O: Offset> Utf8Array<O> {
         ensures texts { AreTexts (offset_strings O.value result.now) }
     {
         &self.binary
+    }
+
+    /// The same bytes and nulls with their slices at hand, for a loop over the texts.
+    pub fn lent(&self) -> LentStrings<'_, O>
+        ensures { result.array.now ≡ self.now }
+    {
+        self.binary.lent()
     }
 
     /// The offsets, one more than there are rows.
@@ -160,6 +168,11 @@ impl<O: Offset> ByteRows for Utf8Array<O> {
 
     fn bytes(&self, i: usize) -> &[u8] {
         self.binary.bytes(i)
+    }
+
+    #[inline(always)]
+    fn bytes_on(&self, i: usize) -> (&[u8], usize) {
+        self.binary.bytes_on(i)
     }
 
     ghost slots_law = { λ a. refl };

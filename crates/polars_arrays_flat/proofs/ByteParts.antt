@@ -23,7 +23,7 @@ decided p q o differ =
     (λ e h. rw e refl)
 
 -- numbers that differ decide
-less_decided : (p q : ℕ) (o : Ordering) → p ≢ q → nat_lt p q ≡ is_lt (ordering_then (nat_cmp p q) o)
+pub less_decided : (p q : ℕ) (o : Ordering) → p ≢ q → nat_lt p q ≡ is_lt (ordering_then (nat_cmp p q) o)
 less_decided p q o differ = test_of_cmp _ _ ∙ ap is_lt (decided p q o differ)
 
 -- the part that ends at n decides, where the places before are in the first m

@@ -1,3 +1,4 @@
+pub mod ByteBlocks
 pub mod ByteEquality
 pub mod ByteParts
 pub mod Examples

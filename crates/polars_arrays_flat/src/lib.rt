@@ -4,6 +4,7 @@
 pub mod array;
 pub mod arrow_type;
 pub mod boolean;
+pub mod byte_blocks;
 pub mod byte_equality;
 pub mod byte_order;
 pub mod byte_rows;

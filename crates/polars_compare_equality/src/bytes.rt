@@ -15,7 +15,7 @@ use polars_arrays_bytes::fixed_size::FixedSizeBinaryArray;
 use polars_arrays_flat::byte_rows::ByteRows;
 use polars_arrays_numbers::comparison::{Equal, Unequal};
 use polars_arrays_numbers::offset::Offset;
-use polars_compare_leaves::bytes::compare_byte_windows;
+use polars_compare_leaves::bytes::{compare_byte_windows, compare_bytes};
 use polars_compare_nested::sized::compare_sized_windows;
 use std::alloc::Global;
 
@@ -41,11 +41,27 @@ impl<O: Offset + 'static> TotalEqKernel for BinaryArray<O> {
     }
 
     fn tot_eq_kernel(&self, alloc: Global, other: &Self) -> Result<Bitmap, ComputeError> {
-        compare_byte_windows(alloc, &Equal, self, 0, other, 0, self.count())
+        compare_byte_windows(
+            alloc,
+            &Equal,
+            &self.lent(),
+            0,
+            &other.lent(),
+            0,
+            self.count(),
+        )
     }
 
     fn tot_ne_kernel(&self, alloc: Global, other: &Self) -> Result<Bitmap, ComputeError> {
-        compare_byte_windows(alloc, &Unequal, self, 0, other, 0, self.count())
+        compare_byte_windows(
+            alloc,
+            &Unequal,
+            &self.lent(),
+            0,
+            &other.lent(),
+            0,
+            self.count(),
+        )
     }
 
     fn tot_eq_kernel_broadcast(
@@ -69,7 +85,15 @@ impl<O: Offset + 'static> TotalEqKernel for BinaryArray<O> {
     ghost scalar_law = { λ s has e. cc };
 }
 
-impl<O: Offset + 'static> BytesEqKernel for BinaryArray<O> {}
+impl<O: Offset + 'static> BytesEqKernel for BinaryArray<O> {
+    fn tot_eq_kernel_broadcast(&self, alloc: Global, other: &[u8]) -> Result<Bitmap, ComputeError> {
+        compare_bytes(alloc, &Equal, &self.lent(), other)
+    }
+
+    fn tot_ne_kernel_broadcast(&self, alloc: Global, other: &[u8]) -> Result<Bitmap, ComputeError> {
+        compare_bytes(alloc, &Unequal, &self.lent(), other)
+    }
+}
 
 impl TotalEqKernel for FixedSizeBinaryArray {
     type Scalar = Vec<u8>;

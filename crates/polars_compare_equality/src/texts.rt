@@ -13,7 +13,7 @@ use polars_arrays_bytes::text::Utf8Array;
 use polars_arrays_flat::byte_rows::ByteRows;
 use polars_arrays_numbers::comparison::{Equal, Unequal};
 use polars_arrays_numbers::offset::Offset;
-use polars_compare_leaves::bytes::compare_byte_windows;
+use polars_compare_leaves::bytes::{compare_byte_windows, compare_bytes};
 use std::alloc::Global;
 
 impl<O: Offset + 'static> TotalEqKernel for Utf8Array<O> {
@@ -38,11 +38,27 @@ impl<O: Offset + 'static> TotalEqKernel for Utf8Array<O> {
     }
 
     fn tot_eq_kernel(&self, alloc: Global, other: &Self) -> Result<Bitmap, ComputeError> {
-        compare_byte_windows(alloc, &Equal, self, 0, other, 0, self.count())
+        compare_byte_windows(
+            alloc,
+            &Equal,
+            &self.lent(),
+            0,
+            &other.lent(),
+            0,
+            self.count(),
+        )
     }
 
     fn tot_ne_kernel(&self, alloc: Global, other: &Self) -> Result<Bitmap, ComputeError> {
-        compare_byte_windows(alloc, &Unequal, self, 0, other, 0, self.count())
+        compare_byte_windows(
+            alloc,
+            &Unequal,
+            &self.lent(),
+            0,
+            &other.lent(),
+            0,
+            self.count(),
+        )
     }
 
     fn tot_eq_kernel_broadcast(
@@ -66,4 +82,12 @@ impl<O: Offset + 'static> TotalEqKernel for Utf8Array<O> {
     ghost scalar_law = { λ s has e. cc };
 }
 
-impl<O: Offset + 'static> TextEqKernel for Utf8Array<O> {}
+impl<O: Offset + 'static> TextEqKernel for Utf8Array<O> {
+    fn tot_eq_kernel_broadcast(&self, alloc: Global, other: &str) -> Result<Bitmap, ComputeError> {
+        compare_bytes(alloc, &Equal, &self.lent(), other.as_bytes())
+    }
+
+    fn tot_ne_kernel_broadcast(&self, alloc: Global, other: &str) -> Result<Bitmap, ComputeError> {
+        compare_bytes(alloc, &Unequal, &self.lent(), other.as_bytes())
+    }
+}

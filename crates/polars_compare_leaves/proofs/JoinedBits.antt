@@ -1,5 +1,5 @@
 -- Bits that are joined place by place.
-use Rattle.std.proofs.Common.{◌≡◌, ◌<◌, ◌∙◌, ◌&&◌, ◌||◌, not, ℕ, zero, suc, Bool, true, false, List, [], ◌∷◌, Option, Some, None, length, get_or, refl, sym, ap, arith, slice_index_or}
+use Rattle.std.proofs.Common.{◌≡◌, ◌<◌, ◌∙◌, ◌&&◌, ℕ, zero, suc, Bool, true, false, List, [], ◌∷◌, Some, None, length, refl, ap, arith, slice_index_or}
 use Rattle.std.proofs.lemmas.Simd.{get_or-zip2}
 use Rattle.std.specs.Simd.Lanes.{zip2}
 use Rattle.polars_arrays_bits.specs.Bits.{zip3}

@@ -1,5 +1,5 @@
 -- Tests of truth values, as logic on bits.
-use Rattle.std.proofs.Common.{◌≡◌, ◌∙◌, Bool, true, false, not, ◌&&◌, ◌||◌, List, [], ◌∷◌, map, length, replicate, refl, ap₂}
+use Rattle.std.proofs.Common.{◌≡◌, Bool, true, false, not, ◌&&◌, ◌||◌, List, [], ◌∷◌, map, length, replicate, refl, ap₂}
 use Rattle.std.specs.Simd.Lanes.{zip2}
 use Rattle.polars_arrays_flat.specs.Row.{Row, Truth}
 use Rattle.polars_arrays_flat.specs.StoredRows.{truth_slots}

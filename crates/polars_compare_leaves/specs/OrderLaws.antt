@@ -1,5 +1,5 @@
 -- Of two whole numbers one is at most the other exactly where the other is not less.
-use Rattle.std.specs.Prelude.{◌≡◌, ◌<◌, ℕ, suc, leb, ltb, ℤ, pos, negsuc, Bool, not, int_lt, int_le, refl}
+use Rattle.std.specs.Prelude.{◌≡◌, ℕ, suc, leb, ltb, ℤ, pos, negsuc, not, int_lt, int_le, refl}
 use Rattle.std.proofs.Common.{◌∙◌, sym, ap, inl, inr, arith}
 use Rattle.std.proofs.lemmas.Bool.Decides.{leb_tells}
 

@@ -1,6 +1,6 @@
 //! Comparisons of stored byte strings, place by place, whatever the validity says.
 
-ghost use Rattle.std.specs.Prelude.{◌≡◌, ◌+◌, ◌^◌, ◌<◌, ◌≤◌, Bool, length, map, MatchResult};
+ghost use Rattle.std.specs.Prelude.{◌≡◌, ◌+◌, ◌^◌, ◌<◌, ◌≤◌, Bool, length, map, take, MatchResult};
 ghost use Rattle.std.specs.Simd.Lanes.{zip2};
 ghost use Rattle.polars_arrays_bits.specs.Errors.{IsMemory};
 ghost use Rattle.polars_arrays_flat.specs.Row.{Row, Bytes};
@@ -12,6 +12,7 @@ ghost use Rattle.polars_compare_leaves.specs.Sameness.{other_row, same_row};
 use polars_arrays_bits::bitmap::Bitmap;
 use polars_arrays_bits::error::ComputeError;
 use polars_arrays_bits::packing::TruthValues;
+use polars_arrays_flat::byte_blocks::{BLOCK_BYTES, beginnings_equal, beginnings_less, block_of};
 use polars_arrays_flat::byte_equality::bytes_equal;
 use polars_arrays_flat::byte_order::bytes_less;
 use polars_arrays_flat::byte_rows::ByteRows;
@@ -36,6 +37,13 @@ pub trait ByteComparison {
     {
         self.compare(left, right)
     }
+
+    /// The same of the first `n` bytes of one slice and the first `m` bytes of another one. Short strings are
+    /// compared as one block each, where the slices go on behind them.
+    fn compare_on(&self, left: &[u8], n: usize, right: &[u8], m: usize) -> bool
+        requires left_in { n ≤ length left.now }
+        requires right_in { m ≤ length right.now }
+        ensures { result ≡ rows (Bytes (take n left.now)) (Bytes (take m right.now)) };
 }
 
 impl ByteComparison for Equal {
@@ -49,6 +57,11 @@ impl ByteComparison for Equal {
     #[inline(always)]
     fn compare_constant(&self, left: &[u8], right: &[u8]) -> bool {
         left == right
+    }
+
+    #[inline(always)]
+    fn compare_on(&self, left: &[u8], n: usize, right: &[u8], m: usize) -> bool {
+        beginnings_equal(left, n, right, m)
     }
 }
 
@@ -64,6 +77,11 @@ impl ByteComparison for Unequal {
     fn compare_constant(&self, left: &[u8], right: &[u8]) -> bool {
         left != right
     }
+
+    #[inline(always)]
+    fn compare_on(&self, left: &[u8], n: usize, right: &[u8], m: usize) -> bool {
+        !beginnings_equal(left, n, right, m)
+    }
 }
 
 impl ByteComparison for Less {
@@ -72,6 +90,11 @@ impl ByteComparison for Less {
     #[inline(always)]
     fn compare(&self, left: &[u8], right: &[u8]) -> bool {
         bytes_less(left, right)
+    }
+
+    #[inline(always)]
+    fn compare_on(&self, left: &[u8], n: usize, right: &[u8], m: usize) -> bool {
+        beginnings_less(left, n, right, m)
     }
 }
 
@@ -82,6 +105,11 @@ impl ByteComparison for LessOrEqual {
     fn compare(&self, left: &[u8], right: &[u8]) -> bool {
         !bytes_less(right, left)
     }
+
+    #[inline(always)]
+    fn compare_on(&self, left: &[u8], n: usize, right: &[u8], m: usize) -> bool {
+        !beginnings_less(right, m, left, n)
+    }
 }
 
 impl ByteComparison for Greater {
@@ -91,6 +119,11 @@ impl ByteComparison for Greater {
     fn compare(&self, left: &[u8], right: &[u8]) -> bool {
         bytes_less(right, left)
     }
+
+    #[inline(always)]
+    fn compare_on(&self, left: &[u8], n: usize, right: &[u8], m: usize) -> bool {
+        beginnings_less(right, m, left, n)
+    }
 }
 
 impl ByteComparison for GreaterOrEqual {
@@ -99,6 +132,11 @@ impl ByteComparison for GreaterOrEqual {
     #[inline(always)]
     fn compare(&self, left: &[u8], right: &[u8]) -> bool {
         !bytes_less(left, right)
+    }
+
+    #[inline(always)]
+    fn compare_on(&self, left: &[u8], n: usize, right: &[u8], m: usize) -> bool {
+        !beginnings_less(left, n, right, m)
     }
 }
 
@@ -127,8 +165,9 @@ impl<'a, L: ByteRows, R: ByteRows, E: ByteComparison> TruthValues for StringPair
 
     #[inline(always)]
     fn value(&self, i: usize) -> bool {
-        let left = self.left.bytes(self.a + i);
-        self.comparison.compare(left, self.right.bytes(self.b + i))
+        let (left, n) = self.left.bytes_on(self.a + i);
+        let (right, m) = self.right.bytes_on(self.b + i);
+        self.comparison.compare_on(left, n, right, m)
     }
 
     #[inline(always)]
@@ -197,7 +236,38 @@ impl<'a, L: ByteRows, E: ByteComparison> TruthValues for StringsAgainst<'a, L, E
     }
 }
 
-/// Of which stored rows and one byte string a comparison holds. The error is `Memory`.
+// A comparison of byte strings with the first `m` bytes of a block.
+#[derive(Drop)]
+struct StringsOnBlock<'a, L, E> {
+    comparison: &'a E,
+    left: &'a L,
+    block: &'a [u8],
+    m: usize,
+    ghost block_in: { m ≤ length block.now },
+}
+
+impl<'a, L: ByteRows, E: ByteComparison> TruthValues for StringsOnBlock<'a, L, E> {
+    ghost values = { λ s. map (λ row. E.rows row (Bytes (take s.m s.block.now))) (byte_slots (L.strings s.left.now)) };
+
+    #[inline(always)]
+    fn len(&self) -> usize {
+        self.left.count()
+    }
+
+    #[inline(always)]
+    fn value(&self, i: usize) -> bool {
+        let (left, n) = self.left.bytes_on(i);
+        self.comparison.compare_on(left, n, self.block, self.m)
+    }
+
+    #[inline(always)]
+    fn packs_by_bit(&self) -> bool {
+        true
+    }
+}
+
+/// Of which stored rows and one byte string a comparison holds. A short string is read as one block, as short
+/// rows are. The error is `Memory`.
 pub fn compare_bytes<L: ByteRows, E: ByteComparison>(
     alloc: Global,
     comparison: &E,
@@ -207,12 +277,20 @@ pub fn compare_bytes<L: ByteRows, E: ByteComparison>(
     ensures { MatchResult result (λ bits. bits ≡ map (λ row. E.rows row (Bytes right.now))
         (byte_slots (L.strings left.now))) IsMemory }
 {
-    Bitmap::from_values(
-        alloc,
-        &StringsAgainst {
+    if right.len() > BLOCK_BYTES {
+        let strings = StringsAgainst {
             comparison,
             left,
             right,
-        },
-    )
+        };
+        return Bitmap::from_values(alloc, &strings);
+    }
+    let block = block_of(right);
+    let strings = StringsOnBlock {
+        comparison,
+        left,
+        block: &block,
+        m: right.len(),
+    };
+    Bitmap::from_values(alloc, &strings)
 }

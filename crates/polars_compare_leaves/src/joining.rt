@@ -18,41 +18,44 @@ pub enum Relation {
     Unequal,
 }
 
-// Raw bits joined with the mask of one side, where all rows of the other side are present.
+// Raw bits joined with the mask of one side, where all rows of the other side are present. They are
+// changed in their own words where they own them.
 fn join_one(
     alloc: Global,
     relation: Relation,
-    raw: &Bitmap,
+    raw: Bitmap,
     mask: &BitMask<'_>,
 ) -> Result<Bitmap, ComputeError>
-    requires { length mask.now ≡ length raw.now }
-    ensures left { MatchResult result (Joined (told relation) (Some mask.now) None raw.now) IsMemory }
-    ensures right { MatchResult result (Joined (told relation) None (Some mask.now) raw.now) IsMemory }
+    requires { length mask.now ≡ length raw }
+    ensures left { MatchResult result (Joined (told relation) (Some mask.now) None raw) IsMemory }
+    ensures right { MatchResult result (Joined (told relation) None (Some mask.now) raw) IsMemory }
 {
-    let raw = BitMask::from_bitmap(raw);
+    let mut bits = raw.into_mut(alloc)?;
     match relation {
-        Relation::Equal => raw.and(alloc, mask),
-        Relation::Unequal => raw.or_not(alloc, mask),
+        Relation::Equal => bits.and_assign_mask(mask),
+        Relation::Unequal => bits.or_not_assign_mask(mask),
     }
+    Ok(bits.freeze())
 }
 
-// Raw bits joined with the masks of both sides.
+// Raw bits joined with the masks of both sides, in their own words where they own them.
 fn join_both(
     alloc: Global,
     relation: Relation,
-    raw: &Bitmap,
+    raw: Bitmap,
     left: &BitMask<'_>,
     right: &BitMask<'_>,
 ) -> Result<Bitmap, ComputeError>
-    requires left { length left.now ≡ length raw.now }
-    requires right { length right.now ≡ length raw.now }
-    ensures { MatchResult result (Joined (told relation) (Some left.now) (Some right.now) raw.now) IsMemory }
+    requires left { length left.now ≡ length raw }
+    requires right { length right.now ≡ length raw }
+    ensures { MatchResult result (Joined (told relation) (Some left.now) (Some right.now) raw) IsMemory }
 {
-    let raw = BitMask::from_bitmap(raw);
+    let mut bits = raw.into_mut(alloc)?;
     match relation {
-        Relation::Equal => BitMask::merge_eq(alloc, &raw, left, right),
-        Relation::Unequal => BitMask::merge_ne(alloc, &raw, left, right),
+        Relation::Equal => bits.merge_eq_assign(left, right),
+        Relation::Unequal => bits.merge_ne_assign(left, right),
     }
+    Ok(bits.freeze())
 }
 
 /// Raw bits of a comparison joined with the masks of both sides, where there are any, of which windows
@@ -72,9 +75,9 @@ pub fn join_masks(
 {
     match (left, right) {
         (None, None) => Ok(raw),
-        (Some(mask), None) => join_one(alloc, relation, &raw, &mask),
-        (None, Some(mask)) => join_one(alloc, relation, &raw, &mask),
-        (Some(left), Some(right)) => join_both(alloc, relation, &raw, &left, &right),
+        (Some(mask), None) => join_one(alloc, relation, raw, &mask),
+        (None, Some(mask)) => join_one(alloc, relation, raw, &mask),
+        (Some(left), Some(right)) => join_both(alloc, relation, raw, &left, &right),
     }
 }
 

@@ -1,7 +1,8 @@
 //! Comparisons of stored numbers, place by place, whatever the validity says.
 
-ghost use Rattle.std.specs.Prelude.{◌≡◌, ◌+◌, ◌≤◌, length, map, MatchResult};
+ghost use Rattle.std.specs.Prelude.{◌≡◌, ℕ, ◌+◌, ◌<◌, ◌≤◌, false, length, map, MatchResult};
 ghost use Rattle.std.specs.Simd.Lanes.{zip2};
+ghost use Rattle.polars_arrays_words.specs.Bits.{first_of, is_bit};
 ghost use Rattle.polars_arrays_bits.specs.Errors.{IsMemory};
 ghost use Rattle.polars_arrays_flat.specs.Row.{Int};
 ghost use Rattle.polars_arrays_flat.specs.StoredRows.{number_slots};
@@ -10,7 +11,7 @@ ghost use Rattle.polars_arrays_flat.specs.Validity.{window};
 use crate::row_comparison::RowComparison;
 use polars_arrays_bits::bitmap::Bitmap;
 use polars_arrays_bits::error::ComputeError;
-use polars_arrays_bits::slices::{compare_constant, compare_windows};
+use polars_arrays_bits::slices::{compare_constant, compare_few, compare_windows};
 use polars_arrays_flat::primitive::PrimitiveArray;
 use polars_arrays_numbers::native_type::NativeType;
 use std::alloc::Global;
@@ -33,6 +34,29 @@ pub fn compare_number_windows<T: NativeType, E: RowComparison<T>>(
         (window b n (number_slots T.value right.now.values))) IsMemory }
 {
     compare_windows(alloc, comparison, left.values(), a, right.values(), b, n)
+}
+
+/// The same of two windows of at most 64 rows, as the bits of a word, the first row lowest, with zeros
+/// behind them. No memory is needed.
+#[inline(always)]
+pub fn compare_few_numbers<T: NativeType, E: RowComparison<T>>(
+    comparison: &E,
+    left: &PrimitiveArray<T>,
+    a: usize,
+    right: &PrimitiveArray<T>,
+    b: usize,
+    n: usize,
+) -> u64
+    requires left_in { a + n ≤ length left.now.values }
+    requires right_in { b + n ≤ length right.now.values }
+    requires few { n ≤ 64 }
+    ensures bits { first_of (is_bit result) n ≡ zip2 E.rows
+        (window a n (number_slots T.value left.now.values))
+        (window b n (number_slots T.value right.now.values)) }
+    ensures rest { (i : ℕ) → n ≤ i → i < 64 → is_bit result i ≡ false }
+{
+    let (left, right) = (left.values(), right.values());
+    compare_few(comparison, &left[a..a + n], &right[b..b + n])
 }
 
 /// Of which stored rows and one number a comparison holds. The error is `Memory`.

@@ -151,6 +151,13 @@ no_columns agree ls a rs b n bits e = record {
   at_each = λ i low. rw e (get_or-replicate n i true false low);
 }
 
+-- where one column was compared, its bits are those of the first columns
+pub first_column : (agree : Row → Row → Bool) (ls : List AnyArray) (a : ℕ) (rs : List AnyArray) (b n : ℕ) (x y : AnyArray) (same_bits bits : List Bool) → SameBits agree x a y b n same_bits → bits ≡ same_bits → 0 < length ls → length ls ≡ length rs → ((d : AnyArray) → get_or ls 0 d ≡ x) → ((d : AnyArray) → get_or rs 0 d ≡ y) → ColumnBits agree ls a rs b n 1 bits
+first_column agree ls a rs b n x y same_bits bits k e low many ex ey = record {
+  size = rw e k.size;
+  at_each = λ i within. rw e (k.at_each i within ∙ sym (same_columns-take agree ls rs x y 0 (a + i) (b + i) low many ex ey));
+}
+
 -- one more column is compared
 pub more_columns : (agree : Row → Row → Bool) (ls : List AnyArray) (a : ℕ) (rs : List AnyArray) (b n m : ℕ) (x y : AnyArray) (bits same_bits new : List Bool) → ColumnBits agree ls a rs b n m bits → SameBits agree x a y b n same_bits → new ≡ zip2 ◌&&◌ bits same_bits → m < length ls → length ls ≡ length rs → ((d : AnyArray) → get_or ls m d ≡ x) → ((d : AnyArray) → get_or rs m d ≡ y) → ColumnBits agree ls a rs b n (m + 1) new
 more_columns agree ls a rs b n m x y bits same_bits new h k e low many ex ey = record {

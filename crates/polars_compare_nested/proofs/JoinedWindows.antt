@@ -64,3 +64,20 @@ joined_windows agree x y a b n raw bits good good' e low low' joined told = reco
       (λ there here. present_there y x (b + i) (a + i) (sym e) good' (omega (arith, low', below)) there here)
       (λ here there. told.at_present i below (here, there)));
 }
+
+there_present : (present : Bool) (x : Row) → (present ≡ false → x ≡ Missing) → is_null x ≡ false → present ≡ true
+there_present true x null there = refl
+there_present false x null there = (let missing = ap is_null (null refl) in cc)
+
+-- where no row is null, the raw bits say it of all rows
+pub unmasked_windows : (agree : Row → Row → Bool) (x y : AnyArray) (a b n : ℕ) (raw : List Bool) → IsGood x → IsGood y → a + n ≤ len_of x → b + n ≤ len_of y → ((i : ℕ) → i < len_of x → is_null (row x i) ≡ false) → ((i : ℕ) → i < len_of y → is_null (row y i) ≡ false) → RawBits agree x a y b n raw → SameBits agree x a y b n raw
+unmasked_windows agree x y a b n raw good good' low low' there there' told = record {
+  size = told.size;
+  at_each = λ i below.
+      let left : a + i < len_of x = omega (arith, low, below) in
+      let right : b + i < len_of y = omega (arith, low', below) in
+      told.at_present i below (
+        there_present (is_present (mask_of x) (a + i)) (row x (a + i)) (masked_null x (a + i) good left) (there (a + i) left),
+        there_present (is_present (mask_of y) (b + i)) (row y (b + i)) (masked_null y (b + i) good' right) (there' (b + i) right),
+      );
+}

@@ -2,13 +2,16 @@ mod AllRows
 mod Cases
 mod Columns
 mod Examples
+mod FewRows
 mod Headline
 mod JoinedWindows
+mod KnownLists
 mod LeafRows
 mod LeafSorts
 mod ListBits
 mod ListRuns
 mod MaskedRows
+mod MatchBits
 mod OffsetPlaces
 mod Offsets
 mod RawRows
@@ -19,3 +22,4 @@ mod TallySwap
 mod TallyWithin
 mod Trees
 mod WindowBits
+mod WordRuns

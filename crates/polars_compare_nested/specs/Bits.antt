@@ -1,5 +1,6 @@
 -- What bits tell of the rows of two windows: n rows from row a on of the left array, and as many from row b on of the right one.
 use Rattle.std.specs.Prelude.{◌≡◌, ◌+◌, ◌<◌, ℕ, Bool, false, IsTrue, List, Option, length, slice_index_or}
+use Rattle.polars_arrays_words.specs.Bits.{first_of, is_bit}
 use Rattle.polars_arrays_flat.specs.Row.{Row}
 use Rattle.polars_arrays_flat.specs.Validity.{is_present}
 use Rattle.polars_arrays_nested.specs.AnyRows.{row}
@@ -32,6 +33,10 @@ pub record PresentBits (agree : Row → Row → Bool) (left : ℕ → Row) (left
 -- each bit of two leaf rows that are both present says whether they agree
 abbrev pub LeafBits : (Row → Row → Bool) → AnyArray → ℕ → AnyArray → ℕ → ℕ → List Bool → Type 0
 LeafBits agree left a right b n = PresentBits agree (row left) (mask_of left) a (row right) (mask_of right) b n
+
+-- the same of the n lowest bits of a word
+abbrev pub LeafWord : (Row → Row → Bool) → AnyArray → ℕ → AnyArray → ℕ → ℕ → ℕ → Type 0
+LeafWord agree left a right b n word = LeafBits agree left a right b n (first_of (is_bit word) n)
 
 -- Where row a of the left array and row b of the right one are both present, the bit says whether they agree; at other rows any bit may stand. `left` and `right` give a row by its place.
 pub record PresentBit (agree : Row → Row → Bool) (left : ℕ → Row) (left_mask : Option (List Bool)) (a : ℕ) (right : ℕ → Row) (right_mask : Option (List Bool)) (b : ℕ) (bit : Bool) : Type 0 where

@@ -1,8 +1,10 @@
 pub mod Bits
 pub mod Broadcasts
 pub mod Entries
+pub mod FewLeaves
 pub mod Headline
 pub mod KindSorts
+pub mod Known
 pub mod Leaf
 pub mod Runs
 pub mod Tally

@@ -1,7 +1,7 @@
 -- Runs of lists whose items are adjacent on both sides.
 use Rattle.std.specs.Prelude.{◌≡◌, ◌≢◌, ◌+◌, ◌-◌, ◌≤◌, ◌<◌, ℕ, Bool, false, ◌&&◌, ◌||◌, eqb, IsTrue, List, Option, None, length, slice_index_or}
 use Rattle.std.specs.List.{list_all}
-use Rattle.polars_arrays_bits.specs.Bits.{first_of}
+use Rattle.polars_arrays_bits.specs.Bits.{first_of, is_bit}
 use Rattle.polars_arrays_bytes.specs.OffsetStrings.{place_at}
 use Rattle.polars_arrays_flat.specs.Validity.{is_present, window}
 use Rattle.polars_arrays_nested.specs.Lengths.{len_of}
@@ -34,9 +34,21 @@ abbrev pub is_match : ListArray → ℕ → ListArray → ℕ → Bool
 is_match l i r j =
     eqb (span (list_offsets l) i) (span (list_offsets r) j) && (is_present (list_validity l) i && is_present (list_validity r) j || eqb (span (list_offsets l) i) 0)
 
+-- whether list i of the one and list i of the other have as many items, for n lists from lists a and b on
+abbrev pub same_counts : List (Option ℕ) → ℕ → List (Option ℕ) → ℕ → ℕ → List Bool
+same_counts all a others b n = first_of (λ i. eqb (span_between all (a + i)) (span_between others (b + i))) n
+
+-- whether each of n lists from list a on has no items
+abbrev pub empty_lists : List (Option ℕ) → ℕ → ℕ → List Bool
+empty_lists all a n = first_of (λ i. eqb (span_between all (a + i)) 0) n
+
 -- n lists match, one after another
 abbrev pub Match : ListArray → ℕ → ListArray → ℕ → ℕ → Type 0
 Match l a r b n = (k : ℕ) → k < n → IsTrue (is_match l (a + k) r (b + k))
+
+-- the first n bits of a word say which lists match
+abbrev pub TellMatches : ListArray → ℕ → ListArray → ℕ → ℕ → ℕ → Type 0
+TellMatches l a r b n word = (i : ℕ) → i < n → is_bit word i ≡ is_match l (a + i) r (b + i)
 
 -- a run is the first of at most n lists: they match, and its windows are those of all their items
 pub record IsRun (l : ListArray) (a : ℕ) (r : ListArray) (b n : ℕ) (run : ItemRun) : Type 0 where

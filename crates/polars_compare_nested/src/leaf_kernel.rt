@@ -5,12 +5,14 @@ ghost use Rattle.polars_arrays_bits.specs.Errors.{IsMemory};
 ghost use Rattle.polars_arrays_flat.specs.Row.{Row};
 ghost use Rattle.polars_arrays_nested.specs.Types.{type_of};
 ghost use Rattle.polars_compare_leaves.specs.Sameness.{same_leaf};
-ghost use Rattle.polars_compare_nested.specs.Bits.{LeafBit, LeafBits};
+ghost use Rattle.polars_compare_nested.specs.Bits.{LeafBit, LeafBits, LeafWord};
 ghost use Rattle.polars_compare_nested.specs.Leaf.{is_leaf};
 ghost use Rattle.polars_compare_nested.specs.Windows.{AreWindows};
 
 use crate::leaf_rows::leaf_rows;
 use crate::leaf_windows::leaf_windows;
+use crate::leaf_words::leaf_word;
+use polars_arrays_bits::bit_mask::BitMask;
 use polars_arrays_bits::bitmap::Bitmap;
 use polars_arrays_bits::error::ComputeError;
 use polars_arrays_nested::any_array::AnyArray;
@@ -44,6 +46,28 @@ pub trait LeafKernel {
         ensures told { MatchResult result (LeafBits agree left.now a right.now b n) IsMemory }
         ensures counted { IfOk result (λ _. count self.new ≡ count self.old + n) }
         ensures kept { count self.old ≤ count self.new };
+
+    /// The same of two windows of at most 64 rows, as the bits of a word, the first row lowest. As it stands it
+    /// asks for a bitmap; a kernel that needs no memory for a few leaves may answer by itself.
+    fn leaf_word_eq(
+        &mut self,
+        alloc: Global,
+        left: &AnyArray,
+        a: usize,
+        right: &AnyArray,
+        b: usize,
+        n: usize,
+    ) -> Result<u64, ComputeError>
+        requires leaves { IsTrue (is_leaf (type_of left.now)) }
+        requires windows { AreWindows left.now a right.now b n }
+        requires few { n ≤ 64 }
+        ensures told { MatchResult result (LeafWord agree left.now a right.now b n) IsMemory }
+        ensures counted { IfOk result (λ _. count self.new ≡ count self.old + n) }
+        ensures kept { count self.old ≤ count self.new }
+    {
+        let bits = self.leaf_eq(alloc, left, a, right, b, n)?;
+        Ok(BitMask::from_bitmap(&bits).few_bits(0, n))
+    }
 
     /// Whether leaf `a` of the left array and leaf `b` of the right one agree. Where a row is masked on either
     /// side the answer means nothing. The count rises by 1. The error is `Memory`, and then the count has not
@@ -85,6 +109,21 @@ impl LeafKernel for Steps {
         let bits = leaf_windows(alloc, left, a, right, b, n)?;
         self.add(n);
         Ok(bits)
+    }
+
+    #[inline(always)]
+    fn leaf_word_eq(
+        &mut self,
+        alloc: Global,
+        left: &AnyArray,
+        a: usize,
+        right: &AnyArray,
+        b: usize,
+        n: usize,
+    ) -> Result<u64, ComputeError> {
+        let word = leaf_word(alloc, left, a, right, b, n)?;
+        self.add(n);
+        Ok(word)
     }
 
     // No memory is needed, and so there is no error.

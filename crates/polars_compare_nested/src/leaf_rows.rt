@@ -91,8 +91,9 @@ fn same_bytes<R: ByteRows>(left: &R, a: usize, right: &R, b: usize) -> bool
     requires right_in { b < length (R.strings right.now) }
     ensures { PresentBit same_leaf (row_at (rows_under (R.mask left.now) (byte_slots (R.strings left.now)))) (R.mask left.now) a (row_at (rows_under (R.mask right.now) (byte_slots (R.strings right.now)))) (R.mask right.now) b result }
 {
-    let (left, right) = (left.bytes(a), right.bytes(b));
-    ByteComparison::compare(&Equal, left, right)
+    let (left, n) = left.bytes_on(a);
+    let (right, m) = right.bytes_on(b);
+    ByteComparison::compare_on(&Equal, left, n, right, m)
 }
 
 // The same of texts kept by views.

@@ -2,9 +2,9 @@
 
 ghost use Rattle.std.specs.Prelude.{◌≡◌, ◌+◌, ◌≤◌, IsTrue, length, MatchResult};
 ghost use Rattle.polars_arrays_bits.specs.Errors.{IsMemory};
+ghost use Rattle.polars_arrays_bytes.specs.OffsetStrings.{offset_rows, row_count};
 ghost use Rattle.polars_arrays_bytes.specs.SizedStrings.{sized_rows};
 ghost use Rattle.polars_arrays_flat.specs.ArrayRows.{number_rows, truth_rows};
-ghost use Rattle.polars_arrays_flat.specs.StoredRows.{byte_slots, rows_under};
 ghost use Rattle.polars_arrays_flat.specs.StoredRows.{row as row_at};
 ghost use Rattle.polars_arrays_nested.specs.Lengths.{len_of};
 ghost use Rattle.polars_arrays_nested.specs.Types.{type_of};
@@ -17,13 +17,15 @@ use crate::downcast::downcast;
 use crate::sized::compare_sized_windows;
 use polars_arrays_bits::bitmap::Bitmap;
 use polars_arrays_bits::error::ComputeError;
+use polars_arrays_bytes::binary::BinaryArray;
 use polars_arrays_bytes::fixed_size::FixedSizeBinaryArray;
+use polars_arrays_bytes::text::Utf8Array;
 use polars_arrays_flat::boolean::BooleanArray;
-use polars_arrays_flat::byte_rows::ByteRows;
 use polars_arrays_flat::primitive::PrimitiveArray;
 use polars_arrays_nested::any_array::AnyArray;
 use polars_arrays_numbers::comparison::Equal;
 use polars_arrays_numbers::native_type::NativeType;
+use polars_arrays_numbers::offset::Offset;
 use polars_arrays_numbers::steps::Steps;
 use polars_arrays_views::binary_view::BinaryViewArray;
 use polars_arrays_views::text_view::Utf8ViewArray;
@@ -66,7 +68,8 @@ pub(crate) fn leaf_windows(
         (alloc, left, a, right, b, n),
         truth_windows: Boolean;
         number_windows: Int8 Int16 Int32 Int64 Int128 UInt8 UInt16 UInt32 UInt64 UInt128;
-        byte_windows: Binary LargeBinary Utf8 LargeUtf8;
+        string_windows: Binary LargeBinary;
+        utf8_windows: Utf8 LargeUtf8;
         view_windows: BinaryView;
         text_windows: Utf8View;
         sized_windows: FixedSizeBinary
@@ -107,21 +110,39 @@ fn number_windows<T: NativeType>(
     compare_number_windows(alloc, &Equal, left, a, right, b, n)
 }
 
-// The same of byte strings and texts between offsets.
+// The same of byte strings between offsets.
+#[tactic(auto, using(crate::proofs::Strings::counts))]
 #[inline]
-fn byte_windows<R: ByteRows>(
+fn string_windows<O: Offset>(
     alloc: Global,
-    left: &R,
+    left: &BinaryArray<O>,
     a: usize,
-    right: &R,
+    right: &BinaryArray<O>,
     b: usize,
     n: usize,
 ) -> Result<Bitmap, ComputeError>
-    requires left_in { a + n ≤ length (R.strings left.now) }
-    requires right_in { b + n ≤ length (R.strings right.now) }
-    ensures { MatchResult result (PresentBits same_leaf (row_at (rows_under (R.mask left.now) (byte_slots (R.strings left.now)))) (R.mask left.now) a (row_at (rows_under (R.mask right.now) (byte_slots (R.strings right.now)))) (R.mask right.now) b n) IsMemory }
+    requires left_in { a + n ≤ row_count left.now.offsets }
+    requires right_in { b + n ≤ row_count right.now.offsets }
+    ensures { MatchResult result (PresentBits same_leaf (row_at (offset_rows O.value left.now)) left.now.validity a (row_at (offset_rows O.value right.now)) right.now.validity b n) IsMemory }
 {
-    compare_byte_windows(alloc, &Equal, left, a, right, b, n)
+    compare_byte_windows(alloc, &Equal, &left.lent(), a, &right.lent(), b, n)
+}
+
+// The same of texts between offsets.
+#[inline]
+fn utf8_windows<O: Offset>(
+    alloc: Global,
+    left: &Utf8Array<O>,
+    a: usize,
+    right: &Utf8Array<O>,
+    b: usize,
+    n: usize,
+) -> Result<Bitmap, ComputeError>
+    requires left_in { a + n ≤ row_count left.now.offsets }
+    requires right_in { b + n ≤ row_count right.now.offsets }
+    ensures { MatchResult result (PresentBits same_leaf (row_at (offset_rows O.value left.now)) left.now.validity a (row_at (offset_rows O.value right.now)) right.now.validity b n) IsMemory }
+{
+    string_windows(alloc, left.as_binary(), a, right.as_binary(), b, n)
 }
 
 // The same of byte strings of one size.

@@ -4,12 +4,14 @@
 pub mod broadcasts;
 mod downcast;
 mod entries;
+mod few_leaves;
 mod items;
 pub mod kernels;
 pub mod laws;
 pub mod leaf_kernel;
 mod leaf_rows;
 mod leaf_windows;
+mod leaf_words;
 mod masks;
 mod runs;
 pub mod sized;

@@ -15,7 +15,7 @@ use polars_compare_leaves::joining::{Relation, join_nulls};
 use std::alloc::Global;
 
 /// The raw bits of two windows joined with their masks, in which two null rows are equal and one alone
-/// is not. The error is `Memory`.
+/// is not. Where neither side keeps bits that could say so, no mask is made. The error is `Memory`.
 #[inline(always)]
 pub(crate) fn join_windows(
     alloc: Global,
@@ -32,6 +32,9 @@ pub(crate) fn join_windows(
     requires right_in { b + length raw ≤ len_of right.now }
     ensures { MatchResult result (λ bits. (agree : Row → Row → Bool) → RawBits agree left.now a right.now b (length raw) raw → SameBits agree left.now a right.now b (length raw) bits) IsMemory }
 {
+    if !left.may_have_nulls() && !right.may_have_nulls() {
+        return Ok(raw);
+    }
     let n = raw.len();
     let left_mask = left.window_mask(alloc, a, n)?;
     let right_mask = right.window_mask(alloc, b, n)?;

@@ -1,18 +1,21 @@
 //! Runs of lists whose items are adjacent on both sides, so that one comparison serves them all.
 
-ghost use Rattle.std.specs.Prelude.{◌≡◌, ◌+◌, ◌-◌, ◌<◌, ◌≤◌, false, length, IfOk};
+ghost use Rattle.std.specs.Prelude.{◌≡◌, ℕ, ◌+◌, ◌-◌, ◌<◌, ◌≤◌, false, length, IfOk};
 ghost use Rattle.polars_arrays_nested.specs.GoodParts.{IsGood};
 ghost use Rattle.polars_arrays_nested.specs.Lengths.{len_of};
 ghost use Rattle.polars_arrays_nested.specs.ListOffsets.{list_places, offset_at, span};
 ghost use Rattle.polars_arrays_nested.specs.Parts.{list_offsets};
 ghost use Rattle.polars_arrays_nested.specs.declared.any_array.AnyArray.{List};
-ghost use Rattle.polars_compare_nested.specs.Runs.{AddsRun, AreNext, Match, is_match};
+ghost use Rattle.polars_arrays_words.specs.Bits.{first_of, is_bit};
+ghost use Rattle.polars_compare_nested.specs.Runs.{AddsRun, AreNext, Match, TellMatches, is_match};
+ghost use Rattle.polars_compare_nested.specs.Known.{AreKnown, row_total};
 
-use crate::spans::{matching_rows, push_lists};
+use crate::spans::{leading_bits, matching_rows, matching_word, push_lists, push_word_lists};
 use polars_arrays_bits::bitmap::Bitmap;
 use polars_arrays_bits::builder::BitmapBuilder;
 use polars_arrays_nested::list::ListArray;
 use polars_arrays_nested::list_offsets::ListOffsets;
+use polars_arrays_words::words::WORD_BITS;
 
 /// A run of lists that match one after another, as the two windows of all their items.
 #[derive(Drop)]
@@ -48,6 +51,26 @@ pub(crate) fn item_count(array: &ListArray, i: usize) -> usize
     array.offsets().offset(i + 1) - array.offsets().offset(i)
 }
 
+// The answer of `$of` of the lists of two arrays, whose offsets of either width are lent as slices.
+macro_rules! on_lists {
+    ($of:ident, $left:expr, $a:expr, $right:expr, $b:expr, $n:expr) => {
+        match ($left.offsets(), $right.offsets()) {
+            (ListOffsets::Small(l), ListOffsets::Small(r)) => {
+                $of($left, l.as_slice(), $a, $right, r.as_slice(), $b, $n)
+            }
+            (ListOffsets::Large(l), ListOffsets::Large(r)) => {
+                $of($left, l.as_slice(), $a, $right, r.as_slice(), $b, $n)
+            }
+            (ListOffsets::Small(l), ListOffsets::Large(r)) => {
+                $of($left, l.as_slice(), $a, $right, r.as_slice(), $b, $n)
+            }
+            (ListOffsets::Large(l), ListOffsets::Small(r)) => {
+                $of($left, l.as_slice(), $a, $right, r.as_slice(), $b, $n)
+            }
+        }
+    };
+}
+
 // How many of the first `n` lists match, one after another.
 fn run_length(left: &ListArray, a: usize, right: &ListArray, b: usize, n: usize) -> usize
     requires left_good { IsGood (List left.now) }
@@ -58,72 +81,139 @@ fn run_length(left: &ListArray, a: usize, right: &ListArray, b: usize, n: usize)
     ensures matching { Match left.now a right.now b result }
     ensures longest { result < n → is_match left.now (a + result) right.now (b + result) ≡ false }
 {
-    match (left.offsets(), right.offsets()) {
-        (ListOffsets::Small(left_offsets), ListOffsets::Small(right_offsets)) => {
-            matching_rows(
-                left,
-                left_offsets.as_slice(),
-                a,
-                right,
-                right_offsets.as_slice(),
-                b,
-                n,
-            )
+    on_lists!(matching_rows, left, a, right, b, n)
+}
+
+// Which of at most 64 lists match, as the bits of a word.
+fn word_of(left: &ListArray, a: usize, right: &ListArray, b: usize, n: usize) -> u64
+    requires left_good { IsGood (List left.now) }
+    requires right_good { IsGood (List right.now) }
+    requires left_in { a + n ≤ len_of (List left.now) }
+    requires right_in { b + n ≤ len_of (List right.now) }
+    requires few { n ≤ 64 }
+    ensures { TellMatches left.now a right.now b n result }
+{
+    on_lists!(matching_word, left, a, right, b, n)
+}
+
+/// Which of the next lists match, as far as it is known: bit `i` of `word` says it of list `i`, and `len`
+/// lists are known, at most 64.
+#[derive(Drop)]
+pub(crate) struct Matches {
+    word: u64,
+    len: usize,
+}
+
+impl Matches {
+    /// Nothing is known.
+    pub(crate) fn none() -> Matches
+        ensures { result.len ≡ 0 }
+    {
+        Matches { word: 0, len: 0 }
+    }
+
+    // What is known of the first of `n` lists.
+    fn of_lists(left: &ListArray, a: usize, right: &ListArray, b: usize, n: usize) -> Matches
+        requires left_good { IsGood (List left.now) }
+        requires right_good { IsGood (List right.now) }
+        requires left_in { a + n ≤ len_of (List left.now) }
+        requires right_in { b + n ≤ len_of (List right.now) }
+        ensures known { AreKnown left.now a right.now b n result }
+        ensures some { 1 ≤ n → 1 ≤ result.len }
+    {
+        let len = n.min(WORD_BITS);
+        Matches {
+            word: word_of(left, a, right, b, len),
+            len,
         }
-        (ListOffsets::Large(left_offsets), ListOffsets::Large(right_offsets)) => {
-            matching_rows(
-                left,
-                left_offsets.as_slice(),
-                a,
-                right,
-                right_offsets.as_slice(),
-                b,
-                n,
-            )
+    }
+
+    // Looks up the first of `n` lists where none is known.
+    #[inline(always)]
+    fn learn(&mut self, left: &ListArray, a: usize, right: &ListArray, b: usize, n: usize)
+        requires left_good { IsGood (List left.now) }
+        requires right_good { IsGood (List right.now) }
+        requires some { 1 ≤ n }
+        requires left_in { a + n ≤ len_of (List left.now) }
+        requires right_in { b + n ≤ len_of (List right.now) }
+        requires known { AreKnown left.now a right.now b n self.old }
+        ensures known { AreKnown left.now a right.now b n self.new }
+        ensures some { 1 ≤ self.new.len }
+    {
+        if self.len == 0 {
+            *self = Matches::of_lists(left, a, right, b, n);
         }
-        (ListOffsets::Small(left_offsets), ListOffsets::Large(right_offsets)) => {
-            matching_rows(
-                left,
-                left_offsets.as_slice(),
-                a,
-                right,
-                right_offsets.as_slice(),
-                b,
-                n,
-            )
-        }
-        (ListOffsets::Large(left_offsets), ListOffsets::Small(right_offsets)) => {
-            matching_rows(
-                left,
-                left_offsets.as_slice(),
-                a,
-                right,
-                right_offsets.as_slice(),
-                b,
-                n,
-            )
-        }
+    }
+
+    // Forgets the first `n` lists.
+    #[inline(always)]
+    fn skip(&mut self, n: usize)
+        requires within { n ≤ self.old.len }
+        requires few { n < 64 }
+        ensures len { self.new.len ≡ self.old.len - n }
+        ensures bits { (i : ℕ) → is_bit self.new.word i ≡ is_bit self.old.word (n + i) }
+    {
+        self.word = self.word >> n;
+        self.len -= n;
     }
 }
 
+// How many of the next lists match, one after another, where `n` are left. A word of matches is looked up
+// where none is known, and what is known of the lists behind these stays known.
+#[inline(always)]
+fn matching_run(
+    left: &ListArray,
+    a: usize,
+    right: &ListArray,
+    b: usize,
+    n: usize,
+    matches: &mut Matches,
+) -> usize
+    requires left_good { IsGood (List left.now) }
+    requires right_good { IsGood (List right.now) }
+    requires some { 1 ≤ n }
+    requires left_in { a + n ≤ len_of (List left.now) }
+    requires right_in { b + n ≤ len_of (List right.now) }
+    requires known { AreKnown left.now a right.now b n matches.old }
+    ensures within { result ≤ n }
+    ensures matching { Match left.now a right.now b result }
+    ensures apart { result ≡ 0 → (1 ≤ matches.new.len) × (is_match left.now a right.now b ≡ false) }
+    ensures known { AreKnown left.now (a + result) right.now (b + result) (n - result) matches.new }
+{
+    // For the proof alone: that the lists have a length of 64 bits says that the sums don't overflow.
+    let (_lists, _others) = (left.offsets().len(), right.offsets().len());
+    matches.learn(left, a, right, b, n);
+    let rows = leading_bits(matches.word, matches.len);
+    if rows < matches.len {
+        matches.skip(rows);
+        return rows;
+    }
+    *matches = Matches::none();
+    rows + run_length(left, a + rows, right, b + rows, n - rows)
+}
+
 /// How the next lists are compared, where `n` are left: from row `a` on of the left array, and from row `b`
-/// on of the right one.
+/// on of the right one. `matches` says what is known of them, and then of the lists behind those.
 pub(crate) fn next_rows(
     left: &ListArray,
     a: usize,
     right: &ListArray,
     b: usize,
     n: usize,
+    matches: &mut Matches,
 ) -> NextRows
     requires left_good { IsGood (List left.now) }
     requires right_good { IsGood (List right.now) }
     requires some { 1 ≤ n }
     requires left_in { a + n ≤ len_of (List left.now) }
     requires right_in { b + n ≤ len_of (List right.now) }
-    ensures { AreNext left.now a right.now b n result }
+    requires known { AreKnown left.now a right.now b n matches.old }
+    ensures next { AreNext left.now a right.now b n result }
+    ensures known { AreKnown left.now (a + row_total result) right.now (b + row_total result) (n - row_total result) matches.new }
 {
-    let rows = run_length(left, a, right, b, n);
+    let rows = matching_run(left, a, right, b, n, matches);
     if rows == 0 {
+        matches.skip(1);
         return NextRows::Apart;
     }
     // For the proof alone: that the lists have a length of 64 bits says that `a + rows` doesn't overflow.
@@ -159,6 +249,31 @@ pub(crate) fn push_rows(
         }
         ListOffsets::Large(offsets) => {
             push_lists(bits, items, array, offsets.as_slice(), a, rows)
+        }
+    }
+}
+
+/// The same where these lists have at most 64 items, whose bits are those of a word, the first one lowest.
+pub(crate) fn push_word(
+    bits: &mut BitmapBuilder,
+    word: u64,
+    array: &ListArray,
+    a: usize,
+    rows: usize,
+)
+    requires good { IsGood (List array.now) }
+    requires within { a + rows ≤ len_of (List array.now) }
+    requires few { offset_at (list_offsets array.now) (a + rows) - offset_at (list_offsets array.now) a ≤ 64 }
+    requires room { rows ≤ bits.old.room }
+    ensures bits { AddsRun (first_of (is_bit word) (offset_at (list_offsets array.now) (a + rows) - offset_at (list_offsets array.now) a)) (list_places (list_offsets array.now)) a rows bits.old.bits bits.new.bits }
+    ensures room { bits.new.room ≡ bits.old.room - rows }
+{
+    match array.offsets() {
+        ListOffsets::Small(offsets) => {
+            push_word_lists(bits, word, array, offsets.as_slice(), a, rows)
+        }
+        ListOffsets::Large(offsets) => {
+            push_word_lists(bits, word, array, offsets.as_slice(), a, rows)
         }
     }
 }

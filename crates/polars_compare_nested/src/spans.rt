@@ -1,24 +1,28 @@
-//! The loops over lists between offsets, for offsets of either width: how many lists match, and which lists
+//! The loops over lists between offsets, for offsets of either width: which lists match, and which lists
 //! have all bits of their items set. The offsets come as slices, beside the array that they are of.
 
-ghost use Rattle.std.specs.Prelude.{◌≡◌, ◌+◌, ◌-◌, ◌^◌, ◌<◌, ◌≤◌, false, length};
+ghost use Rattle.std.specs.Option.{option_copied};
+ghost use Rattle.std.specs.Prelude.{◌≡◌, ℕ, ◌+◌, ◌-◌, ◌^◌, ◌<◌, ◌≤◌, ◌&&◌, IfSome, true, false, length};
 ghost use Rattle.polars_arrays_bytes.specs.OffsetStrings.{place_at, places, row_count};
+ghost use Rattle.polars_arrays_flat.specs.Validity.{is_present};
 ghost use Rattle.polars_arrays_nested.specs.GoodParts.{IsGood};
 ghost use Rattle.polars_arrays_nested.specs.Lengths.{len_of};
 ghost use Rattle.polars_arrays_nested.specs.ListOffsets.{list_places, offset_at};
-ghost use Rattle.polars_arrays_nested.specs.Parts.{list_offsets};
+ghost use Rattle.polars_arrays_nested.specs.Parts.{list_offsets, list_validity};
 ghost use Rattle.polars_arrays_nested.specs.Places.{place_or_zero};
 ghost use Rattle.polars_arrays_nested.specs.declared.any_array.AnyArray.{List};
-ghost use Rattle.polars_compare_nested.specs.Runs.{AddsRun, AreSpans, AreWithin, IsSpan, Match, all_lists, is_match, span_between, start_of};
+ghost use Rattle.polars_arrays_words.specs.Bits.{first_of, is_bit};
+ghost use Rattle.polars_compare_nested.specs.Runs.{AddsRun, AreSpans, AreWithin, IsSpan, Match, TellMatches, all_lists, empty_lists, is_match, same_counts, span_between, start_of};
 
 use polars_arrays_bits::bit_mask::BitMask;
 use polars_arrays_bits::bitmap::Bitmap;
 use polars_arrays_bits::builder::BitmapBuilder;
-use polars_arrays_bits::packing::TruthValues;
+use polars_arrays_bits::packing::{TruthValues, pack_few};
 use polars_arrays_flat::array::Array;
-use polars_arrays_flat::validity::is_present;
 use polars_arrays_nested::list::ListArray;
 use polars_arrays_numbers::offset::Offset;
+use polars_arrays_words::runs::word_set;
+use polars_arrays_words::words::{WORD_BITS, low_bits};
 
 // Offset `i` as a place, or 0 where it is negative.
 #[inline(always)]
@@ -42,28 +46,143 @@ fn list_at<O: Offset>(offsets: &[O], i: usize) -> (usize, usize)
     (from, to - from)
 }
 
-// Whether two lists match: they have the same number of items, and both are present or they have none.
+// For each pair of lists of two windows whether they have as many items.
+#[derive(Drop)]
+struct SameCounts<'m, L: Offset, R: Offset> {
+    left: &'m [L],
+    a: usize,
+    right: &'m [R],
+    b: usize,
+    rows: usize,
+    ghost left_in: { a + rows < length left.now },
+    ghost right_in: { b + rows < length right.now },
+    ghost left_good: { AreSpans (places L.value left.now) a rows },
+    ghost right_good: { AreSpans (places R.value right.now) b rows },
+    ghost left_fits: { a + rows < 2 ^ 64 },
+    ghost right_fits: { b + rows < 2 ^ 64 },
+}
+
+impl<L: Offset, R: Offset> TruthValues for SameCounts<'_, L, R> {
+    ghost values = { λ l. same_counts (places L.value l.left.now) l.a (places R.value l.right.now) l.b l.rows };
+
+    #[inline(always)]
+    fn len(&self) -> usize {
+        self.rows
+    }
+
+    #[inline(always)]
+    fn value(&self, i: usize) -> bool {
+        let (_, count) = list_at(self.left, self.a + i);
+        let (_, other) = list_at(self.right, self.b + i);
+        count == other
+    }
+}
+
+// For each list of a window whether it has no items.
+#[derive(Drop)]
+struct EmptyLists<'m, O: Offset> {
+    offsets: &'m [O],
+    a: usize,
+    rows: usize,
+    ghost within: { a + rows < length offsets.now },
+    ghost good: { AreSpans (places O.value offsets.now) a rows },
+    ghost fits: { a + rows < 2 ^ 64 },
+}
+
+impl<O: Offset> TruthValues for EmptyLists<'_, O> {
+    ghost values = { λ l. empty_lists (places O.value l.offsets.now) l.a l.rows };
+
+    #[inline(always)]
+    fn len(&self) -> usize {
+        self.rows
+    }
+
+    #[inline(always)]
+    fn value(&self, i: usize) -> bool {
+        let (_, count) = list_at(self.offsets, self.a + i);
+        count == 0
+    }
+}
+
+// Which of `n` rows from row `at` on are present, as the bits of a word.
 #[inline(always)]
-fn rows_match<L: Offset, R: Offset>(
+fn present_bits(validity: Option<&Bitmap>, at: usize, n: usize) -> u64
+    requires within { IfSome (option_copied validity) (λ bits. at + n ≤ length bits) }
+    requires few { n ≤ 64 }
+    ensures { (i : ℕ) → i < n → is_bit result i ≡ is_present (option_copied validity.entry) (at + i) }
+{
+    match validity {
+        Some(bits) => BitMask::from_bitmap(bits).few_bits(at, n),
+        None => low_bits(n),
+    }
+}
+
+// Which of `n` rows of two windows are present on both sides.
+#[inline(always)]
+fn both_present(left: &ListArray, a: usize, right: &ListArray, b: usize, n: usize) -> u64
+    requires left_good { IsGood (List left.now) }
+    requires right_good { IsGood (List right.now) }
+    requires left_in { a + n ≤ len_of (List left.now) }
+    requires right_in { b + n ≤ len_of (List right.now) }
+    requires few { n ≤ 64 }
+    ensures { (i : ℕ) → i < n → is_bit result i ≡ (is_present (list_validity left.now) (a + i) && is_present (list_validity right.now) (b + i)) }
+{
+    present_bits(left.validity(), a, n) & present_bits(right.validity(), b, n)
+}
+
+/// Which of at most 64 lists match, as the bits of a word: they have the same number of items, and both are
+/// present or they have none.
+// Counts are compared 64 at a time, and validities are read as words.
+#[inline(always)]
+pub(crate) fn matching_word<L: Offset, R: Offset>(
     left: &ListArray,
     left_offsets: &[L],
-    i: usize,
+    a: usize,
     right: &ListArray,
     right_offsets: &[R],
-    j: usize,
-) -> bool
+    b: usize,
+    n: usize,
+) -> u64
     requires left_good { IsGood (List left.now) }
     requires right_good { IsGood (List right.now) }
     requires left_offsets { places L.value left_offsets.now ≡ list_places (list_offsets left.now) }
     requires right_offsets { places R.value right_offsets.now ≡ list_places (list_offsets right.now) }
-    requires left_in { i < len_of (List left.now) }
-    requires right_in { j < len_of (List right.now) }
-    ensures { result ≡ is_match left.now i right.now j }
+    requires left_in { a + n ≤ len_of (List left.now) }
+    requires right_in { b + n ≤ len_of (List right.now) }
+    requires few { n ≤ 64 }
+    ensures { TellMatches left.now a right.now b n result }
 {
-    let (_, count) = list_at(left_offsets, i);
-    let (_, other) = list_at(right_offsets, j);
-    count == other
-        && (count == 0 || is_present(left.validity(), i) && is_present(right.validity(), j))
+    // For the proof alone: that the lists have a length of 64 bits says that the sums don't overflow.
+    let (_lists, _others) = (left.offsets().len(), right.offsets().len());
+    let counts = SameCounts {
+        left: left_offsets,
+        a,
+        right: right_offsets,
+        b,
+        rows: n,
+    };
+    let same = pack_few(&counts, 0, n);
+    let present = both_present(left, a, right, b, n);
+    if present == low_bits(n) {
+        return same;
+    }
+    let lists = EmptyLists {
+        offsets: left_offsets,
+        a,
+        rows: n,
+    };
+    same & (present | pack_few(&lists, 0, n))
+}
+
+/// How many of the first `n` bits of a word are true before the first that isn't.
+#[inline(always)]
+pub(crate) fn leading_bits(word: u64, n: usize) -> usize
+    requires { n ≤ 64 }
+    ensures within { result ≤ n }
+    ensures ones { (i : ℕ) → i < result → is_bit word i ≡ true }
+    ensures end { result < n → is_bit word result ≡ false }
+{
+    (word.trailing_ones() as usize).min(n)
 }
 
 /// How many of the `n` lists match before the first pair that doesn't.
@@ -88,9 +207,22 @@ pub(crate) fn matching_rows<L: Offset, R: Offset>(
 {
     // For the proof alone: that the lists have a length of 64 bits says that the sums don't overflow.
     let (_lists, _others) = (left.offsets().len(), right.offsets().len());
-    for k in 0..n {
-        if !rows_match(left, left_offsets, a + k, right, right_offsets, b + k) {
-            return k;
+    let mut done = 0;
+    while done < n {
+        let count = (n - done).min(WORD_BITS);
+        let word = matching_word(
+            left,
+            left_offsets,
+            a + done,
+            right,
+            right_offsets,
+            b + done,
+            count,
+        );
+        let few = leading_bits(word, count);
+        done += few;
+        if few < count {
+            return done;
         }
     }
     n
@@ -155,6 +287,70 @@ pub(crate) fn push_lists<O: Offset>(
     let items = &BitMask::from_bitmap(items);
     bits.extend_values(&ListBits {
         items,
+        offsets,
+        a,
+        first,
+        rows,
+    });
+}
+
+// The same where the bits of the items are those of a word.
+#[derive(Drop)]
+struct WordLists<'m, O: Offset> {
+    word: u64,
+    offsets: &'m [O],
+    a: usize,
+    first: usize,
+    rows: usize,
+    ghost within: { AreWithin 64 (places O.value offsets.now) first a rows },
+    ghost has_offsets: { a + rows < length offsets.now },
+    ghost good: { AreSpans (places O.value offsets.now) a rows },
+    ghost fits: { a + rows < 2 ^ 64 },
+}
+
+impl<O: Offset> TruthValues for WordLists<'_, O> {
+    ghost values = { λ l. all_lists (first_of (is_bit l.word) 64) (places O.value l.offsets.now) l.first l.a l.rows };
+
+    #[inline(always)]
+    fn len(&self) -> usize {
+        self.rows
+    }
+
+    #[inline(always)]
+    fn value(&self, i: usize) -> bool {
+        let (place, count) = list_at(self.offsets, self.a + i);
+        word_set(self.word, place.saturating_sub(self.first), count)
+    }
+
+    // Each value is found by a shift of the word, for which there is no vector operation.
+    #[inline(always)]
+    fn packs_by_bit(&self) -> bool {
+        true
+    }
+}
+
+/// The same where these lists have at most 64 items, whose bits are those of a word.
+pub(crate) fn push_word_lists<O: Offset>(
+    bits: &mut BitmapBuilder,
+    word: u64,
+    array: &ListArray,
+    offsets: &[O],
+    a: usize,
+    rows: usize,
+)
+    requires good { IsGood (List array.now) }
+    requires offsets { places O.value offsets.now ≡ list_places (list_offsets array.now) }
+    requires within { a + rows ≤ len_of (List array.now) }
+    requires few { offset_at (list_offsets array.now) (a + rows) - offset_at (list_offsets array.now) a ≤ 64 }
+    requires room { rows ≤ bits.old.room }
+    ensures bits { AddsRun (first_of (is_bit word) (offset_at (list_offsets array.now) (a + rows) - offset_at (list_offsets array.now) a)) (list_places (list_offsets array.now)) a rows bits.old.bits bits.new.bits }
+    ensures room { bits.new.room ≡ bits.old.room - rows }
+{
+    // For the proof alone: that the lists have a length of 64 bits says that the sums don't overflow.
+    let _lists = array.offsets().len();
+    let first = place_of(offsets, a);
+    bits.extend_values(&WordLists {
+        word,
         offsets,
         a,
         first,

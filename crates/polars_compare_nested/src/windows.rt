@@ -10,21 +10,22 @@ ghost use Rattle.std.specs.Prelude.{◌≡◌, ◌+◌, ◌-◌, ◌<◌, ◌≤
 ghost use Rattle.polars_arrays_bits.specs.Errors.{IsMemory};
 ghost use Rattle.polars_arrays_nested.specs.declared.any_array.AnyArray.{AnyArray, List, FixedSizeList, Struct, Dictionary};
 ghost use Rattle.polars_compare_nested.specs.Bits.{AddsRawBits, RawBits, SameBits, SamePresent};
+ghost use Rattle.polars_compare_nested.specs.Known.{AreKnown};
 ghost use Rattle.polars_compare_nested.specs.Tally.{tally};
 ghost use Rattle.polars_compare_nested.specs.Windows.{AreWindows, Compares};
 
 use crate::downcast::{as_dictionary, as_fixed_size_list, as_list, as_struct};
 use crate::entries::row_entries;
+use crate::few_leaves::{are_few_leaves, same_few};
 use crate::items::item_window;
 use crate::leaf_kernel::LeafKernel;
 use crate::masks::join_windows;
-use crate::runs::{NextRows, next_rows, push_rows};
+use crate::runs::{Matches, NextRows, next_rows, push_rows, push_word};
 use crate::structs::column_pair;
 use polars_arrays_bits::bit_mask::BitMask;
 use polars_arrays_bits::bitmap::Bitmap;
 use polars_arrays_bits::builder::BitmapBuilder;
 use polars_arrays_bits::error::ComputeError;
-use polars_arrays_bits::mutable_bitmap::MutableBitmap;
 use polars_arrays_nested::any_array::AnyArray;
 use polars_arrays_nested::dictionary::DictionaryArray;
 use polars_arrays_nested::fixed_size_list::FixedSizeListArray;
@@ -98,6 +99,7 @@ pub fn list_windows<K: LeafKernel>(
     // For the proof alone: that both arrays have a length of 64 bits says that the places don't overflow.
     let (_rows, _others) = (left.offsets().len(), right.offsets().len());
     let mut bits = BitmapBuilder::with_capacity(alloc, n)?;
+    let mut matches = Matches::none();
     let mut done = 0;
     while done < n {
         done += push_next(
@@ -108,14 +110,15 @@ pub fn list_windows<K: LeafKernel>(
             right,
             b + done,
             n - done,
+            &mut matches,
             steps,
         )?;
     }
     Ok(bits.freeze())
 }
 
-// Adds the bits of the next lists, where `n` are left, and says how many lists these were. The error is
-// `Memory`.
+// Adds the bits of the next lists, where `n` are left, and says how many lists these were. `matches` says
+// what is known of the next lists. The error is `Memory`.
 #[cycle(equal)]
 fn push_next<K: LeafKernel>(
     alloc: Global,
@@ -125,34 +128,35 @@ fn push_next<K: LeafKernel>(
     right: &ListArray,
     b: usize,
     n: usize,
+    matches: &mut Matches,
     steps: &mut K,
 ) -> Result<usize, ComputeError>
     requires windows { AreWindows (List left.now) a (List right.now) b n }
     requires some { 1 ≤ n }
     requires room { n ≤ bits.old.room }
+    requires known { AreKnown left.now a right.now b n matches.old }
     ensures some { MatchResult result (λ rows. 1 ≤ rows) IsMemory }
     ensures within { IfOk result (λ rows. rows ≤ n) }
     ensures told { IfOk result (λ rows. AddsRawBits K.agree (List left.now) a (List right.now) b rows bits.old.bits bits.new.bits) }
     ensures room { IfOk result (λ rows. bits.new.room ≡ bits.old.room - rows) }
+    ensures known { IfOk result (λ rows. AreKnown left.now (a + rows) right.now (b + rows) (n - rows) matches.new) }
     ensures counted { IfOk result (λ rows. K.count steps.new ≡ K.count steps.old + tally (List left.now) (List right.now) a b rows) }
     ensures kept { K.count steps.old ≤ K.count steps.new }
 {
-    match next_rows(left, a, right, b, n) {
+    match next_rows(left, a, right, b, n, matches) {
         NextRows::Apart => {
             bits.push_reserved(false);
             Ok(1)
         }
         NextRows::Run(run) => {
             let (left_items, right_items) = (left.values(), right.values());
-            let items = equal_windows(
-                alloc,
-                left_items,
-                run.left_start,
-                right_items,
-                run.right_start,
-                run.count,
-                steps,
-            )?;
+            let (from, at) = (run.left_start, run.right_start);
+            if are_few_leaves(left_items, right_items, run.count) {
+                let word = same_few(alloc, left_items, from, right_items, at, run.count, steps)?;
+                push_word(bits, word, left, a, run.len);
+                return Ok(run.len);
+            }
+            let items = equal_windows(alloc, left_items, from, right_items, at, run.count, steps)?;
             push_rows(bits, &items, left, a, run.len);
             Ok(run.len)
         }
@@ -190,7 +194,8 @@ pub fn fixed_size_list_windows<K: LeafKernel>(
 }
 
 /// Which structs of two windows have the same row in each field. Where a struct is masked on either side the
-/// bit means nothing. The error is `Memory`.
+/// bit means nothing. The bits of the first column become those of all, with no words of their own. The error
+/// is `Memory`.
 #[cycle(equal)]
 pub fn struct_windows<K: LeafKernel>(
     alloc: Global,
@@ -204,8 +209,14 @@ pub fn struct_windows<K: LeafKernel>(
     requires { AreWindows (Struct left.now) a (Struct right.now) b n }
     ensures { Compares (RawBits K.agree) (Struct left.now) a (Struct right.now) b n (K.count steps.old) (K.count steps.new) result }
 {
-    let mut bits = MutableBitmap::from_len_set(alloc, n)?;
-    for i in 0..left.values().len() {
+    let count = left.values().len();
+    if count == 0 {
+        return Bitmap::new_with_value(alloc, true, n);
+    }
+    let (column, other) = column_pair(left, right, 0);
+    let first = equal_windows(alloc, column, a, other, b, n, steps)?;
+    let mut bits = first.into_mut(alloc)?;
+    for i in 1..count {
         let (column, other) = column_pair(left, right, i);
         let same = equal_windows(alloc, column, a, other, b, n, steps)?;
         bits.and_assign(&same);

@@ -10,9 +10,9 @@ use polars_arrays_bits::error::ComputeError;
 use polars_arrays_bytes::binary::BinaryArray;
 use polars_arrays_bytes::text::Utf8Array;
 use polars_arrays_flat::byte_rows::ByteRows;
-use polars_arrays_numbers::comparison::{Less, LessOrEqual};
+use polars_arrays_numbers::comparison::{Greater, GreaterOrEqual, Less, LessOrEqual};
 use polars_arrays_numbers::offset::Offset;
-use polars_compare_leaves::bytes::compare_byte_windows;
+use polars_compare_leaves::bytes::{compare_byte_windows, compare_bytes};
 use std::alloc::Global;
 
 impl<O: Offset + 'static> TotalOrdKernel for BinaryArray<O> {
@@ -21,11 +21,27 @@ impl<O: Offset + 'static> TotalOrdKernel for BinaryArray<O> {
     ghost scalar_row = { λ s. Bytes s.items };
 
     fn tot_lt_kernel(&self, alloc: Global, other: &Self) -> Result<Bitmap, ComputeError> {
-        compare_byte_windows(alloc, &Less, self, 0, other, 0, self.count())
+        compare_byte_windows(
+            alloc,
+            &Less,
+            &self.lent(),
+            0,
+            &other.lent(),
+            0,
+            self.count(),
+        )
     }
 
     fn tot_le_kernel(&self, alloc: Global, other: &Self) -> Result<Bitmap, ComputeError> {
-        compare_byte_windows(alloc, &LessOrEqual, self, 0, other, 0, self.count())
+        compare_byte_windows(
+            alloc,
+            &LessOrEqual,
+            &self.lent(),
+            0,
+            &other.lent(),
+            0,
+            self.count(),
+        )
     }
 
     fn tot_lt_kernel_broadcast(
@@ -61,7 +77,23 @@ impl<O: Offset + 'static> TotalOrdKernel for BinaryArray<O> {
     }
 }
 
-impl<O: Offset + 'static> BytesOrdKernel for BinaryArray<O> {}
+impl<O: Offset + 'static> BytesOrdKernel for BinaryArray<O> {
+    fn tot_lt_kernel_broadcast(&self, alloc: Global, other: &[u8]) -> Result<Bitmap, ComputeError> {
+        compare_bytes(alloc, &Less, &self.lent(), other)
+    }
+
+    fn tot_le_kernel_broadcast(&self, alloc: Global, other: &[u8]) -> Result<Bitmap, ComputeError> {
+        compare_bytes(alloc, &LessOrEqual, &self.lent(), other)
+    }
+
+    fn tot_gt_kernel_broadcast(&self, alloc: Global, other: &[u8]) -> Result<Bitmap, ComputeError> {
+        compare_bytes(alloc, &Greater, &self.lent(), other)
+    }
+
+    fn tot_ge_kernel_broadcast(&self, alloc: Global, other: &[u8]) -> Result<Bitmap, ComputeError> {
+        compare_bytes(alloc, &GreaterOrEqual, &self.lent(), other)
+    }
+}
 
 impl<O: Offset + 'static> TotalOrdKernel for Utf8Array<O> {
     type Scalar = String;
@@ -69,11 +101,27 @@ impl<O: Offset + 'static> TotalOrdKernel for Utf8Array<O> {
     ghost scalar_row = { λ s. Bytes (string_bytes s) };
 
     fn tot_lt_kernel(&self, alloc: Global, other: &Self) -> Result<Bitmap, ComputeError> {
-        compare_byte_windows(alloc, &Less, self, 0, other, 0, self.count())
+        compare_byte_windows(
+            alloc,
+            &Less,
+            &self.lent(),
+            0,
+            &other.lent(),
+            0,
+            self.count(),
+        )
     }
 
     fn tot_le_kernel(&self, alloc: Global, other: &Self) -> Result<Bitmap, ComputeError> {
-        compare_byte_windows(alloc, &LessOrEqual, self, 0, other, 0, self.count())
+        compare_byte_windows(
+            alloc,
+            &LessOrEqual,
+            &self.lent(),
+            0,
+            &other.lent(),
+            0,
+            self.count(),
+        )
     }
 
     fn tot_lt_kernel_broadcast(
@@ -109,4 +157,20 @@ impl<O: Offset + 'static> TotalOrdKernel for Utf8Array<O> {
     }
 }
 
-impl<O: Offset + 'static> TextOrdKernel for Utf8Array<O> {}
+impl<O: Offset + 'static> TextOrdKernel for Utf8Array<O> {
+    fn tot_lt_kernel_broadcast(&self, alloc: Global, other: &str) -> Result<Bitmap, ComputeError> {
+        compare_bytes(alloc, &Less, &self.lent(), other.as_bytes())
+    }
+
+    fn tot_le_kernel_broadcast(&self, alloc: Global, other: &str) -> Result<Bitmap, ComputeError> {
+        compare_bytes(alloc, &LessOrEqual, &self.lent(), other.as_bytes())
+    }
+
+    fn tot_gt_kernel_broadcast(&self, alloc: Global, other: &str) -> Result<Bitmap, ComputeError> {
+        compare_bytes(alloc, &Greater, &self.lent(), other.as_bytes())
+    }
+
+    fn tot_ge_kernel_broadcast(&self, alloc: Global, other: &str) -> Result<Bitmap, ComputeError> {
+        compare_bytes(alloc, &GreaterOrEqual, &self.lent(), other.as_bytes())
+    }
+}

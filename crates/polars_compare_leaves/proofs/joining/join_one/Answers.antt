@@ -1,21 +1,32 @@
-use Rattle.std.proofs.Common.{◌&&◌, true, false}
-use Rattle.std.proofs.lemmas.Result.{MatchResult-weaker}
+use Rattle.std.proofs.Common.{◌&&◌, true, false, ap, ◌∙◌, Bool, List}
+use Rattle.std.specs.Simd.Lanes.{zip2}
 use Rattle.polars_arrays_bits.specs.Logic.{or_not}
 use Rattle.polars_compare_leaves.proofs.JoinedBits.{joined-left, joined-right, and-left, and-right, or_not-left, or_not-right}
 use Rattle.polars_compare_leaves.proofs.joining.join_one.Goals as goal
+use Rattle.polars_compare_leaves.proofs.joining.join_one.Goals.{in-Equal, in-Unequal}
 
-pub returns-in-Equal-clause-left : goal.returns-in-Equal-clause-left
-returns-in-Equal-clause-left c =
-    rw c.in-Equal.is (MatchResult-weaker c.and.result (rw c.from_bitmap-raw.ensures at c.and.ensures) (λ bits e. joined-left true _ ◌&&◌ and-left _ bits c.requires e) (λ error m. m))
+pub returns-clause-left : goal.returns-clause-left
+returns-clause-left c =
+    elim c.match-relation.branch [
+      | in-Equal w ↦
+          rw w.in-Equal.is
+          (joined-left true c.args.raw ◌&&◌ and-left c.args.mask.now c.freeze.result c.requires
+          (c.freeze.ensures ∙ w.bits-is ∙ w.and_assign_mask.ensures ∙ ap (λ (xs : List Bool). zip2 ◌&&◌ xs c.args.mask.now) c.in_ok-bits.ensures))
+      | in-Unequal w ↦
+          rw w.in-Unequal.is
+          (joined-left false c.args.raw or_not or_not-left c.args.mask.now c.freeze.result c.requires
+          (c.freeze.ensures ∙ w.bits-is ∙ w.or_not_assign_mask.ensures ∙ ap (λ (xs : List Bool). zip2 or_not xs c.args.mask.now) c.in_ok-bits.ensures))
+    ]
 
-pub returns-in-Equal-clause-right : goal.returns-in-Equal-clause-right
-returns-in-Equal-clause-right c =
-    rw c.in-Equal.is (MatchResult-weaker c.and.result (rw c.from_bitmap-raw.ensures at c.and.ensures) (λ bits e. joined-right true _ ◌&&◌ and-right _ bits c.requires e) (λ error m. m))
-
-pub returns-in-Unequal-clause-left : goal.returns-in-Unequal-clause-left
-returns-in-Unequal-clause-left c =
-    rw c.in-Unequal.is (MatchResult-weaker c.or_not.result (rw c.from_bitmap-raw.ensures at c.or_not.ensures) (λ bits e. joined-left false _ or_not or_not-left _ bits c.requires e) (λ error m. m))
-
-pub returns-in-Unequal-clause-right : goal.returns-in-Unequal-clause-right
-returns-in-Unequal-clause-right c =
-    rw c.in-Unequal.is (MatchResult-weaker c.or_not.result (rw c.from_bitmap-raw.ensures at c.or_not.ensures) (λ bits e. joined-right false _ or_not or_not-right _ bits c.requires e) (λ error m. m))
+pub returns-clause-right : goal.returns-clause-right
+returns-clause-right c =
+    elim c.match-relation.branch [
+      | in-Equal w ↦
+          rw w.in-Equal.is
+          (joined-right true c.args.raw ◌&&◌ and-right c.args.mask.now c.freeze.result c.requires
+          (c.freeze.ensures ∙ w.bits-is ∙ w.and_assign_mask.ensures ∙ ap (λ (xs : List Bool). zip2 ◌&&◌ xs c.args.mask.now) c.in_ok-bits.ensures))
+      | in-Unequal w ↦
+          rw w.in-Unequal.is
+          (joined-right false c.args.raw or_not or_not-right c.args.mask.now c.freeze.result c.requires
+          (c.freeze.ensures ∙ w.bits-is ∙ w.or_not_assign_mask.ensures ∙ ap (λ (xs : List Bool). zip2 or_not xs c.args.mask.now) c.in_ok-bits.ensures))
+    ]

@@ -1,7 +1,15 @@
 use Rattle.std.proofs.Common.{length}
 use Rattle.std.proofs.lemmas.Result.{MatchResult-weaker}
-use Rattle.polars_compare_nested.proofs.JoinedWindows.{joined_windows}
+use Rattle.polars_compare_nested.proofs.JoinedWindows.{joined_windows, unmasked_windows}
 use Rattle.polars_compare_nested.proofs.masks.join_windows.Goals as goal
+
+pub returns-then-not-may_have_nulls-2 : goal.returns-then-not-may_have_nulls-2
+returns-then-not-may_have_nulls-2 c =
+    λ agree told.
+    unmasked_windows agree c.args.left.now c.args.right.now c.args.a c.args.b (length c.args.raw) c.args.raw c.requires.left_good c.requires.right_good c.requires.left_in c.requires.right_in
+    (c.may_have_nulls.ensures c.if-not-may_have_nulls.true)
+    (c.may_have_nulls-then-not-may_have_nulls.ensures c.if-not-may_have_nulls-2.true)
+    told
 
 pub returns : goal.returns
 returns c =

@@ -2,12 +2,15 @@ use Rattle.std.proofs.Common.{◌≡◌, ◌≤◌, ◌<◌, ◌+◌, ◌∙◌,
 use Rattle.std.specs.Prelude.{IfOk}
 use Rattle.std.proofs.lemmas.Result.{MatchResult-weaker}
 use Rattle.polars_arrays_nested.specs.Parts.{columns}
-use Rattle.polars_arrays_nested.specs.declared.any_array.AnyArray.{List, Dictionary}
-use Rattle.polars_compare_nested.proofs.Columns.{columns_tally-take, more_columns, no_columns, struct_bits, struct_count, struct_tally}
+use Rattle.polars_arrays_nested.specs.declared.any_array.AnyArray.{List, Struct, Dictionary}
+use Rattle.polars_compare_nested.proofs.Columns.{columns_tally-take, first_column, more_columns, no_columns, struct_bits, struct_count, struct_tally}
+use Rattle.polars_compare_nested.proofs.KnownLists.{known_at, none_known}
 use Rattle.polars_compare_nested.proofs.LeafSorts.{leaf_bit, leaf_bits, leaf_case, leaf_tally}
 use Rattle.polars_compare_nested.proofs.ListRuns.{apart_bits, run_bits, run_tally}
 use Rattle.polars_compare_nested.proofs.RawRows.{adds_one, entry_bit, entry_count, entry_none, fixed_bits, joined, raw_adds, raw_none, same_first}
 use Rattle.polars_compare_nested.proofs.TallyAdds.{tally-adds}
+use Rattle.polars_compare_nested.proofs.WordRuns.{run_word}
+use Rattle.polars_compare_nested.specs.Tally.{tally}
 use Rattle.polars_compare_nested.proofs.windows.+equal.Goals as goal
 
 pub equal_windows-returns : goal.equal_windows-returns
@@ -47,6 +50,7 @@ list_windows-loop-done-init g t c = (
   omega arith,
   omega arith,
   omega (arith, c.in_ok-bits.ensures.room),
+  none_known _ _ _ _ _ _ c.none-matches.ensures,
 )
 
 pub list_windows-loop-done-preserved : goal.list_windows-loop-done-preserved
@@ -58,26 +62,49 @@ list_windows-loop-done-preserved g t c =
       next.counted ∙ omega (arith, c.loop-done.invariant.2, adds),
       omega (arith, next.kept, c.loop-done.invariant.3),
       omega (arith, next.room, next.within, c.loop-done.invariant.4),
+      known_at _ _ _ _ _ _ _ _ _ (omega arith) (omega arith) (omega arith) next.known,
     )
 
 pub push_next-returns-in-Apart-clause-told : goal.push_next-returns-in-Apart-clause-told
 push_next-returns-in-Apart-clause-told g t c =
     rw c.push_reserved.ensures
-    (apart_bits _ c.args.left.now c.args.right.now c.args.a c.args.b _ (rw c.in-Apart.is at c.next_rows.ensures))
+    (apart_bits _ c.args.left.now c.args.right.now c.args.a c.args.b _ (rw c.in-Apart.is at c.next_rows.ensures.next))
+
+pub push_next-returns-in-Apart-clause-known : goal.push_next-returns-in-Apart-clause-known
+push_next-returns-in-Apart-clause-known g t c = rw c.in-Apart.is at c.next_rows.ensures.known
+
+pub push_next-returns-in_ok-items-in-Run-clause-known :
+    goal.push_next-returns-in_ok-items-in-Run-clause-known
+push_next-returns-in_ok-items-in-Run-clause-known g t c = rw c.in-Run.is at c.next_rows.ensures.known
 
 pub push_next-returns-in_ok-items-in-Run-clause-told :
     goal.push_next-returns-in_ok-items-in-Run-clause-told
 push_next-returns-in_ok-items-in-Run-clause-told g t c =
-    let run = rw c.in-Run.is at c.next_rows.ensures in
+    let run = rw c.in-Run.is at c.next_rows.ensures.next in
     let items = rw (c.values-left_items.ensures.values, c.values-right_items.ensures.values) at c.in_ok-items-in-Run.ensures.told in
     run_bits _ c.args.left.now c.args.right.now c.args.a c.args.b c.args.n c.in-Run.run' c.in_ok-items-in-Run.items _ _ c.requires.windows.left_good c.requires.windows.right_good c.requires.windows.left_in c.requires.windows.right_in run items c.push_rows.ensures.bits
 
 pub push_next-returns-in_ok-items-in-Run-clause-counted :
     goal.push_next-returns-in_ok-items-in-Run-clause-counted
 push_next-returns-in_ok-items-in-Run-clause-counted g t c =
-    let run = rw c.in-Run.is at c.next_rows.ensures in
+    let run = rw c.in-Run.is at c.next_rows.ensures.next in
     let cost = run_tally c.args.left.now c.args.right.now c.args.a c.args.b c.args.n c.in-Run.run' c.requires.windows.left_good c.requires.windows.right_good c.requires.windows.left_in c.requires.windows.right_in run in
     let counted = rw (c.values-left_items.ensures.values, c.values-right_items.ensures.values) at c.in_ok-items-in-Run.ensures.counted in
+    counted ∙ ap (λ (k : ℕ). g.K.LeafKernel.count c.args.steps.now + k) (sym cost)
+
+pub push_next-returns-then-are_few_leaves-clause-told :
+    goal.push_next-returns-then-are_few_leaves-clause-told
+push_next-returns-then-are_few_leaves-clause-told g t c =
+    let run = rw c.in-Run.is at c.next_rows.ensures.next in
+    let items = rw (c.values-left_items.ensures.values, c.values-right_items.ensures.values) at c.in_ok-word-in-Run.ensures.told in
+    run_word _ c.args.left.now c.args.right.now c.args.a c.args.b c.args.n c.in-Run.run' c.in_ok-word-in-Run.word _ _ c.requires.windows.left_good c.requires.windows.right_good c.requires.windows.left_in c.requires.windows.right_in run items c.push_word.ensures.bits
+
+pub push_next-returns-then-are_few_leaves-clause-counted :
+    goal.push_next-returns-then-are_few_leaves-clause-counted
+push_next-returns-then-are_few_leaves-clause-counted g t c =
+    let run = rw c.in-Run.is at c.next_rows.ensures.next in
+    let cost = run_tally c.args.left.now c.args.right.now c.args.a c.args.b c.args.n c.in-Run.run' c.requires.windows.left_good c.requires.windows.right_good c.requires.windows.left_in c.requires.windows.right_in run in
+    let counted = rw (c.values-left_items.ensures.values, c.values-right_items.ensures.values) at c.in_ok-word-in-Run.ensures.counted in
     counted ∙ ap (λ (k : ℕ). g.K.LeafKernel.count c.args.steps.now + k) (sym cost)
 
 pub fixed_size_list_windows-returns : goal.fixed_size_list_windows-returns
@@ -91,13 +118,35 @@ fixed_size_list_windows-returns g t c = record {
   kept = c.in_ok-items.ensures.kept;
 }
 
+pub struct_windows-returns-then-count-eq0 : goal.struct_windows-returns-then-count-eq0
+struct_windows-returns-then-count-eq0 g t c =
+    let l = c.args.left.now in
+    let r = c.args.right.now in
+    let many = struct_count l r c.requires.left_good c.requires.right_good c.requires.one_type in
+    let all : length (columns l) ≤ 0 = omega (arith, c.if-count-eq0.true, ap length c.values-count.ensures) in
+    let all' : length (columns r) ≤ 0 = omega (arith, all, many) in
+    let free = struct_tally l r c.args.a c.args.b c.args.n 0 all all' in
+    let counted : g.K.LeafKernel.count c.args.steps.now ≡ g.K.LeafKernel.count c.args.steps.now + tally (Struct l) (Struct r) c.args.a c.args.b c.args.n = omega (arith, free) in
+    record {
+      told =
+          MatchResult-weaker c.new_with_value.result c.new_with_value.ensures
+          (λ bits e. struct_bits _ l r _ _ _ 0 bits all all' (no_columns _ _ _ _ _ _ bits e))
+          (λ e memory. memory);
+      counted = search rules;
+      kept = omega arith;
+    }
+
 pub struct_windows-loop-i-init : goal.struct_windows-loop-i-init
-struct_windows-loop-i-init g t c = (
-  no_columns _ _ _ _ _ _ _ c.in_ok-bits.ensures,
-  omega arith,
-  omega arith,
-  ap length c.values-i-end.ensures,
-)
+struct_windows-loop-i-init g t c =
+    let l = c.args.left.now in
+    let r = c.args.right.now in
+    let pair = c.column_pair.ensures in
+    let some : 0 < length (columns l) = omega (arith, c.if-count-eq0.false, ap length c.values-count.ensures) in (
+      first_column _ (columns l) _ (columns r) _ _ _ _ c.in_ok-first.first _ c.in_ok-first.ensures.told c.in_ok-bits.ensures some pair.as_many pair.left_is pair.right_is,
+      omega (arith, c.in_ok-first.ensures.counted, columns_tally-take (columns l) (columns r) _ _ 0 c.args.a c.args.b c.args.n some pair.as_many pair.left_is pair.right_is),
+      c.in_ok-first.ensures.kept,
+      ap length c.values-count.ensures,
+    )
 
 pub struct_windows-and_assign-requires : goal.struct_windows-and_assign-requires
 struct_windows-and_assign-requires g t c =
@@ -107,7 +156,7 @@ pub struct_windows-loop-i-preserved : goal.struct_windows-loop-i-preserved
 struct_windows-loop-i-preserved g t c =
     let l = c.args.left.now in
     let r = c.args.right.now in
-    let pair = c.column_pair.ensures in
+    let pair = c.column_pair-in-loop-i.ensures in
     let low : c.loop-i.i < length (columns l) = omega (arith, c.loop-i-test.true, c.loop-i.invariant.3) in (
       more_columns _ (columns l) _ (columns r) _ _ c.loop-i.i _ _ _ c.in_ok-same.same _ c.loop-i.invariant.0 c.in_ok-same.ensures.told c.and_assign.ensures low pair.as_many pair.left_is pair.right_is,
       omega (arith, c.in_ok-same.ensures.counted, c.loop-i.invariant.1, columns_tally-take (columns l) (columns r) _ _ c.loop-i.i c.args.a c.args.b c.args.n low pair.as_many pair.left_is pair.right_is),

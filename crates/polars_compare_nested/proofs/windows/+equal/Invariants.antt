@@ -2,6 +2,7 @@ use Rattle.std.proofs.Common.{◌≡◌, ◌+◌, ◌-◌, ◌≤◌, length, ta
 use Rattle.polars_arrays_nested.specs.Parts.{columns}
 use Rattle.polars_arrays_nested.specs.declared.any_array.AnyArray.{List, Dictionary}
 use Rattle.polars_compare_nested.specs.Bits.{RawBits}
+use Rattle.polars_compare_nested.specs.Known.{AreKnown}
 use Rattle.polars_compare_nested.specs.Tally.{tally}
 use Rattle.polars_compare_nested.specs.TallyColumns.{columns_tally}
 use Rattle.polars_compare_nested.proofs.Columns.{ColumnBits}
@@ -21,6 +22,7 @@ invariant-list_windows-loop-done g l =
     × (g.K.LeafKernel.count l.steps ≡ g.K.LeafKernel.count l.fn.steps + tally (List l.left) (List l.right) l.a l.b l.done)
     × (g.K.LeafKernel.count l.fn.steps ≤ g.K.LeafKernel.count l.steps)
     × (l.n - l.done ≤ l.bits.room)
+    × AreKnown l.left (l.a + l.done) l.right (l.b + l.done) (l.n - l.done) l.matches
 
 abbrev pub decreases-list_windows-loop-done : goal.decreases-list_windows-loop-done
 decreases-list_windows-loop-done g l = l.n - l.done
@@ -30,4 +32,4 @@ invariant-struct_windows-loop-i g l =
     ColumnBits g.K.LeafKernel.agree (columns l.left) l.a (columns l.right) l.b l.n l.i l.bits
     × (g.K.LeafKernel.count l.steps ≡ g.K.LeafKernel.count l.fn.steps + columns_tally (take l.i (columns l.left)) (take l.i (columns l.right)) l.a l.b l.n)
     × (g.K.LeafKernel.count l.fn.steps ≤ g.K.LeafKernel.count l.steps)
-    × (l.i-end ≡ length (columns l.left))
+    × (l.count ≡ length (columns l.left))

@@ -10,5 +10,5 @@ use Rattle.polars_compare_equality.proofs.bytes.BinaryArrayTotalEqKernel.tot_ne_
 pub returns : goal.returns
 returns g c =
     MatchResult-weaker c.compare_byte_windows.result c.compare_byte_windows.ensures
-    (λ bits e. unequal-windows _ _ _ _ _ bits (c.count.ensures ∙ sym (length-map (offset_strings g.O.Number.value c.args.self.now) Bytes)) (byte_slots-as_long _ _ c.requires.comparable) e)
+    (λ bits e. unequal-windows _ _ _ _ _ bits (c.count.ensures ∙ sym (length-map (offset_strings g.O.Number.value c.args.self.now) Bytes)) (byte_slots-as_long _ _ c.requires.comparable) (rw (c.lent.ensures, c.lent-2.ensures) at e))
     (λ error m. m)

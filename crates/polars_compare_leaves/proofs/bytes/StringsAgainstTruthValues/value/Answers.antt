@@ -1,7 +1,5 @@
-use Rattle.std.proofs.Common.{◌≡◌, ◌<◌, ◌∙◌, length, map, sym, ap, arith}
-use Rattle.std.proofs.lemmas.List.{length-map}
-use Rattle.polars_arrays_flat.specs.Row.{Row, Bytes}
-use Rattle.polars_arrays_flat.specs.StoredRows.{byte_slots}
+use Rattle.std.proofs.Common.{◌∙◌, sym, ap}
+use Rattle.polars_arrays_flat.specs.Row.{Bytes}
 use Rattle.polars_compare_leaves.proofs.Strings.{against-at, against-within}
 use Rattle.polars_compare_leaves.proofs.bytes.StringsAgainstTruthValues.value.Goals as goal
 

@@ -1,0 +1,79 @@
+//! Byte strings that stand at the beginning of longer slices. Those of up to sixteen bytes are compared as one block.
+
+ghost use Rattle.std.specs.Prelude.{◌≡◌, ◌≢◌, ◌≤◌, ◌<◌, ℕ, IsTrue, length, take, get_or};
+ghost use Rattle.std.specs.Str.{bytes_eq};
+ghost use Rattle.polars_arrays_flat.specs.ByteOrder.{bytes_lt};
+
+use crate::byte_equality::bytes_equal;
+use crate::byte_order::bytes_less;
+use std::simd::prelude::*;
+
+/// How many bytes a block holds.
+pub const BLOCK_BYTES: usize = 16;
+
+/// Whether the first `n` bytes of one slice are the first `m` bytes of another one. Up to sixteen bytes they
+/// are compared as one block, if both slices go on so far.
+#[inline(always)]
+pub fn beginnings_equal(left: &[u8], n: usize, right: &[u8], m: usize) -> bool
+    requires left_in { n ≤ length left.now }
+    requires right_in { m ≤ length right.now }
+    ensures { result ≡ bytes_eq (take n left.now) (take m right.now) }
+{
+    if in_blocks(left, n, right, m) {
+        return (n == m) & (n <= same_places(left, right));
+    }
+    if n != m {
+        return false;
+    }
+    bytes_equal(&left[..n], &right[..m])
+}
+
+/// Whether the first `n` bytes of one slice are less than the first `m` bytes of another one, as `bytes_less`
+/// has it. Up to sixteen bytes they are compared as one block, if both slices go on so far.
+#[inline(always)]
+pub fn beginnings_less(left: &[u8], n: usize, right: &[u8], m: usize) -> bool
+    requires left_in { n ≤ length left.now }
+    requires right_in { m ≤ length right.now }
+    ensures { result ≡ bytes_lt (take n left.now) (take m right.now) }
+{
+    if in_blocks(left, n, right, m) {
+        let k = same_places(left, right);
+        let common = n.min(m);
+        // The last place stands for one behind the block, whose bytes then don't count.
+        let place = k.min(BLOCK_BYTES - 1);
+        return ((k < common) & (left[place] < right[place])) | ((k >= common) & (n < m));
+    }
+    bytes_less(&left[..n], &right[..m])
+}
+
+/// A block that begins with the bytes, for a string that many others are compared with.
+pub fn block_of(bytes: &[u8]) -> [u8; BLOCK_BYTES]
+    requires { length bytes.now ≤ 16 }
+    ensures { take (length bytes.now) result ≡ bytes.now }
+{
+    let mut block = [0; BLOCK_BYTES];
+    block[..bytes.len()].copy_from_slice(bytes);
+    block
+}
+
+// Whether both slices begin with a block that holds the bytes asked for.
+#[inline(always)]
+fn in_blocks(left: &[u8], n: usize, right: &[u8], m: usize) -> bool
+    ensures { IsTrue result → (n ≤ 16) × (m ≤ 16) × (16 ≤ length left.now) × (16 ≤ length right.now) }
+{
+    (n.max(m) <= BLOCK_BYTES) & (left.len().min(right.len()) >= BLOCK_BYTES)
+}
+
+// How many bytes are the same from the first one on, or more than sixteen where all of the block are.
+#[inline(always)]
+fn same_places(left: &[u8], right: &[u8]) -> usize
+    requires left_in { 16 ≤ length left.now }
+    requires right_in { 16 ≤ length right.now }
+    ensures same { (i : ℕ) → i < 16 → i < result → get_or left.now i 0 ≡ get_or right.now i 0 }
+    ensures apart { result < 16 → get_or left.now result 0 ≢ get_or right.now result 0 }
+{
+    let differ = u8x16::from_slice(left)
+        .simd_ne(u8x16::from_slice(right))
+        .to_bitmask();
+    differ.trailing_zeros() as usize
+}

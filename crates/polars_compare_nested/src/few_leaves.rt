@@ -1,0 +1,65 @@
+//! Windows of few leaves, none of which is null: they are compared into a word, and no bitmap is made.
+
+ghost use Rattle.std.specs.Prelude.{◌≡◌, ◌+◌, ◌≤◌, IsTrue, IfOk, MatchResult};
+ghost use Rattle.polars_arrays_bits.specs.Errors.{IsMemory};
+ghost use Rattle.polars_arrays_nested.specs.GoodParts.{IsGood};
+ghost use Rattle.polars_arrays_nested.specs.Types.{type_of};
+ghost use Rattle.polars_arrays_words.specs.Bits.{first_of, is_bit};
+ghost use Rattle.polars_compare_nested.specs.Bits.{SameBits};
+ghost use Rattle.polars_compare_nested.specs.FewLeaves.{AreFewLeaves};
+ghost use Rattle.polars_compare_nested.specs.Leaf.{is_leaf};
+ghost use Rattle.polars_compare_nested.specs.Tally.{tally};
+ghost use Rattle.polars_compare_nested.specs.Windows.{AreWindows};
+
+use crate::leaf_kernel::LeafKernel;
+use polars_arrays_bits::error::ComputeError;
+use polars_arrays_nested::any_array::AnyArray;
+use polars_arrays_words::words::WORD_BITS;
+use std::alloc::Global;
+
+// Whether the rows of an array are leaves.
+#[inline(always)]
+fn has_leaves(array: &AnyArray) -> bool
+    ensures { IsTrue result → IsTrue (is_leaf (type_of array.now)) }
+{
+    match array {
+        AnyArray::Null(_)
+        | AnyArray::List(_)
+        | AnyArray::FixedSizeList(_)
+        | AnyArray::Struct(_)
+        | AnyArray::Dictionary(_) => false,
+        _ => true,
+    }
+}
+
+/// Whether windows of `n` rows of two arrays of one type are at most 64 leaves each, and no row of either array
+/// is null. Where a validity has no bit unset the answer may be false.
+#[inline(always)]
+pub(crate) fn are_few_leaves(left: &AnyArray, right: &AnyArray, n: usize) -> bool
+    requires left_good { IsGood left.now }
+    requires right_good { IsGood right.now }
+    ensures { IsTrue result → AreFewLeaves left.now right.now n }
+{
+    n <= WORD_BITS && has_leaves(left) && !left.may_have_nulls() && !right.may_have_nulls()
+}
+
+/// Which rows of two such windows are the same, as the bits of a word, the first one lowest. The count rises by
+/// one for each leaf that is compared with another. The error is `Memory`.
+#[inline(always)]
+pub(crate) fn same_few<K: LeafKernel>(
+    alloc: Global,
+    left: &AnyArray,
+    a: usize,
+    right: &AnyArray,
+    b: usize,
+    n: usize,
+    steps: &mut K,
+) -> Result<u64, ComputeError>
+    requires windows { AreWindows left.now a right.now b n }
+    requires few { AreFewLeaves left.now right.now n }
+    ensures told { MatchResult result (λ word. SameBits K.agree left.now a right.now b n (first_of (is_bit word) n)) IsMemory }
+    ensures counted { IfOk result (λ _. K.count steps.new ≡ K.count steps.old + tally left.now right.now a b n) }
+    ensures kept { K.count steps.old ≤ K.count steps.new }
+{
+    steps.leaf_word_eq(alloc, left, a, right, b, n)
+}
