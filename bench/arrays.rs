@@ -96,7 +96,7 @@ impl<T: Copy + PartialOrd> Arrays<'_, T> {
             };
             each(&Kernel {
                 name: &format!("tot_eq_missing {}{place}", self.name),
-                asked: Asked::Ratio([1.15, 1.15]),
+                asked: Asked::Ratio([1.05, 1.05]),
                 ours: &|repeats| self.run(NumberKernel::TotEqMissing, shift, repeats),
                 plain: &|repeats| {
                     plain_rows(len, repeats, || {

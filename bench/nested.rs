@@ -1,9 +1,10 @@
 //! The comparisons of arrays that hold arrays, in which two null rows are equal.
 
-use crate::nested_rows::{Keyed, Lists, Nested, WIDTH, structs};
+use crate::nested_rows::{Keyed, Lists, Mixed, Nested, WIDTH, regular_offsets, structs};
 use crate::operands::{Rows, rows};
 use crate::plain_nested as plain;
-use crate::string_rows::Pair;
+use crate::string_rows::{Pair, Texts};
+use crate::strings::run_equal_texts;
 use crate::timing::{Asked, Bench, Kernel, Run, plain_rows};
 
 /// The kernels, as the library numbers them.
@@ -22,6 +23,7 @@ enum NestedType {
     Structs,
     Dictionaries,
     DeepLists,
+    TextLists,
 }
 
 /// The kernels on columns, as the library numbers them.
@@ -201,19 +203,72 @@ fn hand_dictionaries(
     });
 }
 
-/// Hands each kernel on lists and dictionaries to `each`.
+/// The parts of an array of texts, with items beside them.
+fn of_texts<'a>(texts: &'a Texts, items: &'a [i32]) -> Parts<'a> {
+    Parts {
+        offsets: &texts.offsets,
+        bytes: &texts.bytes,
+        items,
+        ..Parts::default()
+    }
+}
+
+/// Hands the kernel on lists of texts to `each`. It is timed beside the raw comparison of all texts.
+fn hand_text_lists(pair: &Pair<Texts>, each: &mut dyn FnMut(&Kernel)) {
+    let Pair { left, right } = pair;
+    let begins = regular_offsets(left.count());
+    let arrays = Arrays {
+        nested_type: NestedType::TextLists,
+        size: 0,
+        left: of_texts(left, &begins),
+        right: of_texts(right, &begins),
+    };
+    let lists = left.count() / WIDTH;
+    each(&Kernel {
+        name: "tot_eq_missing lists of 4 texts",
+        asked: Asked::Ratio([1.3, 1.3]),
+        ours: &|repeats| arrays.run_eq(repeats),
+        plain: &|repeats| plain_rows(lists, repeats, || plain::equal_text_lists(left, right)),
+        beside: Some(&|repeats| run_equal_texts(pair, repeats)),
+    });
+}
+
+/// Hands the kernel on structs of numbers and a text to `each`. It is timed beside the raw comparisons of the columns, one after the
+/// other.
+fn hand_mixed_structs(mixed: &Mixed, each: &mut dyn FnMut(&Kernel)) {
+    let Mixed { numbers, texts } = mixed;
+    let count = texts.left.count();
+    let arrays = Arrays {
+        nested_type: NestedType::Structs,
+        size: count,
+        left: of_texts(&texts.left, &numbers.left),
+        right: of_texts(&texts.right, &numbers.right),
+    };
+    each(&Kernel {
+        name: "tot_eq_missing structs with a text",
+        asked: Asked::Ratio([1.3, 1.3]),
+        ours: &|repeats| arrays.run_eq(repeats),
+        plain: &|repeats| plain_rows(count, repeats, || plain::equal_mixed(mixed)),
+        beside: Some(&|repeats| {
+            run_columns(count, &numbers.left, &numbers.right, repeats)
+                .wrapping_add(run_equal_texts(texts, repeats))
+        }),
+    });
+}
+
+/// Hands each kernel on lists, dictionaries and structs with texts to `each`.
 pub fn for_each(nested: &Nested, each: &mut dyn FnMut(&Kernel)) {
     let by_row = plain::equal_lists;
-    hand_lists("", 1.5, &nested.like, plain::equal_lists_at_once, each);
+    hand_lists("", 1.0, &nested.like, plain::equal_lists_at_once, each);
     hand_lists(
         ", empty nulls",
-        3.0,
+        1.3,
         &nested.null_without_items,
         by_row,
         each,
     );
-    hand_lists(", nulls", 3.0, &nested.null_with_items, by_row, each);
-    hand_lists(", longer", 3.0, &nested.longer, by_row, each);
+    hand_lists(", nulls", 1.3, &nested.null_with_items, by_row, each);
+    hand_lists(", longer", 1.3, &nested.longer, by_row, each);
     hand_fixed_lists(&nested.like.left.items, &nested.like.right.items, each);
     hand_dictionaries("", 2.0, &nested.keyed, plain::equal_dictionaries, each);
     hand_dictionaries(
@@ -223,6 +278,8 @@ pub fn for_each(nested: &Nested, each: &mut dyn FnMut(&Kernel)) {
         plain::equal_dictionaries_with_nulls,
         each,
     );
+    hand_text_lists(&nested.texts, each);
+    hand_mixed_structs(&nested.mixed, each);
 }
 
 /// The name of the kernel on structs.
@@ -240,7 +297,7 @@ pub fn for_structs(count: usize, each: &mut dyn FnMut(&Kernel)) {
     };
     each(&Kernel {
         name: STRUCTS,
-        asked: Asked::Ratio([1.2, 1.2]),
+        asked: Asked::Ratio([1.1, 1.1]),
         ours: &|repeats| arrays.run_eq(repeats),
         plain: &|repeats| plain_rows(count, repeats, || plain::equal_structs(left, right)),
         beside: Some(&|repeats| run_columns(count, left, right, repeats)),

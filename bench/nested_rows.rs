@@ -1,7 +1,7 @@
 //! The arrays that hold arrays that the kernels are run on.
 
 use crate::operands::Numbers;
-use crate::string_rows::{Pair, Texts, entries};
+use crate::string_rows::{Pair, Texts, entries, texts};
 
 /// How many items a list has.
 pub const WIDTH: usize = 4;
@@ -171,6 +171,37 @@ pub fn structs(count: usize) -> Pair<Vec<i32>> {
     Pair { left, right }
 }
 
+/// How many columns of numbers a struct has beside one of texts.
+pub const NUMBER_COLUMNS: usize = 2;
+
+/// Structs of numbers and of a text, of which about half are equal.
+pub struct Mixed {
+    /// Columns one behind the other.
+    pub numbers: Pair<Vec<i32>>,
+    pub texts: Pair<Texts>,
+}
+
+impl Mixed {
+    fn new(numbers: &mut Numbers, count: usize) -> Mixed {
+        let left: Vec<i32> = (0..NUMBER_COLUMNS * count)
+            .map(|_| numbers.next() as i32)
+            .collect();
+        let right = left
+            .iter()
+            .map(|x| x ^ i32::from(numbers.next() & 127 == 0))
+            .collect();
+        Mixed {
+            numbers: Pair { left, right },
+            texts: texts(numbers, count),
+        }
+    }
+}
+
+/// Where lists of `WIDTH` items begin, and behind them where the last one ends.
+pub fn regular_offsets(items: usize) -> Vec<i32> {
+    (0..=items / WIDTH).map(|i| (WIDTH * i) as i32).collect()
+}
+
 /// The arrays of one run. There are as many items of lists as rows of the others.
 pub struct Nested {
     pub like: Pair<Lists>,
@@ -179,6 +210,9 @@ pub struct Nested {
     pub longer: Pair<Lists>,
     pub keyed: Pair<Keyed>,
     pub keyed_with_nulls: Pair<Keyed>,
+    /// The items of lists of texts.
+    pub texts: Pair<Texts>,
+    pub mixed: Mixed,
 }
 
 impl Nested {
@@ -192,6 +226,8 @@ impl Nested {
             longer: lists(Seventh::Longer),
             keyed: Keyed::pair(numbers, count),
             keyed_with_nulls: Keyed::masked_pair(numbers, count),
+            texts: texts(numbers, count / WIDTH * WIDTH),
+            mixed: Mixed::new(numbers, count),
         }
     }
 }

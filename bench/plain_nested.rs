@@ -1,8 +1,8 @@
 //! The kernels on arrays that hold arrays in plain Rust, 64 results a word.
 
-use crate::nested_rows::{COLUMNS, Keyed, Lists, WIDTH};
+use crate::nested_rows::{COLUMNS, Keyed, Lists, Mixed, WIDTH};
 use crate::plain::{compare_pairs, equal};
-use crate::plain_strings::test_rows;
+use crate::plain_strings::{equal_texts, test_rows};
 use crate::string_rows::Texts;
 
 /// Of lists without nulls that have as many items: all items are compared at once, and those of each list
@@ -75,6 +75,30 @@ pub fn equal_structs(left: &[i32], right: &[i32]) -> Vec<u64> {
         .chunks_exact(count.max(1))
         .zip(right.chunks_exact(count.max(1)))
     {
+        for (word, column) in told.iter_mut().zip(equal(l, r)) {
+            *word &= column;
+        }
+    }
+    told
+}
+
+/// Of lists of `WIDTH` texts, text by text.
+#[inline(never)]
+pub fn equal_text_lists(left: &Texts, right: &Texts) -> Vec<u64> {
+    test_rows(left.count() / WIDTH, move |i| {
+        let mut texts = WIDTH * i..WIDTH * i + WIDTH;
+        texts.all(|k| left.row(k) == right.row(k))
+    })
+}
+
+/// Of structs of numbers and a text, column by column.
+#[inline(never)]
+pub fn equal_mixed(mixed: &Mixed) -> Vec<u64> {
+    let (numbers, texts) = (&mixed.numbers, &mixed.texts);
+    let mut told = equal_texts(&texts.left, &texts.right);
+    let count = texts.left.count().max(1);
+    let columns = numbers.left.chunks_exact(count);
+    for (l, r) in columns.zip(numbers.right.chunks_exact(count)) {
         for (word, column) in told.iter_mut().zip(equal(l, r)) {
             *word &= column;
         }

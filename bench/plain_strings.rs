@@ -105,6 +105,55 @@ pub fn less_texts(left: &Texts, right: &Texts) -> Vec<u64> {
     test_rows(left.count(), move |i| text_row(l, i) < text_row(r, i))
 }
 
+/// How many bytes a block has.
+const BLOCK: usize = 16;
+
+/// The sixteen bytes from a place on as a number, of which those of a string of so many bytes are kept, if it is no longer and the
+/// bytes go on so far. The first byte is the greatest.
+#[inline]
+fn block_of((offsets, bytes): Parts<'_>, i: usize) -> Option<(u128, usize)> {
+    let from = offsets[i] as usize;
+    let len = offsets[i + 1] as usize - from;
+    let block = bytes[from..].first_chunk::<BLOCK>()?;
+    let kept = MASKS.get(len)?;
+    Some((u128::from_be_bytes(*block) & kept, len))
+}
+
+/// The numbers whose first so many bytes are ones, the greatest being the first.
+const MASKS: [u128; BLOCK + 1] = {
+    let mut masks = [0; BLOCK + 1];
+    let mut n = 1;
+    while n <= BLOCK {
+        masks[n] = u128::MAX << (8 * (BLOCK - n));
+        n += 1;
+    }
+    masks
+};
+
+/// Whether two texts are equal, as blocks where both are one.
+#[inline(never)]
+pub fn equal_texts_by_blocks(left: &Texts, right: &Texts) -> Vec<u64> {
+    let (l, r) = (parts(left), parts(right));
+    test_rows(left.count(), move |i| {
+        match (block_of(l, i), block_of(r, i)) {
+            (Some(x), Some(y)) => (x.0 == y.0) & (x.1 == y.1),
+            _ => text_row(l, i) == text_row(r, i),
+        }
+    })
+}
+
+/// The same of order.
+#[inline(never)]
+pub fn less_texts_by_blocks(left: &Texts, right: &Texts) -> Vec<u64> {
+    let (l, r) = (parts(left), parts(right));
+    test_rows(left.count(), move |i| {
+        match (block_of(l, i), block_of(r, i)) {
+            (Some(x), Some(y)) => (x.0 < y.0) | ((x.0 == y.0) & (x.1 < y.1)),
+            _ => text_row(l, i) < text_row(r, i),
+        }
+    })
+}
+
 #[inline(never)]
 pub fn equal_texts_constant(left: &Texts, right: &[u8]) -> Vec<u64> {
     let l = parts(left);

@@ -128,14 +128,19 @@ impl Shape {
     }
 }
 
-/// So many texts of about 6 bytes.
-pub fn entries(numbers: &mut Numbers, count: usize) -> Texts {
+/// Two columns of so many texts of about 6 bytes.
+pub fn texts(numbers: &mut Numbers, count: usize) -> Pair<Texts> {
     let shape = Shape {
         prefix: b"",
         least: 3,
         most: 9,
     };
-    shape.pair(numbers, count).left
+    shape.pair(numbers, count)
+}
+
+/// So many texts of about 6 bytes.
+pub fn entries(numbers: &mut Numbers, count: usize) -> Texts {
+    texts(numbers, count).left
 }
 
 /// The strings of one run.

@@ -71,6 +71,22 @@ impl Comparison<'_> {
         });
     }
 
+    /// Hands the kernel on arrays to `each`, beside another way to the same answer in plain Rust.
+    fn hand_beside(
+        &self,
+        strings: &str,
+        beside: &dyn Fn() -> Vec<u64>,
+        each: &mut dyn FnMut(&Kernel),
+    ) {
+        each(&Kernel {
+            name: &format!("{} {strings}", self.name),
+            asked: Asked::Ratio([1.0, 1.0]),
+            ours: self.arrays.ours,
+            plain: &|repeats| plain_rows(self.count, repeats, self.arrays.plain),
+            beside: Some(&|repeats| plain_rows(self.count, repeats, beside)),
+        });
+    }
+
     /// Hands the kernel on an array and one string to `each`. It is timed beside the one on arrays.
     fn hand_broadcast(&self, strings: &str, sides: Sides, each: &mut dyn FnMut(&Kernel)) {
         each(&Kernel {
@@ -122,6 +138,11 @@ fn run_following(
 
 fn run_texts(kernel: StringKernel, pair: &Pair<Texts>, repeats: usize) -> u64 {
     run_following(kernel, StringType::Texts, pair, repeats)
+}
+
+/// Runs the raw comparison of texts.
+pub fn run_equal_texts(pair: &Pair<Texts>, repeats: usize) -> u64 {
+    run_texts(StringKernel::TotEq, pair, repeats)
 }
 
 fn run_sized(kernel: StringKernel, pair: &Pair<Texts>, repeats: usize) -> u64 {
@@ -188,7 +209,7 @@ fn for_each_short(pair: &Pair<Views>, each: &mut dyn FnMut(&Kernel)) {
     let eq = Comparison {
         name: "tot_eq",
         count: left.views.len(),
-        asked: Asked::Ratio([1.5, 1.5]),
+        asked: Asked::Ratio([1.0, 1.0]),
         arrays: Sides {
             ours: &|repeats| run_views(StringKernel::TotEq, pair, repeats),
             plain: &|| plain::equal_short(left, right),
@@ -196,7 +217,7 @@ fn for_each_short(pair: &Pair<Views>, each: &mut dyn FnMut(&Kernel)) {
     };
     let lt = Comparison {
         name: "tot_lt",
-        asked: Asked::Ratio([1.3, 1.3]),
+        asked: Asked::Ratio([1.0, 1.0]),
         arrays: Sides {
             ours: &|repeats| run_views(StringKernel::TotLt, pair, repeats),
             plain: &|| plain::less_short(left, right),
@@ -247,7 +268,7 @@ fn for_each_texts(pair: &Pair<Texts>, each: &mut dyn FnMut(&Kernel)) {
     let eq = Comparison {
         name: "tot_eq",
         count: left.count(),
-        asked: Asked::Ratio([1.1, 1.1]),
+        asked: Asked::Ratio([0.7, 0.7]),
         arrays: Sides {
             ours: &|repeats| run_texts(StringKernel::TotEq, pair, repeats),
             plain: &|| plain::equal_texts(left, right),
@@ -255,6 +276,7 @@ fn for_each_texts(pair: &Pair<Texts>, each: &mut dyn FnMut(&Kernel)) {
     };
     let lt = Comparison {
         name: "tot_lt",
+        asked: Asked::Ratio([0.6, 0.6]),
         arrays: Sides {
             ours: &|repeats| run_texts(StringKernel::TotLt, pair, repeats),
             plain: &|| plain::less_texts(left, right),
@@ -271,6 +293,16 @@ fn for_each_texts(pair: &Pair<Texts>, each: &mut dyn FnMut(&Kernel)) {
     };
     eq.hand("texts 6", each);
     lt.hand("texts 6", each);
+    eq.hand_beside(
+        "texts 6, beside blocks",
+        &|| plain::equal_texts_by_blocks(left, right),
+        each,
+    );
+    lt.hand_beside(
+        "texts 6, beside blocks",
+        &|| plain::less_texts_by_blocks(left, right),
+        each,
+    );
     eq.hand_broadcast("texts 6", eq_broadcast, each);
     lt.hand_broadcast("texts 6", lt_broadcast, each);
 }

@@ -118,7 +118,7 @@ pub extern "C" fn polars_time_nested(
     };
     by_number!(
         nested_type,
-        NestedType: Lists FixedLists Structs Dictionaries DeepLists,
+        NestedType: Lists FixedLists Structs Dictionaries DeepLists TextLists,
         |chosen| time_nested(alloc, &left, &right, kernel, chosen, repeats).unwrap_or(0),
         0
     )

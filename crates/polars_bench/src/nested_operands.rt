@@ -1,5 +1,6 @@
 //! Arrays that hold arrays that the kernels are run on, made once for many runs.
 
+ghost use Rattle.std.specs.List.{All};
 ghost use Rattle.std.specs.Prelude.{IfOk};
 ghost use Rattle.polars_arrays_nested.specs.GoodParts.{IsGood};
 
@@ -27,13 +28,17 @@ pub(crate) enum NestedType {
     Lists,
     /// Lists of `size` items each.
     FixedLists,
-    /// Columns of `size` rows each, which follow one another in the items.
+    /// Columns of `size` rows each, which follow one another in the items, and behind them one of the texts between the offsets in the bytes,
+    /// if there are offsets.
     Structs,
     /// Texts, which lie between the offsets in the bytes, of which those are null whose bit in the words is not set, and of which the
     /// items name one for each row.
     Dictionaries,
     /// The first item, in `size` levels of lists of one row.
     DeepLists,
+    /// Lists of texts, which lie between the offsets in the bytes. The items say where each list begins, and behind them where the last one
+    /// ends.
+    TextLists,
 }
 
 /// What an array is made of. Each type reads some of it.
@@ -165,10 +170,31 @@ fn column_array(
     Ok(AnyArray::Int32(array))
 }
 
-// Structs of those columns.
-fn struct_array(alloc: Global, rows: usize, values: &[i32]) -> Result<Box<AnyArray>, NoOperands>
+// Adds a column of the texts, if there are offsets.
+fn push_texts(
+    alloc: Global,
+    fields: &mut Vec<Field>,
+    columns: &mut Vec<AnyArray>,
+    parts: &Parts,
+) -> Result<(), NoOperands>
+    requires { All IsGood columns.old.items }
+    ensures { IfOk result (λ _. All IsGood columns.new.items) }
+{
+    if parts.offsets.is_empty() {
+        return Ok(());
+    }
+    let name = String::from_str(alloc, "text")?;
+    let dtype = ArrowDataType::Utf8;
+    fields.push(Field { name, dtype })?;
+    columns.push(text_array(alloc, parts)?)?;
+    Ok(())
+}
+
+// Structs of those columns, and of the texts.
+fn struct_array(alloc: Global, parts: &Parts) -> Result<Box<AnyArray>, NoOperands>
     ensures { IfOk result (λ a. IsGood a.value) }
 {
+    let (rows, values) = (parts.size, parts.items);
     let mut fields = Vec::new(alloc);
     let mut columns = Vec::new(alloc);
     for k in 0..column_count(rows, values) {
@@ -177,25 +203,36 @@ fn struct_array(alloc: Global, rows: usize, values: &[i32]) -> Result<Box<AnyArr
         fields.push(Field { name, dtype })?;
         columns.push(column_array(alloc, rows, values, k)?)?;
     }
+    push_texts(alloc, &mut fields, &mut columns, parts)?;
     let array = StructArray::try_new(fields, rows, columns, None)?;
     boxed(alloc, AnyArray::Struct(array))
 }
 
 // Texts between offsets. None is null where there are no words.
-fn text_entries(alloc: Global, parts: &Parts) -> Result<Box<AnyArray>, NoOperands>
-    ensures { IfOk result (λ a. IsGood a.value) }
+fn text_array(alloc: Global, parts: &Parts) -> Result<AnyArray, NoOperands>
+    ensures { IfOk result (λ a. IsGood a) }
 {
     let validity = validity(alloc, parts.present, parts.offsets.len().saturating_sub(1))?;
     let offsets = shared(alloc, parts.offsets)?;
-    let entries = Utf8Array::try_new(offsets, shared(alloc, parts.bytes)?, validity)?;
-    boxed(alloc, AnyArray::Utf8(entries))
+    let texts = Utf8Array::try_new(offsets, shared(alloc, parts.bytes)?, validity)?;
+    Ok(AnyArray::Utf8(texts))
+}
+
+// Lists of texts.
+fn text_list_array(alloc: Global, parts: &Parts) -> Result<Box<AnyArray>, NoOperands>
+    ensures { IfOk result (λ a. IsGood a.value) }
+{
+    let texts = boxed(alloc, text_array(alloc, parts)?)?;
+    let offsets = shared(alloc, parts.items)?;
+    let array = ListArray::try_new(ListOffsets::Small(offsets), texts, None)?;
+    boxed(alloc, AnyArray::List(array))
 }
 
 // Rows that keys name among texts between offsets.
 fn dictionary_array(alloc: Global, parts: &Parts) -> Result<Box<AnyArray>, NoOperands>
     ensures { IfOk result (λ a. IsGood a.value) }
 {
-    let entries = text_entries(alloc, parts)?;
+    let entries = boxed(alloc, text_array(alloc, parts)?)?;
     let keys = number_array(alloc, parts.items, None)?;
     let array = DictionaryArray::try_new(DictKeys::UInt32(keys), entries)?;
     boxed(alloc, AnyArray::Dictionary(array))
@@ -233,11 +270,12 @@ pub(crate) fn nested_array(
     match nested_type {
         NestedType::Lists => list_array(alloc, parts),
         NestedType::FixedLists => fixed_list_array(alloc, parts.size, parts.items),
-        NestedType::Structs => struct_array(alloc, parts.size, parts.items),
+        NestedType::Structs => struct_array(alloc, parts),
         NestedType::Dictionaries => dictionary_array(alloc, parts),
         NestedType::DeepLists => {
             let first = parts.items.first().copied().unwrap_or(0);
             deep_list_array(alloc, parts.size, first)
         }
+        NestedType::TextLists => text_list_array(alloc, parts),
     }
 }
