@@ -4,6 +4,7 @@ pub mod CostSums
 pub mod Drafts
 pub mod NestedBlocks
 pub mod Pairs
+pub mod SureGuesses
 pub mod Windows
 pub mod WordValues
 pub mod WrittenWindows

@@ -3,6 +3,7 @@ pub mod BufferLends
 pub mod Costs
 pub mod Draft
 pub mod Errors
+pub mod Guesses
 pub mod StoreLends
 pub use Rattle.polars_arrays_words.specs.Bits
 pub use Rattle.polars_arrays_words.specs.Blocks

@@ -107,7 +107,7 @@ impl<'a> BitMask<'a> {
     }
 
     /// Whether the `n` bits from `at` on are all true.
-    #[inline]
+    #[inline(always)]
     pub fn all_set(&self, at: usize, n: usize) -> bool
         requires { at + n ≤ length self.now }
         ensures { result ≡ list_all (λ b. b) (take n (drop at self.now)) }

@@ -4,6 +4,7 @@ ghost use Rattle.std.specs.Prelude.{◌≡◌, ℕ, ◌+◌, ◌*◌, ◌/◌, �
 ghost use Rattle.polars_arrays_words.specs.Bits.{AreWords};
 ghost use Rattle.polars_arrays_bits.specs.Costs.{cost_of};
 ghost use Rattle.polars_arrays_bits.specs.Errors.{IsMemory};
+ghost use Rattle.polars_arrays_bits.specs.Guesses.{AreSure};
 ghost use Rattle.polars_arrays_words.specs.Packing.{IsPacked};
 
 use crate::bitmap::Bitmap;
@@ -13,13 +14,6 @@ use polars_arrays_words::packing::put;
 use polars_arrays_words::words::WORD_BITS;
 use std::alloc::Global;
 
-/// What is told of a truth value at a glance. Where it is not `sure`, the value may be another one or have a cost.
-#[derive(Clone, Copy)]
-pub struct Guess {
-    pub value: bool,
-    pub sure: bool,
-}
-
 /// Truth values that can be asked for one by one, each at a cost that a counter tells.
 pub trait CountedValues {
     // The truth values, the first one first.
@@ -27,6 +21,9 @@ pub trait CountedValues {
 
     // By how much the counter rises at each place.
     ghost costs: { Self → ℕ → ℕ };
+
+    // At which places a guess is sure.
+    ghost sure: { Self → ℕ → Bool };
 
     /// How many truth values there are.
     fn len(&self) -> usize
@@ -38,56 +35,67 @@ pub trait CountedValues {
         ensures told { result ≡ slice_index_or (values self.now) i false }
         ensures counted { steps.new ≡ steps.old + costs self.now i };
 
-    /// What is told of the truth value at place `i` at a glance: where it is sure, it is the value, and that
-    /// one costs nothing.
+    /// What the truth value at place `i` looks like at a glance. Where that is sure it is the value, and
+    /// else it may be another one.
+    fn guess(&self, i: usize) -> bool
+        requires { i < length (values self.now) }
+        ensures { IsTrue (sure self.now i) → result ≡ slice_index_or (values self.now) i false };
+
+    /// Whether what `guess` says of place `i` is sure. The value then costs nothing.
     #[inline(always)]
-    fn guess(&self, _i: usize) -> Guess
+    fn is_sure(&self, _i: usize) -> bool
         requires { _i < length (values self.now) }
-        ensures told { IsTrue result.sure → result.value ≡ slice_index_or (values self.now) _i false }
-        ensures free { IsTrue result.sure → costs self.now _i ≡ 0 }
+        ensures sure { IsTrue result → IsTrue (sure self.now _i) }
+        ensures free { IsTrue result → costs self.now _i ≡ 0 }
     {
-        Guess {
-            value: false,
-            sure: false,
-        }
+        false
     }
 }
 
-// The byte of the eight truth values from place `at` on as they are guessed, and whether each of them is sure.
+// The byte of the eight truth values from place `at` on as they are guessed.
 #[inline(always)]
-fn guess_eight<V: CountedValues>(values: &V, at: usize) -> (u64, bool)
+fn guess_eight<V: CountedValues>(values: &V, at: usize) -> u64
     requires within { at + 8 ≤ length (V.values values.now) }
     requires fits { at + 8 < 2 ^ 64 }
-    ensures packed { IsTrue result.1 → IsPacked result.0 (V.values values.now) at 8 }
-    ensures free { IsTrue result.1 → cost_of (V.costs values.now) at 8 ≡ 0 }
+    ensures { AreSure (V.sure values.now) at 8 → IsPacked result (V.values values.now) at 8 }
 {
     let mut word = 0;
-    let mut sure = true;
     for i in 0..8 {
-        let guess = values.guess(at + i);
-        word = put(word, u64::from(guess.value), i);
-        sure &= guess.sure;
+        word = put(word, u64::from(values.guess(at + i)), i);
     }
-    (word, sure)
+    word
 }
 
-// The word of the 64 truth values from place `at` on as they are guessed, and whether each of them is sure.
-// It goes by eights: loops of a known length that are as short as that become code without branches.
+// The word of the 64 truth values from place `at` on as they are guessed. It goes by eights: loops of a known
+// length that are as short as that become code without branches.
 #[inline(always)]
-fn guess_word<V: CountedValues>(values: &V, at: usize) -> (u64, bool)
+fn guess_word<V: CountedValues>(values: &V, at: usize) -> u64
     requires within { at + 64 ≤ length (V.values values.now) }
     requires fits { at + 64 < 2 ^ 64 }
-    ensures packed { IsTrue result.1 → IsPacked result.0 (V.values values.now) at 64 }
-    ensures free { IsTrue result.1 → cost_of (V.costs values.now) at 64 ≡ 0 }
+    ensures { AreSure (V.sure values.now) at 64 → IsPacked result (V.values values.now) at 64 }
 {
     let mut word = 0;
-    let mut sure = true;
     for eight in 0..8 {
-        let (byte, all) = guess_eight(values, at + 8 * eight);
+        let byte = guess_eight(values, at + 8 * eight);
         word = put(word, byte, 8 * eight);
-        sure &= all;
     }
-    (word, sure)
+    word
+}
+
+// Whether the 64 guesses from place `at` on are sure, all of them. A loop of its own is faster than to ask with
+// each guess.
+#[inline(always)]
+fn are_sure<V: CountedValues>(values: &V, at: usize) -> bool
+    requires within { at + 64 ≤ length (V.values values.now) }
+    requires fits { at + 64 < 2 ^ 64 }
+    ensures sure { IsTrue result → AreSure (V.sure values.now) at 64 }
+    ensures free { IsTrue result → cost_of (V.costs values.now) at 64 ≡ 0 }
+{
+    let mut sure = true;
+    for i in 0..WORD_BITS {
+        sure &= values.is_sure(at + i);
+    }
+    sure
 }
 
 // The word of the `count` truth values from place `at` on, with zeros behind them.
@@ -116,9 +124,9 @@ fn count_word<V: CountedValues>(values: &V, at: usize, count: usize, steps: &mut
     ensures packed { IsPacked result (V.values values.now) at count }
     ensures counted { steps.new ≡ steps.old + cost_of (V.costs values.now) at count }
 {
-    if count == WORD_BITS && values.guess(at).sure {
-        let (word, sure) = guess_word(values, at);
-        if sure {
+    if count == WORD_BITS && values.is_sure(at) {
+        let word = guess_word(values, at);
+        if are_sure(values, at) {
             return word;
         }
     }

@@ -17,6 +17,10 @@ u32_at i v =
 unfoldable pub view_len : List ℕ → ℕ
 view_len v = u32_at 0 v
 
+-- whether the row lies in the view itself
+abbrev pub is_short : List ℕ → Bool
+is_short v = nat_le (view_len v) 12
+
 -- the number of the buffer that a row of more than 12 bytes lies in
 unfoldable pub view_buffer : List ℕ → ℕ
 view_buffer v = u32_at 8 v

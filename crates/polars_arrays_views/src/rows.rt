@@ -4,12 +4,11 @@ ghost use Rattle.std.specs.Prelude.{◌≡◌, ◌<◌, ◌+◌, ℕ, List, [], 
 ghost use Rattle.std.specs.Str.{bytes_eq};
 ghost use Rattle.polars_arrays_flat.specs.ByteOrder.{bytes_lt};
 ghost use Rattle.polars_arrays_views.specs.Parts.{view_strings};
-ghost use Rattle.polars_arrays_views.specs.Views.{GoodView, row_bytes, followed_eq, followed_lt};
+ghost use Rattle.polars_arrays_views.specs.Views.{GoodView, is_short, row_bytes, followed_eq, followed_lt};
 
 use crate::binary_view::BinaryViewArray;
 use crate::scalar::ScalarRow;
 use crate::view::View;
-use polars_arrays_bits::counting::Guess;
 use polars_arrays_flat::byte_order::bytes_less;
 use polars_arrays_numbers::steps::Steps;
 
@@ -41,17 +40,21 @@ pub fn rows_equal(
     left.value(i) == right.value(j)
 }
 
-/// What two views tell at a glance of whether their rows are equal. It is sure where the first row has at most
-/// 12 bytes, which all lie in its view.
+/// Whether two views are the same. Where the first row lies in its view this says whether the rows are equal.
 #[inline(always)]
-pub fn guess_equal(v: &View, w: &View) -> Guess
-    ensures same { (buffers others : List (List ℕ)) → GoodView buffers v.now → GoodView others w.now → IsTrue result.sure → result.value ≡ bytes_eq (row_bytes buffers v.now) (row_bytes others w.now) }
-    ensures free { (buffers others : List (List ℕ)) → GoodView buffers v.now → GoodView others w.now → IsTrue result.sure → followed_eq (row_bytes buffers v.now) (row_bytes others w.now) ≡ false }
+pub fn guess_equal(v: &View, w: &View) -> bool
+    ensures { (buffers others : List (List ℕ)) → GoodView buffers v.now → GoodView others w.now → IsTrue (is_short v.now) → result ≡ bytes_eq (row_bytes buffers v.now) (row_bytes others w.now) }
 {
-    Guess {
-        value: v.same_bytes(w),
-        sure: v.len() <= 12,
-    }
+    v.same_bytes(w)
+}
+
+/// Whether a row lies in its view, having at most 12 bytes. Its equality with another is then not looked up in buffers.
+#[inline(always)]
+pub fn lies_in_view(v: &View) -> bool
+    ensures short { result ≡ is_short v.now }
+    ensures free { (buffers others : List (List ℕ)) (w : List ℕ) → GoodView buffers v.now → GoodView others w → IsTrue result → followed_eq (row_bytes buffers v.now) (row_bytes others w) ≡ false }
+{
+    v.is_short()
 }
 
 /// Whether row `i` of one array is less than row `j` of another, byte by byte. A pair that is looked up in

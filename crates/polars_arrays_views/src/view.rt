@@ -4,7 +4,7 @@ ghost use Rattle.std.specs.Prelude.{◌≡◌, ◌≤◌, ◌<◌, ◌+◌, ◌�
 ghost use Rattle.std.specs.Int.{w32, w64, w128, from_le_bytes, from_be_bytes};
 ghost use Rattle.polars_arrays_flat.specs.ByteOrder.{bytes_lt};
 ghost use Rattle.polars_arrays_views.specs.Parts.{contents};
-ghost use Rattle.polars_arrays_views.specs.Views.{short_view, IsView, GoodView, InBuffer, AllZero, buffer_at, row_bytes, view_len, view_buffer, view_offset, view_prefix};
+ghost use Rattle.polars_arrays_views.specs.Views.{short_view, is_short, IsView, GoodView, InBuffer, AllZero, buffer_at, row_bytes, view_len, view_buffer, view_offset, view_prefix};
 
 use polars_arrays_bits::buffer::Buffer;
 use polars_arrays_flat::byte_order::pair_less;
@@ -67,6 +67,14 @@ impl View {
     {
         let b = &self.bytes;
         u32::from_le_bytes([b[0], b[1], b[2], b[3]]) as usize
+    }
+
+    /// Whether the row lies in the view itself, having at most 12 bytes.
+    #[inline(always)]
+    pub fn is_short(&self) -> bool
+        ensures { result ≡ is_short self.now }
+    {
+        self.len() <= 12
     }
 
     /// The number of the buffer that a row of more than 12 bytes lies in.

@@ -1,7 +1,8 @@
 -- Two words that lie one after the other, read from a bit of the first on.
-use Rattle.std.proofs.Common.{◌≡◌, ℕ, ◌+◌, ◌-◌, ◌*◌, ◌/◌, ◌%◌, ◌^◌, ◌<◌, eqb, [], ◌∷◌, sym, ap, ap₂, ◌∙◌, arith, bit_or, subst}
+use Rattle.std.proofs.Common.{◌≡◌, ℕ, ◌+◌, ◌-◌, ◌*◌, ◌/◌, ◌%◌, ◌^◌, ◌<◌, eqb, [], ◌∷◌, sym, ap, ap₂, ◌∙◌, arith, bit_or, bit_xor, subst}
 use Rattle.std.proofs.Math.Nat.{add_comm, mul_assoc, mul-add-div_right, mul-mod_left, add-zero}
-use Rattle.std.proofs.lemmas.Nat.{pow-add, pow_pos, mod-pow-add, field_of, or_shifted, or_comm, shr_below, shr_high, mod_low, shl-shr, mul-mod_first}
+use Rattle.std.proofs.lemmas.Nat.{pow-add, pow_pos, mod-pow-add, field_of, or_shifted, or_comm, xor_comm, shr_below, shr_high, mod_low, shl-shr}
+use Rattle.std.specs.Int.Bits.{xor_shifted}
 use Rattle.polars_arrays_words.specs.Bits.{is_bit, bit_of}
 use Rattle.polars_arrays_words.proofs.SingleBits.{bit_at-mod, bit_at-shr, is_bit-joined}
 
@@ -46,14 +47,22 @@ is_bit-join s r low high i e some fits lt =
     ∙ ap (λ b. eqb b 1) (bit_at-mod ((high * 2 ^ 64 + low) / 2 ^ r) 64 i lt ∙ bit_at-shr (high * 2 ^ 64 + low) r i)
     ∙ is_bit-joined low high (r + i) fits within
 
--- `(high << 1) << (s - 1)`
-shifted_twice : (s high : ℕ) → 0 < s → high * 2 ^ 1 % 2 ^ 64 * 2 ^ (s - 1) % 2 ^ 64 ≡ high * 2 ^ s % 2 ^ 64
-shifted_twice s high some =
-    let all : 1 + (s - 1) ≡ s = omega arith in
-    mul-mod_first (high * 2 ^ 1) (2 ^ (s - 1)) (2 ^ 64)
-    ∙ ap (λ y. y % 2 ^ 64) (mul_assoc high (2 ^ 1) (2 ^ (s - 1)) ∙ ap (λ y. high * y) (sym (pow-add 2 1 (s - 1)) ∙ ap (λ y. 2 ^ y) all))
+-- `(low >> r) ^ (high << s)` is the same, since the two have no bit in common
+xor_is_or : (s r low high : ℕ) → low < 2 ^ (s + r) → bit_xor (low / 2 ^ r) ((high * 2 ^ s) % 2 ^ (s + r)) ≡ bit_or (low / 2 ^ r) ((high * 2 ^ s) % 2 ^ (s + r))
+xor_is_or s r low high h =
+    let below : low / 2 ^ r < 2 ^ s = shr_below low s r h in
+    xor_comm (low / 2 ^ r) ((high * 2 ^ s) % 2 ^ (s + r))
+    ∙ ap (λ y. bit_xor y (low / 2 ^ r)) (shifted s r high)
+    ∙ xor_shifted (high % 2 ^ r) s (low / 2 ^ r) below
+    ∙ sym (or_shifted (high % 2 ^ r) s (low / 2 ^ r) below)
+    ∙ sym (ap (λ y. bit_or y (low / 2 ^ r)) (shifted s r high))
+    ∙ sym (or_comm (low / 2 ^ r) ((high * 2 ^ s) % 2 ^ (s + r)))
 
--- the same bits with the second word shifted twice
-pub is_bit-join_lanes : (s r low high i : ℕ) → s + r ≡ 64 → 0 < s → low < 2 ^ 64 → i < 64 → is_bit (bit_or (low / 2 ^ r) (high * 2 ^ 1 % 2 ^ 64 * 2 ^ (s - 1) % 2 ^ 64)) i ≡ bit_of (low ∷ high ∷ []) (r + i)
+-- the same at a width of its own
+lanes_are : (w s r low high : ℕ) → s + r ≡ w → low < 2 ^ w → bit_xor (low / 2 ^ r) (high * 2 ^ s % 2 ^ w) ≡ bit_or (low / 2 ^ r) (high * 2 ^ s % 2 ^ w)
+lanes_are w s r low high e h =
+    subst (λ (x : ℕ). low < 2 ^ x → bit_xor (low / 2 ^ r) (high * 2 ^ s % 2 ^ x) ≡ bit_or (low / 2 ^ r) (high * 2 ^ s % 2 ^ x)) e (xor_is_or s r low high) h
+
+pub is_bit-join_lanes : (s r low high i : ℕ) → s + r ≡ 64 → 0 < s → low < 2 ^ 64 → i < 64 → is_bit (bit_xor (low / 2 ^ r) (high * 2 ^ s % 2 ^ 64)) i ≡ bit_of (low ∷ high ∷ []) (r + i)
 is_bit-join_lanes s r low high i e some fits lt =
-    ap (λ y. is_bit (bit_or (low / 2 ^ r) y) i) (shifted_twice s high some) ∙ is_bit-join s r low high i e some fits lt
+    ap (λ y. is_bit y i) (lanes_are 64 s r low high e fits) ∙ is_bit-join s r low high i e some fits lt

@@ -54,23 +54,30 @@ packed-one b values at e = record {
   rest = λ i past lt. ap (λ n. eqb n 1) (bit_at_above (bool_byte b) 1 i (one_below b) past);
 }
 
--- the word of some truth values, into which that of the next n was put
-pub packed-put :
-    (word more result : ℕ) (values : List Bool) (at count n : ℕ) → count < 64 → count + n ≤ 64 →
+or-same : (b : Bool) → (b || b) ≡ b
+or-same true = refl
+or-same false = refl
+
+-- the word of the first `done` truth values, into which that of n from place `count` on was put, some of which may be among them
+pub packed-over :
+    (word more result : ℕ) (values : List Bool) (at count done n : ℕ) → count < 64 → count ≤ done → done ≤ count + n → count + n ≤ 64 →
     ((i : ℕ) → i < count → is_bit result i ≡ is_bit word i) →
     ((i : ℕ) → i < 64 - count → is_bit result (count + i) ≡ (is_bit word (count + i) || is_bit more i)) →
-    IsPacked word values at count → IsPacked more values (at + count) n → IsPacked result values at (count + n)
-packed-put word more result values at count n some few below above first next = record {
+    IsPacked word values at done → IsPacked more values (at + count) n → IsPacked result values at (count + n)
+packed-over word more result values at count done n some over reach few below above first next = record {
   bits = λ i lt.
       ⊎_elim
-      (λ lower. below i lower ∙ first.bits i lower)
+      (λ lower. below i lower ∙ first.bits i (omega arith))
       (λ past.
       let place : i ≡ count + (i - count) = omega arith in
       let there : at + count + (i - count) ≡ at + i = omega arith in
+      let told : is_bit more (i - count) ≡ get_or values (at + i) false = next.bits (i - count) (omega arith) ∙ ap (λ p. get_or values p false) there in
       ap (is_bit result) place
       ∙ above (i - count) (omega arith)
-      ∙ ap₂ (λ a b. a || b) (first.rest (count + (i - count)) (omega arith) (omega arith)) (next.bits (i - count) (omega arith))
-      ∙ ap (λ p. get_or values p false) there)
+      ∙ ⊎_elim
+      (λ known. ap₂ (λ a b. a || b) (ap (is_bit word) (sym place) ∙ first.bits i known) told ∙ or-same (get_or values (at + i) false))
+      (λ new. ap₂ (λ a b. a || b) (first.rest (count + (i - count)) (omega arith) (omega arith)) told)
+      (cases_lt i done))
       (cases_lt i count);
   rest = λ i past lt.
       let place : i ≡ count + (i - count) = omega arith in
@@ -78,3 +85,12 @@ packed-put word more result values at count n some few below above first next = 
       ∙ above (i - count) (omega arith)
       ∙ ap₂ (λ a b. a || b) (first.rest (count + (i - count)) (omega arith) (omega arith)) (next.rest (i - count) (omega arith) (omega arith));
 }
+
+-- the same where those n are the next ones
+pub packed-put :
+    (word more result : ℕ) (values : List Bool) (at count n : ℕ) → count < 64 → count + n ≤ 64 →
+    ((i : ℕ) → i < count → is_bit result i ≡ is_bit word i) →
+    ((i : ℕ) → i < 64 - count → is_bit result (count + i) ≡ (is_bit word (count + i) || is_bit more i)) →
+    IsPacked word values at count → IsPacked more values (at + count) n → IsPacked result values at (count + n)
+packed-put word more result values at count n some few below above first next =
+    packed-over word more result values at count count n some (omega arith) (omega arith) few below above first next

@@ -40,14 +40,30 @@ fn pack_flags(flags: &[u8; 64]) -> u64
         .to_bitmask()
 }
 
+// The same of sixteen flags, with zeros behind them.
+#[inline(always)]
+fn pack_sixteen_flags(flags: &[u8; 16]) -> u64
+    ensures { (i : ℕ) → i < 64 → is_bit result i ≡ not (eqb (get_or flags.now i 0) 0) }
+{
+    u8x16::from_array(*flags)
+        .simd_ne(u8x16::splat(0))
+        .to_bitmask()
+}
+
 // Marks the next `count` truth values, which stand from place `at + done` on.
 #[inline(always)]
-fn mark_next<V: TruthValues>(flags: &mut [u8; 64], values: &V, at: usize, done: usize, count: usize)
-    requires marked { IsMarked flags.old (V.values values.now) at done }
-    requires few { done + count ≤ 64 }
+fn mark_next<V: TruthValues, const N: usize>(
+    flags: &mut [u8; N],
+    values: &V,
+    at: usize,
+    done: usize,
+    count: usize,
+)
+    requires marked { IsMarked N flags.old (V.values values.now) at done }
+    requires few { done + count ≤ N }
     requires within { at + (done + count) ≤ length (V.values values.now) }
     requires fits { at + (done + count) < 2 ^ 64 }
-    ensures { IsMarked flags.new (V.values values.now) at (done + count) }
+    ensures { IsMarked N flags.new (V.values values.now) at (done + count) }
 {
     for i in done..done + count {
         flags[i] = u8::from(values.value(at + i));
@@ -82,7 +98,41 @@ pub fn put(word: u64, more: u64, by: usize) -> u64
     word | (more << by)
 }
 
-// The word of the `count` truth values from place `at` on, with zeros behind them, bit by bit.
+// The word of the sixteen truth values from place `at` on, with zeros behind them. The flags stay in a register.
+#[inline(always)]
+fn pack_sixteen<V: TruthValues>(values: &V, at: usize) -> u64
+    requires within { at + 16 ≤ length (V.values values.now) }
+    requires fits { at + 16 < 2 ^ 64 }
+    ensures { IsPacked result (V.values values.now) at 16 }
+{
+    let mut flags = [0u8; 16];
+    mark_next(&mut flags, values, at, 0, 16);
+    pack_sixteen_flags(&flags)
+}
+
+// The word of the `count` truth values from place `at` on, with zeros behind them, by sixteens. The last
+// sixteen may begin among those before them, so that none is packed by itself.
+#[inline(always)]
+fn pack_by_sixteens<V: TruthValues>(values: &V, at: usize, count: usize) -> u64
+    requires some { 16 ≤ count }
+    requires few { count ≤ 64 }
+    requires within { at + count ≤ length (V.values values.now) }
+    requires fits { at + count < 2 ^ 64 }
+    ensures { IsPacked result (V.values values.now) at count }
+{
+    let mut word = 0;
+    for sixteen in 0..count / 16 {
+        let more = pack_sixteen(values, at + 16 * sixteen);
+        word = put(word, more, 16 * sixteen);
+    }
+    if count % 16 > 0 {
+        let last = pack_sixteen(values, at + (count - 16));
+        word = put(word, last, count - 16);
+    }
+    word
+}
+
+// The same bit by bit, the last one first: each moves those behind it up by one place.
 #[inline(always)]
 fn pack_bits<V: TruthValues>(values: &V, at: usize, count: usize) -> u64
     requires few { count ≤ 64 }
@@ -92,7 +142,8 @@ fn pack_bits<V: TruthValues>(values: &V, at: usize, count: usize) -> u64
 {
     let mut word = 0;
     for i in 0..count {
-        word = put(word, u64::from(values.value(at + i)), i);
+        let value = values.value(at + (count - 1 - i));
+        word = put(u64::from(value), word, 1);
     }
     word
 }
@@ -137,7 +188,7 @@ pub(crate) fn pack_word<V: TruthValues>(values: &V, at: usize, count: usize) -> 
 
 /// The word of the `count` truth values from place `at` on, with zeros behind them, where `count` is found
 /// as the code runs.
-// Flags cost a few steps whatever their number, so that they pay from sixteen on.
+// Flags pay from sixteen on. Those of 64 would go by memory, where a number of them is not known to the compiler.
 #[inline(always)]
 pub fn pack_few<V: TruthValues>(values: &V, at: usize, count: usize) -> u64
     requires few { count ≤ 64 }
@@ -147,8 +198,10 @@ pub fn pack_few<V: TruthValues>(values: &V, at: usize, count: usize) -> u64
 {
     if count < 16 {
         pack_bits(values, at, count)
+    } else if values.packs_by_bit() {
+        pack_by_bytes(values, at, count)
     } else {
-        pack_word(values, at, count)
+        pack_by_sixteens(values, at, count)
     }
 }
 

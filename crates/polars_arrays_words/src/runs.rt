@@ -8,7 +8,7 @@ use crate::words::{WORD_BITS, word_from};
 
 // Whether the `n` bits from bit `at` on, at most a word of them, of those that begin `by` bits into
 // the first word are all true.
-#[inline]
+#[inline(always)]
 fn few_set(words: &[u64], by: usize, at: usize, n: usize) -> bool
     requires by { by < 64 }
     requires few { n ≤ 64 }
@@ -17,7 +17,9 @@ fn few_set(words: &[u64], by: usize, at: usize, n: usize) -> bool
     n <= word_from(words, by, at).trailing_ones() as usize
 }
 
-// The same for any number of bits, up to the first word that has a false one.
+// The same for any number of bits, up to the first word that has a false one. It is called, so that for runs
+// of at most a word nothing is.
+#[inline(never)]
 fn many_set(words: &[u64], by: usize, at: usize, n: usize) -> bool
     requires by { by < 64 }
     requires fits { at + n < 2 ^ 64 }
@@ -34,7 +36,7 @@ fn many_set(words: &[u64], by: usize, at: usize, n: usize) -> bool
 
 /// Whether the `n` bits from bit `at` on of those that begin `by` bits into the first word are all
 /// true.
-#[inline]
+#[inline(always)]
 pub fn all_set(words: &[u64], by: usize, at: usize, n: usize) -> bool
     requires by { by < 64 }
     requires fits { at + n < 2 ^ 64 }

@@ -25,15 +25,16 @@ pub(crate) fn join(low: u64, high: u64, by: usize) -> u64
     (low >> by) | (high << (64 - by))
 }
 
-// The same in a form for loops over words, from any bit on. The compiler makes one instruction of
-// `join`, a shift of two words, which exists for single words alone, and so a loop of it goes word by
-// word. Of these three shifts it makes vectors.
+// The same in a form for loops over words. The compiler makes one instruction of `join`, a shift of two
+// words, which exists for single words alone, and so a loop of it goes word by word. Of these two shifts,
+// which share no bit, it makes vectors.
 #[inline]
 pub(crate) fn join_lanes(low: u64, high: u64, by: usize) -> u64
-    requires { by < 64 }
+    requires some { 0 < by }
+    requires within_word { by < 64 }
     ensures { (i : ℕ) → i < 64 → is_bit result i ≡ bit_of (low ∷ high ∷ []) (by + i) }
 {
-    (low >> by) | ((high << 1) << (63 - by))
+    (low >> by) ^ (high << (64 - by))
 }
 
 // The same as `join` from any bit on. This becomes one shift of two words, without a branch.

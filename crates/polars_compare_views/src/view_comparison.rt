@@ -3,18 +3,18 @@
 ghost use Rattle.std.specs.Prelude.{◌≡◌, ◌<◌, ◌+◌, ℕ, Bool, List, [], IsTrue, false, if◌then◌else◌, length, slice_index_or};
 ghost use Rattle.polars_arrays_flat.specs.Row.{Row, Bytes};
 ghost use Rattle.polars_arrays_views.specs.Parts.{view_strings};
-ghost use Rattle.polars_arrays_views.specs.Views.{GoodView, row_bytes, followed_eq, followed_lt};
+ghost use Rattle.polars_arrays_views.specs.Views.{GoodView, is_short, row_bytes, followed_eq, followed_lt};
 ghost use Rattle.polars_compare_leaves.specs.Order.{row_at_least, row_at_most, row_greater, row_less};
 ghost use Rattle.polars_compare_leaves.specs.Sameness.{other_row, same_row};
 
-use polars_arrays_bits::counting::Guess;
 use polars_arrays_numbers::comparison::{
     Equal, Greater, GreaterOrEqual, Less, LessOrEqual, Unequal,
 };
 use polars_arrays_numbers::steps::Steps;
 use polars_arrays_views::binary_view::BinaryViewArray;
 use polars_arrays_views::rows::{
-    bytes_less_row, guess_equal, row_equals_bytes, row_less, row_less_bytes, rows_equal,
+    bytes_less_row, guess_equal, lies_in_view, row_equals_bytes, row_less, row_less_bytes,
+    rows_equal,
 };
 use polars_arrays_views::scalar::ScalarRow;
 use polars_arrays_views::view::View;
@@ -26,6 +26,9 @@ pub trait ViewComparison {
 
     // Which pairs are looked up in buffers.
     ghost follows: { List ℕ → List ℕ → Bool };
+
+    // Of which pairs of views a guess is sure.
+    ghost sure: { List ℕ → List ℕ → Bool };
 
     /// Whether it holds of row `i` of one array and row `j` of another, masked or not. The counter rises by one
     /// where the pair is looked up in buffers.
@@ -42,17 +45,17 @@ pub trait ViewComparison {
         ensures told { result ≡ rows (Bytes (slice_index_or (view_strings left.now) i [])) (Bytes (slice_index_or (view_strings right.now) j [])) }
         ensures counted { steps.new ≡ steps.old + (if follows (slice_index_or (view_strings left.now) i []) (slice_index_or (view_strings right.now) j []) then 1 else 0) };
 
-    /// What two views tell at a glance of whether it holds of their rows. Where this is sure, the pair is not
-    /// looked up in buffers.
+    /// Whether two views look as if it held of their rows. Where that is sure it does, and else it may not.
+    fn guess(&self, v: &View, w: &View) -> bool
+        ensures { (buffers others : List (List ℕ)) → GoodView buffers v.now → GoodView others w.now → IsTrue (sure v.now w.now) → result ≡ rows (Bytes (row_bytes buffers v.now)) (Bytes (row_bytes others w.now)) };
+
+    /// Whether what `guess` says of two views is sure. The pair is then not looked up in buffers.
     #[inline(always)]
-    fn guess(&self, _v: &View, _w: &View) -> Guess
-        ensures told { (buffers others : List (List ℕ)) → GoodView buffers _v.now → GoodView others _w.now → IsTrue result.sure → result.value ≡ rows (Bytes (row_bytes buffers _v.now)) (Bytes (row_bytes others _w.now)) }
-        ensures free { (buffers others : List (List ℕ)) → GoodView buffers _v.now → GoodView others _w.now → IsTrue result.sure → follows (row_bytes buffers _v.now) (row_bytes others _w.now) ≡ false }
+    fn is_sure(&self, _v: &View, _w: &View) -> bool
+        ensures sure { IsTrue result → IsTrue (sure _v.now _w.now) }
+        ensures free { (buffers others : List (List ℕ)) → GoodView buffers _v.now → GoodView others _w.now → IsTrue result → follows (row_bytes buffers _v.now) (row_bytes others _w.now) ≡ false }
     {
-        Guess {
-            value: false,
-            sure: false,
-        }
+        false
     }
 
     /// Whether it holds of row `i` and a byte string, masked or not.
@@ -65,6 +68,8 @@ impl ViewComparison for Equal {
     ghost rows = { same_row };
 
     ghost follows = { followed_eq };
+
+    ghost sure = { λ v _. is_short v };
 
     #[inline(always)]
     fn compare(
@@ -79,8 +84,13 @@ impl ViewComparison for Equal {
     }
 
     #[inline(always)]
-    fn guess(&self, v: &View, w: &View) -> Guess {
+    fn guess(&self, v: &View, w: &View) -> bool {
         guess_equal(v, w)
+    }
+
+    #[inline(always)]
+    fn is_sure(&self, v: &View, _w: &View) -> bool {
+        lies_in_view(v)
     }
 
     #[inline(always)]
@@ -93,6 +103,8 @@ impl ViewComparison for Unequal {
     ghost rows = { other_row };
 
     ghost follows = { followed_eq };
+
+    ghost sure = { λ v _. is_short v };
 
     #[inline(always)]
     fn compare(
@@ -107,12 +119,13 @@ impl ViewComparison for Unequal {
     }
 
     #[inline(always)]
-    fn guess(&self, v: &View, w: &View) -> Guess {
-        let equal = guess_equal(v, w);
-        Guess {
-            value: !equal.value,
-            sure: equal.sure,
-        }
+    fn guess(&self, v: &View, w: &View) -> bool {
+        !guess_equal(v, w)
+    }
+
+    #[inline(always)]
+    fn is_sure(&self, v: &View, _w: &View) -> bool {
+        lies_in_view(v)
     }
 
     #[inline(always)]
@@ -125,6 +138,8 @@ impl ViewComparison for Less {
     ghost rows = { row_less };
 
     ghost follows = { followed_lt };
+
+    ghost sure = { λ _ _. false };
 
     #[inline(always)]
     fn compare(
@@ -139,6 +154,11 @@ impl ViewComparison for Less {
     }
 
     #[inline(always)]
+    fn guess(&self, _v: &View, _w: &View) -> bool {
+        false
+    }
+
+    #[inline(always)]
     fn compare_bytes(&self, left: &BinaryViewArray, i: usize, right: &ScalarRow) -> bool {
         row_less_bytes(left, i, right)
     }
@@ -148,6 +168,8 @@ impl ViewComparison for LessOrEqual {
     ghost rows = { row_at_most };
 
     ghost follows = { λ xs ys. followed_lt ys xs };
+
+    ghost sure = { λ _ _. false };
 
     #[inline(always)]
     fn compare(
@@ -162,6 +184,11 @@ impl ViewComparison for LessOrEqual {
     }
 
     #[inline(always)]
+    fn guess(&self, _v: &View, _w: &View) -> bool {
+        false
+    }
+
+    #[inline(always)]
     fn compare_bytes(&self, left: &BinaryViewArray, i: usize, right: &ScalarRow) -> bool {
         !bytes_less_row(right, left, i)
     }
@@ -171,6 +198,8 @@ impl ViewComparison for Greater {
     ghost rows = { row_greater };
 
     ghost follows = { λ xs ys. followed_lt ys xs };
+
+    ghost sure = { λ _ _. false };
 
     #[inline(always)]
     fn compare(
@@ -185,6 +214,11 @@ impl ViewComparison for Greater {
     }
 
     #[inline(always)]
+    fn guess(&self, _v: &View, _w: &View) -> bool {
+        false
+    }
+
+    #[inline(always)]
     fn compare_bytes(&self, left: &BinaryViewArray, i: usize, right: &ScalarRow) -> bool {
         bytes_less_row(right, left, i)
     }
@@ -194,6 +228,8 @@ impl ViewComparison for GreaterOrEqual {
     ghost rows = { row_at_least };
 
     ghost follows = { followed_lt };
+
+    ghost sure = { λ _ _. false };
 
     #[inline(always)]
     fn compare(
@@ -205,6 +241,11 @@ impl ViewComparison for GreaterOrEqual {
         steps: &mut Steps,
     ) -> bool {
         !row_less(left, i, right, j, steps)
+    }
+
+    #[inline(always)]
+    fn guess(&self, _v: &View, _w: &View) -> bool {
+        false
     }
 
     #[inline(always)]

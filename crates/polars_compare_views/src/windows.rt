@@ -1,19 +1,19 @@
 //! Comparisons of stored rows of arrays of views, place by place, whatever the validity says.
 
-ghost use Rattle.std.specs.Prelude.{◌≡◌, ◌+◌, ◌^◌, ◌<◌, ◌≤◌, length, map, IfOk, MatchResult};
+ghost use Rattle.std.specs.Prelude.{◌≡◌, ◌+◌, ◌^◌, ◌<◌, ◌≤◌, length, map, slice_index_or, [], IfOk, MatchResult};
 ghost use Rattle.std.specs.List.{All};
 ghost use Rattle.polars_arrays_bits.specs.Bits.{first_of};
 ghost use Rattle.polars_arrays_bits.specs.Errors.{IsMemory};
 ghost use Rattle.polars_arrays_flat.specs.Row.{Bytes};
 ghost use Rattle.polars_arrays_flat.specs.StoredRows.{byte_slots};
 ghost use Rattle.polars_arrays_views.specs.Parts.{view_strings};
-ghost use Rattle.polars_arrays_views.specs.Views.{GoodView};
+ghost use Rattle.polars_arrays_views.specs.Views.{GoodView, row_bytes};
 ghost use Rattle.polars_compare_views.specs.Followed.{followed, pair_cost};
 ghost use Rattle.polars_compare_views.specs.Pairs.{ComparesPairs, compared_pair};
 
 use crate::view_comparison::ViewComparison;
 use polars_arrays_bits::bitmap::Bitmap;
-use polars_arrays_bits::counting::{CountedValues, Guess};
+use polars_arrays_bits::counting::CountedValues;
 use polars_arrays_bits::error::ComputeError;
 use polars_arrays_bits::packing::TruthValues;
 use polars_arrays_flat::array::Array;
@@ -45,10 +45,28 @@ struct ViewPairs<'a, E> {
     ghost right_fits: { b + n < 2 ^ 64 },
 }
 
+impl<'a, E: ViewComparison> ViewPairs<'a, E> {
+    // The views of the pair at place `i`.
+    #[inline(always)]
+    fn views_at(&self, i: usize) -> (&View, &View)
+        requires { i < self.now.n }
+        ensures left { result.0.now ≡ slice_index_or self.now.left_views.now (self.now.a + i) [] }
+        ensures right { result.1.now ≡ slice_index_or self.now.right_views.now (self.now.b + i) [] }
+        ensures left_good { GoodView self.now.left.now.buffers result.0.now }
+        ensures right_good { GoodView self.now.right.now.buffers result.1.now }
+        ensures left_row { row_bytes self.now.left.now.buffers result.0.now ≡ slice_index_or (view_strings self.now.left.now) (self.now.a + i) [] }
+        ensures right_row { row_bytes self.now.right.now.buffers result.1.now ≡ slice_index_or (view_strings self.now.right.now) (self.now.b + i) [] }
+    {
+        (&self.left_views[self.a + i], &self.right_views[self.b + i])
+    }
+}
+
 impl<'a, E: ViewComparison> CountedValues for ViewPairs<'a, E> {
     ghost values = { λ p. first_of (compared_pair E.rows (view_strings p.left.now) (view_strings p.right.now) p.a p.b) p.n };
 
     ghost costs = { λ p. pair_cost E.follows (view_strings p.left.now) (view_strings p.right.now) p.a p.b };
+
+    ghost sure = { λ p i. E.sure (slice_index_or p.left_views.now (p.a + i) []) (slice_index_or p.right_views.now (p.b + i) []) };
 
     #[inline(always)]
     fn len(&self) -> usize {
@@ -63,9 +81,15 @@ impl<'a, E: ViewComparison> CountedValues for ViewPairs<'a, E> {
     }
 
     #[inline(always)]
-    fn guess(&self, i: usize) -> Guess {
-        let (v, w) = (&self.left_views[self.a + i], &self.right_views[self.b + i]);
+    fn guess(&self, i: usize) -> bool {
+        let (v, w) = self.views_at(i);
         self.comparison.guess(v, w)
+    }
+
+    #[inline(always)]
+    fn is_sure(&self, i: usize) -> bool {
+        let (v, w) = self.views_at(i);
+        self.comparison.is_sure(v, w)
     }
 }
 
