@@ -2,6 +2,7 @@ pub mod BlockPlaces
 pub mod BufferWindows
 pub mod CostSums
 pub mod Drafts
+pub mod Examples
 pub mod NestedBlocks
 pub mod Pairs
 pub mod SureGuesses

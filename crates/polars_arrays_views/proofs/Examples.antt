@@ -11,7 +11,7 @@ use Rattle.polars_arrays_flat.specs.Row.{Null, Bytes}
 use Rattle.polars_arrays_views.specs.Faults.{IsFirstBadView, IsFirstFault}
 use Rattle.polars_arrays_views.specs.Parts.{ViewParts, contents, strings_of, view_strings, view_rows, GoodParts}
 use Rattle.polars_arrays_views.specs.Texts.{AllText, IsFirstNotText, IsFirstTextFault}
-use Rattle.polars_arrays_views.specs.Views.{IsView, GoodView, InBuffer, AllZero, u32_at, view_len, view_buffer, view_offset, view_prefix, buffer_at, row_bytes, padded, short_view, followed_eq, followed_lt}
+use Rattle.polars_arrays_views.specs.Views.{IsView, GoodView, is_short, InBuffer, AllZero, u32_at, view_len, view_buffer, view_offset, view_prefix, buffer_at, row_bytes, padded, short_view, followed_eq, followed_lt}
 
 -- whether each number is below m
 abbrev all_below : ℕ → List ℕ → Bool
@@ -82,6 +82,14 @@ u32_at-little_endian = refl
 view_len-thirteen : view_len thirteen_view ≡ 13
 unfolding view_len
 view_len-thirteen = refl
+
+is_short-thirteen : is_short thirteen_view ≡ false
+unfolding view_len
+is_short-thirteen = refl
+
+is_short-one : is_short (short_view (97 ∷ [])) ≡ true
+unfolding view_len
+is_short-one = refl
 
 view_buffer-third : view_buffer (13 ∷ 0 ∷ 0 ∷ 0 ∷ 97 ∷ 98 ∷ 99 ∷ 100 ∷ 2 ∷ 0 ∷ 0 ∷ 0 ∷ 7 ∷ 1 ∷ 0 ∷ 0 ∷ []) ≡ 2
 unfolding view_buffer

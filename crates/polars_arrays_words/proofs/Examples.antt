@@ -1,8 +1,11 @@
 -- Worked examples of the definitions: the check computes both sides of each.
-use Rattle.std.specs.Prelude.{◌≡◌, true, false, [], ◌∷◌, ◌^◌, refl}
+use Rattle.std.specs.Prelude.{◌≡◌, ◌+◌, ◌<◌, ◌≤◌, ℕ, zero, suc, true, false, not, eqb, [], ◌∷◌, ◌^◌, get_or, refl}
+use Rattle.std.proofs.Common.{ap, arith}
+use Rattle.std.proofs.lemmas.Nat.Bits.{bit_at_above}
 use Rattle.std.specs.Simd.Lanes.{zip2}
-use Rattle.polars_arrays_words.specs.Bits.{is_bit, bit_of, first_of, true_count, window, zip3}
+use Rattle.polars_arrays_words.specs.Bits.{IsChanged, is_bit, bit_of, first_of, true_count, window, zip3}
 use Rattle.polars_arrays_words.specs.Blocks.{blocks_all}
+use Rattle.polars_arrays_words.specs.Packing.{IsPacked}
 use Rattle.polars_arrays_words.specs.Logic.{xor, xnor, and_not, or_not, merged_eq, merged_ne}
 
 -- 9 has the bits 0 and 3, and the lowest bit of the second word is bit 64
@@ -54,3 +57,24 @@ blocks_all-pairs = refl
 
 blocks_all-empty : blocks_all 0 2 [] ≡ true ∷ true ∷ []
 blocks_all-empty = refl
+
+-- from the second word up to the second there is none: no bit has changed
+IsChanged-nowhere : IsChanged (λ p b. not b) (5 ∷ 7 ∷ []) (5 ∷ 7 ∷ []) 1 1
+IsChanged-nowhere = record {
+  count = refl;
+  within = λ p from to. absurd (omega arith);
+  below = λ p lt. refl;
+  above = λ p le. refl;
+}
+
+-- the truth values true, false, true from place 1 on are the bits of 5
+IsPacked-three : IsPacked 5 (false ∷ true ∷ false ∷ true ∷ []) 1 3
+IsPacked-three = record { bits = bits; rest = rest; }
+  where
+    bits : (i : ℕ) → i < 3 → is_bit 5 i ≡ get_or (false ∷ true ∷ false ∷ true ∷ []) (1 + i) false
+    bits zero lt = refl
+    bits (suc zero) lt = refl
+    bits (suc (suc zero)) lt = refl
+    bits (suc (suc (suc i))) lt = absurd (omega arith)
+    rest : (i : ℕ) → 3 ≤ i → i < 64 → is_bit 5 i ≡ false
+    rest i past lt = ap (λ n. eqb n 1) (bit_at_above 5 3 i (omega arith) past)

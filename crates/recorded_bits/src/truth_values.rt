@@ -1,6 +1,6 @@
 //! Truth values that are asked for one by one.
 
-ghost use Rattle.std.specs.Prelude.{◌≡◌, length, slice_index};
+ghost use Rattle.std.specs.Prelude.{◌≡◌, length, nat_eq, slice_index};
 
 use polars_arrays_bits::bitmap::Bitmap;
 use polars_arrays_bits::counting::CountedValues;
@@ -44,6 +44,8 @@ impl CountedValues for CostlyBits<'_> {
 
     ghost costs = { λ c i. slice_index c.costs.now i };
 
+    ghost sure = { λ c i. nat_eq (slice_index c.costs.now i) 0 };
+
     fn len(&self) -> usize {
         self.bits.len()
     }
@@ -51,5 +53,14 @@ impl CountedValues for CostlyBits<'_> {
     fn value(&self, i: usize, steps: &mut Steps) -> bool {
         steps.add(self.costs[i]);
         self.bits.get_bit(i)
+    }
+
+    fn guess(&self, i: usize) -> bool {
+        self.bits.get_bit(i)
+    }
+
+    // What costs nothing may be guessed.
+    fn is_sure(&self, i: usize) -> bool {
+        self.costs[i] == 0
     }
 }
