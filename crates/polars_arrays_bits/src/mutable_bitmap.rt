@@ -15,6 +15,7 @@ use polars_arrays_words::changes::{
 use polars_arrays_words::operators::{
     And, BinaryOperator, MergeEq, MergeNe, Or, OrNot, TernaryOperator,
 };
+use polars_arrays_words::packing::{Packed, TruthValues};
 use polars_arrays_words::source::{Aligned, BitSource, Shifted, collect_words, count_window};
 use polars_arrays_words::words::{WORD_BITS, bit_from, filled_word};
 use polars_arrays_words::write::write_bit;
@@ -217,6 +218,14 @@ impl MutableBitmap {
         ensures { self.new ≡ zip2 ◌&&◌ self.old other.now }
     {
         self.join(And, other);
+    }
+
+    /// Each bit stays true where the truth value at its place is, a word of them at a time.
+    pub fn and_assign_values<V: TruthValues>(&mut self, values: &V)
+        requires { length (V.values values.now) ≡ length self.old }
+        ensures { self.new ≡ zip2 ◌&&◌ self.old (V.values values.now) }
+    {
+        self.assign(And, Packed { values });
     }
 
     /// Each bit becomes true where the window's is false.

@@ -1,12 +1,13 @@
 //! Comparisons of the elements of slices, place by place.
 
-ghost use Rattle.std.specs.Prelude.{◌≡◌, ℕ, ◌+◌, ◌<◌, ◌≤◌, false, take, drop, map, length, MatchResult};
+ghost use Rattle.std.specs.Prelude.{◌≡◌, ℕ, ◌+◌, ◌<◌, ◌≤◌, false, ◌&&◌, take, drop, map, length, MatchResult};
 ghost use Rattle.std.specs.Simd.Lanes.{zip2};
 ghost use Rattle.polars_arrays_words.specs.Bits.{first_of, is_bit};
 ghost use Rattle.polars_arrays_bits.specs.Errors.{IsMemory};
 
 use crate::bitmap::Bitmap;
 use crate::error::ComputeError;
+use crate::mutable_bitmap::MutableBitmap;
 use polars_arrays_numbers::comparison::Comparison;
 use polars_arrays_words::packing::{TruthValues, pack_few};
 use std::alloc::Global;
@@ -108,6 +109,24 @@ pub fn compare_windows<L: Copy, R: Copy, E: Comparison<L, R>>(
         &left[left_at..left_at + count],
         &right[right_at..right_at + count],
     )
+}
+
+/// Each bit stays true where the comparison holds of the elements at its place. No memory is needed.
+pub fn and_pairs<L: Copy, R: Copy, E: Comparison<L, R>>(
+    bits: &mut MutableBitmap,
+    comparison: &E,
+    left: &[L],
+    right: &[R],
+)
+    requires one_length { length right.now ≡ length left.now }
+    requires as_many { length left.now ≡ length bits.old }
+    ensures { bits.new ≡ zip2 ◌&&◌ bits.old (zip2 (E.holds comparison.now) left.now right.now) }
+{
+    bits.and_assign_values(&Pairs {
+        comparison,
+        left,
+        right,
+    });
 }
 
 // A comparison of a slice with one element.

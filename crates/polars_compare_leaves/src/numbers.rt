@@ -1,6 +1,6 @@
 //! Comparisons of stored numbers, place by place, whatever the validity says.
 
-ghost use Rattle.std.specs.Prelude.{◌≡◌, ℕ, ◌+◌, ◌<◌, ◌≤◌, false, length, map, MatchResult};
+ghost use Rattle.std.specs.Prelude.{◌≡◌, ℕ, ◌+◌, ◌<◌, ◌≤◌, false, ◌&&◌, length, map, MatchResult};
 ghost use Rattle.std.specs.Simd.Lanes.{zip2};
 ghost use Rattle.polars_arrays_words.specs.Bits.{first_of, is_bit};
 ghost use Rattle.polars_arrays_bits.specs.Errors.{IsMemory};
@@ -11,7 +11,8 @@ ghost use Rattle.polars_arrays_flat.specs.Validity.{window};
 use crate::row_comparison::RowComparison;
 use polars_arrays_bits::bitmap::Bitmap;
 use polars_arrays_bits::error::ComputeError;
-use polars_arrays_bits::slices::{compare_constant, compare_few, compare_windows};
+use polars_arrays_bits::mutable_bitmap::MutableBitmap;
+use polars_arrays_bits::slices::{and_pairs, compare_constant, compare_few, compare_windows};
 use polars_arrays_flat::primitive::PrimitiveArray;
 use polars_arrays_numbers::native_type::NativeType;
 use std::alloc::Global;
@@ -57,6 +58,27 @@ pub fn compare_few_numbers<T: NativeType, E: RowComparison<T>>(
 {
     let (left, right) = (left.values(), right.values());
     compare_few(comparison, &left[a..a + n], &right[b..b + n])
+}
+
+/// Each bit stays true where the comparison holds of the stored rows of two windows at its place: the first
+/// bit is that of row `a` of the left array and of row `b` of the right one. No memory is needed.
+pub fn and_number_windows<T: NativeType, E: RowComparison<T>>(
+    bits: &mut MutableBitmap,
+    comparison: &E,
+    left: &PrimitiveArray<T>,
+    a: usize,
+    right: &PrimitiveArray<T>,
+    b: usize,
+)
+    requires left_in { a + length bits.old ≤ length left.now.values }
+    requires right_in { b + length bits.old ≤ length right.now.values }
+    ensures { bits.new ≡ zip2 ◌&&◌ bits.old (zip2 E.rows
+        (window a (length bits.old) (number_slots T.value left.now.values))
+        (window b (length bits.old) (number_slots T.value right.now.values))) }
+{
+    let n = bits.len();
+    let (left, right) = (left.values(), right.values());
+    and_pairs(bits, comparison, &left[a..a + n], &right[b..b + n]);
 }
 
 /// Of which stored rows and one number a comparison holds. The error is `Memory`.

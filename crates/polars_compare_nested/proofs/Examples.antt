@@ -1,16 +1,18 @@
 -- Worked examples of the definitions: the check computes both sides of each.
-use Rattle.std.specs.Prelude.{◌≡◌, ◌+◌, pos, true, false, [], ◌∷◌, Some, None, Err, refl}
+use Rattle.std.specs.Prelude.{◌≡◌, ◌+◌, ◌<◌, ℕ, zero, suc, pos, true, false, [], ◌∷◌, Some, None, Err, refl, slice_index_or}
 use Rattle.std.proofs.Common.{arith}
 use Rattle.polars_arrays_bits.specs.declared.error.ComputeError.TheVariants.{Memory}
 use Rattle.polars_arrays_flat.specs.Kind.{NullKind, Int8Kind, FixedSizeBinaryKind, ListKind, LargeListKind, FixedSizeListKind, StructKind, DictionaryKind, UInt32Kind, no_kinds}
 use Rattle.polars_arrays_flat.specs.Row.{Rows, Int, no_rows, more_rows}
+use Rattle.polars_arrays_nested.specs.AnyRows.{row}
 use Rattle.polars_arrays_nested.specs.declared.any_array.AnyArray.{AnyArray, Int32, List', FixedSizeList', Dictionary', end_of-AnyArray, more_of-AnyArray}
 use Rattle.polars_arrays_nested.specs.declared.any_array.AnyArray.{Null as Nulls}
 use Rattle.polars_arrays_nested.specs.declared.dict_keys.DictKeys.TheVariants.{UInt8}
 use Rattle.polars_arrays_nested.specs.declared.list_offsets.ListOffsets.TheVariants.{Small}
 use Rattle.polars_compare_leaves.specs.Sameness.{same_leaf}
-use Rattle.polars_compare_nested.specs.Bits.{RawBits}
+use Rattle.polars_compare_nested.specs.Bits.{JoinsBits, JoinsLeafBits, RawBits}
 use Rattle.polars_compare_nested.specs.Broadcasts.{all_rows}
+use Rattle.polars_compare_nested.specs.FewLeaves.{AreFewLeaves, NoNulls}
 use Rattle.polars_compare_nested.specs.Headline.{IsEquality}
 use Rattle.polars_compare_nested.specs.KindSorts.{is_dictionary, is_fixed_list, is_list, is_sized, is_struct}
 use Rattle.polars_compare_nested.specs.Leaf.{is_leaf}
@@ -96,6 +98,36 @@ tally-entries p q = refl
 are_windows-numbers : AreWindows three 1 four 2 2
 unfolding three four
 are_windows-numbers = record { left_good = tt; right_good = tt; one_type = refl; left_in = omega arith; right_in = omega arith }
+
+-- of three bits two are set, and of these one stays set
+joins_bits-three : JoinsBits (λ same. same ≡ true ∷ false ∷ true ∷ []) (true ∷ true ∷ false ∷ []) (true ∷ false ∷ false ∷ [])
+joins_bits-three = record { same = true ∷ false ∷ true ∷ []; told = refl; joined = refl }
+
+second_and_third : (i : ℕ) → i < 2 → slice_index_or (true ∷ true ∷ []) i false ≡ same_leaf (row three (1 + i)) (row four (1 + i))
+unfolding three four
+second_and_third zero low = refl
+second_and_third (suc zero) low = refl
+second_and_third (suc (suc i)) low = absurd (omega arith)
+
+-- rows 1 and 2 of three numbers are rows 1 and 2 of four: both bits stay as they were
+joins_leaf_bits-numbers : JoinsLeafBits same_leaf three 1 four 1 (true ∷ false ∷ []) (true ∷ false ∷ [])
+joins_leaf_bits-numbers = record {
+  same = true ∷ true ∷ [];
+  told = record { size = refl; at_present = λ i low both. second_and_third i low };
+  joined = refl;
+}
+
+three_there : NoNulls three
+unfolding three
+three_there zero low = refl
+three_there (suc zero) low = refl
+three_there (suc (suc zero)) low = refl
+three_there (suc (suc (suc i))) low = absurd (omega arith)
+
+-- two arrays of three numbers are leaves without nulls, and three rows of them fit in a word
+are_few_leaves-numbers : AreFewLeaves three three 3
+unfolding three
+are_few_leaves-numbers = record { few = omega arith; whole = record { leaves = refl; left_there = three_there; right_there = three_there } }
 
 -- where memory is refused nothing is told of bits, and the count may have risen, here from 5 to 6
 compares-refused : (e : _) → Compares (RawBits same_leaf) three 1 four 2 2 5 6 (Err (Memory e))

@@ -1,5 +1,5 @@
--- Few leaves without nulls are the same where their bits say so.
-use Rattle.std.proofs.Common.{◌≡◌, ◌+◌, ◌<◌, ℕ, Bool, true, false, IsTrue, List, refl, arith}
+-- Leaves without nulls are the same where their bits say so.
+use Rattle.std.proofs.Common.{◌≡◌, ◌+◌, ◌<◌, ℕ, Bool, true, false, IsTrue, List, length, refl, subst, arith}
 use Rattle.polars_arrays_flat.specs.ArrayRows.{is_null}
 use Rattle.polars_arrays_flat.specs.Row.{Row}
 use Rattle.polars_arrays_flat.specs.Validity.{is_present}
@@ -8,8 +8,8 @@ use Rattle.polars_arrays_nested.specs.GoodParts.{IsGood}
 use Rattle.polars_arrays_nested.specs.Lengths.{len_of}
 use Rattle.polars_arrays_nested.specs.Masks.{mask_of}
 use Rattle.polars_arrays_nested.specs.declared.any_array.AnyArray.{AnyArray}
-use Rattle.polars_compare_nested.specs.Bits.{LeafBits, RawBits, SameBits}
-use Rattle.polars_compare_nested.specs.FewLeaves.{AreFewLeaves}
+use Rattle.polars_compare_nested.specs.Bits.{JoinsBits, JoinsLeafBits, LeafBits, RawBits, SameBits}
+use Rattle.polars_compare_nested.specs.FewLeaves.{AreLeavesWithoutNulls}
 use Rattle.polars_compare_nested.specs.Windows.{AreWindows}
 use Rattle.polars_compare_nested.proofs.LeafSorts.{leaf_bits}
 use Rattle.polars_compare_nested.proofs.MaskedRows.{masked_null}
@@ -25,13 +25,23 @@ present_row x i good low there =
     (λ masked. (let gone = rw (masked_null x i good low masked) at there in cc))
 
 -- so that the raw bits of leaves without nulls say which of them are the same
-pub few_same : (agree : Row → Row → Bool) (x y : AnyArray) (a b n : ℕ) (bits : List Bool) → AreWindows x a y b n → AreFewLeaves x y n → LeafBits agree x a y b n bits → SameBits agree x a y b n bits
-few_same agree x y a b n bits windows few h =
-    let raw : RawBits agree x a y b n bits = leaf_bits agree x y a b n bits few.leaves windows.one_type windows.left_in windows.right_in h in
+pub whole_same : (agree : Row → Row → Bool) (x y : AnyArray) (a b n : ℕ) (bits : List Bool) → AreWindows x a y b n → AreLeavesWithoutNulls x y → LeafBits agree x a y b n bits → SameBits agree x a y b n bits
+whole_same agree x y a b n bits windows whole h =
+    let raw : RawBits agree x a y b n bits = leaf_bits agree x y a b n bits whole.leaves windows.one_type windows.left_in windows.right_in h in
     record {
       size = h.size;
       at_each = λ i low.
           let here : a + i < len_of x = omega (arith, low, windows.left_in) in
           let there : b + i < len_of y = omega (arith, low, windows.right_in) in
-          raw.at_present i low (present_row x (a + i) windows.left_good here (few.left_there (a + i) here), present_row y (b + i) windows.right_good there (few.right_there (b + i) there));
+          raw.at_present i low (present_row x (a + i) windows.left_good here (whole.left_there (a + i) here), present_row y (b + i) windows.right_good there (whole.right_there (b + i) there));
     }
+
+-- and bits that are joined with the raw bits of such leaves are joined with those that say which of them are the same
+pub whole_joined :
+    (agree : Row → Row → Bool) (x y : AnyArray) (a b n : ℕ) (old new : List Bool) → AreWindows x a y b n → AreLeavesWithoutNulls x y → length old ≡ n
+    → JoinsLeafBits agree x a y b old new → JoinsBits (SameBits agree x a y b n) old new
+whole_joined agree x y a b n old new windows whole long h = record {
+  same = h.same;
+  told = whole_same agree x y a b n h.same windows whole (subst (λ (k : ℕ). LeafBits agree x a y b k h.same) long h.told);
+  joined = h.joined;
+}

@@ -1,5 +1,6 @@
 -- What bits tell of the rows of two windows: n rows from row a on of the left array, and as many from row b on of the right one.
-use Rattle.std.specs.Prelude.{◌≡◌, ◌+◌, ◌<◌, ℕ, Bool, false, IsTrue, List, Option, length, slice_index_or}
+use Rattle.std.specs.Prelude.{◌≡◌, ◌+◌, ◌<◌, ◌&&◌, ℕ, Bool, false, IsTrue, List, Option, length, slice_index_or}
+use Rattle.std.specs.Simd.Lanes.{zip2}
 use Rattle.polars_arrays_words.specs.Bits.{first_of, is_bit}
 use Rattle.polars_arrays_flat.specs.Row.{Row}
 use Rattle.polars_arrays_flat.specs.Validity.{is_present}
@@ -37,6 +38,16 @@ LeafBits agree left a right b n = PresentBits agree (row left) (mask_of left) a 
 -- the same of the n lowest bits of a word
 abbrev pub LeafWord : (Row → Row → Bool) → AnyArray → ℕ → AnyArray → ℕ → ℕ → ℕ → Type 0
 LeafWord agree left a right b n word = LeafBits agree left a right b n (first_of (is_bit word) n)
+
+-- each bit stays set where its bit of `same` is, for some bits `same` of which `Bits` holds
+pub record JoinsBits (Bits : List Bool → Type 0) (old new : List Bool) : Type 0 where
+  pub same : List Bool
+  pub told : Bits same
+  pub joined : new ≡ zip2 ◌&&◌ old same
+
+-- each bit stays set where the two leaf rows of its place agree, if both are present; at other rows any bit may stand where one was set
+abbrev pub JoinsLeafBits : (Row → Row → Bool) → AnyArray → ℕ → AnyArray → ℕ → List Bool → List Bool → Type 0
+JoinsLeafBits agree left a right b old = JoinsBits (LeafBits agree left a right b (length old)) old
 
 -- Where row a of the left array and row b of the right one are both present, the bit says whether they agree; at other rows any bit may stand. `left` and `right` give a row by its place.
 pub record PresentBit (agree : Row → Row → Bool) (left : ℕ → Row) (left_mask : Option (List Bool)) (a : ℕ) (right : ℕ → Row) (right_mask : Option (List Bool)) (b : ℕ) (bit : Bool) : Type 0 where

@@ -1,4 +1,4 @@
--- Few leaves, none of them null, whose comparison needs no bitmap.
+-- Leaves of which none is null: their comparison needs no masks, and that of few no bitmap.
 use Rattle.std.specs.Prelude.{◌≡◌, ◌≤◌, ◌<◌, ℕ, false, IsTrue}
 use Rattle.polars_arrays_flat.specs.ArrayRows.{is_null}
 use Rattle.polars_arrays_nested.specs.AnyRows.{row}
@@ -11,9 +11,13 @@ use Rattle.polars_compare_nested.specs.Leaf.{is_leaf}
 abbrev pub NoNulls : AnyArray → Type 0
 NoNulls array = (i : ℕ) → i < len_of array → is_null (row array i) ≡ false
 
--- n rows fit in a word, those of the left array are leaves, and no row of either array is null
-pub record AreFewLeaves (left right : AnyArray) (n : ℕ) : Type 0 where
-  pub few : n ≤ 64
+-- the rows of the left array are leaves, and no row of either array is null
+pub record AreLeavesWithoutNulls (left right : AnyArray) : Type 0 where
   pub leaves : IsTrue (is_leaf (type_of left))
   pub left_there : NoNulls left
   pub right_there : NoNulls right
+
+-- the same of n rows, which fit in a word
+pub record AreFewLeaves (left right : AnyArray) (n : ℕ) : Type 0 where
+  pub few : n ≤ 64
+  pub whole : AreLeavesWithoutNulls left right

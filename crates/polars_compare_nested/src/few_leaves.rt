@@ -1,4 +1,4 @@
-//! Windows of few leaves, none of which is null: they are compared into a word, and no bitmap is made.
+//! Leaves of which none is null. Windows of few of them are compared into a word, and no bitmap is made.
 
 ghost use Rattle.std.specs.Prelude.{◌≡◌, ◌+◌, ◌≤◌, IsTrue, IfOk, MatchResult};
 ghost use Rattle.polars_arrays_bits.specs.Errors.{IsMemory};
@@ -6,7 +6,7 @@ ghost use Rattle.polars_arrays_nested.specs.GoodParts.{IsGood};
 ghost use Rattle.polars_arrays_nested.specs.Types.{type_of};
 ghost use Rattle.polars_arrays_words.specs.Bits.{first_of, is_bit};
 ghost use Rattle.polars_compare_nested.specs.Bits.{SameBits};
-ghost use Rattle.polars_compare_nested.specs.FewLeaves.{AreFewLeaves};
+ghost use Rattle.polars_compare_nested.specs.FewLeaves.{AreFewLeaves, AreLeavesWithoutNulls};
 ghost use Rattle.polars_compare_nested.specs.Leaf.{is_leaf};
 ghost use Rattle.polars_compare_nested.specs.Tally.{tally};
 ghost use Rattle.polars_compare_nested.specs.Windows.{AreWindows};
@@ -32,15 +32,25 @@ fn has_leaves(array: &AnyArray) -> bool
     }
 }
 
-/// Whether windows of `n` rows of two arrays of one type are at most 64 leaves each, and no row of either array
-/// is null. Where a validity has no bit unset the answer may be false.
+/// Whether the rows of two arrays of one type are leaves, and none of them is null. Where a validity has no bit
+/// unset the answer may be false.
+#[inline(always)]
+pub(crate) fn are_leaves(left: &AnyArray, right: &AnyArray) -> bool
+    requires left_good { IsGood left.now }
+    requires right_good { IsGood right.now }
+    ensures { IsTrue result → AreLeavesWithoutNulls left.now right.now }
+{
+    has_leaves(left) && !left.may_have_nulls() && !right.may_have_nulls()
+}
+
+/// The same, and whether windows of `n` rows of the two arrays are at most 64 leaves each.
 #[inline(always)]
 pub(crate) fn are_few_leaves(left: &AnyArray, right: &AnyArray, n: usize) -> bool
     requires left_good { IsGood left.now }
     requires right_good { IsGood right.now }
     ensures { IsTrue result → AreFewLeaves left.now right.now n }
 {
-    n <= WORD_BITS && has_leaves(left) && !left.may_have_nulls() && !right.may_have_nulls()
+    n <= WORD_BITS && are_leaves(left, right)
 }
 
 /// Which rows of two such windows are the same, as the bits of a word, the first one lowest. The count rises by

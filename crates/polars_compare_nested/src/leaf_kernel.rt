@@ -1,20 +1,22 @@
 //! How leaf rows are compared, and how their comparisons are counted.
 
-ghost use Rattle.std.specs.Prelude.{◌≡◌, ◌+◌, ◌≤◌, ℕ, Bool, IsTrue, IfOk, MatchResult};
+ghost use Rattle.std.specs.Prelude.{◌≡◌, ◌+◌, ◌≤◌, ℕ, Bool, IsTrue, length, IfOk, MatchResult};
 ghost use Rattle.polars_arrays_bits.specs.Errors.{IsMemory};
 ghost use Rattle.polars_arrays_flat.specs.Row.{Row};
 ghost use Rattle.polars_arrays_nested.specs.Types.{type_of};
 ghost use Rattle.polars_compare_leaves.specs.Sameness.{same_leaf};
-ghost use Rattle.polars_compare_nested.specs.Bits.{LeafBit, LeafBits, LeafWord};
+ghost use Rattle.polars_compare_nested.specs.Bits.{JoinsLeafBits, LeafBit, LeafBits, LeafWord};
 ghost use Rattle.polars_compare_nested.specs.Leaf.{is_leaf};
 ghost use Rattle.polars_compare_nested.specs.Windows.{AreWindows};
 
+use crate::joined_leaves::and_leaf_windows;
 use crate::leaf_rows::leaf_rows;
 use crate::leaf_windows::leaf_windows;
 use crate::leaf_words::leaf_word;
 use polars_arrays_bits::bit_mask::BitMask;
 use polars_arrays_bits::bitmap::Bitmap;
 use polars_arrays_bits::error::ComputeError;
+use polars_arrays_bits::mutable_bitmap::MutableBitmap;
 use polars_arrays_nested::any_array::AnyArray;
 use polars_arrays_numbers::steps::Steps;
 use std::alloc::Global;
@@ -67,6 +69,31 @@ pub trait LeafKernel {
     {
         let bits = self.leaf_eq(alloc, left, a, right, b, n)?;
         Ok(BitMask::from_bitmap(&bits).few_bits(0, n))
+    }
+
+    /// Whether the leaves of two windows agree, joined into bits that are there already: each stays true where the
+    /// leaves of its place agree, the first being that of rows `a` and `b`. Where a row is masked on either side
+    /// any bit may stand in place of a true one. The count rises by the number of bits. The error is `Memory`, and
+    /// then the count has not fallen. As it stands it asks for a bitmap; a kernel that needs none may join by itself.
+    fn leaf_and_eq(
+        &mut self,
+        alloc: Global,
+        bits: &mut MutableBitmap,
+        left: &AnyArray,
+        a: usize,
+        right: &AnyArray,
+        b: usize,
+    ) -> Result<(), ComputeError>
+        requires leaves { IsTrue (is_leaf (type_of left.now)) }
+        requires windows { AreWindows left.now a right.now b (length bits.old) }
+        ensures told { MatchResult result (λ _. JoinsLeafBits agree left.now a right.now b bits.old bits.new) IsMemory }
+        ensures counted { IfOk result (λ _. count self.new ≡ count self.old + length bits.old) }
+        ensures kept { count self.old ≤ count self.new }
+    {
+        let n = bits.len();
+        let same = self.leaf_eq(alloc, left, a, right, b, n)?;
+        bits.and_assign(&same);
+        Ok(())
     }
 
     /// Whether leaf `a` of the left array and leaf `b` of the right one agree. Where a row is masked on either
@@ -124,6 +151,21 @@ impl LeafKernel for Steps {
         let word = leaf_word(alloc, left, a, right, b, n)?;
         self.add(n);
         Ok(word)
+    }
+
+    fn leaf_and_eq(
+        &mut self,
+        alloc: Global,
+        bits: &mut MutableBitmap,
+        left: &AnyArray,
+        a: usize,
+        right: &AnyArray,
+        b: usize,
+    ) -> Result<(), ComputeError> {
+        let n = bits.len();
+        and_leaf_windows(alloc, bits, left, a, right, b)?;
+        self.add(n);
+        Ok(())
     }
 
     // No memory is needed, and so there is no error.

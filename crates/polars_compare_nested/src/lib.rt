@@ -6,6 +6,7 @@ mod downcast;
 mod entries;
 mod few_leaves;
 mod items;
+mod joined_leaves;
 pub mod kernels;
 pub mod laws;
 pub mod leaf_kernel;

@@ -9,14 +9,14 @@
 ghost use Rattle.std.specs.Prelude.{◌≡◌, ◌+◌, ◌-◌, ◌<◌, ◌≤◌, length, IfOk, MatchResult};
 ghost use Rattle.polars_arrays_bits.specs.Errors.{IsMemory};
 ghost use Rattle.polars_arrays_nested.specs.declared.any_array.AnyArray.{AnyArray, List, FixedSizeList, Struct, Dictionary};
-ghost use Rattle.polars_compare_nested.specs.Bits.{AddsRawBits, RawBits, SameBits, SamePresent};
+ghost use Rattle.polars_compare_nested.specs.Bits.{AddsRawBits, JoinsBits, RawBits, SameBits, SamePresent};
 ghost use Rattle.polars_compare_nested.specs.Known.{AreKnown};
 ghost use Rattle.polars_compare_nested.specs.Tally.{tally};
 ghost use Rattle.polars_compare_nested.specs.Windows.{AreWindows, Compares};
 
 use crate::downcast::{as_dictionary, as_fixed_size_list, as_list, as_struct};
 use crate::entries::row_entries;
-use crate::few_leaves::{are_few_leaves, same_few};
+use crate::few_leaves::{are_few_leaves, are_leaves, same_few};
 use crate::items::item_window;
 use crate::leaf_kernel::LeafKernel;
 use crate::masks::join_windows;
@@ -26,6 +26,7 @@ use polars_arrays_bits::bit_mask::BitMask;
 use polars_arrays_bits::bitmap::Bitmap;
 use polars_arrays_bits::builder::BitmapBuilder;
 use polars_arrays_bits::error::ComputeError;
+use polars_arrays_bits::mutable_bitmap::MutableBitmap;
 use polars_arrays_nested::any_array::AnyArray;
 use polars_arrays_nested::dictionary::DictionaryArray;
 use polars_arrays_nested::fixed_size_list::FixedSizeListArray;
@@ -218,10 +219,36 @@ pub fn struct_windows<K: LeafKernel>(
     let mut bits = first.into_mut(alloc)?;
     for i in 1..count {
         let (column, other) = column_pair(left, right, i);
-        let same = equal_windows(alloc, column, a, other, b, n, steps)?;
-        bits.and_assign(&same);
+        join_column(alloc, &mut bits, column, a, other, b, n, steps)?;
     }
     Ok(bits.freeze())
+}
+
+// Each of `n` bits stays true where the rows of two columns at its place are the same, the first being that of rows
+// `a` and `b`. Leaves without nulls are joined in place. The error is `Memory`, and then the count has not fallen.
+#[cycle(equal)]
+fn join_column<K: LeafKernel>(
+    alloc: Global,
+    bits: &mut MutableBitmap,
+    left: &AnyArray,
+    a: usize,
+    right: &AnyArray,
+    b: usize,
+    n: usize,
+    steps: &mut K,
+) -> Result<(), ComputeError>
+    requires windows { AreWindows left.now a right.now b n }
+    requires as_many { length bits.old ≡ n }
+    ensures told { MatchResult result (λ _. JoinsBits (SameBits K.agree left.now a right.now b n) bits.old bits.new) IsMemory }
+    ensures counted { IfOk result (λ _. K.count steps.new ≡ K.count steps.old + tally left.now right.now a b n) }
+    ensures kept { K.count steps.old ≤ K.count steps.new }
+{
+    if are_leaves(left, right) {
+        return steps.leaf_and_eq(alloc, bits, left, a, right, b);
+    }
+    let same = equal_windows(alloc, left, a, right, b, n, steps)?;
+    bits.and_assign(&same);
+    Ok(())
 }
 
 /// Which keys of two windows name entries that are the same. Where a key is masked on either side the bit

@@ -4,6 +4,7 @@ use Rattle.std.proofs.lemmas.Result.{MatchResult-weaker}
 use Rattle.polars_arrays_nested.specs.Parts.{columns}
 use Rattle.polars_arrays_nested.specs.declared.any_array.AnyArray.{List, Struct, Dictionary}
 use Rattle.polars_compare_nested.proofs.Columns.{columns_tally-take, first_column, more_columns, no_columns, struct_bits, struct_count, struct_tally}
+use Rattle.polars_compare_nested.proofs.FewRows.{whole_joined}
 use Rattle.polars_compare_nested.proofs.KnownLists.{known_at, none_known}
 use Rattle.polars_compare_nested.proofs.LeafSorts.{leaf_bit, leaf_bits, leaf_case, leaf_tally}
 use Rattle.polars_compare_nested.proofs.ListRuns.{apart_bits, run_bits, run_tally}
@@ -148,19 +149,16 @@ struct_windows-loop-i-init g t c =
       ap length c.values-count.ensures,
     )
 
-pub struct_windows-and_assign-requires : goal.struct_windows-and_assign-requires
-struct_windows-and_assign-requires g t c =
-    c.in_ok-same.ensures.told.size ∙ sym c.loop-i.invariant.0.size
-
 pub struct_windows-loop-i-preserved : goal.struct_windows-loop-i-preserved
 struct_windows-loop-i-preserved g t c =
     let l = c.args.left.now in
     let r = c.args.right.now in
     let pair = c.column_pair-in-loop-i.ensures in
+    let column = c.in_ok-join_column.ensures in
     let low : c.loop-i.i < length (columns l) = omega (arith, c.loop-i-test.true, c.loop-i.invariant.3) in (
-      more_columns _ (columns l) _ (columns r) _ _ c.loop-i.i _ _ _ c.in_ok-same.same _ c.loop-i.invariant.0 c.in_ok-same.ensures.told c.and_assign.ensures low pair.as_many pair.left_is pair.right_is,
-      omega (arith, c.in_ok-same.ensures.counted, c.loop-i.invariant.1, columns_tally-take (columns l) (columns r) _ _ c.loop-i.i c.args.a c.args.b c.args.n low pair.as_many pair.left_is pair.right_is),
-      omega (arith, c.in_ok-same.ensures.kept, c.loop-i.invariant.2),
+      more_columns _ (columns l) _ (columns r) _ _ c.loop-i.i _ _ _ column.told.same _ c.loop-i.invariant.0 column.told.told column.told.joined low pair.as_many pair.left_is pair.right_is,
+      omega (arith, column.counted, c.loop-i.invariant.1, columns_tally-take (columns l) (columns r) _ _ c.loop-i.i c.args.a c.args.b c.args.n low pair.as_many pair.left_is pair.right_is),
+      omega (arith, column.kept, c.loop-i.invariant.2),
       c.loop-i.invariant.3,
     )
 
@@ -177,6 +175,36 @@ struct_windows-returns g t c =
           ∙ ap (λ (k : ℕ). g.K.LeafKernel.count c.args.steps.now + k) (sym (struct_tally l r c.args.a c.args.b c.args.n c.loop-i.i all (omega (arith, all, many))));
       kept = c.loop-i.invariant.2;
     }
+
+pub join_column-leaf_and_eq-requires : goal.join_column-leaf_and_eq-requires
+join_column-leaf_and_eq-requires g t c = record {
+  leaves = (c.are_leaves.ensures c.if-are_leaves.true).leaves;
+  windows = rw c.requires.as_many c.requires.windows;
+}
+
+pub join_column-returns-then-are_leaves-clause-told :
+    goal.join_column-returns-then-are_leaves-clause-told
+join_column-returns-then-are_leaves-clause-told g t c =
+    MatchResult-weaker c.leaf_and_eq.result c.leaf_and_eq.ensures.told
+    (λ done joins. whole_joined g.K.LeafKernel.agree c.args.left.now c.args.right.now c.args.a c.args.b c.args.n c.args.bits.now c.leaf_and_eq.new.bits c.requires.windows (c.are_leaves.ensures c.if-are_leaves.true) c.requires.as_many joins)
+    (λ e memory. memory)
+
+pub join_column-returns-then-are_leaves-clause-counted :
+    goal.join_column-returns-then-are_leaves-clause-counted
+join_column-returns-then-are_leaves-clause-counted g t c =
+    let whole = c.are_leaves.ensures c.if-are_leaves.true in
+    subst (λ (k : ℕ). IfOk c.leaf_and_eq.result (λ _. g.K.LeafKernel.count c.leaf_and_eq.new.self ≡ g.K.LeafKernel.count c.args.steps.now + k))
+    (c.requires.as_many ∙ sym (leaf_tally c.args.left.now c.args.right.now c.args.a c.args.b c.args.n whole.leaves)) c.leaf_and_eq.ensures.counted
+
+pub join_column-and_assign-requires : goal.join_column-and_assign-requires
+join_column-and_assign-requires g t c = c.in_ok-same.ensures.told.size ∙ sym c.requires.as_many
+
+pub join_column-returns-clause-told : goal.join_column-returns-clause-told
+join_column-returns-clause-told g t c = record {
+  same = c.in_ok-same.same;
+  told = c.in_ok-same.ensures.told;
+  joined = c.and_assign.ensures;
+}
 
 pub dictionary_windows-loop-i-init : goal.dictionary_windows-loop-i-init
 dictionary_windows-loop-i-init g t c = (
