@@ -9,6 +9,7 @@
 //! | `set I VALUE` | none, as of the next ones |
 //! | `or X` | each bit becomes true where that of X is, which is made a bitmap of this kind |
 //! | `and X` | each bit stays true where that of X is |
+//! | `and_values X`, `and_wide_values X` | the same, the bits of X being packed one by one |
 //! | `and_mask X`, `or_not_mask X` | each bit stays true where that of X is, or becomes true where that of X is false |
 //! | `merge_eq L R`, `merge_ne L R` | equality and inequality of rows by their values' bits, by L and R, which say which rows are present |
 //! | `get I` | bit I |
@@ -17,6 +18,7 @@
 
 use crate::answer_text::{Told, write_value};
 use crate::bits::{read_bitmap, read_truth};
+use crate::truth_values::SingleBits;
 use polars_arrays_bits::bit_mask::BitMask;
 use polars_arrays_bits::bitmap::Bitmap;
 use polars_arrays_bits::mutable_bitmap::MutableBitmap;
@@ -93,6 +95,8 @@ fn change(
         "set" => set(bits, words.read_number()?, read_truth(words)?),
         "or" => or_assign(bits, read_mutable(alloc, words)),
         "and" => and_assign(bits, read_bitmap(alloc, words)),
+        "and_values" => and_values(bits, read_bitmap(alloc, words), false),
+        "and_wide_values" => and_values(bits, read_bitmap(alloc, words), true),
         "and_mask" | "or_not_mask" => assign_mask(bits, operation, read_bitmap(alloc, words)),
         "merge_eq" | "merge_ne" => {
             let left = read_bitmap(alloc, words)?;
@@ -142,6 +146,20 @@ fn and_assign(bits: &mut MutableBitmap, other: Result<Bitmap, Fault>) -> Result<
         return Err(Fault::Case);
     }
     bits.and_assign(&other);
+    Ok(())
+}
+
+// The same by the bits of the other one, each asked for by itself.
+fn and_values(
+    bits: &mut MutableBitmap,
+    other: Result<Bitmap, Fault>,
+    wide: bool,
+) -> Result<(), Fault> {
+    let other = other?;
+    if other.len() != bits.len() {
+        return Err(Fault::Case);
+    }
+    bits.and_assign_values(&SingleBits { bits: &other, wide });
     Ok(())
 }
 

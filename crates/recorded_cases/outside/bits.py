@@ -140,6 +140,8 @@ def mutable(words):
             i = words.number()
             window(bits, i, 1)
             bits[i] = words.truth()
+        elif operation in ("and_values", "and_wide_values"):
+            bits = [a and b for a, b in zip(bits, words.bits(), strict=True)]
         elif operation in ("or", "and", "and_mask", "or_not_mask"):
             bits = [OPERATORS[operation.removesuffix("_mask")](a, b) for a, b in zip(bits, words.bits(), strict=True)]
         elif operation in ("merge_eq", "merge_ne"):
