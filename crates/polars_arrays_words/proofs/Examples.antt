@@ -69,12 +69,13 @@ IsChanged-nowhere = record {
 
 -- the truth values true, false, true from place 1 on are the bits of 5
 IsPacked-three : IsPacked 5 (false ∷ true ∷ false ∷ true ∷ []) 1 3
-IsPacked-three = record { bits = bits; rest = rest; }
+IsPacked-three = record { bits = bits; rest = rest }
   where
     bits : (i : ℕ) → i < 3 → is_bit 5 i ≡ get_or (false ∷ true ∷ false ∷ true ∷ []) (1 + i) false
     bits zero lt = refl
     bits (suc zero) lt = refl
     bits (suc (suc zero)) lt = refl
     bits (suc (suc (suc i))) lt = absurd (omega arith)
+
     rest : (i : ℕ) → 3 ≤ i → i < 64 → is_bit 5 i ≡ false
     rest i past lt = ap (λ n. eqb n 1) (bit_at_above 5 3 i (omega arith) past)

@@ -15,5 +15,5 @@ returns g c = λ sure.
     let pair = c.views_at.ensures in
     let within = pair-within _ p.n c.args.i c.requires in
     told_of_strings (λ (xs ys : List ℕ). g.E.ViewComparison.rows (Bytes xs) (Bytes ys)) _ _ _ _ _
-      (c.guess.ensures _ _ pair.left_good pair.right_good (ap₂ g.E.ViewComparison.sure pair.left pair.right ∙ sure)) pair.left_row pair.right_row
+    (c.guess.ensures _ _ pair.left_good pair.right_good (ap₂ g.E.ViewComparison.sure pair.left pair.right ∙ sure)) pair.left_row pair.right_row
     ∙ sym (pair-at (compared_pair g.E.ViewComparison.rows (view_strings p.left.now) (view_strings p.right.now) p.a p.b) p.n c.args.i within)
