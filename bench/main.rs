@@ -27,7 +27,7 @@ mod timing;
 use nested_rows::Nested;
 use operands::Data;
 use string_rows::Strings;
-use timing::{Bench, Kernel, RUNS};
+use timing::{Bench, Kernel, ROUNDS, RUNS};
 
 /// Hands each kernel on rows to `each`, on so many of them.
 fn for_each_on_rows(count: usize, each: &mut dyn FnMut(&Kernel)) {
@@ -64,24 +64,25 @@ fn main() {
     rows_agree();
     bitmaps::agree();
     arithmetic::agree();
-    let mut bench = Bench {
-        words: std::env::args().skip(1).collect(),
-        over: 0,
-    };
+    let mut bench = Bench::new(std::env::args().skip(1).collect());
     println!(
         "{:40} {:>9} {:>9} {:>9} {:>7} {:>8}",
         "kernel", "rows", "ns here", "ns beside", "ratio", "asked"
     );
-    for run in 0..RUNS.len() {
-        for_each_on_rows(RUNS[run].count, &mut |kernel| {
-            bench.compare(run, kernel);
-        });
-        bitmaps::compare(&mut bench, run);
-    }
-    nested::compare(&mut bench);
-    states::compare(&mut bench);
-    for run in 0..RUNS.len() {
-        arithmetic::compare(&mut bench, run);
-    }
-    println!("{} over what is asked for", bench.over);
+    bench.in_rounds(ROUNDS, |bench| {
+        for run in 0..RUNS.len() {
+            for_each_on_rows(RUNS[run].count, &mut |kernel| {
+                bench.compare(run, kernel);
+            });
+            bitmaps::compare(bench, run);
+        }
+        nested::compare(bench);
+        states::compare(bench);
+    });
+    bench.in_rounds(1, |bench| {
+        for run in 0..RUNS.len() {
+            arithmetic::compare(bench, run);
+        }
+    });
+    println!("{} over what is asked for", bench.over());
 }

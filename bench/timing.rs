@@ -1,7 +1,12 @@
 //! Times the two sides of a kernel, and prints the line.
 
+use std::collections::HashMap;
 use std::hint::black_box;
 use std::time::{Duration, Instant};
+
+/// How often the kernels are timed, one after the other. The best times of all rounds count: other work on the
+/// machine lasts for seconds, and then all measurements of a kernel in one round are slow.
+pub const ROUNDS: usize = 4;
 
 /// What a side answers for a bit past the end.
 pub const NO_BIT: u64 = 2;
@@ -40,12 +45,12 @@ pub struct Run {
 pub const RUNS: [Run; 2] = [
     Run {
         count: 16_384,
-        times: 150,
+        times: 100,
         least: Duration::from_millis(1),
     },
     Run {
         count: 1_048_576,
-        times: 30,
+        times: 16,
         least: Duration::from_millis(20),
     },
 ];
@@ -69,7 +74,7 @@ impl Run {
     pub fn of(count: usize) -> Run {
         Run {
             count,
-            times: 60,
+            times: 20,
             least: Duration::from_millis(5),
         }
     }
@@ -141,12 +146,38 @@ impl Best {
 }
 
 pub struct Bench {
-    pub words: Vec<String>,
-    pub over: usize,
+    words: Vec<String>,
+    over: usize,
+    rounds_left: usize,
+    /// The best nanoseconds a row of both sides so far, by the kernel's name and the number of rows.
+    best: HashMap<(String, usize), (f64, f64)>,
 }
 
 impl Bench {
-    /// Times both sides in turn, and prints the line. `run` says which of `RUNS` it is.
+    /// Those kernels are run whose names hold one of the words, or all without words.
+    pub fn new(words: Vec<String>) -> Bench {
+        Bench {
+            words,
+            over: 0,
+            rounds_left: 0,
+            best: HashMap::new(),
+        }
+    }
+
+    /// Times kernels in so many rounds. The lines are printed in the last one.
+    pub fn in_rounds(&mut self, rounds: usize, mut each: impl FnMut(&mut Bench)) {
+        for left in (0..rounds).rev() {
+            self.rounds_left = left;
+            each(self);
+        }
+    }
+
+    /// How many kernels are over what is asked for.
+    pub fn over(&self) -> usize {
+        self.over
+    }
+
+    /// Times both sides in turn, and in the last round prints the line. `run` says which of `RUNS` it is.
     pub fn compare(&mut self, run: usize, kernel: &Kernel) {
         self.time(&RUNS[run], run, kernel);
     }
@@ -176,8 +207,14 @@ impl Bench {
             our_best.measure(repeats, ours);
             other_best.measure(repeats, other);
         }
-        let our_time = our_best.each(repeats * count);
-        let other_time = other_best.each(repeats * count);
+        let best = self.best.entry((name.to_string(), count));
+        let best = best.or_insert((f64::MAX, f64::MAX));
+        best.0 = best.0.min(our_best.each(repeats * count));
+        best.1 = best.1.min(other_best.each(repeats * count));
+        let (our_time, other_time) = *best;
+        if self.rounds_left > 0 {
+            return Some(our_time);
+        }
         let ratio = our_time / other_time;
         let (over, limit) = match kernel.asked {
             Asked::Nothing => (false, "-".to_string()),
@@ -199,6 +236,9 @@ impl Bench {
         let (Some(first), Some(last)) = (times.first(), times.last()) else {
             return;
         };
+        if self.rounds_left > 0 {
+            return;
+        }
         let ratio = last / first;
         let over = ratio > limit;
         self.over += usize::from(over);
