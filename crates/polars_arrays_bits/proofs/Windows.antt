@@ -149,6 +149,15 @@ zip3-last g f h k n zs e =
     let second : length (first_of h (length zs)) ≡ length zs = length-first h (length zs) in
     first-zip3 g f h k n n n (first_of f (length zs)) (first_of h (length zs)) zs (ap (first_of f) (sym long)) (ap (first_of h) (sym long)) e (second ∙ sym first) (sym first)
 
+-- the last two operands are lists, the first one is as many values
+pub zip3-last_two :
+    (g : Bool → Bool → Bool → Bool) (f h k : ℕ → Bool) (n l : ℕ) (ys zs : List Bool) → first_of h n ≡ ys → first_of k l ≡ zs → length zs ≡ length ys →
+    first_of (λ i. g (f i) (h i) (k i)) n ≡ zip3 g (first_of f (length ys)) ys zs
+zip3-last_two g f h k n l ys zs ey ez same =
+    let long : length ys ≡ n = length_is h n ys ey in
+    let first : length (first_of f (length ys)) ≡ length ys = length-first f (length ys) in
+    first-zip3 g f h k n n l (first_of f (length ys)) ys zs (ap (first_of f) (sym long)) ey ez (sym first) (same ∙ sym first)
+
 -- ---- counts
 
 -- the true and the false ones are all

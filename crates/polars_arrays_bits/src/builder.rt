@@ -1,13 +1,18 @@
 //! Packed truth values that are pushed one after the other.
 
-ghost use Rattle.std.specs.Prelude.{◌≡◌, ◌+◌, ◌-◌, ◌<◌, ◌≤◌, [], ◌∷◌, ◌++◌, length, replicate, MatchResult};
+ghost use Rattle.std.specs.Prelude.{◌≡◌, ◌+◌, ◌-◌, ◌*◌, ◌<◌, ◌≤◌, [], ◌∷◌, ◌++◌, length, replicate, MatchResult};
+ghost use Rattle.polars_arrays_words.specs.Bits.{first_of};
+ghost use Rattle.polars_arrays_words.specs.Blocks.{blocks_all};
 ghost use Rattle.polars_arrays_bits.specs.Errors.{IsMemory};
 
+use crate::bit_mask::BitMask;
 use crate::bitmap::Bitmap;
 use crate::error::ComputeError;
+use polars_arrays_words::folds::{Blocks, Fours, Pairs};
 use polars_arrays_words::packing::TruthValues;
+use polars_arrays_words::source::BitSource;
 use polars_arrays_words::words::WORD_BITS;
-use polars_arrays_words::write::{append_values, fill_bits, write_bit};
+use polars_arrays_words::write::{append_bits, append_values, fill_bits, write_bit};
 use std::alloc::Global;
 use std::marker::Model;
 
@@ -91,6 +96,41 @@ impl BitmapBuilder {
         append_values(self.words.as_mut_slice(), self.len, values);
         self.len += count;
         self.room -= count;
+    }
+
+    // Pushes the first `n` bits of a source, a word of them at a time.
+    fn extend_source<S: BitSource>(&mut self, source: &S, n: usize)
+        requires { n ≤ self.old.room }
+        ensures { self.new ≡ record { bits = self.old.bits ++ first_of (S.bit source.now) n; room = self.old.room - n } }
+    {
+        append_bits(self.words.as_mut_slice(), self.len, source, n);
+        self.len += n;
+        self.room -= n;
+    }
+
+    /// Pushes a bit for each of `n` blocks of `width` bits, the first of which begins at the first bit: whether
+    /// the bits of the block are all true. Blocks of 2 and 4 bits are folded a word at a time.
+    pub fn extend_blocks(&mut self, items: &BitMask<'_>, width: usize, n: usize)
+        requires within { width * n ≤ length items.now }
+        requires room { n ≤ self.old.room }
+        ensures { self.new ≡ record { bits = self.old.bits ++ blocks_all width n items.now; room = self.old.room - n } }
+    {
+        // No effect at run time. The proof reads from it that places are numbers of 64 bits.
+        let _len = items.len();
+        let (words, by) = items.packed();
+        match width {
+            2 => self.extend_source(&Pairs { words, by }, n),
+            4 => self.extend_source(&Fours { words, by }, n),
+            _ => {
+                let count = n;
+                self.extend_values(&Blocks {
+                    words,
+                    by,
+                    width,
+                    count,
+                });
+            }
+        }
     }
 
     /// The bits that were pushed.

@@ -12,13 +12,13 @@ use polars_arrays_numbers::comparison::Comparison;
 use polars_arrays_words::packing::{TruthValues, pack_few};
 use std::alloc::Global;
 
-// A comparison of two slices, place by place.
+/// A comparison of the elements of two slices of one length, place by place: whether it holds of them.
 #[derive(Drop)]
-struct Pairs<'a, L, R, E> {
-    comparison: &'a E,
-    left: &'a [L],
-    right: &'a [R],
-    ghost one_length: { length right.now ≡ length left.now },
+pub struct Pairs<'a, L, R, E> {
+    pub comparison: &'a E,
+    pub left: &'a [L],
+    pub right: &'a [R],
+    pub ghost one_length: { length right.now ≡ length left.now },
 }
 
 impl<'a, L: Copy, R: Copy, E: Comparison<L, R>> TruthValues for Pairs<'a, L, R, E> {

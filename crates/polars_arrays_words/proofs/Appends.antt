@@ -6,7 +6,7 @@ use Rattle.std.proofs.lemmas.Nat.{and_mask, one_shl, mod_below, pow_pos}
 use Rattle.std.proofs.lemmas.Nat.Bits.{bit_at_above}
 use mathlib.Core.Logic.{⊎_elim}
 use Rattle.polars_arrays_words.specs.Bits.{is_bit, bit_of, IsPut}
-use Rattle.polars_arrays_words.specs.Packing.{IsPacked, AreAppended}
+use Rattle.polars_arrays_words.specs.Packing.{AreAppended}
 use Rattle.polars_arrays_words.proofs.SingleBits.{bit_at-mod, bit_at-shr}
 use Rattle.polars_arrays_words.proofs.WrittenBits.{bit_of-set_same, bit_of-set_other}
 
@@ -84,11 +84,11 @@ appended-none words from values = record {
   added = λ i lt. absurd (omega arith);
 }
 
--- the word of the next truth values put behind those before it
+-- a word that begins with the next truth values, put behind those before it
 pub appended-more :
     (old mid new : List ℕ) (from word : ℕ) (values : List Bool) (n count : ℕ) → from + (n + count) ≤ 64 * length old → count ≤ 64 →
-    IsPacked word values n count → AreAppended old mid from values n → IsPut mid new (from + n) word → AreAppended old new from values (n + count)
-appended-more old mid new from word values n count room few packed so_far put = record {
+    ((i : ℕ) → i < count → is_bit word i ≡ get_or values (n + i) false) → AreAppended old mid from values n → IsPut mid new (from + n) word → AreAppended old new from values (n + count)
+appended-more old mid new from word values n count room few next so_far put = record {
   long = put.count ∙ so_far.long;
   before = λ p lt. put.before p (omega arith) ∙ so_far.before p lt;
   added = λ i lt.
@@ -99,7 +99,7 @@ appended-more old mid new from word values n count room few packed so_far put = 
       let there : n + (i - n) ≡ i = omega arith in
       ap (bit_of new) place
       ∙ put.bits (i - n) (omega arith) (omega (arith, so_far.long))
-      ∙ packed.bits (i - n) (omega arith)
+      ∙ next (i - n) (omega arith)
       ∙ ap (λ k. get_or values k false) there)
       (cases_lt i n);
 }

@@ -3,7 +3,7 @@
 ghost use Rattle.std.specs.Prelude.{◌≡◌, ℕ, ◌+◌, ◌-◌, ◌*◌, ◌^◌, ◌<◌, ◌≤◌, Bool, [], length, vec_capacity, count_by, IfOk};
 ghost use Rattle.polars_arrays_words.specs.Bits.{bit_of, window, true_count, IsWord, AreWords};
 
-use crate::words::{WORD_BITS, join, join_lanes, word_or_zero};
+use crate::words::{WORD_BITS, join, join_from, join_lanes, word_or_zero};
 use std::alloc::{AllocError, Global};
 
 /// Bits that are read 64 at a time, each 64 of them as the bits of a word, the lowest first.
@@ -81,6 +81,41 @@ impl BitSource for Shifted<'_> {
     #[inline]
     fn word(&self, k: usize) -> u64 {
         join(
+            word_or_zero(self.words, k),
+            word_or_zero(self.words, k + 1),
+            self.by,
+        )
+    }
+}
+
+/// The bits of words, from bit `by` of the first one on, be it the lowest or a later one, and zeros after them.
+/// One loop over such a source serves both. It reads two words for each, one by one, and so is for loops in
+/// which that takes little of the time.
+#[derive(Drop)]
+pub struct Placed<'a> {
+    pub words: &'a [u64],
+    pub by: usize,
+    pub ghost within_word: { by < 64 },
+}
+
+impl BitSource for Placed<'_> {
+    ghost bit = { λ s i. bit_of s.words.now (s.by + i) };
+
+    ghost inner = { λ s. length s.words.now - 1 };
+
+    #[inline]
+    fn inner_words(&self) -> usize {
+        self.words.len().saturating_sub(1)
+    }
+
+    #[inline]
+    fn inner_word(&self, k: usize) -> u64 {
+        join_from(self.words[k], self.words[k + 1], self.by)
+    }
+
+    #[inline]
+    fn word(&self, k: usize) -> u64 {
+        join_from(
             word_or_zero(self.words, k),
             word_or_zero(self.words, k + 1),
             self.by,

@@ -1,10 +1,11 @@
 //! Bits that are written into words.
 
 ghost use Rattle.std.specs.Prelude.{◌≡◌, ◌+◌, ◌*◌, ◌^◌, ◌<◌, ◌≤◌, Bool, length, slice_set};
-ghost use Rattle.polars_arrays_words.specs.Bits.{IsPut, IsWritten};
+ghost use Rattle.polars_arrays_words.specs.Bits.{IsPut, IsWritten, first_of};
 ghost use Rattle.polars_arrays_words.specs.Packing.{AreAppended};
 
 use crate::packing::{TruthValues, pack_few, pack_word, put};
+use crate::source::BitSource;
 use crate::words::{WORD_BITS, filled_word, word_or_zero};
 
 /// Bit `p` becomes `value`, and no other changes.
@@ -99,4 +100,16 @@ pub fn append_values<V: TruthValues>(words: &mut [u64], from: usize, values: &V)
         from + (len - rest),
         pack_few(values, len - rest, rest),
     );
+}
+
+/// The bits from bit `from` on become the first `len` bits of a source, a word of them at a time, and no bit
+/// before them changes. Bits behind them may.
+pub fn append_bits<S: BitSource>(words: &mut [u64], from: usize, source: &S, len: usize)
+    requires room { from + len ≤ 64 * length words.old }
+    requires fits { from + len < 2 ^ 64 }
+    ensures { AreAppended words.old words.new from (first_of (S.bit source.now) len) len }
+{
+    for k in 0..len.div_ceil(WORD_BITS) {
+        put_word(words, from + WORD_BITS * k, source.word(k));
+    }
 }

@@ -51,6 +51,14 @@ module _ (told : Bool) (test : Row → Row → Bool) (law : (x y : Row) → (tes
   from-constant l r xs y bits b =
       from-zip l r xs (replicate (length xs) y) bits (length-replicate (length xs) y) (b ∙ sym (zip2_splat test xs (length xs) y refl))
 
+-- truth values that test stored rows
+pub equal-values : (l r : Option (List Bool)) (xs ys : List Row) → length xs ≡ length ys → RawEquality true ⊤ l r xs ys (zip2 same_row xs ys)
+equal-values l r xs ys e = from-zip true same_row same-told l r xs ys (zip2 same_row xs ys) (sym e) refl
+
+pub unequal-values : (l r : Option (List Bool)) (xs ys : List Row) → length xs ≡ length ys → RawEquality false ⊤ l r xs ys (zip2 other_row xs ys)
+unequal-values l r xs ys e = from-zip false other_row other-told l r xs ys (zip2 other_row xs ys) (sym e) refl
+
+-- and bits of windows that do
 pub equal-windows : (l r : Option (List Bool)) (xs ys : List Row) (n : ℕ) (bits : List Bool) → n ≡ length xs → length xs ≡ length ys → bits ≡ zip2 same_row (window 0 n xs) (window 0 n ys) → RawEquality true ⊤ l r xs ys bits
 equal-windows = from-windows true same_row same-told
 

@@ -94,11 +94,7 @@ pub trait TotalEqKernel: Sized + Array {
             (RawEquality false ⊤ (Self.mask self.now) None (Self.slots self.now) (replicate (length (Self.slots self.now)) (scalar_row other.now))) };
 
     /// Where the rows are equal, null to null alone.
-    final fn tot_eq_missing_kernel(
-        &self,
-        alloc: Global,
-        other: &Self,
-    ) -> Result<Bitmap, ComputeError>
+    fn tot_eq_missing_kernel(&self, alloc: Global, other: &Self) -> Result<Bitmap, ComputeError>
         requires good { Self.good self.now }
         requires good_other { Self.good other.now }
         requires comparable { comparable self.now other.now }
@@ -111,11 +107,7 @@ pub trait TotalEqKernel: Sized + Array {
     }
 
     /// Where the rows are unequal, null to all but null.
-    final fn tot_ne_missing_kernel(
-        &self,
-        alloc: Global,
-        other: &Self,
-    ) -> Result<Bitmap, ComputeError>
+    fn tot_ne_missing_kernel(&self, alloc: Global, other: &Self) -> Result<Bitmap, ComputeError>
         requires good { Self.good self.now }
         requires good_other { Self.good other.now }
         requires comparable { comparable self.now other.now }

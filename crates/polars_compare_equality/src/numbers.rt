@@ -11,7 +11,8 @@ use polars_arrays_flat::array::Array;
 use polars_arrays_flat::primitive::PrimitiveArray;
 use polars_arrays_numbers::comparison::{Equal, Unequal};
 use polars_arrays_numbers::native_type::NativeType;
-use polars_compare_leaves::numbers::{compare_number, compare_number_windows};
+use polars_compare_leaves::joining::Relation;
+use polars_compare_leaves::numbers::{compare_number, compare_number_windows, join_numbers};
 use std::alloc::Global;
 
 impl<T: NativeType + 'static> TotalEqKernel for PrimitiveArray<T> {
@@ -41,6 +42,35 @@ impl<T: NativeType + 'static> TotalEqKernel for PrimitiveArray<T> {
 
     fn tot_ne_kernel(&self, alloc: Global, other: &Self) -> Result<Bitmap, ComputeError> {
         compare_number_windows(alloc, &Unequal, self, 0, other, 0, self.len())
+    }
+
+    // The masks are joined with each word of truth values while it is at hand.
+    fn tot_eq_missing_kernel(&self, alloc: Global, other: &Self) -> Result<Bitmap, ComputeError> {
+        let left_mask = self.missing_mask(alloc)?;
+        let right_mask = other.missing_mask(alloc)?;
+        join_numbers(
+            alloc,
+            Relation::Equal,
+            &Equal,
+            self,
+            &left_mask,
+            other,
+            &right_mask,
+        )
+    }
+
+    fn tot_ne_missing_kernel(&self, alloc: Global, other: &Self) -> Result<Bitmap, ComputeError> {
+        let left_mask = self.missing_mask(alloc)?;
+        let right_mask = other.missing_mask(alloc)?;
+        join_numbers(
+            alloc,
+            Relation::Unequal,
+            &Unequal,
+            self,
+            &left_mask,
+            other,
+            &right_mask,
+        )
     }
 
     fn tot_eq_kernel_broadcast(&self, alloc: Global, other: &T) -> Result<Bitmap, ComputeError> {

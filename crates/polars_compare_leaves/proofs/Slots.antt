@@ -4,7 +4,7 @@ use Rattle.std.proofs.lemmas.List.{take-map, drop-map}
 use Rattle.std.specs.Simd.Lanes.{zip2}
 
 module _ {A B C : Type 0} (put : A → B) (f : A → A → C) (g : B → B → C) (law : (x y : A) → f x y ≡ g (put x) (put y)) where
-  zip2-put : (xs ys : List A) → zip2 f xs ys ≡ zip2 g (map put xs) (map put ys)
+  pub zip2-put : (xs ys : List A) → zip2 f xs ys ≡ zip2 g (map put xs) (map put ys)
   zip2-put [] ys = refl
   zip2-put (x ∷ xs) [] = refl
   zip2-put (x ∷ xs) (y ∷ ys) = ap₂ (λ (c : C) (cs : List C). c ∷ cs) (law x y) (zip2-put xs ys)

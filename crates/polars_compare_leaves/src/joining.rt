@@ -8,6 +8,7 @@ ghost use Rattle.polars_compare_leaves.specs.Joining.{Joined, told};
 use polars_arrays_bits::bit_mask::BitMask;
 use polars_arrays_bits::bitmap::Bitmap;
 use polars_arrays_bits::error::ComputeError;
+use polars_arrays_bits::packing::TruthValues;
 use polars_arrays_flat::mask::Mask;
 use std::alloc::Global;
 
@@ -95,4 +96,44 @@ pub fn join_nulls(
     ensures { MatchResult result (Joined (told relation) left.now right.now raw) IsMemory }
 {
     join_masks(alloc, relation, raw, left.bits(), right.bits())
+}
+
+// Truth values of a comparison joined with the masks of both sides, as they are packed into words.
+#[inline(always)]
+fn join_both_values<V: TruthValues>(
+    alloc: Global,
+    relation: Relation,
+    raw: &V,
+    left: &BitMask<'_>,
+    right: &BitMask<'_>,
+) -> Result<Bitmap, ComputeError>
+    requires left { length left.now ≡ length (V.values raw.now) }
+    requires right { length right.now ≡ length (V.values raw.now) }
+    ensures { MatchResult result (Joined (told relation) (Some left.now) (Some right.now) (V.values raw.now)) IsMemory }
+{
+    match relation {
+        Relation::Equal => BitMask::merge_eq_values(alloc, raw, left, right),
+        Relation::Unequal => BitMask::merge_ne_values(alloc, raw, left, right),
+    }
+}
+
+/// The same of truth values that are asked for one by one. Where both sides have bits, the masks are joined
+/// with each word of truth values as it is packed, and no raw bits are made. The error is `Memory`.
+#[inline(always)]
+pub fn join_values<V: TruthValues>(
+    alloc: Global,
+    relation: Relation,
+    raw: &V,
+    left: &Mask<'_>,
+    right: &Mask<'_>,
+) -> Result<Bitmap, ComputeError>
+    requires left { HasBits (length (V.values raw.now)) left.now }
+    requires right { HasBits (length (V.values raw.now)) right.now }
+    ensures { MatchResult result (Joined (told relation) left.now right.now (V.values raw.now)) IsMemory }
+{
+    if let (Some(left), Some(right)) = (left.bits(), right.bits()) {
+        return join_both_values(alloc, relation, raw, &left, &right);
+    }
+    let raw = Bitmap::from_values(alloc, raw)?;
+    join_nulls(alloc, relation, raw, left, right)
 }

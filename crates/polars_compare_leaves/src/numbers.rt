@@ -6,13 +6,18 @@ ghost use Rattle.polars_arrays_words.specs.Bits.{first_of, is_bit};
 ghost use Rattle.polars_arrays_bits.specs.Errors.{IsMemory};
 ghost use Rattle.polars_arrays_flat.specs.Row.{Int};
 ghost use Rattle.polars_arrays_flat.specs.StoredRows.{number_slots};
-ghost use Rattle.polars_arrays_flat.specs.Validity.{window};
+ghost use Rattle.polars_arrays_flat.specs.Validity.{HasBits, window};
+ghost use Rattle.polars_compare_leaves.specs.Joining.{Joined, told};
 
+use crate::joining::{Relation, join_values};
 use crate::row_comparison::RowComparison;
 use polars_arrays_bits::bitmap::Bitmap;
 use polars_arrays_bits::error::ComputeError;
 use polars_arrays_bits::mutable_bitmap::MutableBitmap;
-use polars_arrays_bits::slices::{and_pairs, compare_constant, compare_few, compare_windows};
+use polars_arrays_bits::slices::{
+    Pairs, and_pairs, compare_constant, compare_few, compare_windows,
+};
+use polars_arrays_flat::mask::Mask;
 use polars_arrays_flat::primitive::PrimitiveArray;
 use polars_arrays_numbers::native_type::NativeType;
 use std::alloc::Global;
@@ -79,6 +84,32 @@ pub fn and_number_windows<T: NativeType, E: RowComparison<T>>(
     let n = bits.len();
     let (left, right) = (left.values(), right.values());
     and_pairs(bits, comparison, &left[a..a + n], &right[b..b + n]);
+}
+
+/// Of which stored rows of two arrays of one length a comparison holds, place by place, joined with the masks of
+/// both sides: what a bit of the comparison tells, the relation says. The error is `Memory`.
+#[inline(always)]
+pub fn join_numbers<T: NativeType, E: RowComparison<T>>(
+    alloc: Global,
+    relation: Relation,
+    comparison: &E,
+    left: &PrimitiveArray<T>,
+    left_mask: &Mask<'_>,
+    right: &PrimitiveArray<T>,
+    right_mask: &Mask<'_>,
+) -> Result<Bitmap, ComputeError>
+    requires one_length { length right.now.values ≡ length left.now.values }
+    requires left_bits { HasBits (length left.now.values) left_mask.now }
+    requires right_bits { HasBits (length left.now.values) right_mask.now }
+    ensures { MatchResult result (Joined (told relation) left_mask.now right_mask.now
+        (zip2 E.rows (number_slots T.value left.now.values) (number_slots T.value right.now.values))) IsMemory }
+{
+    let pairs = Pairs {
+        comparison,
+        left: left.values(),
+        right: right.values(),
+    };
+    join_values(alloc, relation, &pairs, left_mask, right_mask)
 }
 
 /// Of which stored rows and one number a comparison holds. The error is `Memory`.

@@ -14,6 +14,7 @@ mod MaskedRows
 mod MatchBits
 mod OffsetPlaces
 mod Offsets
+mod OneWidth
 mod RawRows
 mod Strings
 mod TallyAdds

@@ -35,7 +35,7 @@ and_no : (s : Bool) → s && true ≡ false → s ≡ false
 and_no true h = h
 and_no false h = refl
 
-eqb_true : (n m : ℕ) → IsTrue (eqb n m) → n ≡ m
+pub eqb_true : (n m : ℕ) → IsTrue (eqb n m) → n ≡ m
 eqb_true n m h = elim (eqb_tells n m) [ inl k ↦ k.1 | inr k ↦ cc ]
 
 eqb_false : (n m : ℕ) → eqb n m ≡ false → n ≢ m

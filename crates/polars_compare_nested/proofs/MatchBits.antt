@@ -16,7 +16,7 @@ use Rattle.polars_arrays_words.proofs.OperatorBits.{is_bit_and, is_bit_or}
 use Rattle.polars_arrays_words.proofs.WrittenBits.{ones_bit}
 use Rattle.polars_arrays_words.specs.Bits.{first_of, is_bit}
 use Rattle.polars_arrays_words.specs.Packing.{IsPacked}
-use Rattle.polars_compare_nested.specs.Runs.{Match, TellMatches, empty_lists, is_match, same_counts, span_between}
+use Rattle.polars_compare_nested.specs.Runs.{Match, TellMatches, is_match, lists_of_width, same_counts, span_between}
 use Rattle.polars_compare_nested.proofs.WindowBits.{get_or-window}
 
 -- there is a bit for each pair of lists
@@ -27,25 +27,25 @@ get_or-counts : (all : List (Option ℕ)) (a : ℕ) (others : List (Option ℕ))
 get_or-counts all a others b n i low = get_or-first (λ i. eqb (span_between all (a + i)) (span_between others (b + i))) n i false low
 
 -- and for each list
-pub length-empty : (all : List (Option ℕ)) (a n : ℕ) → length (empty_lists all a n) ≡ n
-length-empty all a n = length-first (λ i. eqb (span_between all (a + i)) 0) n
+pub length-width : (all : List (Option ℕ)) (a n width : ℕ) → length (lists_of_width all a n width) ≡ n
+length-width all a n width = length-first (λ i. eqb (span_between all (a + i)) width) n
 
-get_or-empty : (all : List (Option ℕ)) (a n i : ℕ) → i < n → get_or (empty_lists all a n) i false ≡ eqb (span_between all (a + i)) 0
-get_or-empty all a n i low = get_or-first (λ i. eqb (span_between all (a + i)) 0) n i false low
+pub get_or-width : (all : List (Option ℕ)) (a n width i : ℕ) → i < n → get_or (lists_of_width all a n width) i false ≡ eqb (span_between all (a + i)) width
+get_or-width all a n width i low = get_or-first (λ i. eqb (span_between all (a + i)) width) n i false low
 
 -- what counts answer is such a bit
 pub counts_value : (all : List (Option ℕ)) (a : ℕ) (others : List (Option ℕ)) (b n i count other : ℕ) → i < n → count ≡ span_between all (a + i) → other ≡ span_between others (b + i) → eqb count other ≡ get_or (same_counts all a others b n) i false
 counts_value all a others b n i count other low here there = ap₂ eqb here there ∙ sym (get_or-counts all a others b n i low)
 
-pub empty_value : (all : List (Option ℕ)) (a n i count : ℕ) → i < n → count ≡ span_between all (a + i) → eqb count 0 ≡ get_or (empty_lists all a n) i false
-empty_value all a n i count low here = ap (λ k. eqb k 0) here ∙ sym (get_or-empty all a n i low)
+pub width_value : (all : List (Option ℕ)) (a n width i count : ℕ) → i < n → count ≡ span_between all (a + i) → eqb count width ≡ get_or (lists_of_width all a n width) i false
+width_value all a n width i count low here = ap (λ k. eqb k width) here ∙ sym (get_or-width all a n width i low)
 
 -- a bit of the first bits of a word, which are a window
 pub window_bit : (word at n : ℕ) (bits : List Bool) → first_of (is_bit word) n ≡ window at n bits → (i : ℕ) → i < n → is_bit word i ≡ get_or bits (at + i) false
 window_bit word at n bits e i low =
     sym (get_or-first (is_bit word) n i false low) ∙ ap (λ l. get_or l i false) e ∙ get_or-window at n bits i false low
 
-packed_bit : (word n : ℕ) (values : List Bool) → IsPacked word values 0 n → (i : ℕ) → i < n → is_bit word i ≡ get_or values i false
+pub packed_bit : (word n : ℕ) (values : List Bool) → IsPacked word values 0 n → (i : ℕ) → i < n → is_bit word i ≡ get_or values i false
 packed_bit word n values packed i low =
     let place : 0 + i ≡ i = omega arith in
     packed.bits i low ∙ ap (λ p. get_or values p false) place
@@ -56,10 +56,10 @@ same_bit l r a b n all others same e e' packed i low =
     ∙ get_or-counts all a others b n i low
     ∙ ap₂ (λ x y. eqb (span_between x (a + i)) (span_between y (b + i))) e e'
 
-empty_bit : (l : ListArray) (a n : ℕ) (all : List (Option ℕ)) (empty : ℕ) → all ≡ list_places (list_offsets l) → IsPacked empty (empty_lists all a n) 0 n → (i : ℕ) → i < n → is_bit empty i ≡ eqb (span (list_offsets l) (a + i)) 0
+empty_bit : (l : ListArray) (a n : ℕ) (all : List (Option ℕ)) (empty : ℕ) → all ≡ list_places (list_offsets l) → IsPacked empty (lists_of_width all a n 0) 0 n → (i : ℕ) → i < n → is_bit empty i ≡ eqb (span (list_offsets l) (a + i)) 0
 empty_bit l a n all empty e packed i low =
-    packed_bit empty n (empty_lists all a n) packed i low
-    ∙ get_or-empty all a n i low
+    packed_bit empty n (lists_of_width all a n 0) packed i low
+    ∙ get_or-width all a n 0 i low
     ∙ ap (λ x. eqb (span_between x (a + i)) 0) e
 
 -- the bits of a word say which lists are present on both sides
@@ -70,7 +70,7 @@ pub both_bits : (l r : ListArray) (a b n left right : ℕ) → ((i : ℕ) → i 
 both_bits l r a b n left right here there i low = is_bit_and left right i ∙ ap₂ ◌&&◌ (here i low) (there i low)
 
 -- lists match that have as many items, and are present or have none
-pub match_word : (l r : ListArray) (a b n : ℕ) (all others : List (Option ℕ)) (same present empty : ℕ) → all ≡ list_places (list_offsets l) → others ≡ list_places (list_offsets r) → IsPacked same (same_counts all a others b n) 0 n → BothThere l a r b n present → IsPacked empty (empty_lists all a n) 0 n → (i : ℕ) → i < n → is_bit (bit_and same (bit_or present empty)) i ≡ is_match l (a + i) r (b + i)
+pub match_word : (l r : ListArray) (a b n : ℕ) (all others : List (Option ℕ)) (same present empty : ℕ) → all ≡ list_places (list_offsets l) → others ≡ list_places (list_offsets r) → IsPacked same (same_counts all a others b n) 0 n → BothThere l a r b n present → IsPacked empty (lists_of_width all a n 0) 0 n → (i : ℕ) → i < n → is_bit (bit_and same (bit_or present empty)) i ≡ is_match l (a + i) r (b + i)
 match_word l r a b n all others same present empty e e' counts there none i low =
     is_bit_and same (bit_or present empty) i
     ∙ ap₂ ◌&&◌ (same_bit l r a b n all others same e e' counts i low)

@@ -38,9 +38,13 @@ is_match l i r j =
 abbrev pub same_counts : List (Option ℕ) → ℕ → List (Option ℕ) → ℕ → ℕ → List Bool
 same_counts all a others b n = first_of (λ i. eqb (span_between all (a + i)) (span_between others (b + i))) n
 
--- whether each of n lists from list a on has no items
-abbrev pub empty_lists : List (Option ℕ) → ℕ → ℕ → List Bool
-empty_lists all a n = first_of (λ i. eqb (span_between all (a + i)) 0) n
+-- whether each of n lists from list a on has `width` items
+abbrev pub lists_of_width : List (Option ℕ) → ℕ → ℕ → ℕ → List Bool
+lists_of_width all a n width = first_of (λ i. eqb (span_between all (a + i)) width) n
+
+-- each of n lists from list a on has `width` items
+abbrev pub HaveWidth : List (Option ℕ) → ℕ → ℕ → ℕ → Type 0
+HaveWidth all a n width = (i : ℕ) → i < n → span_between all (a + i) ≡ width
 
 -- n lists match, one after another
 abbrev pub Match : ListArray → ℕ → ListArray → ℕ → ℕ → Type 0

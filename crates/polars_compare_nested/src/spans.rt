@@ -2,7 +2,7 @@
 //! have all bits of their items set. The offsets come as slices, beside the array that they are of.
 
 ghost use Rattle.std.specs.Option.{option_copied};
-ghost use Rattle.std.specs.Prelude.{◌≡◌, ℕ, ◌+◌, ◌-◌, ◌^◌, ◌<◌, ◌≤◌, ◌&&◌, IfSome, true, false, length};
+ghost use Rattle.std.specs.Prelude.{◌≡◌, ℕ, ◌+◌, ◌-◌, ◌^◌, ◌<◌, ◌≤◌, ◌&&◌, IfSome, IsTrue, true, false, length};
 ghost use Rattle.polars_arrays_bytes.specs.OffsetStrings.{place_at, places, row_count};
 ghost use Rattle.polars_arrays_flat.specs.Validity.{is_present};
 ghost use Rattle.polars_arrays_nested.specs.GoodParts.{IsGood};
@@ -12,7 +12,7 @@ ghost use Rattle.polars_arrays_nested.specs.Parts.{list_offsets, list_validity};
 ghost use Rattle.polars_arrays_nested.specs.Places.{place_or_zero};
 ghost use Rattle.polars_arrays_nested.specs.declared.any_array.AnyArray.{List};
 ghost use Rattle.polars_arrays_words.specs.Bits.{first_of, is_bit};
-ghost use Rattle.polars_compare_nested.specs.Runs.{AddsRun, AreSpans, AreWithin, IsSpan, Match, TellMatches, all_lists, empty_lists, is_match, same_counts, span_between, start_of};
+ghost use Rattle.polars_compare_nested.specs.Runs.{AddsRun, AreSpans, AreWithin, HaveWidth, IsSpan, Match, TellMatches, all_lists, is_match, lists_of_width, same_counts, span_between, start_of};
 
 use polars_arrays_bits::bit_mask::BitMask;
 use polars_arrays_bits::bitmap::Bitmap;
@@ -78,19 +78,20 @@ impl<L: Offset, R: Offset> TruthValues for SameCounts<'_, L, R> {
     }
 }
 
-// For each list of a window whether it has no items.
+// For each list of a window whether it has `width` items.
 #[derive(Drop)]
-struct EmptyLists<'m, O: Offset> {
+struct ListsOfWidth<'m, O: Offset> {
     offsets: &'m [O],
     a: usize,
     rows: usize,
+    width: usize,
     ghost within: { a + rows < length offsets.now },
     ghost good: { AreSpans (places O.value offsets.now) a rows },
     ghost fits: { a + rows < 2 ^ 64 },
 }
 
-impl<O: Offset> TruthValues for EmptyLists<'_, O> {
-    ghost values = { λ l. empty_lists (places O.value l.offsets.now) l.a l.rows };
+impl<O: Offset> TruthValues for ListsOfWidth<'_, O> {
+    ghost values = { λ l. lists_of_width (places O.value l.offsets.now) l.a l.rows l.width };
 
     #[inline(always)]
     fn len(&self) -> usize {
@@ -100,7 +101,7 @@ impl<O: Offset> TruthValues for EmptyLists<'_, O> {
     #[inline(always)]
     fn value(&self, i: usize) -> bool {
         let (_, count) = list_at(self.offsets, self.a + i);
-        count == 0
+        count == self.width
     }
 }
 
@@ -166,12 +167,13 @@ pub(crate) fn matching_word<L: Offset, R: Offset>(
     if present == low_bits(n) {
         return same;
     }
-    let lists = EmptyLists {
+    let empty = ListsOfWidth {
         offsets: left_offsets,
         a,
         rows: n,
+        width: 0,
     };
-    same & (present | pack_few(&lists, 0, n))
+    same & (present | pack_few(&empty, 0, n))
 }
 
 /// How many of the first `n` bits of a word are true before the first that isn't.
@@ -264,7 +266,51 @@ impl<O: Offset> TruthValues for ListBits<'_, '_, O> {
     }
 }
 
-/// Adds a bit for each of `rows` lists from row `a` on: whether all bits of its items are set.
+// Whether each of `rows` lists from row `a` on has `width` items, 64 lists at a time.
+fn have_width<O: Offset>(offsets: &[O], a: usize, rows: usize, width: usize) -> bool
+    requires within { a + rows < length offsets.now }
+    requires good { AreSpans (places O.value offsets.now) a rows }
+    ensures { IsTrue result → HaveWidth (places O.value offsets.now) a rows width }
+{
+    // For the proof alone: that there are no more than 2^64 offsets says that the sums don't overflow.
+    let _offsets = offsets.len();
+    let mut done = 0;
+    while done < rows {
+        let count = (rows - done).min(WORD_BITS);
+        let lists = ListsOfWidth {
+            offsets,
+            a: a + done,
+            rows: count,
+            width,
+        };
+        if pack_few(&lists, 0, count) != low_bits(count) {
+            return false;
+        }
+        done += count;
+    }
+    true
+}
+
+// How many items each of `rows` lists from row `a` on has, where all have as many. Fewer than a word of lists are
+// not looked through.
+fn one_width<O: Offset>(offsets: &[O], a: usize, rows: usize) -> Option<usize>
+    requires within { a + rows < length offsets.now }
+    requires good { AreSpans (places O.value offsets.now) a rows }
+    ensures { IfSome result (λ width. HaveWidth (places O.value offsets.now) a rows width) }
+{
+    if rows < WORD_BITS {
+        return None;
+    }
+    let (_, width) = list_at(offsets, a);
+    if have_width(offsets, a, rows, width) {
+        Some(width)
+    } else {
+        None
+    }
+}
+
+/// Adds a bit for each of `rows` lists from row `a` on: whether all bits of its items are set. Lists that all
+/// have as many items are folded as blocks of bits, with no look at their offsets.
 pub(crate) fn push_lists<O: Offset>(
     bits: &mut BitmapBuilder,
     items: &Bitmap,
@@ -285,13 +331,16 @@ pub(crate) fn push_lists<O: Offset>(
     let _lists = array.offsets().len();
     let first = place_of(offsets, a);
     let items = &BitMask::from_bitmap(items);
-    bits.extend_values(&ListBits {
-        items,
-        offsets,
-        a,
-        first,
-        rows,
-    });
+    match one_width(offsets, a, rows) {
+        Some(width) => bits.extend_blocks(items, width, rows),
+        None => bits.extend_values(&ListBits {
+            items,
+            offsets,
+            a,
+            first,
+            rows,
+        }),
+    }
 }
 
 // The same where the bits of the items are those of a word.

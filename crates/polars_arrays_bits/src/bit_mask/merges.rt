@@ -9,7 +9,8 @@ use super::BitMask;
 use crate::bitmap::Bitmap;
 use crate::error::ComputeError;
 use polars_arrays_words::operators::{MergeEq, MergeNe, Merged, TernaryOperator};
-use polars_arrays_words::source::{Aligned, BitSource, Shifted};
+use polars_arrays_words::packing::{Packed, TruthValues};
+use polars_arrays_words::source::{Aligned, BitSource, Placed, Shifted};
 use std::alloc::Global;
 
 impl BitMask<'_> {
@@ -85,6 +86,35 @@ impl BitMask<'_> {
         Bitmap::from_source(alloc, &source, self.len)
     }
 
+    // The operator at each bit of a source, of this window and of another one. One loop serves for windows at any
+    // places in words.
+    fn merge_placed<O: TernaryOperator, A: BitSource + Drop>(
+        &self,
+        alloc: Global,
+        operator: O,
+        first: A,
+        third: &BitMask<'_>,
+    ) -> Result<Bitmap, ComputeError>
+        requires { length third.now ≡ length self.now }
+        ensures { MatchResult result (λ bits. bits ≡ zip3 O.bit (first_of (A.bit first) (length self.now)) self.now third.now) IsMemory }
+    {
+        let second = Placed {
+            words: self.words,
+            by: self.at,
+        };
+        let third = Placed {
+            words: third.words,
+            by: third.at,
+        };
+        let source = Merged {
+            operator,
+            first,
+            second,
+            third,
+        };
+        Bitmap::from_source(alloc, &source, self.len)
+    }
+
     /// Where two rows are equal, null being equal to null alone: `(q & l & r) | !(l | r)`, where `q` says
     /// which rows' values are equal, and `l` and `r` which rows are present on each side. The error is
     /// `Memory`.
@@ -115,5 +145,34 @@ impl BitMask<'_> {
         ensures { MatchResult result (λ bits. bits ≡ zip3 merged_ne q.now l.now r.now) IsMemory }
     {
         q.merge(alloc, l, r, MergeNe)
+    }
+
+    /// The same as `merge_eq` where truth values say which rows' values are equal: they are joined as they are
+    /// packed, and no bits of their own are made. The error is `Memory`.
+    pub fn merge_eq_values<V: TruthValues>(
+        alloc: Global,
+        q: &V,
+        l: &BitMask<'_>,
+        r: &BitMask<'_>,
+    ) -> Result<Bitmap, ComputeError>
+        requires left { length l.now ≡ length (V.values q.now) }
+        requires right { length r.now ≡ length (V.values q.now) }
+        ensures { MatchResult result (λ bits. bits ≡ zip3 merged_eq (V.values q.now) l.now r.now) IsMemory }
+    {
+        l.merge_placed(alloc, MergeEq, Packed { values: q }, r)
+    }
+
+    /// The same as `merge_ne` where truth values say which rows' values are unequal. The error is `Memory`.
+    pub fn merge_ne_values<V: TruthValues>(
+        alloc: Global,
+        q: &V,
+        l: &BitMask<'_>,
+        r: &BitMask<'_>,
+    ) -> Result<Bitmap, ComputeError>
+        requires left { length l.now ≡ length (V.values q.now) }
+        requires right { length r.now ≡ length (V.values q.now) }
+        ensures { MatchResult result (λ bits. bits ≡ zip3 merged_ne (V.values q.now) l.now r.now) IsMemory }
+    {
+        l.merge_placed(alloc, MergeNe, Packed { values: q }, r)
     }
 }

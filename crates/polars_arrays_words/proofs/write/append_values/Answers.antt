@@ -17,7 +17,7 @@ loop-k-preserved g c =
     next
     (appended-more
     c.args.words.now c.loop-k.words c.put_word.new.words c.args.from c.pack_word.result values (64 * k) 64 room (omega arith)
-    c.pack_word.ensures c.loop-k.invariant c.put_word.ensures)
+    c.pack_word.ensures.bits c.loop-k.invariant c.put_word.ensures)
 
 pub returns : goal.returns
 returns g c =
@@ -32,6 +32,6 @@ returns g c =
     all
     (appended-more
     c.args.words.now c.loop-k.words c.put_word-2.new.words c.args.from c.pack_few.result values (len - rest) rest room (omega arith)
-    c.pack_few.ensures
+    c.pack_few.ensures.bits
     (subst (λ n. AreAppended c.args.words.now c.loop-k.words c.args.from values n) done c.loop-k.invariant)
     c.put_word-2.ensures)

@@ -1,6 +1,6 @@
 use Rattle.std.proofs.Common.{arith}
 use Rattle.polars_arrays_bytes.specs.OffsetStrings.{places}
-use Rattle.polars_compare_nested.proofs.MatchBits.{length-counts, length-empty, match_counts, match_word}
+use Rattle.polars_compare_nested.proofs.MatchBits.{length-counts, length-width, match_counts, match_word}
 use Rattle.polars_compare_nested.proofs.spans.matching_word.Goals as goal
 
 pub pack_few-same-requires-clause-within : goal.pack_few-same-requires-clause-within
@@ -13,7 +13,7 @@ returns-then-present-low_bits g c =
 
 pub pack_few-requires-clause-within : goal.pack_few-requires-clause-within
 pack_few-requires-clause-within g c =
-    omega (arith, length-empty (places g.L.Number.value c.args.left_offsets.now) c.args.a c.args.n)
+    omega (arith, length-width (places g.L.Number.value c.args.left_offsets.now) c.args.a c.args.n 0)
 
 pub returns : goal.returns
 returns g c =

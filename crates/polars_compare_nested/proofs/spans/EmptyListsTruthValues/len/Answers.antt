@@ -1,9 +1,0 @@
-use Rattle.std.proofs.Common.{sym}
-use Rattle.polars_arrays_bytes.specs.OffsetStrings.{places}
-use Rattle.polars_compare_nested.proofs.MatchBits.{length-empty}
-use Rattle.polars_compare_nested.proofs.spans.EmptyListsTruthValues.len.Goals as goal
-
-pub returns : goal.returns
-returns g c =
-    let l = c.args.self.now in
-    sym (length-empty (places g.O.Number.value l.offsets.now) l.a l.rows)
