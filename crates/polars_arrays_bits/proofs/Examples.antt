@@ -1,5 +1,5 @@
 -- Worked examples of the definitions: the check computes both sides of each.
-use Rattle.std.specs.Prelude.{◌≡◌, ◌+◌, ◌<◌, ℕ, zero, suc, true, false, [], ◌∷◌, slice_index_or, slice_index, refl}
+use Rattle.std.specs.Prelude.{◌≡◌, zero, suc, true, false, [], ◌∷◌, slice_index_or, slice_index, refl}
 use Rattle.std.proofs.Common.{arith}
 use Rattle.polars_arrays_bits.specs.Costs.{cost_of}
 use Rattle.polars_arrays_bits.specs.Guesses.{AreSure}

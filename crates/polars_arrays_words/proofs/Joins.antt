@@ -1,5 +1,5 @@
 -- Two words that lie one after the other, read from a bit of the first on.
-use Rattle.std.proofs.Common.{◌≡◌, ℕ, ◌+◌, ◌-◌, ◌*◌, ◌/◌, ◌%◌, ◌^◌, ◌<◌, eqb, [], ◌∷◌, sym, ap, ap₂, ◌∙◌, arith, bit_or, bit_xor, subst}
+use Rattle.std.proofs.Common.{◌≡◌, ℕ, ◌+◌, ◌*◌, ◌/◌, ◌%◌, ◌^◌, ◌<◌, eqb, [], ◌∷◌, sym, ap, ap₂, ◌∙◌, arith, bit_or, bit_xor, subst}
 use Rattle.std.proofs.Math.Nat.{add_comm, mul_assoc, mul-add-div_right, mul-mod_left, add-zero}
 use Rattle.std.proofs.lemmas.Nat.{pow-add, pow_pos, mod-pow-add, field_of, or_shifted, or_comm, xor_comm, shr_below, shr_high, mod_low, shl-shr}
 use Rattle.std.specs.Int.Bits.{xor_shifted}

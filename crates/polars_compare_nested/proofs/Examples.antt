@@ -10,13 +10,14 @@ use Rattle.polars_arrays_nested.specs.declared.any_array.AnyArray.{Null as Nulls
 use Rattle.polars_arrays_nested.specs.declared.dict_keys.DictKeys.TheVariants.{UInt8}
 use Rattle.polars_arrays_nested.specs.declared.list_offsets.ListOffsets.TheVariants.{Small}
 use Rattle.polars_compare_leaves.specs.Sameness.{same_leaf}
-use Rattle.polars_compare_nested.specs.Bits.{JoinsBits, JoinsLeafBits, RawBits}
+use Rattle.polars_compare_nested.specs.Bits.{JoinsBits, JoinsLeafBits, LeafWord, RawBits}
 use Rattle.polars_compare_nested.specs.Broadcasts.{all_rows}
 use Rattle.polars_compare_nested.specs.FewLeaves.{AreFewLeaves, NoNulls}
 use Rattle.polars_compare_nested.specs.Headline.{IsEquality}
 use Rattle.polars_compare_nested.specs.KindSorts.{is_dictionary, is_fixed_list, is_list, is_sized, is_struct}
+use Rattle.polars_compare_nested.specs.Known.{AreKnown}
 use Rattle.polars_compare_nested.specs.Leaf.{is_leaf}
-use Rattle.polars_compare_nested.specs.Runs.{all_items, all_lists, span_between, start_of}
+use Rattle.polars_compare_nested.specs.Runs.{HaveWidth, all_items, all_lists, lists_of_width, span_between, start_of}
 use Rattle.polars_compare_nested.specs.Tally.{tally, tally_across, total_pairs}
 use Rattle.polars_compare_nested.specs.TallyColumns.{columns_tally}
 use Rattle.polars_compare_nested.specs.TallyLaws.{items_in}
@@ -117,6 +118,10 @@ joins_leaf_bits-numbers = record {
   joined = refl;
 }
 
+-- so their word has its two lowest bits set
+leaf_word-numbers : LeafWord same_leaf three 1 four 1 2 3
+leaf_word-numbers = record { size = refl; at_present = λ i low both. second_and_third i low }
+
 three_there : NoNulls three
 unfolding three
 three_there zero low = refl
@@ -147,6 +152,20 @@ columns_tally-two = refl
 -- of the offsets 4, 6 and 9: list 1 starts at item 6, and has three items
 start_of-second : start_of (Some 4 ∷ Some 6 ∷ Some 9 ∷ []) 1 ≡ 6
 start_of-second = refl
+
+-- of the two lists between the offsets 4, 6 and 9 the first alone has two items
+lists_of_width-two : lists_of_width (Some 4 ∷ Some 6 ∷ Some 9 ∷ []) 0 2 2 ≡ true ∷ false ∷ []
+lists_of_width-two = refl
+
+-- between 4, 6 and 8 both have
+have_width-two : HaveWidth (Some 4 ∷ Some 6 ∷ Some 8 ∷ []) 0 2 2
+have_width-two zero low = refl
+have_width-two (suc zero) low = refl
+have_width-two (suc (suc i)) low = absurd (omega arith)
+
+-- where no list is looked up yet nothing is known, of any lists
+are_known-none : (l r : _) (a b n : ℕ) → AreKnown l a r b n (record { word = 0; len = 0 })
+are_known-none l r a b n = record { few = omega arith; within = omega arith; tell = λ i low. absurd (omega arith) }
 
 span_between-second : span_between (Some 4 ∷ Some 6 ∷ Some 9 ∷ []) 1 ≡ 3
 span_between-second = refl

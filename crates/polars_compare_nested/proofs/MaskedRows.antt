@@ -1,5 +1,5 @@
 -- Rows that are masked are Null, and those that are present are not, but in a null array.
-use Rattle.std.proofs.Common.{◌≡◌, ◌≢◌, ◌<◌, ℕ, Bool, true, false, not, refl, ap, sym, ◌∙◌}
+use Rattle.std.proofs.Common.{◌≡◌, ◌<◌, ℕ, Bool, true, false, not, refl, sym, ◌∙◌}
 use Rattle.polars_arrays_flat.specs.ArrayRows.{is_null}
 use Rattle.polars_arrays_flat.specs.Kind.{Kind, NullKind}
 use Rattle.polars_arrays_flat.specs.Row.{Row, Int, Truth, Bytes, Rows, Fields, Entry}

@@ -1,10 +1,8 @@
 -- Windows that are kept alike cost the same beside any other.
 use Rattle.std.proofs.Common.{◌≡◌, ◌<◌, ◌+◌, ◌*◌, ◌&&◌, ℕ, zero, suc, eqb, Bool, true, false, cond, List, [], ◌∷◌, refl, ap, ◌∙◌, arith}
 use Rattle.polars_arrays_flat.specs.Validity.{is_present}
-use Rattle.polars_arrays_nested.specs.Clones.{IsClone}
-use Rattle.polars_arrays_nested.specs.Cuts.{IsCut}
 use Rattle.polars_arrays_nested.specs.DictKeys.{key_at, key_validity}
-use Rattle.polars_arrays_nested.specs.KeptAlike.{AcrossAlike, KeptAlike}
+use Rattle.polars_arrays_nested.specs.KeptAlike.{AcrossAlike}
 use Rattle.polars_arrays_nested.specs.ListOffsets.{offset_at, span}
 use Rattle.polars_arrays_nested.specs.declared.any_array.AnyArray.{AnyArray, Null, Boolean, Int8, Int16, Int32, Int64, Int128, UInt8, UInt16, UInt32, UInt64, UInt128, Binary, LargeBinary, Utf8, LargeUtf8, BinaryView, Utf8View, FixedSizeBinary, List', FixedSizeList', Struct', Dictionary', Row_of-AnyArray, end_of-AnyArray, more_of-AnyArray, items-the_row-AnyArray}
 use Rattle.polars_compare_nested.specs.Tally.{entry_tally, pair_tally, tally, tally_across, total_pairs}

@@ -1,4 +1,4 @@
-use Rattle.std.proofs.Common.{◌≡◌, ◌+◌, ◌-◌, ◌*◌, ◌%◌, arith, subst}
+use Rattle.std.proofs.Common.{◌≡◌, ◌+◌, ◌-◌, ◌*◌, arith, subst}
 use Rattle.polars_arrays_words.specs.Packing.{IsPacked}
 use Rattle.polars_arrays_words.proofs.Puts.{packed-over, packed-put}
 use Rattle.polars_arrays_words.proofs.packing.pack_by_sixteens.Goals as goal

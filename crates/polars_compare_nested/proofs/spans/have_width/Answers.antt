@@ -1,4 +1,4 @@
-use Rattle.std.proofs.Common.{◌≡◌, ◌+◌, ◌<◌, ℕ, List, subst, arith}
+use Rattle.std.proofs.Common.{◌≡◌, ◌+◌, ℕ, subst, arith}
 use Rattle.polars_arrays_bytes.specs.OffsetStrings.{places}
 use Rattle.polars_compare_nested.specs.Runs.{IsSpan}
 use Rattle.polars_compare_nested.proofs.MatchBits.{length-width}

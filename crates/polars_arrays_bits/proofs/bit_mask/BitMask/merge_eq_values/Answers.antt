@@ -1,4 +1,4 @@
-use Rattle.std.proofs.Common.{◌≡◌, ◌∙◌, List, Bool, false, length, get_or, MatchResult, ap, subst}
+use Rattle.std.proofs.Common.{◌≡◌, List, Bool, false, length, get_or, MatchResult, ap, subst}
 use Rattle.polars_arrays_words.specs.Bits.{zip3}
 use Rattle.polars_arrays_words.specs.Logic.{merged_eq}
 use Rattle.polars_arrays_bits.specs.Errors.{IsMemory}

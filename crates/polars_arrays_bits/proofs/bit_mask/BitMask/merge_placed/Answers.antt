@@ -1,5 +1,4 @@
 use Rattle.std.proofs.Common.{◌≡◌, List, Bool, MatchResult, subst, refl}
-use Rattle.polars_arrays_words.specs.Bits.{bit_of}
 use Rattle.polars_arrays_bits.specs.Errors.{IsMemory}
 use Rattle.polars_arrays_bits.proofs.Windows.{shifted, zip3-last_two}
 use Rattle.polars_arrays_bits.proofs.bit_mask.BitMask.merge_placed.Goals as goal

@@ -1,4 +1,4 @@
-use Rattle.std.proofs.Common.{refl, ap, ◌∙◌}
+use Rattle.std.proofs.Common.{ap, ◌∙◌}
 use Rattle.std.proofs.lemmas.Result.{MatchResult-weaker}
 use Rattle.polars_arrays_nested.specs.DictKeys.{key_count}
 use Rattle.polars_arrays_nested.specs.MaskLaws.{dictionary-row}

@@ -1,4 +1,4 @@
-use Rattle.std.proofs.Common.{false, length, sym, refl, ◌∙◌}
+use Rattle.std.proofs.Common.{false}
 use Rattle.std.specs.Bool.{⊤}
 use Rattle.std.proofs.lemmas.Result.{MatchResult-weaker}
 use Rattle.polars_arrays_flat.specs.SlotLaws.{number_slots-present}
