@@ -223,7 +223,8 @@ impl<'a, V: TruthValues> BitSource for Packed<'a, V> {
         self.values.len() / WORD_BITS
     }
 
-    #[inline]
+    // A call for each word costs as much as the masks that are joined with it.
+    #[inline(always)]
     fn inner_word(&self, k: usize) -> u64 {
         // No effect at run time. The proof reads from it that places are numbers of 64 bits.
         let _len = self.values.len();
