@@ -43,14 +43,14 @@ pub(crate) fn are_leaves(left: &AnyArray, right: &AnyArray) -> bool
     has_leaves(left) && !left.may_have_nulls() && !right.may_have_nulls()
 }
 
-/// The same, and whether windows of `n` rows of the two arrays are at most 64 leaves each.
+/// Whether windows of `n` rows of two arrays are at most 64 leaves each, none of them null, where `leaves` says that the
+/// rows of both arrays are such leaves.
 #[inline(always)]
-pub(crate) fn are_few_leaves(left: &AnyArray, right: &AnyArray, n: usize) -> bool
-    requires left_good { IsGood left.now }
-    requires right_good { IsGood right.now }
-    ensures { IsTrue result → AreFewLeaves left.now right.now n }
+pub(crate) fn are_few_leaves(_left: &AnyArray, _right: &AnyArray, leaves: bool, n: usize) -> bool
+    requires leaves { IsTrue leaves → AreLeavesWithoutNulls _left.now _right.now }
+    ensures { IsTrue result → AreFewLeaves _left.now _right.now n }
 {
-    n <= WORD_BITS && are_leaves(left, right)
+    leaves && n <= WORD_BITS
 }
 
 /// Which rows of two such windows are the same, as the bits of a word, the first one lowest. The count rises by

@@ -71,7 +71,9 @@ macro_rules! on_lists {
     };
 }
 
-// How many of the first `n` lists match, one after another.
+// How many of the first `n` lists match, one after another. It is called, so that what a run costs that lies in one
+// word of matches is little code.
+#[inline(never)]
 fn run_length(left: &ListArray, a: usize, right: &ListArray, b: usize, n: usize) -> usize
     requires left_good { IsGood (List left.now) }
     requires right_good { IsGood (List right.now) }
@@ -85,6 +87,7 @@ fn run_length(left: &ListArray, a: usize, right: &ListArray, b: usize, n: usize)
 }
 
 // Which of at most 64 lists match, as the bits of a word.
+#[inline(never)]
 fn word_of(left: &ListArray, a: usize, right: &ListArray, b: usize, n: usize) -> u64
     requires left_good { IsGood (List left.now) }
     requires right_good { IsGood (List right.now) }

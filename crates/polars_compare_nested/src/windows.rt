@@ -6,10 +6,12 @@
 //! between offsets, one window for each run of lists that match, whose items lie one after another on both
 //! sides; for a dictionary, one pair of entries for each row. Leaves are compared by a `LeafKernel` alone.
 
-ghost use Rattle.std.specs.Prelude.{◌≡◌, ◌+◌, ◌-◌, ◌<◌, ◌≤◌, length, IfOk, MatchResult};
+ghost use Rattle.std.specs.Prelude.{◌≡◌, ◌+◌, ◌-◌, ◌<◌, ◌≤◌, IsTrue, length, IfOk, MatchResult};
 ghost use Rattle.polars_arrays_bits.specs.Errors.{IsMemory};
+ghost use Rattle.polars_arrays_nested.specs.Parts.{list_values};
 ghost use Rattle.polars_arrays_nested.specs.declared.any_array.AnyArray.{AnyArray, List, FixedSizeList, Struct, Dictionary};
 ghost use Rattle.polars_compare_nested.specs.Bits.{AddsRawBits, JoinsBits, RawBits, SameBits, SamePresent};
+ghost use Rattle.polars_compare_nested.specs.FewLeaves.{AreLeavesWithoutNulls};
 ghost use Rattle.polars_compare_nested.specs.Known.{AreKnown};
 ghost use Rattle.polars_compare_nested.specs.Tally.{tally};
 ghost use Rattle.polars_compare_nested.specs.Windows.{AreWindows, Compares};
@@ -99,6 +101,7 @@ pub fn list_windows<K: LeafKernel>(
 {
     // For the proof alone: that both arrays have a length of 64 bits says that the places don't overflow.
     let (_rows, _others) = (left.offsets().len(), right.offsets().len());
+    let leaves = are_leaves(left.values(), right.values());
     let mut bits = BitmapBuilder::with_capacity(alloc, n)?;
     let mut matches = Matches::none();
     let mut done = 0;
@@ -111,6 +114,7 @@ pub fn list_windows<K: LeafKernel>(
             right,
             b + done,
             n - done,
+            leaves,
             &mut matches,
             steps,
         )?;
@@ -118,8 +122,8 @@ pub fn list_windows<K: LeafKernel>(
     Ok(bits.freeze())
 }
 
-// Adds the bits of the next lists, where `n` are left, and says how many lists these were. `matches` says
-// what is known of the next lists. The error is `Memory`.
+// Adds the bits of the next lists, where `n` are left, and says how many lists these were. `leaves` says whether all
+// items are leaves without nulls, and `matches` what is known of the next lists. The error is `Memory`.
 #[cycle(equal)]
 fn push_next<K: LeafKernel>(
     alloc: Global,
@@ -129,12 +133,14 @@ fn push_next<K: LeafKernel>(
     right: &ListArray,
     b: usize,
     n: usize,
+    leaves: bool,
     matches: &mut Matches,
     steps: &mut K,
 ) -> Result<usize, ComputeError>
     requires windows { AreWindows (List left.now) a (List right.now) b n }
     requires some { 1 ≤ n }
     requires room { n ≤ bits.old.room }
+    requires leaves { IsTrue leaves → AreLeavesWithoutNulls (list_values left.now) (list_values right.now) }
     requires known { AreKnown left.now a right.now b n matches.old }
     ensures some { MatchResult result (λ rows. 1 ≤ rows) IsMemory }
     ensures within { IfOk result (λ rows. rows ≤ n) }
@@ -152,7 +158,7 @@ fn push_next<K: LeafKernel>(
         NextRows::Run(run) => {
             let (left_items, right_items) = (left.values(), right.values());
             let (from, at) = (run.left_start, run.right_start);
-            if are_few_leaves(left_items, right_items, run.count) {
+            if are_few_leaves(left_items, right_items, leaves, run.count) {
                 let word = same_few(alloc, left_items, from, right_items, at, run.count, steps)?;
                 push_word(bits, word, left, a, run.len);
                 return Ok(run.len);
