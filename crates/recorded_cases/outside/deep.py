@@ -290,6 +290,30 @@ def many_lists_case(lists):
     return asked(f"{lists} lists of ten items", names, pairs)
 
 
+def one_width_case(width, lists, kind, last):
+    """So many lists of one length behind three items that no list has, but the last list has `last` items more. Every eleventh item
+    differs on the right. The same of lists from the sixth on."""
+    places = [3 + width * i for i in range(lists)] + [3 + width * lists + last]
+    count = places[-1]
+    items = {"l": [i * 7 % 5 for i in range(count)], "r": [i * 7 % 5 + (i % 11 == 0) for i in range(count)]}
+    same = [items["l"][a:b] == items["r"][a:b] for a, b in zip(places, places[1:])]
+    leaves = {
+        "i32": lambda numbers: f"i32 {count} {' '.join(map(str, numbers))} -",
+        "utf8": lambda numbers: f"utf8 {count + 1} {' '.join(map(str, range(count + 1)))} x{''.join(f'{97 + n:x}' for n in numbers)} -",
+    }
+    names, pairs = {}, []
+    for at in (0, 5):
+        for leaf, words in leaves.items():
+            for side, numbers in items.items():
+                names[f"{side}_{leaf}_{at}"] = (
+                    f"{at} {lists - at} {kind} {lists + 1} {' '.join(map(str, places))} - 0 {count} {words(numbers)}"
+                )
+            counted = f"{bits_of(same[at:])} in {count - places[at]} comparisons"
+            pairs.append((f"array_tot_eq_missing_kernel_counted l_{leaf}_{at} r_{leaf}_{at}", counted))
+    behind = f", and {last} items more in the last" if last else ""
+    return asked(f"{lists} {kind}s of {width} items{behind}", names, pairs)
+
+
 def gate_cases():
     """The cases of data/deep_mixed.txt."""
     for levels in (200, READ_DEPTH):
@@ -301,6 +325,12 @@ def gate_cases():
     yield null_case(200, ("fixedlist", "dict", "struct", "list"))
     yield refused_case()
     yield entries_case()
+    for width in (0, 1, 2, 3, 4, 8):
+        yield one_width_case(width, 70, "list", 0)
+    for width in (2, 4):
+        yield one_width_case(width, 150, "largelist", 0)
+    yield one_width_case(4, 70, "list", 1)
+    yield one_width_case(4, 63, "list", 0)
 
 
 def all_cases():
