@@ -1,6 +1,7 @@
 //! Times the kernels of the library beside plain Rust, in one run and at one processor level, and
 //! prints a line for each: nanoseconds a row (a bit, where the rows are bits) on either side, their
-//! ratio, and what is asked for. Arguments: words of the names of the kernels to run.
+//! ratio, and what is asked for. Arguments: words of the names of the kernels to run. The variable ROUNDS says in how
+//! many rounds all but arithmetic are timed, if not in four.
 //!
 //! To add a kernel: its entry and its arm in `crates/polars_bench`, the same entry of the enum here, its peer
 //! in the file `plain*.rs` of its shape, and a line where its group hands out its kernels.
@@ -27,7 +28,7 @@ mod timing;
 use nested_rows::Nested;
 use operands::Data;
 use string_rows::Strings;
-use timing::{Bench, Kernel, ROUNDS, RUNS};
+use timing::{Bench, Kernel, RUNS, rounds};
 
 /// Hands each kernel on rows to `each`, on so many of them.
 fn for_each_on_rows(count: usize, each: &mut dyn FnMut(&Kernel)) {
@@ -40,8 +41,11 @@ fn for_each_on_rows(count: usize, each: &mut dyn FnMut(&Kernel)) {
     nested::for_each(&Nested::new(count), each);
 }
 
-/// Both sides answer alike at each bit of so many rows.
-fn agree(count: usize, kernel: &Kernel) {
+/// Both sides answer alike at each bit of so many rows, where the kernel is one of those to run.
+fn agree(bench: &Bench, count: usize, kernel: &Kernel) {
+    if !bench.runs(kernel.name) {
+        return;
+    }
     let repeats = 2 * count + 4;
     assert_eq!(
         (kernel.ours)(repeats),
@@ -52,24 +56,24 @@ fn agree(count: usize, kernel: &Kernel) {
 }
 
 /// Both sides answer alike at lengths up to some hundreds.
-fn rows_agree() {
+fn rows_agree(bench: &Bench) {
     for count in 0..300 {
-        for_each_on_rows(count, &mut |kernel| agree(count, kernel));
-        nested::for_structs(count, &mut |kernel| agree(count, kernel));
+        for_each_on_rows(count, &mut |kernel| agree(bench, count, kernel));
+        nested::for_structs(count, &mut |kernel| agree(bench, count, kernel));
     }
-    nested::for_deep_lists(&mut |kernel| agree(1, kernel));
+    nested::for_deep_lists(&mut |kernel| agree(bench, 1, kernel));
 }
 
 fn main() {
-    rows_agree();
+    let mut bench = Bench::new(std::env::args().skip(1).collect());
+    rows_agree(&bench);
     bitmaps::agree();
     arithmetic::agree();
-    let mut bench = Bench::new(std::env::args().skip(1).collect());
     println!(
         "{:40} {:>9} {:>9} {:>9} {:>7} {:>8}",
         "kernel", "rows", "ns here", "ns beside", "ratio", "asked"
     );
-    bench.in_rounds(ROUNDS, |bench| {
+    bench.in_rounds(rounds(), |bench| {
         for run in 0..RUNS.len() {
             for_each_on_rows(RUNS[run].count, &mut |kernel| {
                 bench.compare(run, kernel);

@@ -6,7 +6,10 @@ use std::time::{Duration, Instant};
 
 /// How often the kernels are timed, one after the other. The best times of all rounds count: other work on the
 /// machine lasts for seconds, and then all measurements of a kernel in one round are slow.
-pub const ROUNDS: usize = 4;
+pub fn rounds() -> usize {
+    let told = std::env::var("ROUNDS").ok().and_then(|rounds| rounds.parse().ok());
+    told.filter(|rounds| *rounds > 0).unwrap_or(4)
+}
 
 /// What a side answers for a bit past the end.
 pub const NO_BIT: u64 = 2;
@@ -172,6 +175,11 @@ impl Bench {
         }
     }
 
+    /// Whether a kernel of that name is one of those to run.
+    pub fn runs(&self, name: &str) -> bool {
+        self.words.is_empty() || self.words.iter().any(|word| name.contains(word.as_str()))
+    }
+
     /// How many kernels are over what is asked for.
     pub fn over(&self) -> usize {
         self.over
@@ -186,7 +194,7 @@ impl Bench {
     /// the nanoseconds a row of the library, if the kernel is one of those to run.
     pub fn time(&mut self, rows: &Run, run: usize, kernel: &Kernel) -> Option<f64> {
         let name = kernel.name;
-        if !self.words.is_empty() && !self.words.iter().any(|word| name.contains(word.as_str())) {
+        if !self.runs(name) {
             return None;
         }
         let Run {
