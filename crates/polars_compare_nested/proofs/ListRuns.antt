@@ -38,7 +38,7 @@ and_no false h = refl
 pub eqb_true : (n m : ℕ) → IsTrue (eqb n m) → n ≡ m
 eqb_true n m h = elim (eqb_tells n m) [ inl k ↦ k.1 | inr k ↦ cc ]
 
-eqb_false : (n m : ℕ) → eqb n m ≡ false → n ≢ m
+pub eqb_false : (n m : ℕ) → eqb n m ≡ false → n ≢ m
 eqb_false n m h = elim (eqb_tells n m) [ inl k ↦ cc | inr k ↦ k.1 ]
 
 -- list k of a run has as many items on both sides

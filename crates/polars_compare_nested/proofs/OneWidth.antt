@@ -1,5 +1,5 @@
 -- Lists that all have as many items.
-use Rattle.std.proofs.Common.{◌≡◌, ◌+◌, ◌-◌, ◌*◌, ◌<◌, ◌≤◌, ℕ, zero, suc, Bool, true, List, take, drop, sym, subst, ap, ap₂, ◌∙◌, arith, add-zero}
+use Rattle.std.proofs.Common.{◌≡◌, ◌+◌, ◌-◌, ◌*◌, ◌<◌, ◌≤◌, ℕ, zero, suc, Bool, true, false, eqb, List, take, drop, sym, subst, ap, ap₂, ◌∙◌, arith, add-zero}
 use Rattle.std.specs.Prelude.{Option}
 use Rattle.std.specs.List.{list_all}
 use Rattle.std.proofs.lemmas.Bool.{cases_lt}
@@ -9,14 +9,14 @@ use Rattle.polars_arrays_words.specs.Bits.{is_bit}
 use Rattle.polars_arrays_words.specs.Blocks.{blocks_all}
 use Rattle.polars_arrays_words.specs.Packing.{IsPacked}
 use Rattle.polars_compare_nested.specs.Runs.{AreSpans, HaveWidth, all_items, all_lists, lists_of_width, span_between, start_of}
-use Rattle.polars_compare_nested.proofs.ListRuns.{eqb_true}
+use Rattle.polars_compare_nested.proofs.ListRuns.{eqb_false, eqb_true}
 use Rattle.polars_compare_nested.proofs.MatchBits.{get_or-width, packed_bit}
 
 -- a word of lists more, each bit of which says that its list has so many items
 pub width_behind :
-    (all : List (Option ℕ)) (a done count width word full : ℕ) → HaveWidth all a done width → IsPacked word (lists_of_width all (a + done) count width) 0 count →
-    ((i : ℕ) → i < count → is_bit full i ≡ true) → word ≡ full → HaveWidth all a (done + count) width
-width_behind all a done count width word full before packed ones is i low =
+    (all : List (Option ℕ)) (a done count width word : ℕ) → HaveWidth all a done width → IsPacked word (lists_of_width all (a + done) count width) 0 count →
+    ((i : ℕ) → i < count → is_bit word i ≡ true) → HaveWidth all a (done + count) width
+width_behind all a done count width word before packed ones i low =
     ⊎_elim
     (λ lt. before i lt)
     (λ past.
@@ -26,9 +26,18 @@ width_behind all a done count width word full before packed ones is i low =
     subst (λ (p : ℕ). span_between all p ≡ width) place
     (eqb_true (span_between all (a + done + k)) width
     (sym (packed_bit word count (lists_of_width all (a + done) count width) packed k there ∙ get_or-width all (a + done) count width k there)
-    ∙ ap (λ w. is_bit w k) is
     ∙ ones k there)))
     (cases_lt i done)
+
+-- a bit that is false says of one of n lists that it has another number
+pub other_width :
+    (all : List (Option ℕ)) (a n done count width word k : ℕ) → done + count ≤ n → IsPacked word (lists_of_width all (a + done) count width) 0 count → k < count →
+    is_bit word k ≡ false → HaveWidth all a n width → ⊥
+other_width all a n done count width word k within packed low is have =
+    let place : a + (done + k) ≡ a + done + k = omega arith in
+    let other : eqb (span_between all (a + done + k)) width ≡ false =
+    sym (packed_bit word count (lists_of_width all (a + done) count width) packed k low ∙ get_or-width all (a + done) count width k low) ∙ is in
+    eqb_false (span_between all (a + done + k)) width other (subst (λ (p : ℕ). span_between all p ≡ width) place (have (done + k) (omega (arith, within, low))))
 
 -- the places of such lists are so far apart
 pub width_places : (all : List (Option ℕ)) (a n width : ℕ) → AreSpans all a n → HaveWidth all a n width → start_of all (a + n) ≡ start_of all a + width * n

@@ -2,7 +2,7 @@
 //! have all bits of their items set. The offsets come as slices, beside the array that they are of.
 
 ghost use Rattle.std.specs.Option.{option_copied};
-ghost use Rattle.std.specs.Prelude.{◌≡◌, ℕ, ◌+◌, ◌-◌, ◌^◌, ◌<◌, ◌≤◌, ◌&&◌, IfSome, IsTrue, true, false, length};
+ghost use Rattle.std.specs.Prelude.{◌≡◌, ℕ, ◌+◌, ◌-◌, ◌^◌, ◌<◌, ◌≤◌, ◌↔◌, ◌&&◌, IfSome, IsTrue, Some, true, false, length};
 ghost use Rattle.polars_arrays_bytes.specs.OffsetStrings.{place_at, places, row_count};
 ghost use Rattle.polars_arrays_flat.specs.Validity.{is_present};
 ghost use Rattle.polars_arrays_nested.specs.GoodParts.{IsGood};
@@ -270,7 +270,7 @@ impl<O: Offset> TruthValues for ListBits<'_, '_, O> {
 fn have_width<O: Offset>(offsets: &[O], a: usize, rows: usize, width: usize) -> bool
     requires within { a + rows < length offsets.now }
     requires good { AreSpans (places O.value offsets.now) a rows }
-    ensures { IsTrue result → HaveWidth (places O.value offsets.now) a rows width }
+    ensures { IsTrue result ↔ HaveWidth (places O.value offsets.now) a rows width }
 {
     // For the proof alone: that there are no more than 2^64 offsets says that the sums don't overflow.
     let _offsets = offsets.len();
@@ -283,7 +283,8 @@ fn have_width<O: Offset>(offsets: &[O], a: usize, rows: usize, width: usize) -> 
             rows: count,
             width,
         };
-        if pack_few(&lists, 0, count) != low_bits(count) {
+        let alike = leading_bits(pack_few(&lists, 0, count), count);
+        if alike < count {
             return false;
         }
         done += count;
@@ -296,7 +297,8 @@ fn have_width<O: Offset>(offsets: &[O], a: usize, rows: usize, width: usize) -> 
 fn one_width<O: Offset>(offsets: &[O], a: usize, rows: usize) -> Option<usize>
     requires within { a + rows < length offsets.now }
     requires good { AreSpans (places O.value offsets.now) a rows }
-    ensures { IfSome result (λ width. HaveWidth (places O.value offsets.now) a rows width) }
+    ensures alike { IfSome result (λ width. HaveWidth (places O.value offsets.now) a rows width) }
+    ensures found { 64 ≤ rows → HaveWidth (places O.value offsets.now) a rows (span_between (places O.value offsets.now) a) → result ≡ Some (span_between (places O.value offsets.now) a) }
 {
     if rows < WORD_BITS {
         return None;

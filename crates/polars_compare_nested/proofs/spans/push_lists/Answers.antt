@@ -36,7 +36,7 @@ pub extend_blocks-requires-clause-within : goal.extend_blocks-requires-clause-wi
 extend_blocks-requires-clause-within g c =
     let all = places g.O.Number.value c.args.offsets.now in
     let spans = lists_lie _ all (list_offsets c.args.array.now) c.args.a c.args.rows c.requires.good.0.good c.requires.offsets c.requires.within in
-    let far = width_places all c.args.a c.args.rows c.in-Some.width spans c.in-Some.ensures in
+    let far = width_places all c.args.a c.args.rows c.in-Some.width spans c.in-Some.ensures.alike in
     let far' = rw c.requires.offsets at far in
     omega (arith, far', c.requires.items, ap length c.from_bitmap.ensures)
 
@@ -44,6 +44,6 @@ pub returns-in-Some-clause-bits : goal.returns-in-Some-clause-bits
 returns-in-Some-clause-bits g c =
     let all = list_places (list_offsets c.args.array.now) in
     let spans = lists_lie _ all (list_offsets c.args.array.now) c.args.a c.args.rows c.requires.good.0.good refl c.requires.within in
-    let have = rw c.requires.offsets at c.in-Some.ensures in
+    let have = rw c.requires.offsets at c.in-Some.ensures.alike in
     rw (c.extend_blocks.ensures, c.from_bitmap.ensures, width_blocks c.args.items.now all c.args.a c.args.rows c.in-Some.width spans have)
     (adds_lists c.args.items.now all c.args.a c.args.rows c.args.bits.now.bits)
