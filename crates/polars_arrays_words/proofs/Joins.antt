@@ -1,8 +1,7 @@
 -- Two words that lie one after the other, read from a bit of the first on.
-use Rattle.std.proofs.Common.{◌≡◌, ℕ, ◌+◌, ◌*◌, ◌/◌, ◌%◌, ◌^◌, ◌<◌, eqb, [], ◌∷◌, sym, ap, ap₂, ◌∙◌, arith, bit_or, bit_xor, subst}
+use Rattle.std.proofs.Common.{◌≡◌, ℕ, ◌+◌, ◌*◌, ◌/◌, ◌%◌, ◌^◌, ◌<◌, eqb, [], ◌∷◌, sym, ap, ap₂, ◌∙◌, arith, bit_or, subst}
 use Rattle.std.proofs.Math.Nat.{add_comm, mul_assoc, mul-add-div_right, mul-mod_left, add-zero}
-use Rattle.std.proofs.lemmas.Nat.{pow-add, pow_pos, mod-pow-add, field_of, or_shifted, or_comm, xor_comm, shr_below, shr_high, mod_low, shl-shr}
-use Rattle.std.specs.Int.Bits.{xor_shifted}
+use Rattle.std.proofs.lemmas.Nat.{pow-add, pow_pos, mod_below, mod-pow-add, field_of, or_shifted, or_comm, shr_below, shr_high, mod_low, shl-shr}
 use Rattle.polars_arrays_words.specs.Bits.{is_bit, bit_of}
 use Rattle.polars_arrays_words.proofs.SingleBits.{bit_at-mod, bit_at-shr, is_bit-joined}
 
@@ -47,22 +46,23 @@ is_bit-join s r low high i e some fits lt =
     ∙ ap (λ b. eqb b 1) (bit_at-mod ((high * 2 ^ 64 + low) / 2 ^ r) 64 i lt ∙ bit_at-shr (high * 2 ^ 64 + low) r i)
     ∙ is_bit-joined low high (r + i) fits within
 
--- `(low >> r) ^ (high << s)` is the same, since the two have no bit in common
-xor_is_or : (s r low high : ℕ) → low < 2 ^ (s + r) → bit_xor (low / 2 ^ r) ((high * 2 ^ s) % 2 ^ (s + r)) ≡ bit_or (low / 2 ^ r) ((high * 2 ^ s) % 2 ^ (s + r))
-xor_is_or s r low high h =
-    let below : low / 2 ^ r < 2 ^ s = shr_below low s r h in
-    xor_comm (low / 2 ^ r) ((high * 2 ^ s) % 2 ^ (s + r))
-    ∙ ap (λ y. bit_xor y (low / 2 ^ r)) (shifted s r high)
-    ∙ xor_shifted (high % 2 ^ r) s (low / 2 ^ r) below
-    ∙ sym (or_shifted (high % 2 ^ r) s (low / 2 ^ r) below)
-    ∙ sym (ap (λ y. bit_or y (low / 2 ^ r)) (shifted s r high))
-    ∙ sym (or_comm (low / 2 ^ r) ((high * 2 ^ s) % 2 ^ (s + r)))
+-- `(low >> r) + (high << s)` is the same, since the two have no bit in common
+sum_is : (s r low high : ℕ) → low < 2 ^ (s + r) → low / 2 ^ r + (high * 2 ^ s) % 2 ^ (s + r) ≡ (high * 2 ^ (s + r) + low) / 2 ^ r % 2 ^ (s + r)
+sum_is s r low high h =
+    add_comm (low / 2 ^ r) ((high * 2 ^ s) % 2 ^ (s + r))
+    ∙ ap (λ y. y + low / 2 ^ r) (shifted s r high)
+    ∙ sym (read_joined s r low high h)
 
 -- the same at a width of its own
-lanes_are : (w s r low high : ℕ) → s + r ≡ w → low < 2 ^ w → bit_xor (low / 2 ^ r) (high * 2 ^ s % 2 ^ w) ≡ bit_or (low / 2 ^ r) (high * 2 ^ s % 2 ^ w)
-lanes_are w s r low high e h =
-    subst (λ (x : ℕ). low < 2 ^ x → bit_xor (low / 2 ^ r) (high * 2 ^ s % 2 ^ x) ≡ bit_or (low / 2 ^ r) (high * 2 ^ s % 2 ^ x)) e (xor_is_or s r low high) h
+join_lanes_is : (w s r low high : ℕ) → s + r ≡ w → low < 2 ^ w → low / 2 ^ r + high * 2 ^ s % 2 ^ w ≡ (high * 2 ^ w + low) / 2 ^ r % 2 ^ w
+join_lanes_is w s r low high e h =
+    subst (λ (x : ℕ). low < 2 ^ x → low / 2 ^ r + high * 2 ^ s % 2 ^ x ≡ (high * 2 ^ x + low) / 2 ^ r % 2 ^ x) e (sum_is s r low high) h
 
-pub is_bit-join_lanes : (s r low high i : ℕ) → s + r ≡ 64 → 0 < s → low < 2 ^ 64 → i < 64 → is_bit (bit_xor (low / 2 ^ r) (high * 2 ^ s % 2 ^ 64)) i ≡ bit_of (low ∷ high ∷ []) (r + i)
+-- and so it fits a word
+pub join_lanes-fits : (s r low high : ℕ) → s + r ≡ 64 → low < 2 ^ 64 → low / 2 ^ r + high * 2 ^ s % 2 ^ 64 < 2 ^ 64
+join_lanes-fits s r low high e h =
+    subst (λ n. n < 2 ^ 64) (sym (join_lanes_is 64 s r low high e h)) (mod_below ((high * 2 ^ 64 + low) / 2 ^ r) (2 ^ 64) (pow_pos 64))
+
+pub is_bit-join_lanes : (s r low high i : ℕ) → s + r ≡ 64 → 0 < s → low < 2 ^ 64 → i < 64 → is_bit (low / 2 ^ r + high * 2 ^ s % 2 ^ 64) i ≡ bit_of (low ∷ high ∷ []) (r + i)
 is_bit-join_lanes s r low high i e some fits lt =
-    ap (λ y. is_bit y i) (lanes_are 64 s r low high e fits) ∙ is_bit-join s r low high i e some fits lt
+    ap (λ y. is_bit y i) (join_lanes_is 64 s r low high e fits ∙ sym (join_is 64 s r low high e fits)) ∙ is_bit-join s r low high i e some fits lt

@@ -172,6 +172,11 @@ impl<O: UnaryOperator, A: BitSource> BitSource for Mapped<O, A> {
         self.source.inner_words()
     }
 
+    #[inline(always)]
+    fn has_few_steps(&self) -> bool {
+        self.source.has_few_steps()
+    }
+
     #[inline]
     fn inner_word(&self, k: usize) -> u64 {
         self.operator.apply(self.source.inner_word(k))
@@ -201,6 +206,11 @@ impl<O: BinaryOperator, A: BitSource, B: BitSource> BitSource for Zipped<O, A, B
     #[inline]
     fn inner_words(&self) -> usize {
         self.left.inner_words().min(self.right.inner_words())
+    }
+
+    #[inline(always)]
+    fn has_few_steps(&self) -> bool {
+        self.left.has_few_steps() && self.right.has_few_steps()
     }
 
     #[inline]
@@ -236,6 +246,11 @@ impl<O: TernaryOperator, A: BitSource, B: BitSource, C: BitSource> BitSource
     fn inner_words(&self) -> usize {
         let others = self.second.inner_words().min(self.third.inner_words());
         self.first.inner_words().min(others)
+    }
+
+    #[inline(always)]
+    fn has_few_steps(&self) -> bool {
+        self.first.has_few_steps() && self.second.has_few_steps() && self.third.has_few_steps()
     }
 
     #[inline]

@@ -27,14 +27,15 @@ pub(crate) fn join(low: u64, high: u64, by: usize) -> u64
 
 // The same in a form for loops over words. The compiler makes one instruction of `join`, a shift of two
 // words, which exists for single words alone, and so a loop of it goes word by word. Of these two shifts,
-// which share no bit, it makes vectors.
+// which share no bit, it makes vectors. It would of `^` too, but for `^` of two joins: there it changes the
+// order of all four shifts, and finds no vectors.
 #[inline]
 pub(crate) fn join_lanes(low: u64, high: u64, by: usize) -> u64
     requires some { 0 < by }
     requires within_word { by < 64 }
     ensures { (i : ℕ) → i < 64 → is_bit result i ≡ bit_of (low ∷ high ∷ []) (by + i) }
 {
-    (low >> by) ^ (high << (64 - by))
+    (low >> by) + (high << (64 - by))
 }
 
 // The same as `join` from any bit on. This becomes one shift of two words, without a branch.
