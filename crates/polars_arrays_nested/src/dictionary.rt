@@ -109,9 +109,9 @@ impl DictionaryArray {
     pub fn clone_array(&self, alloc: Global) -> Result<DictionaryArray, ComputeError>
         ensures { MatchResult result (λ copy. IsClone (Dictionary copy) (Dictionary self.now)) IsMemory }
     {
-        let keys = self.keys.clone_keys(alloc)?;
         let values = self.values.clone_array(alloc)?;
         let values = Box::new(alloc, values)?;
+        let keys = self.keys.clone_keys(alloc)?;
         Ok(DictionaryArray { keys, values })
     }
 }
