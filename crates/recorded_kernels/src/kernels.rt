@@ -14,7 +14,7 @@ use polars_arrays_flat::array::Array;
 use polars_arrays_nested::any_array::AnyArray;
 use polars_compare_equality::kernel::TotalEqKernel;
 use polars_compare_order::kernel::TotalOrdKernel;
-use recorded_text::bits_text::{write_made, write_made_present, write_made_unmasked};
+use recorded_text::bits_text::{write_made, write_made_present, write_unmasked};
 use recorded_text::fault::Fault;
 use recorded_text::store::Store;
 use recorded_text::words::Words;
@@ -99,11 +99,11 @@ fn equal_rows<A: TotalEqKernel>(
     };
     match kernel {
         Equality::Equal | Equality::Unequal => {
-            write_made_unmasked(
+            write_unmasked(
                 alloc,
-                bits,
-                left.missing_mask(alloc),
-                right.missing_mask(alloc),
+                &bits?,
+                &left.missing_mask(alloc)?,
+                &right.missing_mask(alloc)?,
             )
         }
         Equality::EqualMissing | Equality::UnequalMissing => write_made(alloc, bits),

@@ -22,7 +22,7 @@ use polars_arrays_numbers::steps::Steps;
 use polars_compare_nested::windows::{
     dictionary_windows, equal_windows, fixed_size_list_windows, list_windows, struct_windows,
 };
-use recorded_text::bits_text::write_made_unmasked;
+use recorded_text::bits_text::write_unmasked;
 use recorded_text::fault::Fault;
 use recorded_text::store::Store;
 use recorded_text::words::Words;
@@ -170,9 +170,10 @@ fn write_raw_seen(
 ) -> Result<String, Fault>
     requires { AreWindows windows }
 {
-    let left = windows.left.window_mask(alloc, windows.a, windows.n);
-    let right = windows.right.window_mask(alloc, windows.b, windows.n);
-    let mut text = write_made_unmasked(alloc, bits, left, right)?;
+    let bits = bits?;
+    let left = windows.left.window_mask(alloc, windows.a, windows.n)?;
+    let right = windows.right.window_mask(alloc, windows.b, windows.n)?;
+    let mut text = write_unmasked(alloc, &bits, &left, &right)?;
     write!(text, " in {seen} comparisons")?;
     Ok(text)
 }

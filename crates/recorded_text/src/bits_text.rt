@@ -99,19 +99,9 @@ pub fn write_made_present(
     write_present(alloc, &bits?, left, right)
 }
 
-/// The text of bits that a call made, which say something only where both masks have the row: `b0:` and a digit
-/// for each, or `x` in place of one.
-pub fn write_made_unmasked(
-    alloc: Global,
-    bits: Result<Bitmap, ComputeError>,
-    left: Result<Mask<'_>, ComputeError>,
-    right: Result<Mask<'_>, ComputeError>,
-) -> Result<String, Fault> {
-    write_unmasked(alloc, &bits?, &left?, &right?)
-}
-
-// The same of bits and masks that are there.
-fn write_unmasked(
+/// The text of bits that say something only where both masks have the row: `b0:` and a digit for each, or `x` in
+/// place of one.
+pub fn write_unmasked(
     alloc: Global,
     bits: &Bitmap,
     left: &Mask<'_>,

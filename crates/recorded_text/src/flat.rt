@@ -5,6 +5,8 @@ use crate::parts::{
     Kept, read_bits, read_buffers, read_byte_buffer, read_numbers, read_validity, read_views,
 };
 use crate::words::Words;
+use polars_arrays_bits::bitmap::Bitmap;
+use polars_arrays_bits::buffer::Buffer;
 use polars_arrays_bytes::binary::BinaryArray;
 use polars_arrays_bytes::fixed_size::FixedSizeBinaryArray;
 use polars_arrays_bytes::text::Utf8Array;
@@ -14,6 +16,7 @@ use polars_arrays_numbers::native_type::NativeType;
 use polars_arrays_numbers::offset::Offset;
 use polars_arrays_views::binary_view::BinaryViewArray;
 use polars_arrays_views::text_view::Utf8ViewArray;
+use polars_arrays_views::view::View;
 use std::alloc::Global;
 use std::str::FromStr;
 
@@ -37,16 +40,38 @@ pub fn read_integers<T: NativeType + FromStr<Err: Drop>>(
     Ok(array)
 }
 
+// What strings between offsets are made of.
+#[derive(Drop)]
+struct StringParts<O: Offset> {
+    offsets: Buffer<O>,
+    values: Buffer<u8>,
+    validity: Option<Bitmap>,
+}
+
+// The parts of strings between offsets.
+fn read_string_parts<O: Offset + FromStr<Err: Drop>>(
+    alloc: Global,
+    kept: Kept,
+    words: &mut Words,
+) -> Result<StringParts<O>, Fault> {
+    let offsets = kept.buffer(alloc, read_numbers(alloc, words)?)?;
+    let values = read_byte_buffer(alloc, kept, words)?;
+    let validity = read_validity(alloc, kept, words)?;
+    Ok(StringParts {
+        offsets,
+        values,
+        validity,
+    })
+}
+
 /// Byte strings between offsets: the offsets, the bytes, and the validity.
 pub fn read_binary<O: Offset + FromStr<Err: Drop>>(
     alloc: Global,
     kept: Kept,
     words: &mut Words,
 ) -> Result<BinaryArray<O>, Fault> {
-    let offsets = kept.buffer(alloc, read_numbers(alloc, words)?)?;
-    let values = read_byte_buffer(alloc, kept, words)?;
-    let validity = read_validity(alloc, kept, words)?;
-    let array = BinaryArray::try_new(offsets, values, validity)?;
+    let parts = read_string_parts(alloc, kept, words)?;
+    let array = BinaryArray::try_new(parts.offsets, parts.values, parts.validity)?;
     Ok(array)
 }
 
@@ -56,11 +81,29 @@ pub fn read_text<O: Offset + FromStr<Err: Drop>>(
     kept: Kept,
     words: &mut Words,
 ) -> Result<Utf8Array<O>, Fault> {
-    let offsets = kept.buffer(alloc, read_numbers(alloc, words)?)?;
-    let values = read_byte_buffer(alloc, kept, words)?;
-    let validity = read_validity(alloc, kept, words)?;
-    let array = Utf8Array::try_new(offsets, values, validity)?;
+    let parts = read_string_parts(alloc, kept, words)?;
+    let array = Utf8Array::try_new(parts.offsets, parts.values, parts.validity)?;
     Ok(array)
+}
+
+// What strings by views are made of.
+#[derive(Drop)]
+struct ViewParts {
+    views: Buffer<View>,
+    buffers: Vec<Buffer<u8>>,
+    validity: Option<Bitmap>,
+}
+
+// The parts of strings by views.
+fn read_view_parts(alloc: Global, kept: Kept, words: &mut Words) -> Result<ViewParts, Fault> {
+    let views = kept.buffer(alloc, read_views(alloc, words)?)?;
+    let buffers = read_buffers(alloc, kept, words)?;
+    let validity = read_validity(alloc, kept, words)?;
+    Ok(ViewParts {
+        views,
+        buffers,
+        validity,
+    })
 }
 
 /// Byte strings by views: the views, the buffers, and the validity.
@@ -69,10 +112,8 @@ pub fn read_binary_view(
     kept: Kept,
     words: &mut Words,
 ) -> Result<BinaryViewArray, Fault> {
-    let views = kept.buffer(alloc, read_views(alloc, words)?)?;
-    let buffers = read_buffers(alloc, kept, words)?;
-    let validity = read_validity(alloc, kept, words)?;
-    let array = BinaryViewArray::try_new(views, buffers, validity)?;
+    let parts = read_view_parts(alloc, kept, words)?;
+    let array = BinaryViewArray::try_new(parts.views, parts.buffers, parts.validity)?;
     Ok(array)
 }
 
@@ -82,10 +123,8 @@ pub fn read_text_view(
     kept: Kept,
     words: &mut Words,
 ) -> Result<Utf8ViewArray, Fault> {
-    let views = kept.buffer(alloc, read_views(alloc, words)?)?;
-    let buffers = read_buffers(alloc, kept, words)?;
-    let validity = read_validity(alloc, kept, words)?;
-    let array = Utf8ViewArray::try_new(views, buffers, validity)?;
+    let parts = read_view_parts(alloc, kept, words)?;
+    let array = Utf8ViewArray::try_new(parts.views, parts.buffers, parts.validity)?;
     Ok(array)
 }
 

@@ -319,14 +319,14 @@ fn dictionary_of(
 // The keys of a dictionary array, of the type that the next word names.
 fn read_keys(alloc: Global, kept: Kept, words: &mut Words) -> Result<DictKeys, Fault> {
     match words.read()? {
-        "i8" => Ok(DictKeys::Int8(read_integers(alloc, kept, words)?)),
-        "i16" => Ok(DictKeys::Int16(read_integers(alloc, kept, words)?)),
-        "i32" => Ok(DictKeys::Int32(read_integers(alloc, kept, words)?)),
-        "i64" => Ok(DictKeys::Int64(read_integers(alloc, kept, words)?)),
-        "u8" => Ok(DictKeys::UInt8(read_integers(alloc, kept, words)?)),
-        "u16" => Ok(DictKeys::UInt16(read_integers(alloc, kept, words)?)),
-        "u32" => Ok(DictKeys::UInt32(read_integers(alloc, kept, words)?)),
-        "u64" => Ok(DictKeys::UInt64(read_integers(alloc, kept, words)?)),
+        "i8" => read_integers(alloc, kept, words).map(DictKeys::Int8),
+        "i16" => read_integers(alloc, kept, words).map(DictKeys::Int16),
+        "i32" => read_integers(alloc, kept, words).map(DictKeys::Int32),
+        "i64" => read_integers(alloc, kept, words).map(DictKeys::Int64),
+        "u8" => read_integers(alloc, kept, words).map(DictKeys::UInt8),
+        "u16" => read_integers(alloc, kept, words).map(DictKeys::UInt16),
+        "u32" => read_integers(alloc, kept, words).map(DictKeys::UInt32),
+        "u64" => read_integers(alloc, kept, words).map(DictKeys::UInt64),
         _ => Err(Fault::Word),
     }
 }
