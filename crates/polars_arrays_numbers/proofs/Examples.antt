@@ -1,5 +1,5 @@
 -- Worked examples of the definitions: the check computes both sides of each.
-use Rattle.std.specs.Prelude.{◌≡◌, ℕ, ℤ, pos, negsuc, Bool, true, false, Option, Some, None, refl}
+use Rattle.std.specs.Prelude.{◌≡◌, pos, negsuc, true, false, None, refl}
 use Rattle.polars_arrays_numbers.specs.Naturals.{natural_of}
 use Rattle.polars_arrays_numbers.specs.Ranges.{least_of, greatest_of}
 use Rattle.polars_arrays_numbers.specs.Wrapping.{Congruent, IsWrapped, wrapped, HasAllOf}

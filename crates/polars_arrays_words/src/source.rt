@@ -17,8 +17,8 @@ pub trait BitSource {
         ensures { result ≡ inner self.now };
 
     /// Whether a word takes few steps, so that four of them belong in one turn of a loop.
-    // A loop of few steps takes up to a fifth longer where its last jump happens to lie badly in the
-    // processor's cache.
+    // A loop of few steps takes up to two fifths longer where its last jump happens to lie badly in
+    // the processor's cache.
     #[inline(always)]
     fn has_few_steps(&self) -> bool {
         false

@@ -1,6 +1,6 @@
 use Rattle.std.proofs.Common.{arith}
 use Rattle.polars_arrays_flat.specs.StoredRows.{number_slots}
-use Rattle.polars_arrays_folds.proofs.FoldSteps.{fold_end, fold_more, length-slots, slot-number}
+use Rattle.polars_arrays_folds.proofs.FoldSteps.{fold_more, length-slots, slot-number}
 use Rattle.polars_arrays_folds.proofs.fold.fold_all_both.Goals as goal
 
 pub loop-number-preserved : goal.loop-number-preserved

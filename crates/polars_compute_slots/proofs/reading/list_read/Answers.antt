@@ -2,7 +2,7 @@ use Rattle.std.proofs.Common.{◌∙◌, ap, sym}
 use Rattle.std.proofs.lemmas.Result.{MatchResult-weaker}
 use Rattle.polars_arrays_flat.specs.Row.{Int}
 use Rattle.polars_compute_slots.specs.Slots.{slot_state}
-use Rattle.polars_compute_slots.specs.State.{State, finalised}
+use Rattle.polars_compute_slots.specs.State.{finalised}
 use Rattle.polars_compute_slots.proofs.ReadValues.{read-whole}
 use Rattle.polars_compute_slots.proofs.reading.list_read.Goals as goal
 

@@ -1,5 +1,4 @@
-use Rattle.std.proofs.Common.{◌∙◌, arith, sym, false, ap}
-use Rattle.std.proofs.lemmas.List.{length-map}
+use Rattle.std.proofs.Common.{◌∙◌, arith, sym, false}
 use Rattle.std.proofs.lemmas.Option.{get_or_from_slice_get}
 use Rattle.polars_compute_slots.proofs.ReadValues.{length-slot_state}
 use Rattle.polars_compute_slots.proofs.Sets.{length-members}
