@@ -1,5 +1,5 @@
 -- Lists that all have as many items.
-use Rattle.std.proofs.Common.{◌≡◌, ◌+◌, ◌-◌, ◌*◌, ◌<◌, ◌≤◌, ℕ, zero, suc, Bool, true, false, eqb, List, take, drop, sym, subst, ap, ap₂, ◌∙◌, arith, add-zero}
+use Rattle.std.proofs.Common.{◌≡◌, ◌+◌, ◌-◌, ◌*◌, ◌<◌, ◌≤◌, ℕ, zero, suc, Bool, true, false, eqb, List, take, drop, sym, subst, ap₂, ◌∙◌, arith, add-zero}
 use Rattle.std.specs.Prelude.{Option}
 use Rattle.std.specs.List.{list_all}
 use Rattle.std.proofs.lemmas.Bool.{cases_lt}

@@ -1,10 +1,9 @@
 -- Stored rows that are tested place by place are in order where the test says so.
-use Rattle.std.proofs.Common.{◌≡◌, ◌<◌, ◌∙◌, ℕ, zero, suc, Bool, false, List, [], ◌∷◌, Option, length, map, take, drop, replicate, refl, sym, ap, ap₂, arith, slice_index_or}
+use Rattle.std.proofs.Common.{◌≡◌, ◌∙◌, ℕ, zero, suc, Bool, false, List, [], ◌∷◌, Option, length, map, take, drop, replicate, refl, sym, ap, ap₂, arith}
 use Rattle.std.specs.Simd.Lanes.{zip2}
 use Rattle.std.proofs.lemmas.List.{length-replicate}
 use Rattle.std.proofs.lemmas.Simd.{get_or-zip2, zip2_splat}
 use Rattle.polars_arrays_flat.specs.Row.{Row, Null}
-use Rattle.polars_arrays_flat.specs.StoredRows.{row}
 use Rattle.polars_arrays_flat.specs.Validity.{window}
 use Rattle.polars_compare_leaves.specs.Order.{RawOrder}
 

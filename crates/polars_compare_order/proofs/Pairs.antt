@@ -1,5 +1,5 @@
 -- Byte strings that are tested pair by pair are in order where the test says so.
-use Rattle.std.proofs.Common.{◌≡◌, ◌<◌, ◌+◌, ◌∙◌, ℕ, Bool, false, List, [], Option, length, sym, ap, ap₂, subst, arith, slice_index_or}
+use Rattle.std.proofs.Common.{◌≡◌, ◌<◌, ◌+◌, ◌∙◌, ℕ, Bool, false, List, [], Option, length, sym, ap₂, subst, arith, slice_index_or}
 use Rattle.std.proofs.lemmas.List.{get_or-map, length-map}
 use Rattle.polars_arrays_flat.specs.Row.{Row, Null, Bytes}
 use Rattle.polars_arrays_flat.specs.StoredRows.{row, byte_slots}

@@ -1,4 +1,4 @@
-use Rattle.std.proofs.Common.{◌+◌, ◌∙◌, List, ℕ, ap₂, sym}
+use Rattle.std.proofs.Common.{◌∙◌, List, ℕ, ap₂, sym}
 use Rattle.polars_arrays_flat.specs.Row.{Bytes}
 use Rattle.polars_arrays_views.specs.Parts.{view_strings}
 use Rattle.polars_compare_views.specs.Pairs.{compared_pair}
