@@ -1,3 +1,4 @@
+pub mod Answered
 pub mod Best
 pub mod BitRows
 pub mod Comparisons

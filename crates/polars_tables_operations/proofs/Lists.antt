@@ -20,6 +20,21 @@ module _ {A R B : Type 0} (f : A → R) where
   two-ok (x ∷ y ∷ []) pair answer e = let same : (x, y) ≡ pair = cc in ap (λ (p : A × A). answer (f p.0) (f p.1)) same
   two-ok (x ∷ y ∷ z ∷ more) pair answer e = absurd (cc)
 
+-- two lists that lead to s by f, lead to b by g, where any two do
+module _ {R S B : Type 0} where
+  pub two-to : (xs : List R) (f : R → R → Result S LineError) (g : R → R → Result B LineError) (s : S) (b : Result B LineError) → ((x y : R) → f x y ≡ Ok s → g x y ≡ b) → of_two xs f ≡ Ok s → of_two xs g ≡ b
+  two-to [] f g s b step e = absurd (cc)
+  two-to (x ∷ []) f g s b step e = absurd (cc)
+  two-to (x ∷ y ∷ []) f g s b step e = step x y e
+  two-to (x ∷ y ∷ z ∷ more) f g s b step e = absurd (cc)
+
+  -- and those that lead to a fault
+  pub two-from : (xs : List R) (f : R → R → Result S LineError) (g : R → R → Result B LineError) (fault : LineError) → ((x y : R) → f x y ≡ Err fault → g x y ≡ Err fault) → of_two xs f ≡ Err fault → of_two xs g ≡ Err fault
+  two-from [] f g fault step e = let same : Length ≡ fault = cc in ap (λ (z : LineError). Err z) same
+  two-from (x ∷ []) f g fault step e = let same : Length ≡ fault = cc in ap (λ (z : LineError). Err z) same
+  two-from (x ∷ y ∷ []) f g fault step e = step x y e
+  two-from (x ∷ y ∷ z ∷ more) f g fault step e = let same : Length ≡ fault = cc in ap (λ (z : LineError). Err z) same
+
 -- ---- numbers
 
 module _ {S B : Type 0} where

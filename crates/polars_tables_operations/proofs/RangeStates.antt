@@ -7,7 +7,7 @@ use Rattle.polars_tables_rows.specs.declared.fault.LineError.{LineError}
 use Rattle.polars_tables_rows.specs.declared.fault.LineError.TheVariants.{Range}
 use Rattle.polars_tables_rows.specs.Faults.{of_ends, of_two}
 use Rattle.polars_tables_operations.specs.Distinct.{are_ends, of_state}
-use Rattle.polars_tables_operations.proofs.Lists.{ends-from, ends-to, two-ok}
+use Rattle.polars_tables_operations.proofs.Lists.{ends-from, ends-to, two-from, two-to}
 
 range-new : (range : List ℤ) → range_of (new_state range) ≡ range
 range-new [] = refl
@@ -48,13 +48,15 @@ module _ {B : Type 0} (first last : ℤ) (rows : List Row) (answer : State → R
   state-err fault e = by_test-err here now fault (of_state {B = State} first last rows (λ s. Ok s)) refl e
 
 -- the same of two lists, of which the first has the ends
-module _ {A B : Type 0} (f : A → List Row) (xs : List A) (pair : A × A) (answer : State → Result B LineError) (lists : of_two {B = A × A} xs (λ x y. Ok (x, y)) ≡ Ok pair) where
-  pub range-ok : (t : State) → of_ends {B = State} (f pair.0) (λ m n. of_state m n (f pair.1) (λ s. Ok s)) ≡ Ok t → of_two (map f xs) (λ ends rows. of_ends ends (λ m n. of_state m n rows answer)) ≡ answer t
+module _ {B : Type 0} (xs : List (List Row)) (answer : State → Result B LineError) where
+  pub range-ok : (t : State) → of_two {B = State} xs (λ ends rows. of_ends ends (λ m n. of_state m n rows (λ s. Ok s))) ≡ Ok t → of_two xs (λ ends rows. of_ends ends (λ m n. of_state m n rows answer)) ≡ answer t
   range-ok t e =
-      two-ok f xs pair (λ ends rows. of_ends ends (λ m n. of_state m n rows answer)) lists
-      ∙ ends-to (f pair.0) (λ m n. of_state m n (f pair.1) (λ s. Ok s)) (λ m n. of_state m n (f pair.1) answer) t (answer t) (λ m n h. state-ok m n (f pair.1) answer t h) e
+      two-to xs (λ ends rows. of_ends ends (λ m n. of_state m n rows (λ s. Ok s))) (λ ends rows. of_ends ends (λ m n. of_state m n rows answer)) t (answer t)
+      (λ ends rows. ends-to ends (λ m n. of_state m n rows (λ s. Ok s)) (λ m n. of_state m n rows answer) t (answer t) (λ m n h. state-ok m n rows answer t h))
+      e
 
-  pub range-err : (fault : LineError) → of_ends {B = State} (f pair.0) (λ m n. of_state m n (f pair.1) (λ s. Ok s)) ≡ Err fault → of_two (map f xs) (λ ends rows. of_ends ends (λ m n. of_state m n rows answer)) ≡ Err fault
+  pub range-err : (fault : LineError) → of_two {B = State} xs (λ ends rows. of_ends ends (λ m n. of_state m n rows (λ s. Ok s))) ≡ Err fault → of_two xs (λ ends rows. of_ends ends (λ m n. of_state m n rows answer)) ≡ Err fault
   range-err fault e =
-      two-ok f xs pair (λ ends rows. of_ends ends (λ m n. of_state m n rows answer)) lists
-      ∙ ends-from (f pair.0) (λ m n. of_state m n (f pair.1) (λ s. Ok s)) (λ m n. of_state m n (f pair.1) answer) fault (λ m n h. state-err m n (f pair.1) answer fault h) e
+      two-from xs (λ ends rows. of_ends ends (λ m n. of_state m n rows (λ s. Ok s))) (λ ends rows. of_ends ends (λ m n. of_state m n rows answer)) fault
+      (λ ends rows. ends-from ends (λ m n. of_state m n rows (λ s. Ok s)) (λ m n. of_state m n rows answer) fault (λ m n h. state-err m n rows answer fault h))
+      e

@@ -9,23 +9,23 @@ ghost use Rattle.polars_tables_operations.specs.Distinct.{asked_of};
 ghost use Rattle.polars_tables_rows.specs.Faults.{Tells};
 ghost use Rattle.polars_tables_rows.specs.Written.{truth_word};
 
+use crate::answering::{write_count, write_made};
 use crate::line_number::LineNumber;
 use crate::operation::Distinct;
 use polars_compute_unique::kernel::RangedUniqueKernel;
 use polars_compute_unique::primitive::PrimitiveRangedUniqueState;
-use polars_tables_rows::fault::{LineError, or_memory};
-use polars_tables_rows::written::write_rows;
+use polars_tables_rows::fault::LineError;
 use std::alloc::{AllocError, Global};
 
 // The distinct rows that a state has seen.
+#[tactic(auto, using(crate::proofs::Answered::answered))]
 fn list_distinct<T: LineNumber>(
     alloc: Global,
     state: PrimitiveRangedUniqueState<T>,
 ) -> Result<String, LineError>
     ensures { Tells string_bytes (told (finalised Int state)) result }
 {
-    let rows = or_memory(state.finalize_unique(alloc))?;
-    Ok(write_rows(alloc, &rows)?)
+    write_made(alloc, state.finalize_unique(alloc))
 }
 
 /// What a state answers of the distinct rows that it has seen.
@@ -38,8 +38,8 @@ pub fn answer_distinct<T: LineNumber>(
 {
     match asked {
         Distinct::Listed => list_distinct(alloc, state),
-        Distinct::Counted => Ok(state.finalize_n_unique().to_string(alloc)?),
-        Distinct::PresentCounted => Ok(state.finalize_n_unique_non_null().to_string(alloc)?),
+        Distinct::Counted => write_count(alloc, state.finalize_n_unique()),
+        Distinct::PresentCounted => write_count(alloc, state.finalize_n_unique_non_null()),
     }
 }
 

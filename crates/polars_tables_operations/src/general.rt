@@ -8,16 +8,17 @@ ghost use Rattle.polars_tables_operations.specs.declared.operation.GeneralOperat
 ghost use Rattle.polars_tables_operations.specs.declared.operation.Operand.TheVariants.{Rows, Scalar};
 ghost use Rattle.polars_tables_rows.specs.Faults.{Tells};
 
+use crate::answering::write_made;
 use crate::comparing::{compare_rows, compare_scalar};
 use crate::counting::count_bits;
 use crate::kernel_array::KernelArray;
 use crate::operation::{BitCount, Comparison, GeneralOperation, Operand, Reduction};
 use crate::reducing::{find_extremes, reduce};
-use polars_tables_rows::fault::{LineError, or_memory};
-use polars_tables_rows::written::write_rows;
+use polars_tables_rows::fault::LineError;
 use std::alloc::{AllocError, Global};
 
 // Two lists of rows compared, which have to be equally long.
+#[tactic(auto, using(crate::proofs::Answered::answered))]
 fn answer_rows<A: KernelArray>(
     alloc: Global,
     comparison: Comparison,
@@ -29,11 +30,11 @@ fn answer_rows<A: KernelArray>(
     if left.count() != right.count() {
         return Err(LineError::Length);
     }
-    let answers = or_memory(compare_rows(alloc, comparison, left, right))?;
-    Ok(write_rows(alloc, &answers)?)
+    write_made(alloc, compare_rows(alloc, comparison, left, right))
 }
 
 // A list of rows compared with a scalar, which is a list of one row that is not null.
+#[tactic(auto, using(crate::proofs::Answered::answered))]
 fn answer_scalar<A: KernelArray>(
     alloc: Global,
     comparison: Comparison,
@@ -48,8 +49,7 @@ fn answer_scalar<A: KernelArray>(
     let Some(scalar) = scalars.value(0) else {
         return Err(LineError::Range);
     };
-    let answers = or_memory(compare_scalar(alloc, comparison, rows, &scalar))?;
-    Ok(write_rows(alloc, &answers)?)
+    write_made(alloc, compare_scalar(alloc, comparison, rows, &scalar))
 }
 
 // What a comparison answers to its lists of rows.
@@ -71,6 +71,7 @@ fn answer_comparison<A: KernelArray>(
 }
 
 // How many bits of a kind each row of a list has.
+#[tactic(auto, using(crate::proofs::Answered::answered))]
 fn answer_count<A: KernelArray>(
     alloc: Global,
     count: BitCount,
@@ -81,8 +82,7 @@ fn answer_count<A: KernelArray>(
     let [list] = lists else {
         return Err(LineError::Length);
     };
-    let counts = or_memory(count_bits(alloc, count, list))?;
-    Ok(write_rows(alloc, &counts)?)
+    write_made(alloc, count_bits(alloc, count, list))
 }
 
 // The word of a value, or `none`.

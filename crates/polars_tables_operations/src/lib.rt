@@ -1,6 +1,7 @@
 //! The operations of the line language, on arrays of rows.
 #![tactic(auto)]
 
+mod answering;
 mod calculating;
 mod comparing;
 mod counting;

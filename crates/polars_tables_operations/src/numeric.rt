@@ -6,13 +6,16 @@ ghost use Rattle.polars_arrays_flat.specs.ArrayRows.{number_rows};
 ghost use Rattle.polars_arrays_flat.specs.Row.{Int};
 ghost use Rattle.polars_arrays_numbers.specs.Wrapping.{wrapped};
 ghost use Rattle.polars_compute_bits.specs.Sum.{total};
+ghost use Rattle.polars_compute_slots.specs.State.{State};
 ghost use Rattle.polars_tables_operations.specs.Answers.{calculation_answer, numeric_answer, scalar_calculation_answer};
+ghost use Rattle.polars_tables_operations.specs.Distinct.{of_state};
 ghost use Rattle.polars_tables_operations.specs.declared.operation.NumericOperation.TheVariants.{Calculate, CalculateFromScalar, Change as ChangeRows, DistinctInRange, HasAllOfRange, Sum};
 ghost use Rattle.polars_tables_operations.specs.declared.operation.Operand.TheVariants.{Rows, Scalar};
-ghost use Rattle.polars_tables_rows.specs.Faults.{Tells, of_number_scalar, of_one, of_two};
+ghost use Rattle.polars_tables_rows.specs.Faults.{Tells, of_ends, of_number_scalar, of_one, of_two};
 ghost use Rattle.polars_tables_rows.specs.Types.{least_in, width_of};
 ghost use Rattle.polars_tables_rows.specs.Written.{row_word};
 
+use crate::answering::write_made;
 use crate::calculating::{calculate_from_scalar, calculate_rows, calculate_scalar, change_rows};
 use crate::distinct::{answer_distinct, write_all_seen};
 use crate::line_number::LineNumber;
@@ -22,9 +25,9 @@ use crate::operation::{
 use crate::ranges::state_of;
 use polars_arrays_flat::primitive::PrimitiveArray;
 use polars_compute_bits::sum::wrapping_sum_arr;
-use polars_tables_rows::fault::{LineError, or_memory};
+use polars_compute_unique::primitive::PrimitiveRangedUniqueState;
+use polars_tables_rows::fault::LineError;
 use polars_tables_rows::row_array::RowArray;
-use polars_tables_rows::written::write_rows;
 use std::alloc::{AllocError, Global};
 
 // The one list.
@@ -53,8 +56,8 @@ fn into_two<A: Drop>(lists: Vec<A>) -> Result<(A, A), LineError>
     Ok((left, right))
 }
 
-// The one number of a list of rows.
-fn scalar_of<T: LineNumber>(scalars: &PrimitiveArray<T>) -> Result<T, LineError>
+// The one number of a list of rows that is lent.
+fn lent_scalar<T: LineNumber>(scalars: &PrimitiveArray<T>) -> Result<T, LineError>
     ensures { Tells T.value (of_number_scalar (number_rows T.value scalars.now) (λ n. Ok n)) result }
 {
     if scalars.count() != 1 {
@@ -66,7 +69,15 @@ fn scalar_of<T: LineNumber>(scalars: &PrimitiveArray<T>) -> Result<T, LineError>
     }
 }
 
+// The one number of a list of rows.
+fn scalar_of<T: LineNumber>(scalars: PrimitiveArray<T>) -> Result<T, LineError>
+    ensures { Tells T.value (of_number_scalar (number_rows T.value scalars) (λ n. Ok n)) result }
+{
+    lent_scalar(&scalars)
+}
+
 // What is made of each number of a list.
+#[tactic(auto, using(crate::proofs::Answered::answered))]
 fn answer_change<T: LineNumber>(
     alloc: Global,
     change: Change,
@@ -75,11 +86,11 @@ fn answer_change<T: LineNumber>(
     ensures { Tells string_bytes (numeric_answer (ChangeRows change) T.kind (map (number_rows T.value) lists.items)) result }
 {
     let rows = into_one(lists)?;
-    let answers = or_memory(change_rows(alloc, change, rows))?;
-    Ok(write_rows(alloc, &answers)?)
+    write_made(alloc, change_rows(alloc, change, rows))
 }
 
 // What is made of the numbers of two lists, which have to be equally long.
+#[tactic(auto, using(crate::proofs::Answered::answered))]
 fn answer_rows<T: LineNumber>(
     alloc: Global,
     calculation: Calculation,
@@ -91,11 +102,11 @@ fn answer_rows<T: LineNumber>(
     if left.count() != right.count() {
         return Err(LineError::Length);
     }
-    let answers = or_memory(calculate_rows(alloc, calculation, left, right))?;
-    Ok(write_rows(alloc, &answers)?)
+    write_made(alloc, calculate_rows(alloc, calculation, left, right))
 }
 
 // What is made of the numbers of a list, each on the left, and a scalar.
+#[tactic(auto, using(crate::proofs::Answered::answered))]
 fn answer_scalar<T: LineNumber>(
     alloc: Global,
     calculation: Calculation,
@@ -104,9 +115,8 @@ fn answer_scalar<T: LineNumber>(
 ) -> Result<String, LineError>
     ensures { Tells string_bytes (calculation_answer calculation Scalar T.kind (number_rows T.value rows) (number_rows T.value scalars)) result }
 {
-    let scalar = scalar_of(&scalars)?;
-    let answers = or_memory(calculate_scalar(alloc, calculation, rows, scalar))?;
-    Ok(write_rows(alloc, &answers)?)
+    let scalar = scalar_of(scalars)?;
+    write_made(alloc, calculate_scalar(alloc, calculation, rows, scalar))
 }
 
 // What a calculation answers to its lists of rows.
@@ -126,6 +136,7 @@ fn answer_calculation<T: LineNumber>(
 }
 
 // What is made of a scalar, on the left, and the numbers of a list.
+#[tactic(auto, using(crate::proofs::Answered::answered))]
 fn answer_from_scalar<T: LineNumber>(
     alloc: Global,
     calculation: OrderedCalculation,
@@ -134,9 +145,11 @@ fn answer_from_scalar<T: LineNumber>(
     ensures { Tells string_bytes (numeric_answer (CalculateFromScalar calculation) T.kind (map (number_rows T.value) lists.items)) result }
 {
     let (scalars, rows) = into_two(lists)?;
-    let scalar = scalar_of(&scalars)?;
-    let answers = or_memory(calculate_from_scalar(alloc, calculation, scalar, rows))?;
-    Ok(write_rows(alloc, &answers)?)
+    let scalar = scalar_of(scalars)?;
+    write_made(
+        alloc,
+        calculate_from_scalar(alloc, calculation, scalar, rows),
+    )
 }
 
 // The word of the sum of rows.
@@ -157,6 +170,17 @@ fn answer_sum<T: LineNumber>(
     Ok(write_sum(alloc, &rows)?)
 }
 
+// The state of the range that the first of two lists tells, to which the rows of the second are appended.
+fn state_of_lists<T: LineNumber>(
+    alloc: Global,
+    lists: Vec<PrimitiveArray<T>>,
+) -> Result<PrimitiveRangedUniqueState<T>, LineError>
+    ensures { Tells {Y = State} (λ state. state) (of_two (map (number_rows T.value) lists.items) (λ ends rows. of_ends ends (λ m n. of_state m n rows (λ s. Ok s)))) result }
+{
+    let (ends, rows) = into_two(lists)?;
+    state_of(alloc, &ends, &rows)
+}
+
 // What is asked of the distinct rows of a list, whose numbers lie between two ends.
 fn answer_range<T: LineNumber>(
     alloc: Global,
@@ -165,8 +189,7 @@ fn answer_range<T: LineNumber>(
 ) -> Result<String, LineError>
     ensures { Tells string_bytes (numeric_answer (DistinctInRange asked) T.kind (map (number_rows T.value) lists.items)) result }
 {
-    let (ends, rows) = into_two(lists)?;
-    answer_distinct(alloc, asked, state_of(alloc, &ends, &rows)?)
+    answer_distinct(alloc, asked, state_of_lists(alloc, lists)?)
 }
 
 // Whether a list has all numbers between two ends, and a null.
@@ -176,8 +199,7 @@ fn answer_all<T: LineNumber>(
 ) -> Result<String, LineError>
     ensures { Tells string_bytes (numeric_answer HasAllOfRange T.kind (map (number_rows T.value) lists.items)) result }
 {
-    let (ends, rows) = into_two(lists)?;
-    let state = state_of(alloc, &ends, &rows)?;
+    let state = state_of_lists(alloc, lists)?;
     Ok(write_all_seen(alloc, &state)?)
 }
 

@@ -7,19 +7,19 @@ ghost use Rattle.polars_tables_operations.specs.Answers.{truths_answer};
 ghost use Rattle.polars_tables_operations.specs.declared.operation.Distinct.TheVariants.{Listed};
 ghost use Rattle.polars_tables_rows.specs.Faults.{Tells};
 
+use crate::answering::{write_count, write_made};
 use crate::operation::Distinct;
 use polars_arrays_flat::boolean::BooleanArray;
 use polars_compute_unique::kernel::GenericUniqueKernel;
-use polars_tables_rows::fault::{LineError, or_memory};
-use polars_tables_rows::written::write_rows;
+use polars_tables_rows::fault::LineError;
 use std::alloc::Global;
 
 // The distinct rows of a list.
+#[tactic(auto, using(crate::proofs::Answered::answered))]
 fn list_distinct(alloc: Global, list: &BooleanArray) -> Result<String, LineError>
     ensures { Tells string_bytes (truths_answer Listed (truth_rows list.now ∷ [])) result }
 {
-    let rows = or_memory(list.unique(alloc))?;
-    Ok(write_rows(alloc, &rows)?)
+    write_made(alloc, list.unique(alloc))
 }
 
 /// What is asked of the distinct rows of one list of truth values.
@@ -35,7 +35,7 @@ pub fn answer_truths(
     };
     match asked {
         Distinct::Listed => list_distinct(alloc, list),
-        Distinct::Counted => Ok(list.n_unique().to_string(alloc)?),
-        Distinct::PresentCounted => Ok(list.n_unique_non_null().to_string(alloc)?),
+        Distinct::Counted => write_count(alloc, list.n_unique()),
+        Distinct::PresentCounted => write_count(alloc, list.n_unique_non_null()),
     }
 }
