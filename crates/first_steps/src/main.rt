@@ -55,9 +55,10 @@ fn lists(alloc: Global, parts: &Parts) -> Result<AnyArray, Fault>
     ensures { IfOk result (λ array. IsGood array) }
 {
     let validity = Bitmap::from_bools(alloc, parts.present)?;
-    let offsets = Buffer::from_vec(Vec::from_slice(alloc, parts.offsets)?);
+    let offsets = Vec::from_slice(alloc, parts.offsets)?;
     let items = items(alloc, parts)?;
-    let array = ListArray::try_new(ListOffsets::Small(offsets), items, Some(validity))?;
+    let offsets = ListOffsets::Small(Buffer::from_vec(offsets));
+    let array = ListArray::try_new(offsets, items, Some(validity))?;
     Ok(AnyArray::List(array))
 }
 
@@ -65,9 +66,9 @@ fn lists(alloc: Global, parts: &Parts) -> Result<AnyArray, Fault>
 fn cities(alloc: Global, parts: &Parts) -> Result<Box<AnyArray>, Fault>
     ensures { IfOk result (λ array. IsGood array.value) }
 {
-    let ends = Buffer::from_vec(Vec::from_slice(alloc, parts.ends)?);
-    let bytes = Buffer::from_vec(Vec::from_slice(alloc, parts.cities.as_bytes())?);
-    let array = Utf8Array::try_new(ends, bytes, None)?;
+    let ends = Vec::from_slice(alloc, parts.ends)?;
+    let bytes = Vec::from_slice(alloc, parts.cities.as_bytes())?;
+    let array = Utf8Array::try_new(Buffer::from_vec(ends), Buffer::from_vec(bytes), None)?;
     Ok(Box::new(alloc, AnyArray::Utf8(array))?)
 }
 
@@ -75,9 +76,10 @@ fn cities(alloc: Global, parts: &Parts) -> Result<Box<AnyArray>, Fault>
 fn named_cities(alloc: Global, parts: &Parts) -> Result<AnyArray, Fault>
     ensures { IfOk result (λ array. IsGood array) }
 {
-    let keys = PrimitiveArray::from_vec(Vec::from_slice(alloc, parts.keys)?);
+    let keys = Vec::from_slice(alloc, parts.keys)?;
     let entries = cities(alloc, parts)?;
-    let array = DictionaryArray::try_new(DictKeys::UInt8(keys), entries)?;
+    let keys = DictKeys::UInt8(PrimitiveArray::from_vec(keys));
+    let array = DictionaryArray::try_new(keys, entries)?;
     Ok(AnyArray::Dictionary(array))
 }
 
@@ -118,7 +120,7 @@ fn orders(alloc: Global, parts: &Parts) -> Result<Box<AnyArray>, Fault>
     Ok(Box::new(alloc, AnyArray::Struct(array))?)
 }
 
-/// Prints for each row of two columns whether it is the same, and after how many comparisons that is known.
+/// Compares two columns row by row, and prints what that tells.
 fn print_same(
     rt: &(impl Print + AllocGlobal),
     left: &AnyArray,
@@ -132,6 +134,11 @@ fn print_same(
     }
     let mut steps = Steps::new();
     let same = array_tot_eq_missing_kernel_with_steps(rt.alloc(), left, right, &mut steps)?;
+    print_rows(rt, &same, steps.seen())
+}
+
+/// Prints for each row whether it is the same, and after how many comparisons that is known.
+fn print_rows(rt: &impl Print, same: &Bitmap, comparisons: u64) -> Result<(), Fault> {
     for i in 0..same.len() {
         let told = if same.get_bit(i) {
             "the same"
@@ -140,7 +147,7 @@ fn print_same(
         };
         println!(rt; "row {i}: {told}")?;
     }
-    println!(rt; "{} comparisons of leaves", steps.seen())?;
+    println!(rt; "{comparisons} comparisons of leaves")?;
     Ok(())
 }
 

@@ -1,8 +1,8 @@
 -- Windows of offsets, and the first bad row.
-use Rattle.std.proofs.Common.{◌≡◌, ◌<◌, ◌≤◌, ◌+◌, ◌-◌, ℕ, ℤ, zero, suc, Bool, List, [], ◌∷◌, length, get_or, map, refl, ap, sym, subst, ◌∙◌, arith}
+use Rattle.std.proofs.Common.{◌≡◌, ◌<◌, ◌≤◌, ◌+◌, ◌-◌, ℕ, ℤ, zero, suc, Bool, true, false, List, [], ◌∷◌, length, get_or, take, drop, map, refl, ap, sym, subst, ◌∙◌, arith}
 use Rattle.std.specs.Prelude.{Option, Some, None}
 use Rattle.std.specs.List.{range_with_len}
-use Rattle.std.proofs.lemmas.List.{length-map, get_or-map}
+use Rattle.std.proofs.lemmas.List.{length-map, length-drop, get_or-map, take_rest}
 use Rattle.std.proofs.lemmas.List.FromFn.{length-map-range_with_len, get_or-map-range_with_len}
 use Rattle.polars_arrays_flat.specs.StoredRows.{rows_under, byte_slots}
 use Rattle.polars_arrays_flat.specs.Row.{Row, Bytes}
@@ -103,7 +103,68 @@ bad_not_good n all row first good = refuted all first.bad good.first (good.rows 
     refuted (only ∷ []) bad start rows = bad.1 start
     refuted (first ∷ second ∷ rest) bad start rows = bad.1 (rows bad.0)
 
+-- what a test denied is not so
+pub told_not : {P : Type 0} → (P → false ≡ true) → P → ⊥
+told_not says holds = let told = says holds in cc
+
 pub ruleset faults = (bad_start, bad_row, bad_not_good)
+
+-- a place that was read is the place in the list of all
+place_read : {A : Type 0} (value : A → ℤ) (offsets : List A) (i : ℕ) (x : A) → x ≡ get_or offsets i x → i < length offsets → place_at (places value offsets) i ≡ natural_of (value x)
+place_read value offsets i x is below = place_of value offsets i x below ∙ ap (λ (z : _). natural_of (value z)) (sym is)
+
+-- both ends of a good row are there
+start_there : (n : ℕ) (from to : Option ℕ) → Bounds n from to → from ≡ None → ⊥
+start_there n (Some from) (Some to) bounds none = cc
+start_there n None (Some to) bounds none = absurd bounds
+start_there n (Some from) None bounds none = absurd bounds
+start_there n None None bounds none = absurd bounds
+
+end_there : (n : ℕ) (from to : Option ℕ) → Bounds n from to → to ≡ None → ⊥
+end_there n (Some from) (Some to) bounds none = cc
+end_there n None (Some to) bounds none = absurd bounds
+end_there n (Some from) None bounds none = absurd bounds
+end_there n None None bounds none = absurd bounds
+
+-- and so are the two offsets that were read there
+pub start_read : {A : Type 0} (value : A → ℤ) (n : ℕ) (offsets : List A) (i : ℕ) (x : A) → x ≡ get_or offsets i x → i < row_count offsets → IsGoodRow n (places value offsets) i → natural_of (value x) ≡ None → ⊥
+start_read value n offsets i x is below good none =
+    start_there n (place_at (places value offsets) i) (place_at (places value offsets) (i + 1)) good (place_read value offsets i x is (omega (arith, below)) ∙ none)
+
+pub end_read : {A : Type 0} (value : A → ℤ) (n : ℕ) (offsets : List A) (i : ℕ) (y : A) → y ≡ get_or offsets (i + 1) y → i < row_count offsets → IsGoodRow n (places value offsets) i → natural_of (value y) ≡ None → ⊥
+end_read value n offsets i y is below good none =
+    end_there n (place_at (places value offsets) i) (place_at (places value offsets) (i + 1)) good (place_read value offsets (i + 1) y is (omega (arith, below)) ∙ none)
+
+-- the offsets that were read at both ends of row i, and the places that they are
+pub record ReadsRow {A : Type 0} (value : A → ℤ) (offsets : List A) (i from to : ℕ) : Type 0 where
+  pub start : place_at (places value offsets) i ≡ Some from
+  pub end : place_at (places value offsets) (i + 1) ≡ Some to
+
+pub reads_row : {A : Type 0} (value : A → ℤ) (offsets : List A) (i : ℕ) (x y : A) (from to : ℕ) → i < row_count offsets → x ≡ get_or offsets i x → natural_of (value x) ≡ Some from → y ≡ get_or offsets (i + 1) y → natural_of (value y) ≡ Some to → ReadsRow value offsets i from to
+reads_row value offsets i x y from to below x_is start y_is end = record {
+  start = place_read value offsets i x x_is (omega (arith, below)) ∙ start;
+  end = place_read value offsets (i + 1) y y_is (omega (arith, below)) ∙ end;
+}
+
+-- they bound the row
+pub read_bounds : {A : Type 0} (value : A → ℤ) (n : ℕ) (offsets : List A) (i from to : ℕ) → ReadsRow value offsets i from to → IsGoodRow n (places value offsets) i → (from ≤ to) × (to ≤ n)
+read_bounds value n offsets i from to reads good =
+    subst (Bounds n (Some from)) reads.end (subst (λ (p : Option ℕ). Bounds n p (place_at (places value offsets) (i + 1))) reads.start good)
+
+-- and the row's string lies between them
+pub read_string : {A : Type 0} (value : A → ℤ) (offsets : List A) (values : List ℕ) (i from to : ℕ) → ReadsRow value offsets i from to → window from (to - from) values ≡ string_between (places value offsets) values i
+read_string value offsets values i from to reads =
+    sym (ap (λ (p : Option ℕ). between values p (place_at (places value offsets) (i + 1))) reads.start ∙ ap (between values (Some from)) reads.end)
+
+-- all bytes from its start on begin with the row's
+pub read_on : {A : Type 0} (value : A → ℤ) (offsets : List A) (values : List ℕ) (i from to : ℕ) → ReadsRow value offsets i from to → take (to - from) (take (length values - from) (drop from values)) ≡ string_between (places value offsets) values i
+read_on value offsets values i from to reads =
+    ap (take (to - from)) (take_rest values from) ∙ read_string value offsets values i from to reads
+
+-- and are enough of them
+pub rest_holds : (values : List ℕ) (from to : ℕ) → (from ≤ to) × (to ≤ length values) → to - from ≤ length (take (length values - from) (drop from values))
+rest_holds values from to bounds =
+    omega (arith, bounds.0, bounds.1, ap length (take_rest values from), length-drop from values)
 
 -- the strings of an array once n rows from row `at` on are kept
 pub offset_strings-window : {A : Type 0} (value : A → ℤ) (at n : ℕ) (offsets : List A) (values : List ℕ) → at + n < length offsets → strings_between (places value (window at (n + 1) offsets)) values ≡ window at n (strings_between (places value offsets) values)

@@ -1,8 +1,12 @@
 -- Second copies of the parts of an array make a second copy of the array.
 use Rattle.std.proofs.Common.{◌≡◌, ◌<◌, ◌+◌, ℕ, suc, List, [], ◌∷◌, length, get_or, refl, ap, sym, subst, ◌∙◌, arith, ◌*◌, ◌++◌, inl, inr, length-append, ◌-◌, cond}
+use Rattle.std.specs.Prelude.{Result, Ok, Err, MatchResult}
+use Rattle.std.specs.Result.{IsOkAnd}
 use Rattle.std.proofs.Math.Seq.{get_or-append_seam}
 use Rattle.std.proofs.lemmas.Bool.{cases_lt}
 use Rattle.std.proofs.lemmas.List.{get_or_append_left, get_or_default}
+use Rattle.polars_arrays_bits.specs.Errors.{IsMemory}
+use Rattle.polars_arrays_bits.specs.declared.error.ComputeError.{ComputeError}
 use Rattle.polars_arrays_flat.specs.DataType.{kind_of, kinds_of}
 use Rattle.polars_arrays_flat.specs.Kind.{StructKind}
 use Rattle.polars_arrays_flat.specs.Row.{Rows}
@@ -154,19 +158,34 @@ clone-struct a b kinds len many each mask = record {
       struct-good a (rw (mask, len) known.0) (rw len (clone-columns (struct_fields a) (struct_fields b) b.len (columns a) (columns b) kinds known.1 many each));
 }
 
--- one array more was copied
-pub clones-more : (copies before columns : List AnyArray) (copy column : AnyArray) (i : ℕ) → copies ≡ before ++ (copy ∷ []) → length before ≡ i → i < length columns → column ≡ get_or columns i column → IsClone copy column → ((k : ℕ) (d : AnyArray) → k < i → IsClone (get_or before k d) (get_or columns k d)) → (length copies ≡ i + 1) × ((k : ℕ) (d : AnyArray) → k < i + 1 → IsClone (get_or copies k d) (get_or columns k d))
-clones-more copies before columns copy column i pushed many low was clone each = (
-  ap (λ (l : List AnyArray). length l) pushed ∙ omega (arith, many, length-append before (copy ∷ [])),
+-- one more was copied
+pub copies-more : {A : Type 0} (IsCopy : A → A → Type 0) (copies before all : List A) (copy one : A) (i : ℕ) → copies ≡ before ++ (copy ∷ []) → length before ≡ i → i < length all → one ≡ get_or all i one → IsCopy copy one → ((k : ℕ) (d : A) → k < i → IsCopy (get_or before k d) (get_or all k d)) → (length copies ≡ i + 1) × ((k : ℕ) (d : A) → k < i + 1 → IsCopy (get_or copies k d) (get_or all k d))
+copies-more {A} IsCopy copies before all copy one i pushed many low was copied each = (
+  ap (λ (l : List A). length l) pushed ∙ omega (arith, many, length-append before (copy ∷ [])),
   λ k d below.
       rw pushed (elim (cases_lt k i) [
-        | inl less ↦ subst (λ z. IsClone z (get_or columns k d)) (sym (get_or_append_left before (copy ∷ []) d k (omega (arith, less, many)))) (each k d less)
+        | inl less ↦ subst (λ z. IsCopy z (get_or all k d)) (sym (get_or_append_left before (copy ∷ []) d k (omega (arith, less, many)))) (each k d less)
         | inr past ↦
             let e : k ≡ i = omega (arith, below, past) in
-            let here : column ≡ get_or columns i d = was ∙ get_or_default columns i column d low in
+            let here : one ≡ get_or all i d = was ∙ get_or_default all i one d low in
             let there : get_or (before ++ (copy ∷ [])) i d ≡ copy = subst (λ (j : ℕ). get_or (before ++ (copy ∷ [])) j d ≡ copy) many (get_or-append_seam before copy [] d) in
-            subst (λ j. IsClone (get_or (before ++ (copy ∷ [])) j d) (get_or columns j d)) (sym e) (subst (λ z. IsClone z (get_or columns i d)) (sym there) (subst (λ z. IsClone copy z) here clone))
+            subst (λ j. IsCopy (get_or (before ++ (copy ∷ [])) j d) (get_or all j d)) (sym e) (subst (λ z. IsCopy z (get_or all i d)) (sym there) (subst (λ z. IsCopy copy z) here copied))
       ]),
 )
+
+-- a second copy of the part that makes an array makes one of the array
+pub clone-made : {A : Type 0} (make : A → AnyArray) (part : A) (whole : AnyArray) (copied : Result A ComputeError) (made : Result AnyArray ComputeError) → whole ≡ make part → MatchResult copied (λ x. x ≡ part) IsMemory → MatchResult copied (λ x. IsOkAnd made (λ r. r ≡ make x)) (λ e. made ≡ Err e) → MatchResult made (λ r. IsClone r whole) IsMemory
+clone-made make part whole (Ok x) (Ok r) is same of = clone-same r whole (of ∙ ap make same ∙ sym is)
+clone-made make part whole (Ok x) (Err e) is same of = absurd of
+clone-made make part whole (Err e) made is memory of =
+    subst (λ (m : Result AnyArray ComputeError). MatchResult m (λ r. IsClone r whole) IsMemory) (sym of) memory
+
+-- and where the part holds arrays
+pub clone-made_of : {A : Type 0} (make : A → AnyArray) (part : A) (whole : AnyArray) (copied : Result A ComputeError) (made : Result AnyArray ComputeError) → whole ≡ make part → MatchResult copied (λ x. IsClone (make x) (make part)) IsMemory → MatchResult copied (λ x. IsOkAnd made (λ r. r ≡ make x)) (λ e. made ≡ Err e) → MatchResult made (λ r. IsClone r whole) IsMemory
+clone-made_of make part whole (Ok x) (Ok r) is clone of =
+    subst (IsClone r) (sym is) (subst (λ a. IsClone a (make part)) (sym of) clone)
+clone-made_of make part whole (Ok x) (Err e) is clone of = absurd of
+clone-made_of make part whole (Err e) made is memory of =
+    subst (λ (m : Result AnyArray ComputeError). MatchResult m (λ r. IsClone r whole) IsMemory) (sym of) memory
 
 pub ruleset copies = (clone-same, clone-list, clone-fixed, clone-dictionary)

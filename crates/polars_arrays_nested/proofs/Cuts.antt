@@ -1,15 +1,20 @@
 -- What slices of the parts of an array make of the array.
-use Rattle.std.proofs.Common.{◌≡◌, ◌<◌, ◌≤◌, ◌+◌, ◌*◌, ℕ, zero, suc, true, List, [], ◌∷◌, length, get_or, refl, ap, sym, subst, ◌∙◌, arith, add-zero, inl, inr, set, ◌≢◌, cond}
+use Rattle.std.proofs.Common.{◌≡◌, ◌<◌, ◌≤◌, ◌+◌, ◌*◌, ℕ, ℤ, Bool, zero, suc, true, List, [], ◌∷◌, length, get_or, drop, refl, ap, sym, subst, ◌∙◌, arith, add-zero, inl, inr, set, ◌≢◌, cond}
 use Rattle.std.specs.Prelude.{Option, None}
 use Rattle.std.proofs.Math.Nat.{mul-add, mul-le-mul_left}
 use Rattle.std.proofs.lemmas.Bool.{cases_lt}
-use Rattle.std.proofs.lemmas.List.{get_or-set_other, get_or-set_same, get_or_default}
+use Rattle.std.proofs.lemmas.List.{length-drop, length-take, get_or-set_other, get_or-set_same, get_or_default}
 use Rattle.std.proofs.lemmas.Nat.{mul-add-lt}
-use Rattle.polars_arrays_bytes.specs.OffsetStrings.{place_at}
+use Rattle.polars_arrays_bytes.specs.OffsetStrings.{OffsetStrings, offset_rows, place_at, row_count}
+use Rattle.polars_arrays_bytes.specs.SizedStrings.{SizedStrings, sized_rows}
+use Rattle.polars_arrays_flat.specs.ArrayRows.{number_rows, truth_rows}
 use Rattle.polars_arrays_flat.specs.DataType.{kinds_of}
-use Rattle.polars_arrays_flat.specs.Kind.{Kind, StructKind}
+use Rattle.polars_arrays_flat.specs.Flat.{Flat}
+use Rattle.polars_arrays_flat.specs.Kind.{FixedSizeBinaryKind, Kind, StructKind}
+use Rattle.polars_arrays_flat.specs.Numbers.{Numbers}
 use Rattle.polars_arrays_flat.specs.Row.{Row, Rows}
 use Rattle.polars_arrays_flat.specs.StoredRows.{kept}
+use Rattle.polars_arrays_flat.specs.StoredRows.{row as row_at}
 use Rattle.polars_arrays_flat.specs.Validity.{is_present, validity_window, window}
 use Rattle.polars_arrays_flat.specs.declared.data_type.Field.{Field}
 use Rattle.polars_arrays_nested.specs.AnyRows.{row, rows_from}
@@ -18,13 +23,14 @@ use Rattle.polars_arrays_nested.specs.ColumnLaws.{alike-struct, good-struct, lea
 use Rattle.polars_arrays_nested.specs.Cuts.{IsCut}
 use Rattle.polars_arrays_nested.specs.DictKeys.{key_at, key_count, key_places, key_type, key_validity}
 use Rattle.polars_arrays_nested.specs.GoodParts.{IsGood}
+use Rattle.polars_arrays_nested.specs.KeptAlike.{KeptAlike}
 use Rattle.polars_arrays_nested.specs.Leaves.{leaves, total}
 use Rattle.polars_arrays_nested.specs.Lengths.{len_of}
 use Rattle.polars_arrays_nested.specs.ListOffsets.{is_large, list_count, list_places, offset_at, span}
 use Rattle.polars_arrays_nested.specs.Parts.{columns, struct_fields, struct_validity}
 use Rattle.polars_arrays_nested.specs.Places.{place_or_zero}
 use Rattle.polars_arrays_nested.specs.Types.{kind_of_lists, type_of}
-use Rattle.polars_arrays_nested.specs.declared.any_array.AnyArray.{AnyArray, FixedSizeList, Struct, Dictionary}
+use Rattle.polars_arrays_nested.specs.declared.any_array.AnyArray.{AnyArray, FixedSizeBinary, FixedSizeList, Null, Struct, Dictionary}
 use Rattle.polars_arrays_nested.specs.declared.any_array.AnyArray.{List as Lists}
 use Rattle.polars_arrays_nested.specs.declared.dict_keys.DictKeys.{DictKeys}
 use Rattle.polars_arrays_nested.specs.declared.dictionary.DictionaryArray.{DictionaryArray}
@@ -33,8 +39,68 @@ use Rattle.polars_arrays_nested.specs.declared.list.ListArray.{ListArray}
 use Rattle.polars_arrays_nested.specs.declared.list_offsets.ListOffsets.{ListOffsets}
 use Rattle.polars_arrays_nested.specs.declared.list_offsets.ListOffsets.TheVariants.{Small, Large}
 use Rattle.polars_arrays_nested.specs.declared.struct_array.StructArray.{StructArray}
+use Rattle.polars_arrays_views.specs.Parts.{ViewParts, view_rows}
 use Rattle.polars_arrays_nested.proofs.KeptAlike.{alike-same}
 use Rattle.polars_arrays_nested.proofs.Windows.{bits-window, get_or-window, good-window, length-window, one_more, present-window, row-window}
+
+-- a kind of array of one level: how many rows each has, and which they are
+pub record IsLeaf {A : Type 0} (make : A → AnyArray) (rows : A → List Row) (count : A → ℕ) : Type 0 where
+  pub one_type : (a b : A) → type_of (make a) ≡ type_of (make b)
+  pub as_long : (a : A) → len_of (make a) ≡ count a
+  pub row_is : (a : A) (i : ℕ) → row (make a) i ≡ row_at (rows a) i
+  pub leaves_are : (a : A) (i m : ℕ) → leaves (make a) i m ≡ m
+  pub alike : (a b : A) (i j m : ℕ) → KeptAlike (make a) (make b) i j m
+  pub good : (a : A) → IsGood (make a)
+
+-- a window of the rows of an array of one level
+cut-leaf : {A : Type 0} (make : A → AnyArray) (rows : A → List Row) (count : A → ℕ) (kind : IsLeaf make rows count) (a b : A) (at n : ℕ) → count a ≡ n → rows a ≡ window at n (rows b) → IsCut (make a) (make b) at n
+cut-leaf make rows count kind a b at n long cut = record {
+  one_type = kind.one_type a b;
+  as_long = kind.as_long a ∙ long;
+  same_rows = λ i low. kind.row_is a i ∙ row-window at n (rows a) (rows b) i cut low ∙ sym (kind.row_is b (at + i));
+  same_leaves = λ i m low. kind.leaves_are a i m ∙ sym (kind.leaves_are b (at + i) m);
+  alike = λ i m low. kind.alike a b i (at + i) m;
+  good = kind.good a;
+}
+
+-- nulls are alike
+pub cut-nulls : (a b at n : ℕ) → a ≡ n → IsCut (Null a) (Null b) at n
+cut-nulls a b at n long = record {
+  one_type = refl;
+  as_long = long;
+  same_rows = λ i low. refl;
+  same_leaves = λ i m low. refl;
+  alike = λ i m low. tt;
+  good = tt;
+}
+
+pub cut-truths : (make : Flat Bool → AnyArray) → IsLeaf make truth_rows (λ a. length a.values) → (a b : Flat Bool) (at n : ℕ) → at + n ≤ length b.values → a ≡ record { values = window at n b.values; validity = validity_window at n b.validity } → truth_rows a ≡ window at n (truth_rows b) → IsCut (make a) (make b) at n
+cut-truths make kind a b at n within stored cut =
+    cut-leaf make truth_rows (λ a. length a.values) kind a b at n (ap (λ (x : Flat Bool). length x.values) stored ∙ length-window at n b.values within) cut
+
+pub cut-numbers : {A : Type 0} (value : A → ℤ) (make : Numbers A → AnyArray) → IsLeaf make (number_rows value) (λ a. length a.values) → (a b : Numbers A) (at n : ℕ) → at + n ≤ length b.values → a ≡ record { values = window at n b.values; validity = validity_window at n b.validity; owned = b.owned } → number_rows value a ≡ window at n (number_rows value b) → IsCut (make a) (make b) at n
+cut-numbers {A} value make kind a b at n within stored cut =
+    cut-leaf make (number_rows value) (λ a. length a.values) kind a b at n (ap (λ (x : Numbers A). length x.values) stored ∙ length-window at n b.values within) cut
+
+pub cut-strings : {A : Type 0} (value : A → ℤ) (make : OffsetStrings A → AnyArray) → IsLeaf make (offset_rows value) (λ a. row_count a.offsets) → (a b : OffsetStrings A) (at n : ℕ) → at + n ≤ row_count b.offsets → a ≡ record { offsets = window at (n + 1) b.offsets; values = b.values; validity = validity_window at n b.validity } → offset_rows value a ≡ window at n (offset_rows value b) → IsCut (make a) (make b) at n
+cut-strings {A} value make kind a b at n within stored cut =
+    let kept : length a.offsets ≡ length (window at (n + 1) b.offsets) = ap (λ (x : OffsetStrings A). length x.offsets) stored in
+    let long : row_count a.offsets ≡ n = omega (arith, within, kept, length-take (n + 1) (drop at b.offsets), length-drop at b.offsets) in
+    cut-leaf make (offset_rows value) (λ a. row_count a.offsets) kind a b at n long cut
+
+pub cut-views : (make : ViewParts → AnyArray) → IsLeaf make view_rows (λ a. length a.views) → (a b : ViewParts) (at n : ℕ) → at + n ≤ length b.views → a ≡ record { views = window at n b.views; buffers = b.buffers; validity = validity_window at n b.validity } → view_rows a ≡ window at n (view_rows b) → IsCut (make a) (make b) at n
+cut-views make kind a b at n within stored cut =
+    cut-leaf make view_rows (λ a. length a.views) kind a b at n (ap (λ (x : ViewParts). length x.views) stored ∙ length-window at n b.views within) cut
+
+pub cut-sized : (a b : SizedStrings) (at n : ℕ) → a ≡ record { size = b.size; count = n; values = window (b.size * at) (b.size * n) b.values; validity = validity_window at n b.validity } → sized_rows a ≡ window at n (sized_rows b) → IsCut (FixedSizeBinary a) (FixedSizeBinary b) at n
+cut-sized a b at n stored cut = record {
+  one_type = ap (λ (x : SizedStrings). FixedSizeBinaryKind x.size) stored;
+  as_long = ap (λ (x : SizedStrings). x.count) stored;
+  same_rows = λ i low. row-window at n (sized_rows a) (sized_rows b) i cut low;
+  same_leaves = λ i m low. refl;
+  alike = λ i m low. tt;
+  good = tt;
+}
 
 -- windows of the same rows are the same
 pub windows_agree : (f g : ℕ → Row) (p q n : ℕ) → ((k : ℕ) → k < n → f (p + k) ≡ g (q + k)) → rows_from f p n ≡ rows_from g q n

@@ -6,6 +6,7 @@ use Rattle.polars_arrays_flat.specs.Row.{Null, Int, Rows, Entry, no_rows, more_r
 use Rattle.polars_arrays_nested.specs.AnyRows.{across, row, rows, rows_from}
 use Rattle.polars_arrays_nested.specs.DictKeys.{key_at, key_places, IsFirstBadKey, IsGoodKey}
 use Rattle.polars_arrays_nested.specs.Faults.{Fits}
+use Rattle.polars_arrays_nested.specs.Flat.{is_flat}
 use Rattle.polars_arrays_nested.specs.GoodParts.{AreFixedLists}
 use Rattle.polars_arrays_nested.specs.KeptAlike.{KeptAlike}
 use Rattle.polars_arrays_nested.specs.Leaves.{leaves, leaves_across, total}
@@ -193,3 +194,11 @@ KeptAlike-lists : (p q : _) → KeptAlike (List' (Small (record { items = pos 0 
 unfolding some
 KeptAlike-lists p q zero low = record { masks = refl; spans = refl; items = tt }
 KeptAlike-lists p q (suc k) low = absurd (omega (arith, low))
+
+-- numbers hold no arrays, a dictionary does
+is_flat-some : is_flat some ≡ true
+unfolding some
+is_flat-some = refl
+
+is_flat-dictionary : (k p : _) → is_flat (Dictionary' k p some) ≡ false
+is_flat-dictionary k p = refl

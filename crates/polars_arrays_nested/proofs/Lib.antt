@@ -3,6 +3,7 @@ pub mod Cuts
 pub mod Examples
 pub mod Faults
 pub mod FieldKinds
+pub mod Flat
 pub mod KeptAlike
 pub mod LeafSlots
 pub mod Lengths

@@ -1,5 +1,5 @@
 -- When two arrays are of one type.
-use Rattle.std.proofs.Common.{◌≡◌, ◌↔◌, ℕ, false, IsTrue, refl, ap, sym, ◌∙◌}
+use Rattle.std.proofs.Common.{◌≡◌, ◌↔◌, ℕ, false, true, IsTrue, refl, ap, sym, ◌∙◌}
 use Rattle.std.proofs.lemmas.Bool.{false≢true}
 use Rattle.polars_arrays_flat.specs.Kind.{Kind, NamedKinds, FixedSizeListKind, StructKind, DictionaryKind}
 use Rattle.polars_arrays_nested.specs.Types.{kind_of_lists, type_of}
@@ -17,6 +17,18 @@ use Rattle.polars_arrays_nested.specs.declared.struct_array.StructArray.{StructA
 -- the answer `false` is right where the fact cannot hold
 pub never : (P : Type 0) → (P → ⊥) → IsTrue false ↔ P
 never P h = (λ f. absurd (false≢true f), λ p. absurd (h p))
+
+-- and `true` is right where both are of one type
+pub always : (own kind type : Kind) → own ≡ type → kind ≡ type → IsTrue true ↔ (own ≡ kind)
+always own kind type is is' = (λ p. is ∙ sym is', λ same. refl)
+
+-- whether another array is of an array's own type, where the other is asked
+pub asked_of_other : (P : Type 0) (own other type : Kind) → own ≡ type → P ↔ (other ≡ type) → P ↔ (own ≡ other)
+asked_of_other P own other type is asked = (λ p. is ∙ sym (asked.0 p), λ same. asked.1 (sym same ∙ is))
+
+-- and where the part that the array holds is asked
+pub asked_of_part : (P : Type 0) (own other type : Kind) → own ≡ type → P ↔ (type ≡ other) → P ↔ (own ≡ other)
+asked_of_part P own other type is asked = (λ p. is ∙ asked.0 p, λ same. asked.1 (sym is ∙ same))
 
 -- only a struct is of a struct's type
 pub struct_only : (b : AnyArray) (ks : NamedKinds) → StructKind ks ≡ type_of b → ((x : StructArray) → b ≡ Struct x → ⊥) → ⊥

@@ -5,6 +5,7 @@ pub mod Columns
 pub mod Cuts
 pub mod DictKeys
 pub mod Faults
+pub mod Flat
 pub mod GoodParts
 pub mod KeptAlike
 pub mod Leaves

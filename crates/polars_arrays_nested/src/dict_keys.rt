@@ -120,17 +120,16 @@ impl DictKeys {
     pub fn clone_keys(&self, alloc: Global) -> Result<DictKeys, ComputeError>
         ensures { MatchResult result (λ copy. copy ≡ self.now) IsMemory }
     {
-        let copy = match self {
-            DictKeys::Int8(keys) => DictKeys::Int8(keys.clone_array(alloc)?),
-            DictKeys::Int16(keys) => DictKeys::Int16(keys.clone_array(alloc)?),
-            DictKeys::Int32(keys) => DictKeys::Int32(keys.clone_array(alloc)?),
-            DictKeys::Int64(keys) => DictKeys::Int64(keys.clone_array(alloc)?),
-            DictKeys::UInt8(keys) => DictKeys::UInt8(keys.clone_array(alloc)?),
-            DictKeys::UInt16(keys) => DictKeys::UInt16(keys.clone_array(alloc)?),
-            DictKeys::UInt32(keys) => DictKeys::UInt32(keys.clone_array(alloc)?),
-            DictKeys::UInt64(keys) => DictKeys::UInt64(keys.clone_array(alloc)?),
-        };
-        Ok(copy)
+        match self {
+            DictKeys::Int8(keys) => keys.clone_array(alloc).map(DictKeys::Int8),
+            DictKeys::Int16(keys) => keys.clone_array(alloc).map(DictKeys::Int16),
+            DictKeys::Int32(keys) => keys.clone_array(alloc).map(DictKeys::Int32),
+            DictKeys::Int64(keys) => keys.clone_array(alloc).map(DictKeys::Int64),
+            DictKeys::UInt8(keys) => keys.clone_array(alloc).map(DictKeys::UInt8),
+            DictKeys::UInt16(keys) => keys.clone_array(alloc).map(DictKeys::UInt16),
+            DictKeys::UInt32(keys) => keys.clone_array(alloc).map(DictKeys::UInt32),
+            DictKeys::UInt64(keys) => keys.clone_array(alloc).map(DictKeys::UInt64),
+        }
     }
 }
 

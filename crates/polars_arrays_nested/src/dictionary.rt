@@ -51,7 +51,10 @@ impl DictionaryArray {
         ensures rows { IfOk result (λ a. (i : ℕ) → row (Dictionary a) i ≡ kept (is_present (key_validity keys) i) (entry_row (row values.value (key_at keys i)))) }
     {
         match keys.first_bad_key(values.len()) {
-            Some(row) => Err(ArrayError::Key { row }),
+            Some(row) => {
+                drop((keys, values));
+                Err(ArrayError::Key { row })
+            }
             None => Ok(DictionaryArray { keys, values }),
         }
     }

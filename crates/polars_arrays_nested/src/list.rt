@@ -60,10 +60,14 @@ impl ListArray {
         ensures rows { IfOk result (λ a. (i : ℕ) → row (List a) i ≡ kept (is_present validity i) (Rows (rows_from (row values.value) (offset_at offsets i) (span offsets i)))) }
     {
         if !has_bits(offsets.len(), &validity) {
+            drop((offsets, values, validity));
             return Err(ArrayError::Length);
         }
         match offsets.first_bad_row(values.len()) {
-            Some(row) => Err(ArrayError::Offsets { row }),
+            Some(row) => {
+                drop((offsets, values, validity));
+                Err(ArrayError::Offsets { row })
+            }
             None => Ok(ListArray {
                 offsets,
                 values,
@@ -104,10 +108,10 @@ impl ListArray {
     pub fn clone_array(&self, alloc: Global) -> Result<ListArray, ComputeError>
         ensures { MatchResult result (λ copy. IsClone (List copy) (List self.now)) IsMemory }
     {
-        let offsets = self.offsets.clone_offsets(alloc)?;
         let values = self.values.clone_array(alloc)?;
         let values = Box::new(alloc, values)?;
         let validity = clone_validity(alloc, &self.validity)?;
+        let offsets = self.offsets.clone_offsets(alloc)?;
         Ok(ListArray {
             offsets,
             values,

@@ -8,6 +8,7 @@ pub mod FourFolds
 pub mod Joins
 pub mod OperatorBits
 pub mod Packs
+pub mod Pushed
 pub mod Puts
 pub mod SingleBits
 pub mod Spreads

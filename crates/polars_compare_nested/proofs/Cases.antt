@@ -6,9 +6,11 @@ use Rattle.polars_arrays_nested.specs.declared.any_array.AnyArray.{AnyArray, Boo
 use Rattle.polars_arrays_nested.specs.declared.any_array.AnyArray.{List as Lists}
 use Rattle.polars_arrays_nested.specs.declared.any_array.AnyArray.TheVariants.{outs-Struct', rolls-Struct}
 use Rattle.polars_arrays_nested.specs.declared.any_array.AnyArray.TheBlock.{shown-the_row-AnyArray-0}
+use Rattle.polars_arrays_nested.specs.declared.list.ListArray.{ListArray}
 use Rattle.polars_arrays_nested.specs.declared.list_offsets.ListOffsets.TheVariants.{Small, Large}
 use Rattle.polars_arrays_nested.specs.declared.struct_array.StructArray.{StructArray}
 use Rattle.polars_compare_nested.specs.KindSorts.{is_sized, is_list, is_fixed_list, is_struct, is_dictionary}
+use Rattle.polars_compare_nested.specs.Leaf.{is_leaf}
 
 pub boolean_case : (x : AnyArray) → type_of x ≡ BooleanKind → ((a : _) → x ≡ Boolean a → ⊥) → ⊥
 boolean_case (Boolean a) t other = other a refl
@@ -141,6 +143,55 @@ dictionary_case (Dictionary' keys p values) t other = other (record { keys = key
 dictionary_case (List' (Small o) p values mask) t other = cc
 dictionary_case (List' (Large o) p values mask) t other = cc
 dictionary_case _ t other = cc
+
+-- an array of lists has a type of lists
+pub list_sort : (x : AnyArray) (a : ListArray) → x ≡ Lists a → IsTrue (is_list (type_of x))
+list_sort (List' (Small o) p values mask) a e = refl
+list_sort (List' (Large o) p values mask) a e = refl
+list_sort _ a e = cc
+
+-- an array of leaves is of one of their variants
+pub leaves_case : (x : AnyArray) → IsTrue (is_leaf (type_of x))
+    → ((a : _) → x ≡ Boolean a → ⊥)
+    → ((a : _) → x ≡ Int8 a → ⊥)
+    → ((a : _) → x ≡ Int16 a → ⊥)
+    → ((a : _) → x ≡ Int32 a → ⊥)
+    → ((a : _) → x ≡ Int64 a → ⊥)
+    → ((a : _) → x ≡ Int128 a → ⊥)
+    → ((a : _) → x ≡ UInt8 a → ⊥)
+    → ((a : _) → x ≡ UInt16 a → ⊥)
+    → ((a : _) → x ≡ UInt32 a → ⊥)
+    → ((a : _) → x ≡ UInt64 a → ⊥)
+    → ((a : _) → x ≡ UInt128 a → ⊥)
+    → ((a : _) → x ≡ Binary a → ⊥)
+    → ((a : _) → x ≡ LargeBinary a → ⊥)
+    → ((a : _) → x ≡ Utf8 a → ⊥)
+    → ((a : _) → x ≡ LargeUtf8 a → ⊥)
+    → ((a : _) → x ≡ BinaryView a → ⊥)
+    → ((a : _) → x ≡ Utf8View a → ⊥)
+    → ((a : _) → x ≡ FixedSizeBinary a → ⊥)
+    → ⊥
+leaves_case (Boolean a) leaf boolean int8 int16 int32 int64 int128 uint8 uint16 uint32 uint64 uint128 binary large_binary utf8 large_utf8 binary_view utf8_view sized = boolean a refl
+leaves_case (Int8 a) leaf boolean int8 int16 int32 int64 int128 uint8 uint16 uint32 uint64 uint128 binary large_binary utf8 large_utf8 binary_view utf8_view sized = int8 a refl
+leaves_case (Int16 a) leaf boolean int8 int16 int32 int64 int128 uint8 uint16 uint32 uint64 uint128 binary large_binary utf8 large_utf8 binary_view utf8_view sized = int16 a refl
+leaves_case (Int32 a) leaf boolean int8 int16 int32 int64 int128 uint8 uint16 uint32 uint64 uint128 binary large_binary utf8 large_utf8 binary_view utf8_view sized = int32 a refl
+leaves_case (Int64 a) leaf boolean int8 int16 int32 int64 int128 uint8 uint16 uint32 uint64 uint128 binary large_binary utf8 large_utf8 binary_view utf8_view sized = int64 a refl
+leaves_case (Int128 a) leaf boolean int8 int16 int32 int64 int128 uint8 uint16 uint32 uint64 uint128 binary large_binary utf8 large_utf8 binary_view utf8_view sized = int128 a refl
+leaves_case (UInt8 a) leaf boolean int8 int16 int32 int64 int128 uint8 uint16 uint32 uint64 uint128 binary large_binary utf8 large_utf8 binary_view utf8_view sized = uint8 a refl
+leaves_case (UInt16 a) leaf boolean int8 int16 int32 int64 int128 uint8 uint16 uint32 uint64 uint128 binary large_binary utf8 large_utf8 binary_view utf8_view sized = uint16 a refl
+leaves_case (UInt32 a) leaf boolean int8 int16 int32 int64 int128 uint8 uint16 uint32 uint64 uint128 binary large_binary utf8 large_utf8 binary_view utf8_view sized = uint32 a refl
+leaves_case (UInt64 a) leaf boolean int8 int16 int32 int64 int128 uint8 uint16 uint32 uint64 uint128 binary large_binary utf8 large_utf8 binary_view utf8_view sized = uint64 a refl
+leaves_case (UInt128 a) leaf boolean int8 int16 int32 int64 int128 uint8 uint16 uint32 uint64 uint128 binary large_binary utf8 large_utf8 binary_view utf8_view sized = uint128 a refl
+leaves_case (Binary a) leaf boolean int8 int16 int32 int64 int128 uint8 uint16 uint32 uint64 uint128 binary large_binary utf8 large_utf8 binary_view utf8_view sized = binary a refl
+leaves_case (LargeBinary a) leaf boolean int8 int16 int32 int64 int128 uint8 uint16 uint32 uint64 uint128 binary large_binary utf8 large_utf8 binary_view utf8_view sized = large_binary a refl
+leaves_case (Utf8 a) leaf boolean int8 int16 int32 int64 int128 uint8 uint16 uint32 uint64 uint128 binary large_binary utf8 large_utf8 binary_view utf8_view sized = utf8 a refl
+leaves_case (LargeUtf8 a) leaf boolean int8 int16 int32 int64 int128 uint8 uint16 uint32 uint64 uint128 binary large_binary utf8 large_utf8 binary_view utf8_view sized = large_utf8 a refl
+leaves_case (BinaryView a) leaf boolean int8 int16 int32 int64 int128 uint8 uint16 uint32 uint64 uint128 binary large_binary utf8 large_utf8 binary_view utf8_view sized = binary_view a refl
+leaves_case (Utf8View a) leaf boolean int8 int16 int32 int64 int128 uint8 uint16 uint32 uint64 uint128 binary large_binary utf8 large_utf8 binary_view utf8_view sized = utf8_view a refl
+leaves_case (FixedSizeBinary a) leaf boolean int8 int16 int32 int64 int128 uint8 uint16 uint32 uint64 uint128 binary large_binary utf8 large_utf8 binary_view utf8_view sized = sized a refl
+leaves_case (List' (Small o) p values mask) leaf boolean int8 int16 int32 int64 int128 uint8 uint16 uint32 uint64 uint128 binary large_binary utf8 large_utf8 binary_view utf8_view sized = cc
+leaves_case (List' (Large o) p values mask) leaf boolean int8 int16 int32 int64 int128 uint8 uint16 uint32 uint64 uint128 binary large_binary utf8 large_utf8 binary_view utf8_view sized = cc
+leaves_case _ leaf boolean int8 int16 int32 int64 int128 uint8 uint16 uint32 uint64 uint128 binary large_binary utf8 large_utf8 binary_view utf8_view sized = cc
 
 -- each rules out the arm that an array of its type does not take
 pub ruleset cases = (boolean_case, int8_case, int16_case, int32_case, int64_case, int128_case, uint8_case, uint16_case, uint32_case, uint64_case, uint128_case, binary_case, large_binary_case, utf8_case, large_utf8_case, binary_view_case, utf8_view_case, fixed_size_binary_case, list_case, fixed_size_list_case, struct_case, dictionary_case)

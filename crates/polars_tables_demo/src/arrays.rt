@@ -30,19 +30,32 @@ fn validity(alloc: Global, present: Option<&[bool]>) -> Result<Option<Bitmap>, F
     }
 }
 
+// An array in a box.
+fn boxed(alloc: Global, array: AnyArray) -> Result<Box<AnyArray>, Fault>
+    requires { IsGood array }
+    ensures { IfOk result (λ boxed. IsGood boxed.value) }
+{
+    Ok(Box::new(alloc, array)?)
+}
+
+// A buffer of these elements.
+fn buffer<T: Copy>(alloc: Global, elements: &[T]) -> Result<Buffer<T>, Fault> {
+    Ok(Buffer::from_vec(Vec::from_slice(alloc, elements)?))
+}
+
 /// Numbers.
 pub fn numbers(alloc: Global, values: &[i32]) -> Result<Box<AnyArray>, Fault>
     ensures { IfOk result (λ array. IsGood array.value) }
 {
     let array = PrimitiveArray::from_vec(Vec::from_slice(alloc, values)?);
-    Ok(Box::new(alloc, AnyArray::Int32(array))?)
+    boxed(alloc, AnyArray::Int32(array))
 }
 
 /// So many nulls.
 pub fn nulls(alloc: Global, len: usize) -> Result<Box<AnyArray>, Fault>
     ensures { IfOk result (λ array. IsGood array.value) }
 {
-    Ok(Box::new(alloc, AnyArray::Null(NullArray::new(len)))?)
+    boxed(alloc, AnyArray::Null(NullArray::new(len)))
 }
 
 /// Texts, of which text `i` has the bytes from end `i` up to end `i + 1`.
@@ -54,10 +67,10 @@ pub fn texts(
 ) -> Result<Box<AnyArray>, Fault>
     ensures { IfOk result (λ array. IsGood array.value) }
 {
-    let ends = Buffer::from_vec(Vec::from_slice(alloc, ends)?);
-    let bytes = Buffer::from_vec(Vec::from_slice(alloc, bytes.as_bytes())?);
+    let ends = buffer(alloc, ends)?;
+    let bytes = buffer(alloc, bytes.as_bytes())?;
     let array = Utf8Array::try_new(ends, bytes, validity(alloc, present)?)?;
-    Ok(Box::new(alloc, AnyArray::Utf8(array))?)
+    boxed(alloc, AnyArray::Utf8(array))
 }
 
 /// Lists, of which list `i` has the items from offset `i` up to offset `i + 1`.
@@ -70,19 +83,37 @@ pub fn lists(
     requires { IsGood items.value }
     ensures { IfOk result (λ array. IsGood array.value) }
 {
-    let offsets = ListOffsets::Small(Buffer::from_vec(Vec::from_slice(alloc, offsets)?));
-    let array = ListArray::try_new(offsets, items, validity(alloc, present)?)?;
-    Ok(Box::new(alloc, AnyArray::List(array))?)
+    match list_parts(alloc, offsets, present) {
+        Ok((offsets, validity)) => {
+            let array = ListArray::try_new(offsets, items, validity)?;
+            boxed(alloc, AnyArray::List(array))
+        }
+        Err(fault) => {
+            drop(items);
+            Err(fault)
+        }
+    }
+}
+
+// The parts of lists beside their items.
+fn list_parts(
+    alloc: Global,
+    offsets: &[i32],
+    present: Option<&[bool]>,
+) -> Result<(ListOffsets, Option<Bitmap>), Fault> {
+    let validity = validity(alloc, present)?;
+    let offsets = buffer(alloc, offsets)?;
+    Ok((ListOffsets::Small(offsets), validity))
 }
 
 /// Lists of no items each.
 pub fn empty_lists(alloc: Global, present: &[bool]) -> Result<Box<AnyArray>, Fault>
     ensures { IfOk result (λ array. IsGood array.value) }
 {
-    let items = numbers(alloc, &[])?;
     let validity = validity(alloc, Some(present))?;
+    let items = numbers(alloc, &[])?;
     let array = FixedSizeListArray::try_new(0, present.len(), items, validity)?;
-    Ok(Box::new(alloc, AnyArray::FixedSizeList(array))?)
+    boxed(alloc, AnyArray::FixedSizeList(array))
 }
 
 /// The entries that keys name; a key that is not present is a null.
@@ -95,21 +126,40 @@ pub fn entries(
     requires { IsGood entries.value }
     ensures { IfOk result (λ array. IsGood array.value) }
 {
-    let keys = Buffer::from_vec(Vec::from_slice(alloc, keys)?);
-    let keys = PrimitiveArray::try_new(keys, validity(alloc, Some(present))?)?;
-    let array = DictionaryArray::try_new(DictKeys::UInt32(keys), entries)?;
-    Ok(Box::new(alloc, AnyArray::Dictionary(array))?)
+    match entry_keys(alloc, keys, present) {
+        Ok(keys) => {
+            let array = DictionaryArray::try_new(DictKeys::UInt32(keys), entries)?;
+            boxed(alloc, AnyArray::Dictionary(array))
+        }
+        Err(fault) => {
+            drop(entries);
+            Err(fault)
+        }
+    }
+}
+
+// Keys, of which those that are not present are nulls.
+fn entry_keys(alloc: Global, keys: &[u32], present: &[bool]) -> Result<PrimitiveArray<u32>, Fault> {
+    let keys = buffer(alloc, keys)?;
+    let validity = validity(alloc, Some(present))?;
+    Ok(PrimitiveArray::try_new(keys, validity)?)
+}
+
+// One buffer of these bytes.
+fn one_buffer(alloc: Global, bytes: &[u8]) -> Result<Vec<Buffer<u8>>, Fault> {
+    let mut buffers = Vec::new(alloc);
+    buffers.push(buffer(alloc, bytes)?)?;
+    Ok(buffers)
 }
 
 /// Byte strings by views, of which the long ones stand in one buffer.
-pub fn strings(alloc: Global, views: &[View], buffer: &[u8]) -> Result<Box<AnyArray>, Fault>
+pub fn strings(alloc: Global, views: &[View], bytes: &[u8]) -> Result<Box<AnyArray>, Fault>
     ensures { IfOk result (λ array. IsGood array.value) }
 {
-    let views = Buffer::from_vec(Vec::from_slice(alloc, views)?);
-    let mut buffers = Vec::new(alloc);
-    buffers.push(Buffer::from_vec(Vec::from_slice(alloc, buffer)?))?;
+    let views = buffer(alloc, views)?;
+    let buffers = one_buffer(alloc, bytes)?;
     let array = BinaryViewArray::try_new(views, buffers, None)?;
-    Ok(Box::new(alloc, AnyArray::BinaryView(array))?)
+    boxed(alloc, AnyArray::BinaryView(array))
 }
 
 // Adds a column, with its field.
@@ -149,5 +199,5 @@ pub fn structs(
         push_column(alloc, &mut fields, &mut columns, "b", second)?;
     }
     let array = StructArray::try_new(fields, len, columns, None)?;
-    Ok(Box::new(alloc, AnyArray::Struct(array))?)
+    boxed(alloc, AnyArray::Struct(array))
 }

@@ -9,10 +9,23 @@ use crate::cases::{
     two_fields,
 };
 use crate::fault::Fault;
+use polars_arrays_bits::bitmap::Bitmap;
 use polars_arrays_nested::any_array::AnyArray;
 use polars_arrays_numbers::steps::Steps;
 use polars_compare_nested::kernels::array_tot_eq_missing_kernel_counted;
 use std::alloc::{AllocError, Global};
+
+// Adds for each row whether it is the same, and after how many comparisons that was known.
+fn push_bits(text: &mut String, same: &Bitmap, seen: u64) -> Result<(), Fault> {
+    for i in 0..same.len() {
+        if i > 0 {
+            text.push(' ')?;
+        }
+        text.push_str(if same.get_bit(i) { "true" } else { "false" })?;
+    }
+    write!(text, "; {seen} comparisons")?;
+    Ok(())
+}
 
 // Adds for each row of two arrays whether it is the same, and after how many comparisons that is known.
 fn push_same(
@@ -29,14 +42,25 @@ fn push_same(
     }
     let mut steps = Steps::new();
     let same = array_tot_eq_missing_kernel_counted(alloc, left, right, &mut steps)?;
-    for i in 0..same.len() {
-        if i > 0 {
-            text.push(' ')?;
-        }
-        text.push_str(if same.get_bit(i) { "true" } else { "false" })?;
-    }
-    write!(text, "; {} comparisons", steps.seen())?;
-    Ok(())
+    let pushed = push_bits(text, &same, steps.seen());
+    drop(same);
+    pushed
+}
+
+// Adds the answer of a case, whose left array was made, and whose right one was made or not.
+fn push_beside(
+    alloc: Global,
+    text: &mut String,
+    left: &AnyArray,
+    right: Result<Box<AnyArray>, Fault>,
+) -> Result<(), Fault>
+    requires left { IsGood left.now }
+    requires right { IfOk right (λ array. IsGood array.value) }
+{
+    let right = right?;
+    let pushed = push_same(alloc, text, left, &right);
+    drop(right);
+    pushed
 }
 
 // Adds the answer of a case, whose arrays were made or not.
@@ -49,14 +73,26 @@ fn push_answer(
     requires left { IfOk left (λ array. IsGood array.value) }
     requires right { IfOk right (λ array. IsGood array.value) }
 {
-    let left = left?;
-    let right = right?;
-    push_same(alloc, text, &left, &right)
+    match left {
+        Ok(left) => {
+            let pushed = push_beside(alloc, text, &left, right);
+            drop(left);
+            pushed
+        }
+        Err(fault) => {
+            drop(right);
+            Err(fault)
+        }
+    }
 }
 
-// Adds why a case has no answer.
-fn push_refusal(text: &mut String, fault: &Fault) -> Result<(), AllocError> {
-    write!(text, "refused: {fault}")
+// Adds how an answer was refused, where it was, unless there was no memory for it.
+fn push_refusal(text: &mut String, answer: Result<(), Fault>) -> Result<(), AllocError> {
+    match answer {
+        Ok(()) => Ok(()),
+        Err(Fault::Memory) => Err(AllocError),
+        Err(fault) => write!(text, "refused: {fault}"),
+    }
 }
 
 // Adds the line of a case.
@@ -70,12 +106,13 @@ fn push_case(
     requires left { IfOk left (λ array. IsGood array.value) }
     requires right { IfOk right (λ array. IsGood array.value) }
 {
-    write!(text, "{name}: ")?;
-    match push_answer(alloc, text, left, right) {
-        Ok(()) => {}
-        Err(Fault::Memory) => return Err(AllocError),
-        Err(fault) => push_refusal(text, &fault)?,
+    if let Err(refused) = write!(text, "{name}: ") {
+        drop(left);
+        drop(right);
+        return Err(refused);
     }
+    let answer = push_answer(alloc, text, left, right);
+    push_refusal(text, answer)?;
     text.push('\n')
 }
 

@@ -100,6 +100,7 @@ fn answer_rows<T: LineNumber>(
     ensures { Tells string_bytes (calculation_answer calculation Rows T.kind (number_rows T.value left) (number_rows T.value right)) result }
 {
     if left.count() != right.count() {
+        drop((left, right));
         return Err(LineError::Length);
     }
     write_made(alloc, calculate_rows(alloc, calculation, left, right))
@@ -178,7 +179,9 @@ fn state_of_lists<T: LineNumber>(
     ensures { Tells {Y = State} (λ state. state) (of_two (map (number_rows T.value) lists.items) (λ ends rows. of_ends ends (λ m n. of_state m n rows (λ s. Ok s)))) result }
 {
     let (ends, rows) = into_two(lists)?;
-    state_of(alloc, &ends, &rows)
+    let state = state_of(alloc, &ends, &rows);
+    drop((ends, rows));
+    state
 }
 
 // What is asked of the distinct rows of a list, whose numbers lie between two ends.

@@ -49,6 +49,7 @@ fn seen_between<T: LineNumber>(
     }
     let mut state = or_memory(PrimitiveRangedUniqueState::new(alloc, first, last))?;
     if !state.accepts(rows) {
+        drop(state);
         return Err(LineError::Range);
     }
     state.append(rows);

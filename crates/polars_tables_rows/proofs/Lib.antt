@@ -2,3 +2,4 @@ pub mod Examples
 pub mod Joins
 pub mod Options
 pub mod RowLists
+pub mod Refused

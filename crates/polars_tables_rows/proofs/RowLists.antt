@@ -22,6 +22,11 @@ module _ {X Y : Type 0} (f : X → Option Y) (items : List X) (i : ℕ) (d : X) 
       at_drop_more (λ (xs : List X). option_map (λ more. before ++ more) (all_some (map f xs))) items i d h
       ∙ all_some-none before _ (map f (drop (i + 1) items)) e
 
+-- before the first item nothing is made
+pub values-start : {Y : Type 0} (o : Option (List Y)) (before : List Y) → before ≡ [] → o ≡ option_map (λ more. before ++ more) o
+values-start None before e = refl
+values-start (Some xs) before e = rw e refl
+
 -- past the last item
 pub values-end : {X Y : Type 0} (f : X → Option Y) (items : List X) (i : ℕ) (before : List Y) → length items ≤ i → option_map (λ more. before ++ more) (all_some (map f (drop i items))) ≡ Some before
 values-end f items i before h =
@@ -70,6 +75,15 @@ masked-push (c ∷ bits) (y ∷ rows) b x e = ap (λ rs. kept c y ∷ rs) (maske
 map-push : {A B : Type 0} (f : A → B) (xs : List A) (x : A) → map f (xs ++ x ∷ []) ≡ map f xs ++ f x ∷ []
 map-push f [] x = refl
 map-push f (y ∷ xs) x = ap (λ ys. f y ∷ ys) (map-push f xs x)
+
+-- an item more whose value is made, at the end of what is made
+pub values-pushed : {X Y Z : Type 0} (f : X → Option Y) (items : List X) (i : ℕ) (d : X) (g : Z → Y) (made : List Z) (z : Z) (made' : List Z) → i < length items
+    → all_some (map f items) ≡ option_map (λ more. map g made ++ more) (all_some (map f (drop i items))) → f (get_or items i d) ≡ Some (g z) → made' ≡ made ++ z ∷ []
+    → all_some (map f items) ≡ option_map (λ more. map g made' ++ more) (all_some (map f (drop (i + 1) items)))
+values-pushed f items i d g made z made' h before e more =
+    before
+    ∙ values-more f items i d (map g made) h (g z) e
+    ∙ ap (λ ys. option_map (λ rest. ys ++ rest) (all_some (map f (drop (i + 1) items)))) (sym (ap (map g) more ∙ map-push g made z))
 
 length-mapped : {A B : Type 0} (f : A → B) (xs : List A) → length (map f xs) ≡ length xs
 length-mapped f [] = refl

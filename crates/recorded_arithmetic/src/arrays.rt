@@ -11,7 +11,8 @@ ghost use Rattle.std.specs.Prelude.{◌≡◌, length};
 ghost use Rattle.recorded_text.specs.Cases.{HasGoodArrays};
 
 use crate::made::write_made;
-use crate::number_kinds::{of_numbers, of_one_kind};
+use crate::number_kinds::of_one_kind;
+use crate::numbers::{Asked, ask, ask_next};
 use crate::operands::{Part, clone_part, clone_parts, number_of, read_operand};
 use crate::operations::{Function, Operation};
 use polars_arrays_bits::error::ComputeError;
@@ -35,7 +36,7 @@ pub fn answer(
     requires { HasGoodArrays store.now }
 {
     let answer = if let Some(function) = Function::named(call) {
-        of_array(alloc, function, store, words)
+        ask_next(alloc, Asked::Apply(function), store, words)
     } else if let Some(operation) = Operation::named(call) {
         of_arrays(alloc, operation, store, words)
     } else if let Some(operation) = Operation::named_scalar(call) {
@@ -45,24 +46,11 @@ pub fn answer(
     } else {
         return Ok(None);
     };
-    Ok(Some(answer?))
+    answer.map(Some)
 }
 
-// What a function makes of an array.
-fn of_array(
-    alloc: Global,
-    function: Function,
-    store: &Store,
-    words: &mut Words,
-) -> Result<String, Fault>
-    requires { HasGoodArrays store.now }
-{
-    let these = read_operand(store, words)?;
-    of_numbers!(these.array, array => write_applied(alloc, function, array, these.part))
-}
-
-// What a function makes of the numbers of one type.
-fn write_applied<T: HasPrimitiveArithmeticKernel + Display>(
+/// What a function makes of the numbers of one type.
+pub fn write_applied<T: HasPrimitiveArithmeticKernel + Display>(
     alloc: Global,
     function: Function,
     array: &PrimitiveArray<T>,
@@ -145,12 +133,11 @@ fn of_array_and_number(
     requires { HasGoodArrays store.now }
 {
     let these = read_operand(store, words)?;
-    let word = words.read()?;
-    of_numbers!(these.array, left => write_operated_by(alloc, operation, left, these.part, word))
+    ask(alloc, Asked::OperateBy(operation, words.read()?), these)
 }
 
-// What an operation makes of numbers of one type and the one that a word writes.
-fn write_operated_by<T: HasPrimitiveArithmeticKernel + Display + FromStr<Err: Drop>>(
+/// What an operation makes of numbers of one type and the one that a word writes.
+pub fn write_operated_by<T: HasPrimitiveArithmeticKernel + Display + FromStr<Err: Drop>>(
     alloc: Global,
     operation: Operation,
     left: &PrimitiveArray<T>,
@@ -191,12 +178,11 @@ fn of_number_and_array(
     requires { HasGoodArrays store.now }
 {
     let word = words.read()?;
-    let those = read_operand(store, words)?;
-    of_numbers!(those.array, right => write_operated_from(alloc, operation, word, right, those.part))
+    ask_next(alloc, Asked::OperateFrom(operation, word), store, words)
 }
 
-// What an operation makes of the number that a word writes and numbers of its type.
-fn write_operated_from<T: HasPrimitiveArithmeticKernel + Display + FromStr<Err: Drop>>(
+/// What an operation makes of the number that a word writes and numbers of its type.
+pub fn write_operated_from<T: HasPrimitiveArithmeticKernel + Display + FromStr<Err: Drop>>(
     alloc: Global,
     operation: Operation,
     word: &str,
@@ -222,6 +208,9 @@ fn operate_from<T: HasPrimitiveArithmeticKernel>(
         Operation::TruncDiv => PrimitiveArray::wrapping_trunc_div_scalar_lhs(alloc, left, right),
         Operation::Mod => PrimitiveArray::wrapping_mod_scalar_lhs(alloc, left, right),
         Operation::LegacyDiv => PrimitiveArray::legacy_div_scalar_lhs(alloc, left, right),
-        Operation::Add | Operation::Mul => Err(ComputeError::Unsupported),
+        Operation::Add | Operation::Mul => {
+            drop(right);
+            Err(ComputeError::Unsupported)
+        }
     }
 }

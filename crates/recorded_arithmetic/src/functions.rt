@@ -9,13 +9,12 @@
 //!
 //! Each call has FUNCTIONs of its own.
 
-ghost use Rattle.std.specs.Prelude.{◌≡◌, length};
 ghost use Rattle.recorded_text.specs.Cases.{HasGoodArrays};
 
 use crate::made::write_made;
-use crate::number_kinds::{of_numbers, of_one_kind};
-use crate::operands::{Part, clone_part, clone_parts, read_operand};
-use polars_arrays_bits::error::ComputeError;
+use crate::number_kinds::of_one_kind;
+use crate::numbers::{Asked, ask};
+use crate::operands::{Operand, Part, clone_part, clone_parts, read_operand};
 use polars_arrays_flat::primitive::PrimitiveArray;
 use polars_arrays_nested::any_array::AnyArray;
 use polars_arrays_numbers::native_type::NativeType;
@@ -45,7 +44,7 @@ pub fn answer(
         "prim_binary_in_place" => binary_in_place(alloc, store, words),
         _ => return Ok(None),
     };
-    Ok(Some(answer?))
+    answer.map(Some)
 }
 
 // The answers at each value of an array: twice the value, the value in a wider type, the value negated, and whether it is 0.
@@ -123,37 +122,82 @@ fn write_pairs<L: NativeType, R: NativeType, O: NativeType + Display, F: Fn(L, R
     write_made(alloc, made)
 }
 
+/// What is made of each value of an array, of its type.
+#[derive(Clone, Copy)]
+pub enum Change {
+    /// One more.
+    Next,
+    /// The value times itself.
+    Square,
+}
+
+impl Change {
+    fn named(name: &str) -> Option<Change> {
+        match name {
+            "next" => Some(Change::Next),
+            "square" => Some(Change::Square),
+            _ => None,
+        }
+    }
+
+    // What is made of a value.
+    fn apply<T: PlNumArithmetic>(self, x: T) -> T {
+        match self {
+            Change::Next => PlNumArithmetic::wrapping_add(x, T::one()),
+            Change::Square => PlNumArithmetic::wrapping_mul(x, x),
+        }
+    }
+}
+
 // The answers at each value of an array, of its type.
 fn unary_in_place(alloc: Global, store: &Store, words: &mut Words) -> Result<String, Fault>
     requires { HasGoodArrays store.now }
 {
-    let function = words.read()?;
+    let change = Change::named(words.read()?);
     let these = read_operand(store, words)?;
-    of_numbers!(these.array, array => write_changed(alloc, function, array, these.part))
+    match change {
+        Some(change) => ask(alloc, Asked::Change(change), these),
+        None => Err(Fault::Case),
+    }
 }
 
-// The answers at each value of one type.
-fn write_changed<T: PlNumArithmetic + Display>(
+/// The answers at each value of one type.
+pub fn write_changed<T: PlNumArithmetic + Display>(
     alloc: Global,
-    function: &str,
+    change: Change,
     array: &PrimitiveArray<T>,
     part: Part,
 ) -> Result<String, Fault> {
     let array = clone_part(alloc, array, part)?;
-    let made = change(alloc, function, array);
+    let made = prim_unary_in_place(alloc, array, |x| change.apply(x));
     write_made(alloc, made)
 }
 
-// One more than each value, or each value times itself.
-fn change<T: PlNumArithmetic>(
-    alloc: Global,
-    function: &str,
-    array: PrimitiveArray<T>,
-) -> Result<PrimitiveArray<T>, ComputeError> {
-    match function {
-        "next" => prim_unary_in_place(alloc, array, |x| PlNumArithmetic::wrapping_add(x, T::one())),
-        "square" => prim_unary_in_place(alloc, array, |x| PlNumArithmetic::wrapping_mul(x, x)),
-        _ => Err(ComputeError::Unsupported),
+// Which of two values is taken.
+#[derive(Clone, Copy)]
+enum Choice {
+    Left,
+    Right,
+    Greater,
+}
+
+impl Choice {
+    fn named(name: &str) -> Option<Choice> {
+        match name {
+            "left" => Some(Choice::Left),
+            "right" => Some(Choice::Right),
+            "greater" => Some(Choice::Greater),
+            _ => None,
+        }
+    }
+
+    // The value that is taken.
+    fn apply<T: NativeType>(self, x: T, y: T) -> T {
+        match self {
+            Choice::Left => x,
+            Choice::Right => y,
+            Choice::Greater => if x < y { y } else { x },
+        }
     }
 }
 
@@ -161,41 +205,37 @@ fn change<T: PlNumArithmetic>(
 fn binary_in_place(alloc: Global, store: &Store, words: &mut Words) -> Result<String, Fault>
     requires { HasGoodArrays store.now }
 {
-    let function = words.read()?;
+    let choice = Choice::named(words.read()?);
     let these = read_operand(store, words)?;
     let those = read_operand(store, words)?;
+    match choice {
+        Some(choice) => choose(alloc, choice, these, those),
+        None => Err(Fault::Case),
+    }
+}
+
+// The values that are taken from two arrays.
+fn choose(
+    alloc: Global,
+    choice: Choice,
+    these: Operand<'_>,
+    those: Operand<'_>,
+) -> Result<String, Fault> {
     let parts = (these.part, those.part);
     of_one_kind!(these.array, those.array, left, right
-            => write_changed_pairs(alloc, function, left, right, parts),
+            => write_chosen(alloc, choice, left, right, parts),
         Int8 Int16 Int32 Int64 Int128 UInt8 UInt16 UInt32 UInt64 UInt128)
 }
 
-// The answers at each two values of one type.
-fn write_changed_pairs<T: NativeType + Display>(
+// The values that are taken from two arrays of one type.
+fn write_chosen<T: NativeType + Display>(
     alloc: Global,
-    function: &str,
+    choice: Choice,
     left: &PrimitiveArray<T>,
     right: &PrimitiveArray<T>,
     parts: (Part, Part),
 ) -> Result<String, Fault> {
     let (left, right) = clone_parts(alloc, left, right, parts)?;
-    let made = change_pairs(alloc, function, left, right);
+    let made = prim_binary_in_place(alloc, left, right, |x, y| choice.apply(x, y));
     write_made(alloc, made)
-}
-
-// The left or the right one of each two values, or the greater one.
-fn change_pairs<T: NativeType>(
-    alloc: Global,
-    function: &str,
-    left: PrimitiveArray<T>,
-    right: PrimitiveArray<T>,
-) -> Result<PrimitiveArray<T>, ComputeError>
-    requires { length left.values ≡ length right.values }
-{
-    match function {
-        "left" => prim_binary_in_place(alloc, left, right, |x, _| x),
-        "right" => prim_binary_in_place(alloc, left, right, |_, y| y),
-        "greater" => prim_binary_in_place(alloc, left, right, |x, y| if x < y { y } else { x }),
-        _ => Err(ComputeError::Unsupported),
-    }
 }

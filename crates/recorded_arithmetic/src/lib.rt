@@ -11,6 +11,7 @@ mod arrays;
 mod functions;
 mod made;
 mod number_kinds;
+mod numbers;
 mod operands;
 mod operations;
 mod single_numbers;

@@ -1,4 +1,4 @@
-//! The arrays that calls make, as text.
+//! The arrays and the numbers that calls make, as text.
 
 use polars_arrays_bits::error::ComputeError;
 use polars_arrays_flat::array::Array;
@@ -15,8 +15,14 @@ pub fn write_made<T: NativeType + Display>(
     made: Result<PrimitiveArray<T>, ComputeError>,
 ) -> Result<String, Fault> {
     let array = made?;
-    let text = write_rows(alloc, &array)?;
-    Ok(text)
+    let text = write_rows(alloc, &array);
+    drop(array);
+    text
+}
+
+/// A number.
+pub fn write_number<T: Copy + Display>(alloc: Global, number: T) -> Result<String, Fault> {
+    Ok(number.to_string(alloc)?)
 }
 
 // The rows of an array of numbers, parted by spaces.
@@ -29,22 +35,17 @@ fn write_rows<T: NativeType + Display>(
         if i > 0 {
             text.push(' ')?;
         }
-        push_row(alloc, &mut text, value, is_null(array.validity(), i))?;
+        push_row(&mut text, value, is_null(array.validity(), i))?;
     }
     Ok(text)
 }
 
 // A number, or `null`.
-fn push_row<T: Display>(
-    alloc: Global,
-    text: &mut String,
-    value: &T,
-    is_null: bool,
-) -> Result<(), Fault> {
+fn push_row<T: Display>(text: &mut String, value: &T, is_null: bool) -> Result<(), Fault> {
     if is_null {
         text.push_str("null")?;
     } else {
-        text.push_str(&value.to_string(alloc)?)?;
+        write!(text, "{value}")?;
     }
     Ok(())
 }

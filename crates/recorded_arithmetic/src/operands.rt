@@ -1,6 +1,6 @@
 //! Arrays and numbers that calls are given. The store lends an array, and a call is given a clone of the rows that are meant.
 
-ghost use Rattle.std.specs.Prelude.{◌≡◌, IfOk, length};
+ghost use Rattle.std.specs.Prelude.{◌≡◌, ◌+◌, ◌≤◌, IfOk, IfSome, length};
 ghost use Rattle.recorded_text.specs.Cases.{HasGoodArrays};
 
 use polars_arrays_flat::array::Array;
@@ -20,6 +20,20 @@ pub enum Part {
     Whole,
     /// `n` rows from row `at` on.
     Slice { at: usize, n: usize },
+}
+
+impl Part {
+    // From which of so many rows on how many are meant, or None where all are. The error is `Case`, where there are not
+    // as many.
+    fn window(self, len: usize) -> Result<Option<(usize, usize)>, Fault>
+        ensures { IfOk result (λ window. IfSome window (λ rows. rows.0 + rows.1 ≤ len)) }
+    {
+        match self {
+            Part::Whole => Ok(None),
+            Part::Slice { at, n } if at <= len && n <= len - at => Ok(Some((at, n))),
+            Part::Slice { .. } => Err(Fault::Case),
+        }
+    }
 }
 
 /// An array of the store, and which of its rows are meant.
@@ -45,26 +59,19 @@ pub fn read_operand<'a>(store: &'a Store, words: &mut Words) -> Result<Operand<'
     Ok(Operand { array, part })
 }
 
-/// A clone of the rows that are meant, which owns its values exactly where the array does.
+/// A clone of the rows that are meant, which owns its values exactly where the array does. The error is `Case`, where
+/// the array does not have them.
 pub fn clone_part<T: NativeType>(
     alloc: Global,
     array: &PrimitiveArray<T>,
     part: Part,
 ) -> Result<PrimitiveArray<T>, Fault> {
+    let window = part.window(array.len())?;
     let mut copy = array.clone_array(alloc)?;
-    cut(&mut copy, part)?;
-    Ok(copy)
-}
-
-// Leaves the rows that are meant. The error is `Case`, where the array does not have them.
-fn cut<T: NativeType>(array: &mut PrimitiveArray<T>, part: Part) -> Result<(), Fault> {
-    if let Part::Slice { at, n } = part {
-        if at > array.len() || n > array.len() - at {
-            return Err(Fault::Case);
-        }
-        array.slice(at, n);
+    if let Some((at, n)) = window {
+        copy.slice(at, n);
     }
-    Ok(())
+    Ok(copy)
 }
 
 /// Clones of the rows that are meant of two arrays, which must be as many of both.
@@ -77,12 +84,28 @@ pub fn clone_parts<L: NativeType, R: NativeType>(
     ensures { IfOk result (λ clones. length clones.0.values ≡ length clones.1.values) }
 {
     let left = clone_part(alloc, left, parts.0)?;
-    let right = clone_part(alloc, right, parts.1)?;
-    if left.len() == right.len() {
-        Ok((left, right))
-    } else {
-        Err(Fault::Case)
+    match clone_part(alloc, right, parts.1) {
+        Ok(right) => pair(left, right),
+        Err(fault) => {
+            drop(left);
+            Err(fault)
+        }
     }
+}
+
+// Two arrays, which must have as many rows.
+fn pair<L: NativeType, R: NativeType>(
+    left: PrimitiveArray<L>,
+    right: PrimitiveArray<R>,
+) -> Result<(PrimitiveArray<L>, PrimitiveArray<R>), Fault>
+    ensures { IfOk result (λ pair. length pair.0.values ≡ length pair.1.values) }
+{
+    if left.len() == right.len() {
+        return Ok((left, right));
+    }
+    drop(left);
+    drop(right);
+    Err(Fault::Case)
 }
 
 /// The number that a word writes.

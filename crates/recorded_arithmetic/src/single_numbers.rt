@@ -4,30 +4,80 @@
 //! |---|---|
 //! | `pl_num wrapping_abs TYPE NUMBER`, and so of `wrapping_neg` | the number that the function answers |
 //! | `pl_num wrapping_add TYPE NUMBER NUMBER`, and so of `sub`, `mul`, `floor_div`, `trunc_div`, `mod` and `legacy_div` | the number that the operation answers, and 0 of a quotient by 0 and of what it leaves |
+//! | `wrapping_add_number TYPE NUMBER NUMBER` | the sum of two numbers, of which the type may be `isize` or `usize` too |
 
+use crate::made::write_number;
 use crate::number_kinds::at_number_type;
 use crate::operations::{Function, Operation};
 use polars_compute_arithmetic::arithmetic::pl_num::PlNumArithmetic;
+use polars_compute_bits::sum::WrappingAdd;
 use recorded_text::fault::Fault;
 use recorded_text::words::Words;
 use std::alloc::Global;
 use std::fmt::Display;
 use std::str::FromStr;
 
+// What numbers of one type are asked.
+#[derive(Clone, Copy)]
+enum Asked {
+    Apply(Function),
+    Operate(Operation),
+    Add,
+}
+
+impl Asked {
+    // The function or the operation of that name.
+    fn named(name: &str) -> Result<Asked, Fault> {
+        if let Some(function) = Function::named(name) {
+            Ok(Asked::Apply(function))
+        } else if let Some(operation) = Operation::named(name) {
+            Ok(Asked::Operate(operation))
+        } else {
+            Err(Fault::Word)
+        }
+    }
+}
+
 /// The answer to a call of this subject, or None for another one's.
 pub fn answer(alloc: Global, call: &str, words: &mut Words) -> Result<Option<String>, Fault> {
-    if call != "pl_num" {
-        return Ok(None);
+    match call {
+        "pl_num" => calculate(alloc, words).map(Some),
+        "wrapping_add_number" => add(alloc, words).map(Some),
+        _ => Ok(None),
     }
-    let name = words.read()?;
-    let answer = if let Some(function) = Function::named(name) {
-        at_number_type!(words.read()?, write_applied(alloc, function, words))
-    } else if let Some(operation) = Operation::named(name) {
-        at_number_type!(words.read()?, write_operated(alloc, operation, words))
-    } else {
-        return Err(Fault::Word);
-    };
-    Ok(Some(answer?))
+}
+
+// What the function or the operation answers that the next word names.
+fn calculate(alloc: Global, words: &mut Words) -> Result<String, Fault> {
+    let asked = Asked::named(words.read()?)?;
+    ask(alloc, asked, words.read()?, words)
+}
+
+// The sum of two numbers of the type that the next word names.
+fn add(alloc: Global, words: &mut Words) -> Result<String, Fault> {
+    match words.read()? {
+        "isize" => add_two::<isize>(alloc, words),
+        "usize" => add_two::<usize>(alloc, words),
+        name => ask(alloc, Asked::Add, name, words),
+    }
+}
+
+// What numbers of the type of that name answer.
+fn ask(alloc: Global, asked: Asked, name: &str, words: &mut Words) -> Result<String, Fault> {
+    at_number_type!(name, ask_type(alloc, asked, words))
+}
+
+// What numbers of one type answer.
+fn ask_type<T: PlNumArithmetic + Display + FromStr<Err: Drop>>(
+    alloc: Global,
+    asked: Asked,
+    words: &mut Words,
+) -> Result<String, Fault> {
+    match asked {
+        Asked::Apply(function) => write_applied::<T>(alloc, function, words),
+        Asked::Operate(operation) => write_operated::<T>(alloc, operation, words),
+        Asked::Add => add_two::<T>(alloc, words),
+    }
 }
 
 // What a function answers at the number that the next word writes.
@@ -37,7 +87,7 @@ fn write_applied<T: PlNumArithmetic + Display + FromStr<Err: Drop>>(
     words: &mut Words,
 ) -> Result<String, Fault> {
     let number: T = words.read_number()?;
-    Ok(apply(function, number).to_string(alloc)?)
+    write_number(alloc, apply(function, number))
 }
 
 // What a function answers at a number.
@@ -55,7 +105,7 @@ fn write_operated<T: PlNumArithmetic + Display + FromStr<Err: Drop>>(
     words: &mut Words,
 ) -> Result<String, Fault> {
     let (left, right): (T, T) = (words.read_number()?, words.read_number()?);
-    Ok(operate(operation, left, right).to_string(alloc)?)
+    write_number(alloc, operate(operation, left, right))
 }
 
 // What an operation answers at two numbers.
@@ -69,4 +119,13 @@ fn operate<T: PlNumArithmetic>(operation: Operation, left: T, right: T) -> T {
         Operation::Mod => PlNumArithmetic::wrapping_mod(left, right),
         Operation::LegacyDiv => PlNumArithmetic::legacy_div(left, right),
     }
+}
+
+// The sum of two numbers.
+fn add_two<T: WrappingAdd + Copy + Display + FromStr<Err: Drop>>(
+    alloc: Global,
+    words: &mut Words,
+) -> Result<String, Fault> {
+    let (left, right): (T, T) = (words.read_number()?, words.read_number()?);
+    write_number(alloc, WrappingAdd::wrapping_add(&left, &right))
 }

@@ -5,15 +5,13 @@ ghost use Rattle.polars_arrays_nested.specs.GoodParts.{IsGood};
 ghost use Rattle.polars_arrays_nested.specs.declared.any_array.AnyArray.{List, Struct, Dictionary};
 ghost use Rattle.recorded_text.specs.Cases.{HasGoodArrays};
 
-use crate::kinds::{of_any_kind, of_numbers};
-use polars_arrays_flat::array::Array;
-use polars_arrays_flat::primitive::PrimitiveArray;
+use crate::values_text::{push_value, write_value, write_values};
+use crate::{any_kind, number_arrays};
 use polars_arrays_flat::validity::is_present;
 use polars_arrays_nested::any_array::AnyArray;
 use polars_arrays_nested::dictionary::DictionaryArray;
 use polars_arrays_nested::list::ListArray;
 use polars_arrays_nested::struct_array::StructArray;
-use polars_arrays_numbers::native_type::NativeType;
 use polars_arrays_views::binary_view::BinaryViewArray;
 use recorded_text::bits_text::write_bits;
 use recorded_text::bytes_text::{push_bytes, write_bytes};
@@ -23,7 +21,45 @@ use recorded_text::store::Store;
 use recorded_text::type_text::key_name;
 use recorded_text::words::Words;
 use std::alloc::Global;
-use std::fmt::Display;
+
+// What is asked of an array.
+#[derive(Clone, Copy)]
+enum Asked {
+    Len,
+    NullCount,
+    Validity,
+    Values,
+    Offsets,
+    Views,
+    Buffers,
+    Keys,
+    KeyValue,
+    Column,
+    Count,
+    Width,
+    Size,
+}
+
+impl Asked {
+    fn named(call: &str) -> Option<Asked> {
+        match call {
+            "array_len" => Some(Asked::Len),
+            "null_count" => Some(Asked::NullCount),
+            "validity" => Some(Asked::Validity),
+            "values" => Some(Asked::Values),
+            "offsets" => Some(Asked::Offsets),
+            "views" => Some(Asked::Views),
+            "array_buffers" => Some(Asked::Buffers),
+            "keys" => Some(Asked::Keys),
+            "key_value" => Some(Asked::KeyValue),
+            "column" => Some(Asked::Column),
+            "array_count" => Some(Asked::Count),
+            "width" => Some(Asked::Width),
+            "size" => Some(Asked::Size),
+            _ => None,
+        }
+    }
+}
 
 /// The answer to a call of this subject, or None for another one's.
 pub fn answer(
@@ -34,57 +70,31 @@ pub fn answer(
 ) -> Result<Option<String>, Fault>
     requires { HasGoodArrays store.now }
 {
-    let answer = match call {
-        "array_len"
-        | "null_count"
-        | "validity"
-        | "array_is_owned"
-        | "values"
-        | "offsets"
-        | "views"
-        | "array_buffers"
-        | "keys"
-        | "array_count"
-        | "width"
-        | "size" => { lent(alloc, call, store.read(words)?) }
-        "key_value" => key_value(alloc, store.read(words)?, words.read_number()?),
-        "column" => column(alloc, store.read(words)?, words.read_number()?),
-        _ => return Ok(None),
-    };
-    Ok(Some(answer?))
-}
-
-// What an array lends by a call.
-fn lent(alloc: Global, call: &str, array: &AnyArray) -> Result<String, Fault>
-    requires { IsGood array.now }
-{
-    match call {
-        "array_len" => len(alloc, array),
-        "null_count" => null_count(alloc, array),
-        "validity" => validity(alloc, array),
-        "array_is_owned" => is_owned(alloc, array),
-        "values" => values(alloc, array),
-        "offsets" => offsets(alloc, array),
-        "views" => views(alloc, array),
-        "array_buffers" => buffers(alloc, array),
-        "keys" => keys(alloc, array),
-        "array_count" => count(alloc, array),
-        "width" => width(alloc, array),
-        "size" => size(alloc, array),
-        _ => Err(Fault::Word),
+    match Asked::named(call) {
+        Some(asked) => ask(alloc, asked, store.read(words)?, words).map(Some),
+        None => Ok(None),
     }
 }
 
-// How many rows there are.
-fn len(alloc: Global, array: &AnyArray) -> Result<String, Fault> {
-    let len = of_any_kind!(array, a => a.len());
-    Ok(len.to_string(alloc)?)
-}
-
-// How many rows are null.
-fn null_count(alloc: Global, array: &AnyArray) -> Result<String, Fault> {
-    let nulls = of_any_kind!(array, a => a.null_count());
-    Ok(nulls.to_string(alloc)?)
+// What an array lends.
+fn ask(alloc: Global, asked: Asked, array: &AnyArray, words: &mut Words) -> Result<String, Fault>
+    requires { IsGood array.now }
+{
+    match asked {
+        Asked::Len => any_kind::ask(alloc, any_kind::Asked::Len, array),
+        Asked::NullCount => any_kind::ask(alloc, any_kind::Asked::NullCount, array),
+        Asked::Validity => validity(alloc, array),
+        Asked::Values => values(alloc, array, words),
+        Asked::Offsets => offsets(alloc, array),
+        Asked::Views => views(alloc, array),
+        Asked::Buffers => buffers(alloc, array),
+        Asked::Keys => keys(alloc, array),
+        Asked::KeyValue => key_value(alloc, array, words),
+        Asked::Column => column(alloc, array, words),
+        Asked::Count => count(alloc, array),
+        Asked::Width => width(alloc, array),
+        Asked::Size => size(alloc, array),
+    }
 }
 
 // The validity.
@@ -93,41 +103,12 @@ fn validity(alloc: Global, array: &AnyArray) -> Result<String, Fault>
 {
     match array.validity() {
         Some(bits) => write_bits(alloc, bits),
-        None => Ok("none".to_string(alloc)?),
+        None => write_value(alloc, "none"),
     }
-}
-
-// Whether an array of numbers owns its values.
-fn is_owned(alloc: Global, array: &AnyArray) -> Result<String, Fault> {
-    let owned: Result<bool, Fault> = of_numbers!(array, a => Ok(a.is_owned()));
-    Ok(owned?.to_string(alloc)?)
-}
-
-// Numbers, parted by spaces.
-fn write_numbers<T: Copy + Display>(alloc: Global, numbers: &[T]) -> Result<String, Fault> {
-    let mut text = String::new(alloc);
-    for i in 0..numbers.len() {
-        if i > 0 {
-            text.push(' ')?;
-        }
-        push_number(alloc, &mut text, numbers[i])?;
-    }
-    Ok(text)
-}
-
-// Adds a number to a text.
-fn push_number<T: Copy + Display>(
-    alloc: Global,
-    text: &mut String,
-    number: T,
-) -> Result<(), Fault> {
-    let number = number.to_string(alloc)?;
-    text.push_str(&number)?;
-    Ok(())
 }
 
 // The stored values, those of null rows and of no row too; of arrays that hold an array, its rows.
-fn values(alloc: Global, array: &AnyArray) -> Result<String, Fault>
+fn values(alloc: Global, array: &AnyArray, words: &mut Words) -> Result<String, Fault>
     requires { IsGood array.now }
 {
     match array {
@@ -139,7 +120,7 @@ fn values(alloc: Global, array: &AnyArray) -> Result<String, Fault>
         AnyArray::FixedSizeList(array) => write_rows(alloc, array.values()),
         AnyArray::Struct(array) => columns(alloc, array),
         AnyArray::Dictionary(array) => write_rows(alloc, array.values()),
-        _ => of_numbers!(array, a => write_numbers(alloc, a.values())),
+        _ => number_arrays::ask(alloc, number_arrays::Asked::Values, array, words),
     }
 }
 
@@ -157,10 +138,11 @@ fn columns(alloc: Global, array: &StructArray) -> Result<String, Fault>
     Ok(text)
 }
 
-// The rows of column `k` of structs.
-fn column(alloc: Global, array: &AnyArray, k: usize) -> Result<String, Fault>
+// The rows of the column of structs that the next word tells.
+fn column(alloc: Global, array: &AnyArray, words: &mut Words) -> Result<String, Fault>
     requires { IsGood array.now }
 {
+    let k = words.read_number()?;
     match array {
         AnyArray::Struct(array) if k < array.values().len() => write_rows(alloc, array.column(k)),
         _ => Err(Fault::Case),
@@ -172,10 +154,10 @@ fn offsets(alloc: Global, array: &AnyArray) -> Result<String, Fault>
     requires { IsGood array.now }
 {
     match array {
-        AnyArray::Binary(array) => write_numbers(alloc, array.offsets()),
-        AnyArray::LargeBinary(array) => write_numbers(alloc, array.offsets()),
-        AnyArray::Utf8(array) => write_numbers(alloc, array.offsets()),
-        AnyArray::LargeUtf8(array) => write_numbers(alloc, array.offsets()),
+        AnyArray::Binary(array) => write_values(alloc, array.offsets()),
+        AnyArray::LargeBinary(array) => write_values(alloc, array.offsets()),
+        AnyArray::Utf8(array) => write_values(alloc, array.offsets()),
+        AnyArray::LargeUtf8(array) => write_values(alloc, array.offsets()),
         AnyArray::List(array) => list_offsets(alloc, array),
         _ => Err(Fault::Case),
     }
@@ -188,8 +170,7 @@ fn list_offsets(alloc: Global, array: &ListArray) -> Result<String, Fault>
     let offsets = array.offsets();
     let mut text = String::new(alloc);
     for i in 0..offsets.len() {
-        text.push_str(&offsets.offset(i).to_string(alloc)?)?;
-        text.push(' ')?;
+        push_value(&mut text, offsets.offset(i))?;
     }
     let last = offsets.offset(offsets.len());
     let width = if offsets.is_large() { "large" } else { "small" };
@@ -247,18 +228,18 @@ fn keys(alloc: Global, array: &AnyArray) -> Result<String, Fault> {
     let keys = array.keys();
     let mut text = String::new(alloc);
     for i in 0..keys.len() {
-        text.push_str(&keys.key(i).to_string(alloc)?)?;
-        text.push(' ')?;
+        push_value(&mut text, keys.key(i))?;
     }
     let name = key_name(keys.key_type());
     write!(text, "{name}, {} null", keys.null_count())?;
     Ok(text)
 }
 
-// The number of the entry of row `i` of a dictionary array.
-fn key_value(alloc: Global, array: &AnyArray, i: usize) -> Result<String, Fault>
+// The number of the entry of the row of a dictionary array that the next word tells.
+fn key_value(alloc: Global, array: &AnyArray, words: &mut Words) -> Result<String, Fault>
     requires { IsGood array.now }
 {
+    let i = words.read_number()?;
     match array {
         AnyArray::Dictionary(array) => entry_of(alloc, array, i),
         _ => Err(Fault::Case),
@@ -273,23 +254,22 @@ fn entry_of(alloc: Global, array: &DictionaryArray, i: usize) -> Result<String, 
     if i >= keys.len() || !is_present(keys.validity(), i) {
         return Err(Fault::Case);
     }
-    Ok(array.key_value(i).to_string(alloc)?)
+    write_value(alloc, array.key_value(i))
 }
 
 // How many lists of one width or structs there are.
 fn count(alloc: Global, array: &AnyArray) -> Result<String, Fault> {
-    let count = match array {
-        AnyArray::FixedSizeList(array) => array.len(),
-        AnyArray::Struct(array) => array.len(),
-        _ => return Err(Fault::Case),
-    };
-    Ok(count.to_string(alloc)?)
+    match array {
+        AnyArray::FixedSizeList(array) => write_value(alloc, array.len()),
+        AnyArray::Struct(array) => write_value(alloc, array.len()),
+        _ => Err(Fault::Case),
+    }
 }
 
 // How many items each list has.
 fn width(alloc: Global, array: &AnyArray) -> Result<String, Fault> {
     match array {
-        AnyArray::FixedSizeList(array) => Ok(array.width().to_string(alloc)?),
+        AnyArray::FixedSizeList(array) => write_value(alloc, array.width()),
         _ => Err(Fault::Case),
     }
 }
@@ -297,7 +277,7 @@ fn width(alloc: Global, array: &AnyArray) -> Result<String, Fault> {
 // How many bytes each string has.
 fn size(alloc: Global, array: &AnyArray) -> Result<String, Fault> {
     match array {
-        AnyArray::FixedSizeBinary(array) => Ok(array.size().to_string(alloc)?),
+        AnyArray::FixedSizeBinary(array) => write_value(alloc, array.size()),
         _ => Err(Fault::Case),
     }
 }

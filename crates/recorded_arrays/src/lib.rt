@@ -3,15 +3,19 @@
 
 ghost use Rattle.recorded_text.specs.Cases.{HasGoodArrays};
 
+mod any_kind;
 mod arrays;
-mod kinds;
+mod byte_strings;
 mod lent;
 mod null_rows;
 mod number_arrays;
+mod number_types;
 mod string_arrays;
 mod structs;
 mod types;
+mod values_text;
 mod views;
+mod windows;
 
 use recorded_text::fault::Fault;
 use recorded_text::store::Store;

@@ -7,8 +7,9 @@ ghost use Rattle.polars_arrays_nested.specs.GoodParts.{IsGood};
 ghost use Rattle.polars_arrays_nested.specs.declared.any_array.AnyArray.{Dictionary};
 ghost use Rattle.recorded_text.specs.Cases.{HasGoodArrays};
 
-use crate::kinds::of_any_kind;
-use polars_arrays_flat::array::Array;
+use crate::any_kind;
+use crate::values_text::write_value;
+use crate::windows::read_window;
 use polars_arrays_nested::any_array::AnyArray;
 use polars_arrays_nested::dictionary::DictionaryArray;
 use recorded_text::bits_text::write_made_mask;
@@ -16,6 +17,31 @@ use recorded_text::fault::Fault;
 use recorded_text::store::Store;
 use recorded_text::words::Words;
 use std::alloc::Global;
+
+// What is asked of an array.
+#[derive(Clone, Copy)]
+enum Asked {
+    IsNullRow,
+    IsNullKey,
+    MayHaveNulls,
+    MissingMask,
+    MaskOfKind,
+    WindowMask,
+}
+
+impl Asked {
+    fn named(call: &str) -> Option<Asked> {
+        match call {
+            "is_null_row" => Some(Asked::IsNullRow),
+            "dictionary_is_null_row" => Some(Asked::IsNullKey),
+            "may_have_nulls" => Some(Asked::MayHaveNulls),
+            "missing_mask" => Some(Asked::MissingMask),
+            "array_missing_mask" => Some(Asked::MaskOfKind),
+            "window_mask" => Some(Asked::WindowMask),
+            _ => None,
+        }
+    }
+}
 
 /// The answer to a call of this subject, or None for another one's.
 pub fn answer(
@@ -26,16 +52,24 @@ pub fn answer(
 ) -> Result<Option<String>, Fault>
     requires { HasGoodArrays store.now }
 {
-    let answer = match call {
-        "is_null_row" => is_null_row(alloc, store.read(words)?, words.read_number()?),
-        "dictionary_is_null_row" => is_null_key(alloc, store.read(words)?, words.read_number()?),
-        "may_have_nulls" => may_have_nulls(alloc, store.read(words)?),
-        "missing_mask" => missing_mask(alloc, store.read(words)?),
-        "array_missing_mask" => mask_of_kind(alloc, store.read(words)?),
-        "window_mask" => window_mask(alloc, store.read(words)?, words),
-        _ => return Ok(None),
-    };
-    Ok(Some(answer?))
+    match Asked::named(call) {
+        Some(asked) => ask(alloc, asked, store.read(words)?, words).map(Some),
+        None => Ok(None),
+    }
+}
+
+// What an array answers.
+fn ask(alloc: Global, asked: Asked, array: &AnyArray, words: &mut Words) -> Result<String, Fault>
+    requires { IsGood array.now }
+{
+    match asked {
+        Asked::IsNullRow => is_null_row(alloc, array, words.read_number()?),
+        Asked::IsNullKey => is_null_key(alloc, array, words.read_number()?),
+        Asked::MayHaveNulls => write_value(alloc, array.may_have_nulls()),
+        Asked::MissingMask => write_made_mask(alloc, array.missing_mask(alloc)),
+        Asked::MaskOfKind => any_kind::ask(alloc, any_kind::Asked::MissingMask, array),
+        Asked::WindowMask => window_mask(alloc, array, words),
+    }
 }
 
 // Whether row `i` is null.
@@ -45,7 +79,7 @@ fn is_null_row(alloc: Global, array: &AnyArray, i: usize) -> Result<String, Faul
     if i >= array.len() {
         return Err(Fault::Case);
     }
-    Ok(array.is_null_row(i).to_string(alloc)?)
+    write_value(alloc, array.is_null_row(i))
 }
 
 // The same, asked of a dictionary array itself.
@@ -65,44 +99,13 @@ fn names_null(alloc: Global, array: &DictionaryArray, i: usize) -> Result<String
     if i >= array.keys().len() {
         return Err(Fault::Case);
     }
-    Ok(array.is_null_row(i).to_string(alloc)?)
-}
-
-// Whether a row may be null.
-fn may_have_nulls(alloc: Global, array: &AnyArray) -> Result<String, Fault>
-    requires { IsGood array.now }
-{
-    Ok(array.may_have_nulls().to_string(alloc)?)
-}
-
-// Which rows are present.
-fn missing_mask(alloc: Global, array: &AnyArray) -> Result<String, Fault>
-    requires { IsGood array.now }
-{
-    write_made_mask(alloc, array.missing_mask(alloc))
-}
-
-// The same, asked of the array of whatever kind.
-fn mask_of_kind(alloc: Global, array: &AnyArray) -> Result<String, Fault>
-    requires { IsGood array.now }
-{
-    of_any_kind!(array, a => write_mask_of(alloc, a))
-}
-
-// Which rows of an array of one kind are present.
-fn write_mask_of<A: Array>(alloc: Global, array: &A) -> Result<String, Fault>
-    requires { A.good array.now }
-{
-    write_made_mask(alloc, array.missing_mask(alloc))
+    write_value(alloc, array.is_null_row(i))
 }
 
 // Which of so many rows from a row on are present.
 fn window_mask(alloc: Global, array: &AnyArray, words: &mut Words) -> Result<String, Fault>
     requires { IsGood array.now }
 {
-    let (at, n): (usize, usize) = (words.read_number()?, words.read_number()?);
-    if at > array.len() || n > array.len() - at {
-        return Err(Fault::Case);
-    }
+    let (at, n) = read_window(words, array.len())?;
     write_made_mask(alloc, array.window_mask(alloc, at, n))
 }

@@ -1,13 +1,16 @@
-//! Arrays of numbers: how they are made, written to, shared, and given another validity.
+//! Arrays of numbers: their stored values, and how they are written to, shared, and given another validity.
 //!
-//! The answer is the array that a call makes or leaves: its rows, the values stored below them, and whether it
-//! owns these.
+//! The answer to a change is the array that it leaves: its rows, the values stored below them, and whether it owns
+//! these.
 
+ghost use Rattle.std.specs.Prelude.{IfOk};
+ghost use Rattle.polars_arrays_flat.specs.Validity.{HasBits};
 ghost use Rattle.recorded_text.specs.Cases.{HasGoodArrays};
 
-use crate::kinds::{of_number_type, of_numbers};
-use num_traits::Zero;
+use crate::number_types;
+use crate::values_text::{push_value, write_value, write_values};
 use polars_arrays_bits::bitmap::Bitmap;
+use polars_arrays_bits::error::ComputeError;
 use polars_arrays_flat::array::Array;
 use polars_arrays_flat::primitive::PrimitiveArray;
 use polars_arrays_flat::validity::has_bits;
@@ -15,12 +18,40 @@ use polars_arrays_nested::any_array::AnyArray;
 use polars_arrays_numbers::native_type::NativeType;
 use recorded_text::bits_text::{is_null, write_bits};
 use recorded_text::fault::Fault;
-use recorded_text::parts::{Kept, read_number_list, read_validity};
+use recorded_text::parts::{Kept, read_validity};
 use recorded_text::store::Store;
 use recorded_text::words::Words;
 use std::alloc::Global;
 use std::fmt::Display;
 use std::str::FromStr;
+
+/// What is asked of an array of numbers, or is done to a clone of it.
+#[derive(Clone, Copy)]
+pub enum Asked {
+    IsOwned,
+    Values,
+    Share,
+    TakeValidity,
+    WithValidity,
+    FillWith,
+    GetMutValues,
+    AsMutValues,
+}
+
+impl Asked {
+    fn named(call: &str) -> Option<Asked> {
+        match call {
+            "array_is_owned" => Some(Asked::IsOwned),
+            "array_share" => Some(Asked::Share),
+            "take_validity" => Some(Asked::TakeValidity),
+            "with_validity" => Some(Asked::WithValidity),
+            "fill_with" => Some(Asked::FillWith),
+            "get_mut_values" => Some(Asked::GetMutValues),
+            "as_mut_values" => Some(Asked::AsMutValues),
+            _ => None,
+        }
+    }
+}
 
 /// The answer to a call of this subject, or None for another one's.
 pub fn answer(
@@ -31,70 +62,50 @@ pub fn answer(
 ) -> Result<Option<String>, Fault>
     requires { HasGoodArrays store.now }
 {
-    let answer = match call {
-        "from_vec" => of_number_type!(words.read()?, from_vec(alloc, words)),
-        "full_null" => of_number_type!(words.read()?, full_null(alloc, words)),
-        _ => return answer_change(alloc, call, store, words),
-    };
-    Ok(Some(answer?))
-}
-
-// What is done to a clone of an array of numbers.
-#[derive(Clone, Copy)]
-enum Change {
-    Share,
-    TakeValidity,
-    WithValidity,
-    FillWith,
-    GetMutValues,
-    AsMutValues,
-}
-
-impl Change {
-    fn named(call: &str) -> Option<Change> {
-        match call {
-            "array_share" => Some(Change::Share),
-            "take_validity" => Some(Change::TakeValidity),
-            "with_validity" => Some(Change::WithValidity),
-            "fill_with" => Some(Change::FillWith),
-            "get_mut_values" => Some(Change::GetMutValues),
-            "as_mut_values" => Some(Change::AsMutValues),
-            _ => None,
-        }
+    match Asked::named(call) {
+        Some(asked) => ask(alloc, asked, store.read(words)?, words).map(Some),
+        None => number_types::answer(alloc, call, words),
     }
 }
 
-// The answer to a call that changes a clone of an array, or None for another call.
-fn answer_change(
+/// What an array of numbers answers. One of another kind has no answer.
+pub fn ask(
     alloc: Global,
-    call: &str,
-    store: &Store,
+    asked: Asked,
+    array: &AnyArray,
     words: &mut Words,
-) -> Result<Option<String>, Fault>
-    requires { HasGoodArrays store.now }
-{
-    let Some(change) = Change::named(call) else {
-        return Ok(None);
-    };
-    let array = store.read(words)?;
-    let answer = of_numbers!(array, a => change_array(alloc, change, a, words));
-    Ok(Some(answer?))
+) -> Result<String, Fault> {
+    match array {
+        AnyArray::Int8(array) => ask_numbers(alloc, asked, array, words),
+        AnyArray::Int16(array) => ask_numbers(alloc, asked, array, words),
+        AnyArray::Int32(array) => ask_numbers(alloc, asked, array, words),
+        AnyArray::Int64(array) => ask_numbers(alloc, asked, array, words),
+        AnyArray::Int128(array) => ask_numbers(alloc, asked, array, words),
+        AnyArray::UInt8(array) => ask_numbers(alloc, asked, array, words),
+        AnyArray::UInt16(array) => ask_numbers(alloc, asked, array, words),
+        AnyArray::UInt32(array) => ask_numbers(alloc, asked, array, words),
+        AnyArray::UInt64(array) => ask_numbers(alloc, asked, array, words),
+        AnyArray::UInt128(array) => ask_numbers(alloc, asked, array, words),
+        _ => Err(Fault::Case),
+    }
 }
 
-// What a clone of an array becomes.
-fn change_array<T: NativeType + Display + FromStr<Err: Drop>>(
+// What an array of one type of numbers answers.
+fn ask_numbers<T: NativeType + Display + FromStr<Err: Drop>>(
     alloc: Global,
-    change: Change,
+    asked: Asked,
     array: &PrimitiveArray<T>,
     words: &mut Words,
 ) -> Result<String, Fault> {
-    match change {
-        Change::Share => share(alloc, array),
-        Change::TakeValidity => take_validity(alloc, array),
-        Change::WithValidity => with_validity(alloc, array, words),
-        Change::FillWith => fill_with(alloc, array, words),
-        Change::GetMutValues => get_mut_values(alloc, array, words),
-        Change::AsMutValues => as_mut_values(alloc, array, words),
+    match asked {
+        Asked::IsOwned => write_value(alloc, array.is_owned()),
+        Asked::Values => write_values(alloc, array.values()),
+        Asked::Share => share(alloc, array),
+        Asked::TakeValidity => take_validity(alloc, array),
+        Asked::WithValidity => with_validity(alloc, array, words),
+        Asked::FillWith => fill_with(alloc, array, words),
+        Asked::GetMutValues => get_mut_values(alloc, array, words),
+        Asked::AsMutValues => as_mut_values(alloc, array, words),
     }
 }
 
@@ -104,17 +115,43 @@ fn write_array<T: NativeType + Display>(
     array: &PrimitiveArray<T>,
 ) -> Result<String, Fault> {
     let mut text = String::new(alloc);
-    push_rows(alloc, &mut text, array)?;
-    text.push_str("over ")?;
-    push_values(alloc, &mut text, array.values())?;
-    let kept = if array.is_owned() { "owned" } else { "shared" };
-    write!(text, "{} null, {kept}", array.null_count())?;
+    push_array(&mut text, array)?;
     Ok(text)
 }
 
-// The rows of an array of numbers.
-fn push_rows<T: NativeType + Display>(
+/// An array of numbers that was made to be written.
+pub fn write_owned<T: NativeType + Display>(
     alloc: Global,
+    array: PrimitiveArray<T>,
+) -> Result<String, Fault> {
+    let text = write_array(alloc, &array);
+    drop(array);
+    text
+}
+
+/// The array of numbers that a call made.
+pub fn write_made<T: NativeType + Display>(
+    alloc: Global,
+    made: Result<PrimitiveArray<T>, ComputeError>,
+) -> Result<String, Fault> {
+    write_owned(alloc, made?)
+}
+
+// Adds an array of numbers: its rows, the stored values, and whether it owns these.
+fn push_array<T: NativeType + Display>(
+    text: &mut String,
+    array: &PrimitiveArray<T>,
+) -> Result<(), Fault> {
+    push_rows(text, array)?;
+    text.push_str("over ")?;
+    push_values(text, array.values())?;
+    let kept = if array.is_owned() { "owned" } else { "shared" };
+    write!(text, "{} null, {kept}", array.null_count())?;
+    Ok(())
+}
+
+// Adds the rows of an array of numbers.
+fn push_rows<T: NativeType + Display>(
     text: &mut String,
     array: &PrimitiveArray<T>,
 ) -> Result<(), Fault> {
@@ -122,51 +159,18 @@ fn push_rows<T: NativeType + Display>(
         if is_null(array.validity(), i) {
             text.push_str("null ")?;
         } else {
-            push_value(alloc, text, value)?;
+            push_value(text, *value)?;
         }
     }
     Ok(())
 }
 
-// The stored values of an array of numbers, those of null rows too.
-fn push_values<T: NativeType + Display>(
-    alloc: Global,
-    text: &mut String,
-    values: &[T],
-) -> Result<(), Fault> {
+// Adds the stored values of an array of numbers, those of null rows too.
+fn push_values<T: NativeType + Display>(text: &mut String, values: &[T]) -> Result<(), Fault> {
     for value in values {
-        push_value(alloc, text, value)?;
+        push_value(text, *value)?;
     }
     Ok(())
-}
-
-// A number and a space.
-fn push_value<T: NativeType + Display>(
-    alloc: Global,
-    text: &mut String,
-    value: &T,
-) -> Result<(), Fault> {
-    text.push_str(&value.to_string(alloc)?)?;
-    text.push(' ')?;
-    Ok(())
-}
-
-// An array of the numbers that words write.
-fn from_vec<T: NativeType + Display + FromStr<Err: Drop>>(
-    alloc: Global,
-    words: &mut Words,
-) -> Result<String, Fault> {
-    let array = PrimitiveArray::<T>::from_vec(read_number_list(alloc, words)?);
-    write_array(alloc, &array)
-}
-
-// As many nulls as the next word says.
-fn full_null<T: NativeType + Display + Zero>(
-    alloc: Global,
-    words: &mut Words,
-) -> Result<String, Fault> {
-    let array = PrimitiveArray::<T>::full_null(alloc, words.read_number()?)?;
-    write_array(alloc, &array)
 }
 
 // A clone that shares its values.
@@ -174,8 +178,7 @@ fn share<T: NativeType + Display>(
     alloc: Global,
     array: &PrimitiveArray<T>,
 ) -> Result<String, Fault> {
-    let shared = array.clone_array(alloc)?.share(alloc)?;
-    write_array(alloc, &shared)
+    write_made(alloc, array.clone_array(alloc)?.share(alloc))
 }
 
 // The validity of a clone, and what it leaves.
@@ -184,27 +187,28 @@ fn take_validity<T: NativeType + Display>(
     array: &PrimitiveArray<T>,
 ) -> Result<String, Fault> {
     let mut copy = array.clone_array(alloc)?;
-    let taken = copy.take_validity();
-    write_taken(alloc, &taken, &copy)
+    let text = write_taken(alloc, copy.take_validity(), &copy);
+    drop(copy);
+    text
 }
 
 // A validity, and the array that it was taken from.
 fn write_taken<T: NativeType + Display>(
     alloc: Global,
-    taken: &Option<Bitmap>,
+    taken: Option<Bitmap>,
     left: &PrimitiveArray<T>,
 ) -> Result<String, Fault> {
     let mut text = write_validity(alloc, taken)?;
     text.push_str(" from ")?;
-    text.push_str(&write_array(alloc, left)?)?;
+    push_array(&mut text, left)?;
     Ok(text)
 }
 
 // The bits of a validity, or `none`.
-fn write_validity(alloc: Global, validity: &Option<Bitmap>) -> Result<String, Fault> {
-    match validity {
+fn write_validity(alloc: Global, validity: Option<Bitmap>) -> Result<String, Fault> {
+    match &validity {
         Some(bits) => write_bits(alloc, bits),
-        None => Ok("none".to_string(alloc)?),
+        None => write_value(alloc, "none"),
     }
 }
 
@@ -214,20 +218,20 @@ fn with_validity<T: NativeType + Display>(
     array: &PrimitiveArray<T>,
     words: &mut Words,
 ) -> Result<String, Fault> {
-    let validity = read_validity(alloc, Kept::Owned, words)?;
-    under_validity(alloc, array.clone_array(alloc)?, validity)
+    let validity = read_fitting(alloc, array.values().len(), words)?;
+    write_owned(alloc, array.clone_array(alloc)?.with_validity(validity))
 }
 
-// An array under another validity.
-fn under_validity<T: NativeType + Display>(
-    alloc: Global,
-    array: PrimitiveArray<T>,
-    validity: Option<Bitmap>,
-) -> Result<String, Fault> {
-    if !has_bits(array.values().len(), &validity) {
-        return Err(Fault::Case);
+// The validity of so many rows that the next word writes. The error is `Case`, where it is one of more or of less.
+fn read_fitting(alloc: Global, len: usize, words: &mut Words) -> Result<Option<Bitmap>, Fault>
+    ensures { IfOk result (λ validity. HasBits len validity) }
+{
+    let validity = read_validity(alloc, Kept::Owned, words)?;
+    if has_bits(len, &validity) {
+        Ok(validity)
+    } else {
+        Err(Fault::Case)
     }
-    write_array(alloc, &array.with_validity(validity))
 }
 
 // A clone whose values are all the next word's.
@@ -237,8 +241,7 @@ fn fill_with<T: NativeType + Display + FromStr<Err: Drop>>(
     words: &mut Words,
 ) -> Result<String, Fault> {
     let value = words.read_number()?;
-    let filled = array.clone_array(alloc)?.fill_with(alloc, value)?;
-    write_array(alloc, &filled)
+    write_made(alloc, array.clone_array(alloc)?.fill_with(alloc, value))
 }
 
 // A clone of which each value that it lends is the next word's, or none where it lends none.
@@ -249,10 +252,21 @@ fn get_mut_values<T: NativeType + Display + FromStr<Err: Drop>>(
 ) -> Result<String, Fault> {
     let value = words.read_number()?;
     let mut copy = array.clone_array(alloc)?;
-    if write_all(&mut copy, value) {
-        write_array(alloc, &copy)
+    let text = write_filled(alloc, &mut copy, value);
+    drop(copy);
+    text
+}
+
+// An array of which each value that it lends is this one, or none where it lends none.
+fn write_filled<T: NativeType + Display>(
+    alloc: Global,
+    array: &mut PrimitiveArray<T>,
+    value: T,
+) -> Result<String, Fault> {
+    if write_all(array, value) {
+        write_array(alloc, array)
     } else {
-        Ok("none".to_string(alloc)?)
+        write_value(alloc, "none")
     }
 }
 
@@ -278,12 +292,24 @@ fn as_mut_values<T: NativeType + Display + FromStr<Err: Drop>>(
     let at: usize = words.read_number()?;
     let value = words.read_number()?;
     let mut copy = array.clone_array(alloc)?;
-    write_value(&mut copy, at, value)?;
-    write_array(alloc, &copy)
+    let text = write_changed(alloc, &mut copy, at, value);
+    drop(copy);
+    text
+}
+
+// An array that owns its values, of which the one at a place is this one.
+fn write_changed<T: NativeType + Display>(
+    alloc: Global,
+    array: &mut PrimitiveArray<T>,
+    at: usize,
+    value: T,
+) -> Result<String, Fault> {
+    set_value(array, at, value)?;
+    write_array(alloc, array)
 }
 
 // Writes the value at a place of an array that owns its values, where there is one.
-fn write_value<T: NativeType>(
+fn set_value<T: NativeType>(
     array: &mut PrimitiveArray<T>,
     at: usize,
     value: T,

@@ -1,28 +1,49 @@
-//! Arrays of byte strings and of texts: what they lend of each row, null or not, and byte strings compared.
+//! Arrays of byte strings and of texts: what they lend of each row, null or not.
 
 ghost use Rattle.std.specs.Prelude.{◌≡◌};
 ghost use Rattle.recorded_text.specs.Cases.{HasGoodArrays};
 
-use crate::kinds::of_strings;
+use crate::byte_strings;
 use crate::types::write_made_type;
+use crate::values_text::write_value;
 use polars_arrays_bits::error::ComputeError;
 use polars_arrays_bytes::fixed_size::FixedSizeBinaryArray;
 use polars_arrays_bytes::of_size::OfSize;
 use polars_arrays_bytes::offset_type::OffsetType;
 use polars_arrays_bytes::text::Utf8Array;
-use polars_arrays_flat::byte_equality::bytes_equal;
-use polars_arrays_flat::byte_order::{bytes_less, pair_less};
 use polars_arrays_flat::byte_rows::ByteRows;
 use polars_arrays_flat::data_type::ArrowDataType;
 use polars_arrays_nested::any_array::AnyArray;
 use polars_arrays_numbers::offset::Offset;
 use polars_arrays_views::text_view::Utf8ViewArray;
-use recorded_text::bytes_text::{write_bytes, write_strings};
+use recorded_text::bytes_text::write_strings;
 use recorded_text::fault::Fault;
-use recorded_text::parts::read_bytes;
 use recorded_text::store::Store;
 use recorded_text::words::Words;
 use std::alloc::Global;
+
+// What is asked of an array of byte strings or of texts.
+#[derive(Clone, Copy)]
+enum Asked {
+    Bytes,
+    Value,
+    OfSize,
+    AsBinary,
+    AsBinview,
+}
+
+impl Asked {
+    fn named(call: &str) -> Option<Asked> {
+        match call {
+            "bytes" => Some(Asked::Bytes),
+            "value" => Some(Asked::Value),
+            "of_size" => Some(Asked::OfSize),
+            "as_binary" => Some(Asked::AsBinary),
+            "as_binview" => Some(Asked::AsBinview),
+            _ => None,
+        }
+    }
+}
 
 /// The answer to a call of this subject, or None for another one's.
 pub fn answer(
@@ -33,18 +54,35 @@ pub fn answer(
 ) -> Result<Option<String>, Fault>
     requires { HasGoodArrays store.now }
 {
-    let answer = match call {
-        "bytes" => of_strings!(store.read(words)?, a => write_strings(alloc, a)),
-        "value" => value(alloc, store.read(words)?, words.read_number()?),
-        "of_size" => of_size(alloc, store.read(words)?, words.read_number()?),
-        "as_binary" => as_binary(alloc, store.read(words)?),
-        "as_binview" => as_binview(alloc, store.read(words)?),
-        "bytes_equal" => equal(alloc, words),
-        "bytes_less" => less(alloc, words),
-        "pair_less" => less_pair(alloc, words),
-        _ => return Ok(None),
-    };
-    Ok(Some(answer?))
+    match Asked::named(call) {
+        Some(asked) => ask(alloc, asked, store.read(words)?, words).map(Some),
+        None => byte_strings::answer(alloc, call, words),
+    }
+}
+
+// What an array answers.
+fn ask(alloc: Global, asked: Asked, array: &AnyArray, words: &mut Words) -> Result<String, Fault> {
+    match asked {
+        Asked::Bytes => bytes(alloc, array),
+        Asked::Value => value(alloc, array, words.read_number()?),
+        Asked::OfSize => of_size(alloc, array, words.read_number()?),
+        Asked::AsBinary => as_binary(alloc, array),
+        Asked::AsBinview => as_binview(alloc, array),
+    }
+}
+
+// The byte strings, those of null rows too.
+fn bytes(alloc: Global, array: &AnyArray) -> Result<String, Fault> {
+    match array {
+        AnyArray::Binary(array) => write_strings(alloc, array),
+        AnyArray::LargeBinary(array) => write_strings(alloc, array),
+        AnyArray::Utf8(array) => write_strings(alloc, array),
+        AnyArray::LargeUtf8(array) => write_strings(alloc, array),
+        AnyArray::BinaryView(array) => write_strings(alloc, array),
+        AnyArray::Utf8View(array) => write_strings(alloc, array),
+        AnyArray::FixedSizeBinary(array) => write_strings(alloc, array),
+        _ => Err(Fault::Case),
+    }
 }
 
 // The text of row `i`, null or not.
@@ -62,7 +100,7 @@ fn text_at<O: Offset>(alloc: Global, array: &Utf8Array<O>, i: usize) -> Result<S
     if i >= array.offsets().len().saturating_sub(1) {
         return Err(Fault::Case);
     }
-    Ok(array.value(i).to_string(alloc)?)
+    write_value(alloc, array.value(i))
 }
 
 // The text of row `i`, kept by a view.
@@ -70,7 +108,7 @@ fn viewed_text(alloc: Global, array: &Utf8ViewArray, i: usize) -> Result<String,
     if i >= array.as_binview().views().len() {
         return Err(Fault::Case);
     }
-    Ok(array.value(i).to_string(alloc)?)
+    write_value(alloc, array.value(i))
 }
 
 // The byte strings of an array of that size, known when the code is compiled.
@@ -131,25 +169,4 @@ fn write_typed<A: ByteRows>(
     text.push_str(": ")?;
     text.push_str(&write_strings(alloc, strings)?)?;
     Ok(text)
-}
-
-// Whether two byte strings are equal.
-fn equal(alloc: Global, words: &mut Words) -> Result<String, Fault> {
-    let left = read_bytes(alloc, words.read()?)?;
-    let right = read_bytes(alloc, words.read()?)?;
-    Ok(bytes_equal(&left, &right).to_string(alloc)?)
-}
-
-// Whether the left byte string is less.
-fn less(alloc: Global, words: &mut Words) -> Result<String, Fault> {
-    let left = read_bytes(alloc, words.read()?)?;
-    let right = read_bytes(alloc, words.read()?)?;
-    Ok(bytes_less(&left, &right).to_string(alloc)?)
-}
-
-// Whether a pair of numbers is less, the second of each being a length.
-fn less_pair(alloc: Global, words: &mut Words) -> Result<String, Fault> {
-    let (p, q) = (words.read_number()?, words.read_number()?);
-    let (n, m) = (words.read_number()?, words.read_number()?);
-    Ok(pair_less(p, q, n, m).to_string(alloc)?)
 }

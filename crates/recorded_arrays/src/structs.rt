@@ -29,7 +29,7 @@ pub fn answer(
     requires { HasGoodArrays store.now }
 {
     match call {
-        "struct_try_new" => Ok(Some(try_new(alloc, store, words)?)),
+        "struct_try_new" => try_new(alloc, store, words).map(Some),
         _ => Ok(None),
     }
 }

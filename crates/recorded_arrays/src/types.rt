@@ -2,10 +2,9 @@
 
 ghost use Rattle.recorded_text.specs.Cases.{HasGoodArrays};
 
-use crate::kinds::of_number_type;
+use crate::values_text::write_value;
 use polars_arrays_bits::error::ComputeError;
 use polars_arrays_bytes::offset_type::OffsetType;
-use polars_arrays_flat::arrow_type::ArrowType;
 use polars_arrays_flat::data_type::{ArrowDataType, Field, is_struct_of, same_fields};
 use polars_arrays_nested::any_array::AnyArray;
 use polars_arrays_nested::data_types::clone_type;
@@ -27,12 +26,11 @@ pub fn answer(
     let answer = match call {
         "dtype" => dtype(alloc, store.read(words)?),
         "clone_type" => copied_type(alloc, store.read(words)?),
-        "arrow_data_type" => of_number_type!(words.read()?, arrow_data_type(alloc)),
         "binary_data_type" => binary_data_type(alloc, words.read()?),
         "text_data_type" => text_data_type(alloc, words.read()?),
         _ => return answer_test(alloc, call, store, words),
     };
-    Ok(Some(answer?))
+    answer.map(Some)
 }
 
 // The answer to a test of two arrays, or None for another call.
@@ -50,7 +48,7 @@ fn answer_test(
     let left = store.read(words)?;
     let right = store.read(words)?;
     let holds = is_told(alloc, left, right, comparison)?;
-    Ok(Some(holds.to_string(alloc)?))
+    write_value(alloc, holds).map(Some)
 }
 
 // What is tested of the types of two arrays.
@@ -186,11 +184,6 @@ fn copied_type(alloc: Global, array: &AnyArray) -> Result<String, Fault> {
     let copy = clone_type(alloc, &dtype);
     drop(dtype);
     write_made_type(alloc, copy)
-}
-
-// The type of an array of numbers.
-fn arrow_data_type<T: ArrowType>(alloc: Global) -> Result<String, Fault> {
-    write_made_type(alloc, Ok(T::arrow_data_type()))
 }
 
 // The type of an array of byte strings between offsets.

@@ -3,6 +3,8 @@
 ghost use Rattle.std.specs.Prelude.{◌+◌, ◌≤◌, IsTrue, drop};
 ghost use Rattle.polars_arrays_views.specs.Views.{AllZero, view_len};
 
+use crate::values_text::write_value;
+use polars_arrays_bits::buffer::Buffer;
 use polars_arrays_views::view::View;
 use recorded_text::bytes_text::write_bytes;
 use recorded_text::fault::Fault;
@@ -10,29 +12,50 @@ use recorded_text::parts::{Kept, read_buffers, read_bytes, read_view};
 use recorded_text::words::Words;
 use std::alloc::Global;
 
-/// The answer to a call of this subject, or None for another one's.
-pub fn answer(alloc: Global, call: &str, words: &mut Words) -> Result<Option<String>, Fault> {
-    let answer = match call {
-        "view_of_short" => of_short(alloc, words),
-        "as_u128" => as_u128(alloc, words),
-        "view_len" => len(alloc, words),
-        "view_buffer" => buffer(alloc, words),
-        "view_offset" => offset(alloc, words),
-        "view_prefix" => prefix(alloc, words),
-        "view_inlined" => inlined(alloc, words),
-        "view_in_buffer" => in_buffer(alloc, words),
-        "view_is_good" => is_good(alloc, words),
-        "same_head" => same_head(alloc, words),
-        "same_tail" => same_tail(alloc, words),
-        "inlined_less" => inlined_less(alloc, words),
-        _ => return Ok(None),
-    };
-    Ok(Some(answer?))
+// What is asked of the view that the next word's bytes are.
+#[derive(Clone, Copy)]
+enum Asked {
+    AsU128,
+    Len,
+    Buffer,
+    Offset,
+    Prefix,
+    Inlined,
+    InBuffer,
+    IsGood,
+    SameHead,
+    SameTail,
+    InlinedLess,
 }
 
-// The view that the next word's bytes are.
-fn read(alloc: Global, words: &mut Words) -> Result<View, Fault> {
-    read_view(alloc, words.read()?)
+impl Asked {
+    fn named(call: &str) -> Option<Asked> {
+        match call {
+            "as_u128" => Some(Asked::AsU128),
+            "view_len" => Some(Asked::Len),
+            "view_buffer" => Some(Asked::Buffer),
+            "view_offset" => Some(Asked::Offset),
+            "view_prefix" => Some(Asked::Prefix),
+            "view_inlined" => Some(Asked::Inlined),
+            "view_in_buffer" => Some(Asked::InBuffer),
+            "view_is_good" => Some(Asked::IsGood),
+            "same_head" => Some(Asked::SameHead),
+            "same_tail" => Some(Asked::SameTail),
+            "inlined_less" => Some(Asked::InlinedLess),
+            _ => None,
+        }
+    }
+}
+
+/// The answer to a call of this subject, or None for another one's.
+pub fn answer(alloc: Global, call: &str, words: &mut Words) -> Result<Option<String>, Fault> {
+    if call == "view_of_short" {
+        return of_short(alloc, words).map(Some);
+    }
+    match Asked::named(call) {
+        Some(asked) => ask(alloc, asked, read(alloc, words)?, words).map(Some),
+        None => Ok(None),
+    }
 }
 
 // The view of a row of at most 12 bytes.
@@ -45,34 +68,30 @@ fn of_short(alloc: Global, words: &mut Words) -> Result<String, Fault> {
     write_bytes(alloc, &view.as_u128().to_le_bytes())
 }
 
-// The view as a number.
-fn as_u128(alloc: Global, words: &mut Words) -> Result<String, Fault> {
-    Ok(read(alloc, words)?.as_u128().to_string(alloc)?)
+// The view that the next word's bytes are.
+fn read(alloc: Global, words: &mut Words) -> Result<View, Fault> {
+    read_view(alloc, words.read()?)
 }
 
-// How many bytes the row has.
-fn len(alloc: Global, words: &mut Words) -> Result<String, Fault> {
-    Ok(read(alloc, words)?.len().to_string(alloc)?)
-}
-
-// The number of the buffer.
-fn buffer(alloc: Global, words: &mut Words) -> Result<String, Fault> {
-    Ok(read(alloc, words)?.buffer().to_string(alloc)?)
-}
-
-// Where the row begins in the buffer.
-fn offset(alloc: Global, words: &mut Words) -> Result<String, Fault> {
-    Ok(read(alloc, words)?.offset().to_string(alloc)?)
-}
-
-// The prefix as a number.
-fn prefix(alloc: Global, words: &mut Words) -> Result<String, Fault> {
-    Ok(read(alloc, words)?.prefix().to_string(alloc)?)
+// What a view answers, together with another view or with the buffers that follow.
+fn ask(alloc: Global, asked: Asked, view: View, words: &mut Words) -> Result<String, Fault> {
+    match asked {
+        Asked::AsU128 => write_value(alloc, view.as_u128()),
+        Asked::Len => write_value(alloc, view.len()),
+        Asked::Buffer => write_value(alloc, view.buffer()),
+        Asked::Offset => write_value(alloc, view.offset()),
+        Asked::Prefix => write_value(alloc, view.prefix()),
+        Asked::Inlined => inlined(alloc, &view),
+        Asked::InBuffer => in_buffer(alloc, &view, words),
+        Asked::IsGood => is_good(alloc, &view, words),
+        Asked::SameHead => write_value(alloc, view.same_head(&read(alloc, words)?)),
+        Asked::SameTail => write_value(alloc, view.same_tail(&read(alloc, words)?)),
+        Asked::InlinedLess => inlined_less(alloc, &view, &read(alloc, words)?),
+    }
 }
 
 // The bytes of a row of at most 12 bytes.
-fn inlined(alloc: Global, words: &mut Words) -> Result<String, Fault> {
-    let view = read(alloc, words)?;
+fn inlined(alloc: Global, view: &View) -> Result<String, Fault> {
     if view.len() > 12 {
         return Err(Fault::Case);
     }
@@ -80,41 +99,35 @@ fn inlined(alloc: Global, words: &mut Words) -> Result<String, Fault> {
 }
 
 // The bytes of a longer row, which lies in one of the buffers that follow.
-fn in_buffer(alloc: Global, words: &mut Words) -> Result<String, Fault> {
-    let view = read(alloc, words)?;
+fn in_buffer(alloc: Global, view: &View, words: &mut Words) -> Result<String, Fault> {
     let buffers = read_buffers(alloc, Kept::Owned, words)?;
-    if view.len() <= 12 || !view.is_good(&buffers) {
+    let text = write_long(alloc, view, &buffers);
+    drop(buffers);
+    text
+}
+
+// The bytes of a longer row, which lies in one of these buffers.
+fn write_long(alloc: Global, view: &View, buffers: &[Buffer<u8>]) -> Result<String, Fault> {
+    if view.len() <= 12 || !view.is_good(buffers) {
         return Err(Fault::Case);
     }
-    write_bytes(alloc, view.in_buffer(&buffers))
+    write_bytes(alloc, view.in_buffer(buffers))
 }
 
 // Whether the view stands for a row over the buffers that follow.
-fn is_good(alloc: Global, words: &mut Words) -> Result<String, Fault> {
-    let view = read(alloc, words)?;
+fn is_good(alloc: Global, view: &View, words: &mut Words) -> Result<String, Fault> {
     let buffers = read_buffers(alloc, Kept::Owned, words)?;
-    Ok(view.is_good(&buffers).to_string(alloc)?)
-}
-
-// Whether the lengths and the prefixes agree.
-fn same_head(alloc: Global, words: &mut Words) -> Result<String, Fault> {
-    let (left, right) = (read(alloc, words)?, read(alloc, words)?);
-    Ok(left.same_head(&right).to_string(alloc)?)
-}
-
-// Whether the last eight bytes agree.
-fn same_tail(alloc: Global, words: &mut Words) -> Result<String, Fault> {
-    let (left, right) = (read(alloc, words)?, read(alloc, words)?);
-    Ok(left.same_tail(&right).to_string(alloc)?)
+    let good = view.is_good(&buffers);
+    drop(buffers);
+    write_value(alloc, good)
 }
 
 // Whether the left row is less, where both have at most 12 bytes and zeros behind them.
-fn inlined_less(alloc: Global, words: &mut Words) -> Result<String, Fault> {
-    let (left, right) = (read(alloc, words)?, read(alloc, words)?);
-    if !is_short(&left) || !is_short(&right) {
+fn inlined_less(alloc: Global, left: &View, right: &View) -> Result<String, Fault> {
+    if !is_short(left) || !is_short(right) {
         return Err(Fault::Case);
     }
-    Ok(left.inlined_less(&right).to_string(alloc)?)
+    write_value(alloc, left.inlined_less(right))
 }
 
 // Whether a view holds a row of at most 12 bytes, and zeros behind it.

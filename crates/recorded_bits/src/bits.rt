@@ -32,34 +32,44 @@ use recorded_text::words::Words;
 use std::alloc::Global;
 
 /// The answer to a call on bitmaps, or None for another one's.
-pub fn answer(alloc: Global, call: &str, words: &mut Words) -> Result<Option<String>, Fault> {
+pub fn answer(alloc: Global, call: &str, words: &mut Words) -> Option<Result<String, Fault>> {
+    if is_of_one(call) {
+        return Some(of_one(alloc, call, words));
+    }
     let answer = match call {
-        "not"
-        | "bitmap_share"
-        | "clone_bitmap"
-        | "from_values"
-        | "from_wide_values"
-        | "set_bits"
-        | "unset_bits"
-        | "bitmap_len"
-        | "get_bit"
-        | "bitmap_get"
-        | "bitmap_slice"
-        | "slice_clone"
-        | "meet_shared"
-        | "from_counted" => of_one(alloc, call, words),
         "and" | "or" | "xor" | "xnor" | "and_not" | "or_not" | "num_intersections_with" => {
             of_two(alloc, call, words)
         }
         "merge_eq" | "merge_ne" => of_three(alloc, call, words),
-        "new_zeroed" => write_made(alloc, Bitmap::new_zeroed(alloc, words.read_number()?)),
+        "new_zeroed" => write_read(alloc, read_zeroed(alloc, words)),
         "new_with_value" => write_read(alloc, read_filled(alloc, words)),
         "set_bits_filled" => count_filled(alloc, words),
         "from_bools" => write_read(alloc, read_bools(alloc, words)),
         "from_words" => write_read(alloc, read_words(alloc, words)),
-        _ => return Ok(None),
+        _ => return None,
     };
-    Ok(Some(answer?))
+    Some(answer)
+}
+
+// Whether a call is one on one bitmap.
+fn is_of_one(call: &str) -> bool {
+    matches!(
+        call,
+        "not"
+            | "bitmap_share"
+            | "clone_bitmap"
+            | "from_values"
+            | "from_wide_values"
+            | "set_bits"
+            | "unset_bits"
+            | "bitmap_len"
+            | "get_bit"
+            | "bitmap_get"
+            | "bitmap_slice"
+            | "slice_clone"
+            | "meet_shared"
+            | "from_counted"
+    )
 }
 
 /// Whether there are `n` places from place `at` on.
@@ -303,6 +313,11 @@ fn with_third(
 ) -> Result<String, Fault> {
     let r = read_bitmap(alloc, words)?;
     write_read(alloc, combine_three(alloc, call, q, l, &r))
+}
+
+// As many bits as the next word says, all false.
+fn read_zeroed(alloc: Global, words: &mut Words) -> Result<Bitmap, Fault> {
+    Ok(Bitmap::new_zeroed(alloc, words.read_number()?)?)
 }
 
 // As many bits as the next words say, of one value.

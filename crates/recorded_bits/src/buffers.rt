@@ -16,7 +16,7 @@
 //! | `first` | the elements of the buffer that was cloned last |
 
 use crate::answer_text::{Told, write_numbers};
-use crate::bits::is_within;
+use crate::bits::{is_within, read_places};
 use crate::numbers::{at_number_type, at_type};
 use polars_arrays_bits::buffer::Buffer;
 use polars_arrays_numbers::native_type::NativeType;
@@ -25,17 +25,27 @@ use recorded_text::parts::read_numbers;
 use recorded_text::words::Words;
 use std::alloc::Global;
 use std::fmt::Display;
+use std::mem::replace;
 use std::str::FromStr;
 
 /// The answer to a call on buffers, or None for another one's.
-pub fn answer(alloc: Global, call: &str, words: &mut Words) -> Result<Option<String>, Fault> {
+pub fn answer(alloc: Global, call: &str, words: &mut Words) -> Option<Result<String, Fault>> {
     match call {
-        "buffer" => {
-            let answer = at_number_type!(words.read()?, operate(alloc, words))?;
-            Ok(Some(answer))
-        }
-        _ => Ok(None),
+        "buffer" => Some(of_type(alloc, words)),
+        _ => None,
     }
+}
+
+// What the operations of a line answer, at the type that the next word names.
+fn of_type(alloc: Global, words: &mut Words) -> Result<String, Fault> {
+    at_number_type!(words.read()?, operate(alloc, words))
+}
+
+// A buffer, and the one that was cloned last.
+#[derive(Drop)]
+struct Clones<T: NativeType> {
+    buffer: Buffer<T>,
+    first: Option<Buffer<T>>,
 }
 
 // What the operations of a line answer.
@@ -44,32 +54,58 @@ fn operate<T: NativeType + Display + FromStr<Err: Drop>>(
     words: &mut Words,
 ) -> Result<String, Fault> {
     let buffer = read_numbers::<T>(alloc, words)?;
+    let mut clones = Clones {
+        buffer,
+        first: None,
+    };
     let mut told = Told::new(alloc);
-    apply_all(alloc, buffer, words, &mut told)?;
+    apply_all(alloc, &mut clones, words, &mut told)?;
     Ok(told.into_text())
 }
 
-// What the operations before `end` do to a buffer, and answer.
+// What the operations before `end` do to buffers, and answer.
 fn apply_all<T: NativeType + Display + FromStr<Err: Drop>>(
     alloc: Global,
-    mut buffer: Buffer<T>,
+    clones: &mut Clones<T>,
     words: &mut Words,
     told: &mut Told,
 ) -> Result<(), Fault> {
-    let mut first = None;
     for _ in 0..u64::MAX {
         match words.read()? {
             "end" => break,
-            "share" => buffer = buffer.share(alloc)?,
-            "clone" => {
-                let copy = buffer.clone_buffer(alloc)?;
-                first = Some(buffer);
-                buffer = copy;
-            }
-            "first" => told.add_text(list(alloc, &first))?,
-            operation => apply(alloc, &mut buffer, operation, words, told)?,
+            operation => apply(alloc, clones, operation, words, told)?,
         }
     }
+    Ok(())
+}
+
+// What an operation does to buffers, and answers.
+fn apply<T: NativeType + Display + FromStr<Err: Drop>>(
+    alloc: Global,
+    clones: &mut Clones<T>,
+    operation: &str,
+    words: &mut Words,
+    told: &mut Told,
+) -> Result<(), Fault> {
+    match operation {
+        "share" => share(alloc, &mut clones.buffer),
+        "clone" => clone(alloc, clones),
+        "first" => told.add_text(list(alloc, &clones.first)),
+        _ => apply_to_one(alloc, &mut clones.buffer, operation, words, told),
+    }
+}
+
+// The elements of a buffer lie from now on in a slice that clones share.
+fn share<T: NativeType>(alloc: Global, buffer: &mut Buffer<T>) -> Result<(), Fault> {
+    let elements = replace(buffer, Buffer::from_vec(Vec::new(alloc)));
+    *buffer = elements.share(alloc)?;
+    Ok(())
+}
+
+// A clone takes the place of the buffer, which is kept as the one that was cloned last.
+fn clone<T: NativeType>(alloc: Global, clones: &mut Clones<T>) -> Result<(), Fault> {
+    let copy = clones.buffer.clone_buffer(alloc)?;
+    clones.first = Some(replace(&mut clones.buffer, copy));
     Ok(())
 }
 
@@ -84,8 +120,8 @@ fn list<T: NativeType + Display>(
     }
 }
 
-// What an operation does to a buffer, and answers.
-fn apply<T: NativeType + Display + FromStr<Err: Drop>>(
+// What an operation does to one buffer, and answers.
+fn apply_to_one<T: NativeType + Display + FromStr<Err: Drop>>(
     alloc: Global,
     buffer: &mut Buffer<T>,
     operation: &str,
@@ -96,7 +132,7 @@ fn apply<T: NativeType + Display + FromStr<Err: Drop>>(
         "is_owned" => told.add_value(alloc, buffer.is_owned()),
         "len" => told.add_value(alloc, buffer.len()),
         "list" => told.add_text(write_numbers(alloc, buffer.as_slice())),
-        "slice" => slice(buffer, words.read_number()?, words.read_number()?),
+        "slice" => slice(buffer, read_places(words)),
         _ => write(buffer, operation, words, told),
     }
 }
@@ -117,7 +153,11 @@ fn write<T: NativeType + FromStr<Err: Drop>>(
 }
 
 // Keeps elements of a buffer, where it has them.
-fn slice<T: NativeType>(buffer: &mut Buffer<T>, at: usize, n: usize) -> Result<(), Fault> {
+fn slice<T: NativeType>(
+    buffer: &mut Buffer<T>,
+    places: Result<(usize, usize), Fault>,
+) -> Result<(), Fault> {
+    let (at, n) = places?;
     if !is_within(at, n, buffer.len()) {
         return Err(Fault::Case);
     }

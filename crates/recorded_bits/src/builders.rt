@@ -23,10 +23,10 @@ use recorded_text::words::Words;
 use std::alloc::Global;
 
 /// The answer to a call on builders, or None for another one's.
-pub fn answer(alloc: Global, call: &str, words: &mut Words) -> Result<Option<String>, Fault> {
+pub fn answer(alloc: Global, call: &str, words: &mut Words) -> Option<Result<String, Fault>> {
     match call {
-        "builder" => Ok(Some(operate(alloc, words)?)),
-        _ => Ok(None),
+        "builder" => Some(operate(alloc, words)),
+        _ => None,
     }
 }
 

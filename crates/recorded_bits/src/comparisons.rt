@@ -26,12 +26,12 @@ use std::alloc::Global;
 use std::str::FromStr;
 
 /// The answer to a call on comparisons, or None for another one's.
-pub fn answer(alloc: Global, call: &str, words: &mut Words) -> Result<Option<String>, Fault> {
+pub fn answer(alloc: Global, call: &str, words: &mut Words) -> Option<Result<String, Fault>> {
     match call {
         "compare" | "packs_by_bit" | "compare_pairs" | "compare_windows" | "compare_constant" => {
-            Ok(Some(by_name(alloc, call, words)?))
+            Some(by_name(alloc, call, words))
         }
-        _ => Ok(None),
+        _ => None,
     }
 }
 
@@ -135,17 +135,18 @@ fn windows<T: NativeType + FromStr<Err: Drop>, E: Comparison<T, T>>(
 ) -> Result<String, Fault> {
     let left = read_part::<T>(alloc, words)?;
     let right = read_part::<T>(alloc, words)?;
-    write_windows(alloc, comparison, &left, &right, words.read_number()?)
+    write_windows(alloc, comparison, &left, &right, words.read_number())
 }
 
-// Which pairs pass, of `count` numbers each.
+// Which pairs pass, of so many numbers each as were read.
 fn write_windows<T: NativeType, E: Comparison<T, T>>(
     alloc: Global,
     comparison: &E,
     left: &Part<T>,
     right: &Part<T>,
-    count: usize,
+    count: Result<usize, Fault>,
 ) -> Result<String, Fault> {
+    let count = count?;
     let (these, those) = (left.numbers.as_slice(), right.numbers.as_slice());
     if !is_within(left.at, count, these.len()) || !is_within(right.at, count, those.len()) {
         return Err(Fault::Case);

@@ -12,13 +12,13 @@ use std::alloc::{AllocError, Global};
 use std::fmt::Display;
 
 /// The answer to a call on errors, or None for another one's.
-pub fn answer(alloc: Global, call: &str, words: &mut Words) -> Result<Option<String>, Fault> {
-    let text = match call {
+pub fn answer(alloc: Global, call: &str, words: &mut Words) -> Option<Result<String, Fault>> {
+    let answer = match call {
         "compute_error" => write_error(alloc, read_compute_error(words)),
         "array_error" => write_error(alloc, read_array_error(words)),
-        _ => return Ok(None),
+        _ => return None,
     };
-    Ok(Some(text?))
+    Some(answer)
 }
 
 // The text of an error, where the words name one.

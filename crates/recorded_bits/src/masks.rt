@@ -26,7 +26,7 @@ use recorded_text::words::Words;
 use std::alloc::Global;
 
 /// The answer to a call on masks, or None for another one's.
-pub fn answer(alloc: Global, call: &str, words: &mut Words) -> Result<Option<String>, Fault> {
+pub fn answer(alloc: Global, call: &str, words: &mut Words) -> Option<Result<String, Fault>> {
     let answer = match call {
         "mask_not"
         | "to_bitmap"
@@ -41,9 +41,9 @@ pub fn answer(alloc: Global, call: &str, words: &mut Words) -> Result<Option<Str
             of_two(alloc, call, words)
         }
         "mask_merge_eq" | "mask_merge_ne" => of_three(alloc, call, words),
-        _ => return Ok(None),
+        _ => return None,
     };
-    Ok(Some(answer?))
+    Some(answer)
 }
 
 /// A window of bits, where they have one.

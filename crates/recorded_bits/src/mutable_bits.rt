@@ -27,10 +27,10 @@ use recorded_text::words::Words;
 use std::alloc::Global;
 
 /// The answer to a call on bitmaps of this kind, or None for another one's.
-pub fn answer(alloc: Global, call: &str, words: &mut Words) -> Result<Option<String>, Fault> {
+pub fn answer(alloc: Global, call: &str, words: &mut Words) -> Option<Result<String, Fault>> {
     match call {
-        "mutable" => Ok(Some(operate(alloc, words)?)),
-        _ => Ok(None),
+        "mutable" => Some(operate(alloc, words)),
+        _ => None,
     }
 }
 
@@ -98,10 +98,7 @@ fn change(
         "and_values" => and_values(bits, read_bitmap(alloc, words), false),
         "and_wide_values" => and_values(bits, read_bitmap(alloc, words), true),
         "and_mask" | "or_not_mask" => assign_mask(bits, operation, read_bitmap(alloc, words)),
-        "merge_eq" | "merge_ne" => {
-            let left = read_bitmap(alloc, words)?;
-            merge(bits, operation, &left, read_bitmap(alloc, words))
-        }
+        "merge_eq" | "merge_ne" => merge_read(alloc, bits, operation, words),
         _ => Err(Fault::Word),
     }
 }
@@ -179,6 +176,17 @@ fn assign_mask(
         _ => bits.or_not_assign_mask(&other),
     }
     Ok(())
+}
+
+// The bits are merged with those that the next two words write.
+fn merge_read(
+    alloc: Global,
+    bits: &mut MutableBitmap,
+    operation: &str,
+    words: &mut Words,
+) -> Result<(), Fault> {
+    let left = read_bitmap(alloc, words)?;
+    merge(bits, operation, &left, read_bitmap(alloc, words))
 }
 
 // The bits are merged with which rows are present on each side, where they are as many.

@@ -45,7 +45,7 @@ pub(crate) use at_number_type;
 pub(crate) use at_type;
 
 /// The answer to a call on numbers, or None for another one's.
-pub fn answer(alloc: Global, call: &str, words: &mut Words) -> Result<Option<String>, Fault> {
+pub fn answer(alloc: Global, call: &str, words: &mut Words) -> Option<Result<String, Fault>> {
     let answer = match call {
         "least_value" | "greatest_value" | "number_width" | "is_signed" | "has_wide_values" => {
             of_type(alloc, call, words)
@@ -54,9 +54,9 @@ pub fn answer(alloc: Global, call: &str, words: &mut Words) -> Result<Option<Str
         "to_entry" => of_key(alloc, words),
         "steps" => count(alloc, Steps::new(), words),
         "default_steps" => count(alloc, Steps::default(), words),
-        _ => return Ok(None),
+        _ => return None,
     };
-    Ok(Some(answer?))
+    Some(answer)
 }
 
 // What is asked of the number type that the next word names.

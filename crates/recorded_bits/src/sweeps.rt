@@ -24,14 +24,29 @@ use std::alloc::Global;
 const PLACES: usize = 66;
 
 /// The answer to a sweep, or None for another call.
-pub fn answer(alloc: Global, call: &str, words: &mut Words) -> Result<Option<String>, Fault> {
+pub fn answer(alloc: Global, call: &str, words: &mut Words) -> Option<Result<String, Fault>> {
     let sum = match call {
-        "sweep" => sweep(alloc, words.read()?, words.read_number()?)?,
-        "sweep_blocks" => sweep_blocks(alloc, words.read_number()?, words.read_number()?)?,
-        _ => return Ok(None),
+        "sweep" => read_sweep(alloc, words),
+        "sweep_blocks" => read_sweep_of_blocks(alloc, words),
+        _ => return None,
     };
-    let Sum(sum) = sum;
-    Ok(Some(format!(in alloc; "{sum:016x}")?))
+    Some(write_sum(alloc, sum))
+}
+
+/// The sum over the answers to the call that the next words write.
+fn read_sweep(alloc: Global, words: &mut Words) -> Result<Sum, Fault> {
+    sweep(alloc, words.read()?, words.read_number()?)
+}
+
+/// The sum over blocks of the width and the number that the next words write.
+fn read_sweep_of_blocks(alloc: Global, words: &mut Words) -> Result<Sum, Fault> {
+    sweep_blocks(alloc, words.read_number()?, words.read_number()?)
+}
+
+/// The text of a sum.
+fn write_sum(alloc: Global, sum: Result<Sum, Fault>) -> Result<String, Fault> {
+    let Sum(sum) = sum?;
+    Ok(format!(in alloc; "{sum:016x}")?)
 }
 
 /// A sum over numbers in their order (FNV-1a of 64 bits, with a number in place of a byte).
@@ -91,12 +106,17 @@ struct Places {
 fn surrounded(alloc: Global, list: usize, at: usize, n: usize) -> Result<Bitmap, Fault> {
     let capacity = at.saturating_add(n).saturating_add(70);
     let mut builder = BitmapBuilder::with_capacity(alloc, capacity)?;
-    fill(&mut builder, at, true)?;
-    for i in 0..n {
-        push(&mut builder, bit_at(i, list))?;
-    }
-    fill(&mut builder, 70, true)?;
+    surround(&mut builder, list, at, n)?;
     Ok(builder.freeze())
+}
+
+/// Pushes the first `n` bits of a list behind `at` true ones and before 70 of these.
+fn surround(builder: &mut BitmapBuilder, list: usize, at: usize, n: usize) -> Result<(), Fault> {
+    fill(builder, at, true)?;
+    for i in 0..n {
+        push(builder, bit_at(i, list))?;
+    }
+    fill(builder, 70, true)
 }
 
 /// The first `n` bits of a list at each place.
@@ -176,11 +196,15 @@ impl Lists {
 /// The sum over the answers to a call at all pairs of places, or at all places of runs.
 fn sweep(alloc: Global, call: &str, n: usize) -> Result<Sum, Fault> {
     match call {
-        "all_set" => return sweep_runs(alloc, n),
-        "extend_values" => return sweep_appended(alloc, n, false),
-        "extend_wide_values" => return sweep_appended(alloc, n, true),
-        _ => {}
+        "all_set" => sweep_runs(alloc, n),
+        "extend_values" => sweep_appended(alloc, n, false),
+        "extend_wide_values" => sweep_appended(alloc, n, true),
+        _ => sweep_pairs(alloc, call, n),
     }
+}
+
+/// The sum over the answers to a call at all pairs of places.
+fn sweep_pairs(alloc: Global, call: &str, n: usize) -> Result<Sum, Fault> {
     let lists = Lists::new(alloc, n)?;
     let mut sum = Sum::new();
     for p in 0..PLACES {
@@ -281,10 +305,20 @@ fn sweep_appended(alloc: Global, n: usize, wide: bool) -> Result<Sum, Fault> {
 fn appended(alloc: Global, at: usize, values: &Bitmap, wide: bool) -> Result<Bitmap, Fault> {
     let capacity = at.saturating_add(values.len()).saturating_add(1);
     let mut builder = BitmapBuilder::with_capacity(alloc, capacity)?;
-    fill(&mut builder, at, true)?;
-    push_all(&mut builder, values, wide)?;
-    push(&mut builder, false)?;
+    append(&mut builder, at, values, wide)?;
     Ok(builder.freeze())
+}
+
+/// Pushes these values behind `at` true ones and before a false one.
+fn append(
+    builder: &mut BitmapBuilder,
+    at: usize,
+    values: &Bitmap,
+    wide: bool,
+) -> Result<(), Fault> {
+    fill(builder, at, true)?;
+    push_all(builder, values, wide)?;
+    push(builder, false)
 }
 
 /// The blocks of the pattern from each place on.

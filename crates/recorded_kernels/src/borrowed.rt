@@ -9,15 +9,15 @@
 ghost use Rattle.polars_arrays_nested.specs.GoodParts.{IsGood};
 ghost use Rattle.recorded_text.specs.Cases.{HasGoodArrays};
 
-use crate::kernel_names::{Equality, Order};
+use crate::kernel_names::{Equality, Kernel, Order};
 use crate::named_kinds::of_kind;
+use crate::operands::read_next_bytes;
 use polars_arrays_flat::array::Array;
 use polars_arrays_nested::any_array::AnyArray;
 use polars_compare_equality::borrowed::{BytesEqKernel, TextEqKernel};
 use polars_compare_order::borrowed::{BytesOrdKernel, TextOrdKernel};
 use recorded_text::bits_text::write_made_present;
 use recorded_text::fault::Fault;
-use recorded_text::parts::read_bytes;
 use recorded_text::store::Store;
 use recorded_text::words::Words;
 use std::alloc::Global;
@@ -29,71 +29,34 @@ pub fn answer(
     call: &str,
     store: &Store,
     words: &mut Words,
-) -> Result<Option<String>, Fault>
+) -> Option<Result<String, Fault>>
     requires { HasGoodArrays store.now }
 {
-    let Some(call) = call.strip_suffix("_broadcast") else {
-        return Ok(None);
-    };
+    let call = call.strip_suffix("_broadcast")?;
     if let Some(name) = call.strip_prefix("bytes_") {
-        of_bytes(alloc, name, store, words)
-    } else if let Some(name) = call.strip_prefix("text_") {
-        of_text(alloc, name, store, words)
+        let kernel = Kernel::named(name)?;
+        Some(beside_bytes(alloc, store, words, kernel))
     } else {
-        Ok(None)
+        let kernel = Kernel::named(call.strip_prefix("text_")?)?;
+        Some(beside_text(alloc, store, words, kernel))
     }
 }
 
-// The answer to a kernel of an array and a byte string, or None for another call.
-fn of_bytes(
-    alloc: Global,
-    name: &str,
-    store: &Store,
-    words: &mut Words,
-) -> Result<Option<String>, Fault>
-    requires { HasGoodArrays store.now }
-{
-    let answer = if let Some(kernel) = Equality::named(name) {
-        bytes_equality(alloc, store, words, kernel)
-    } else if let Some(kernel) = Order::named(name) {
-        bytes_order(alloc, store, words, kernel)
-    } else {
-        return Ok(None);
-    };
-    Ok(Some(answer?))
-}
-
-// The answer to a kernel of an array and a text, or None for another call.
-fn of_text(
-    alloc: Global,
-    name: &str,
-    store: &Store,
-    words: &mut Words,
-) -> Result<Option<String>, Fault>
-    requires { HasGoodArrays store.now }
-{
-    let answer = if let Some(kernel) = Equality::named(name) {
-        text_equality(alloc, store, words, kernel)
-    } else if let Some(kernel) = Order::named(name) {
-        text_order(alloc, store, words, kernel)
-    } else {
-        return Ok(None);
-    };
-    Ok(Some(answer?))
-}
-
-// Where the rows of an array of byte strings are equal to the one that words write.
-fn bytes_equality(
+// What a kernel says of the rows of an array and of the byte string that words write.
+fn beside_bytes(
     alloc: Global,
     store: &Store,
     words: &mut Words,
-    kernel: Equality,
+    kernel: Kernel,
 ) -> Result<String, Fault>
     requires { HasGoodArrays store.now }
 {
     let array = store.read(words)?;
-    let bytes = read_bytes(alloc, words.read()?)?;
-    bytes_equal_to(alloc, array, &bytes, kernel)
+    let bytes = read_next_bytes(alloc, words)?;
+    match kernel {
+        Kernel::Equality(kernel) => bytes_equal_to(alloc, array, &bytes, kernel),
+        Kernel::Order(kernel) => bytes_beside(alloc, array, &bytes, kernel),
+    }
 }
 
 // Where the rows of an array of byte strings are equal to one.
@@ -127,20 +90,6 @@ fn equal_to_bytes<A: BytesEqKernel>(
     kernel.write(alloc, bits, rows.validity(), None)
 }
 
-// How the rows of an array of byte strings stand to the one that words write.
-fn bytes_order(
-    alloc: Global,
-    store: &Store,
-    words: &mut Words,
-    kernel: Order,
-) -> Result<String, Fault>
-    requires { HasGoodArrays store.now }
-{
-    let array = store.read(words)?;
-    let bytes = read_bytes(alloc, words.read()?)?;
-    bytes_beside(alloc, array, &bytes, kernel)
-}
-
 // How the rows of an array of byte strings stand to one.
 fn bytes_beside(
     alloc: Global,
@@ -172,25 +121,35 @@ fn ordered_beside_bytes<A: BytesOrdKernel>(
     write_made_present(alloc, bits, rows.validity(), None)
 }
 
-// Where the rows of an array of texts are equal to the one that words write.
-fn text_equality(
+// What a kernel says of the rows of an array and of the text that words write.
+fn beside_text(
     alloc: Global,
     store: &Store,
     words: &mut Words,
-    kernel: Equality,
+    kernel: Kernel,
 ) -> Result<String, Fault>
     requires { HasGoodArrays store.now }
 {
     let array = store.read(words)?;
-    let bytes = read_bytes(alloc, words.read()?)?;
-    texts_equal_to(alloc, array, text_of(&bytes)?, kernel)
+    let bytes = read_next_bytes(alloc, words)?;
+    beside_text_of(alloc, array, &bytes, kernel)
 }
 
-// The text of bytes.
-fn text_of(bytes: &[u8]) -> Result<&str, Fault> {
-    match from_utf8(bytes) {
-        Ok(text) => Ok(text),
-        Err(_) => Err(Fault::Word),
+// What a kernel says of the rows of an array and of the text of bytes.
+fn beside_text_of(
+    alloc: Global,
+    array: &AnyArray,
+    bytes: &[u8],
+    kernel: Kernel,
+) -> Result<String, Fault>
+    requires { IsGood array.now }
+{
+    let Ok(text) = from_utf8(bytes) else {
+        return Err(Fault::Word);
+    };
+    match kernel {
+        Kernel::Equality(kernel) => texts_equal_to(alloc, array, text, kernel),
+        Kernel::Order(kernel) => texts_beside(alloc, array, text, kernel),
     }
 }
 
@@ -222,20 +181,6 @@ fn equal_to_text<A: TextEqKernel>(
         Equality::UnequalMissing => rows.tot_ne_missing_kernel_broadcast(alloc, text),
     };
     kernel.write(alloc, bits, rows.validity(), None)
-}
-
-// How the rows of an array of texts stand to the one that words write.
-fn text_order(
-    alloc: Global,
-    store: &Store,
-    words: &mut Words,
-    kernel: Order,
-) -> Result<String, Fault>
-    requires { HasGoodArrays store.now }
-{
-    let array = store.read(words)?;
-    let bytes = read_bytes(alloc, words.read()?)?;
-    texts_beside(alloc, array, text_of(&bytes)?, kernel)
 }
 
 // How the rows of an array of texts stand to one.

@@ -10,13 +10,14 @@
 //!
 //! LEAVES is `always` or `never`, for leaves that are said to agree all, or none of them.
 
-ghost use Rattle.std.specs.Prelude.{◌≡◌, IsTrue};
+ghost use Rattle.std.specs.Prelude.{◌≡◌};
 ghost use Rattle.polars_arrays_nested.specs.GoodParts.{IsGood};
 ghost use Rattle.polars_arrays_nested.specs.Lengths.{len_of};
 ghost use Rattle.polars_arrays_nested.specs.Types.{type_of};
 ghost use Rattle.recorded_text.specs.Cases.{HasGoodArrays};
 
 use crate::leaf_kernels::{Always, Never, SeenKernel, write_seen};
+use crate::operands::{read_alike, read_two};
 use polars_arrays_nested::any_array::AnyArray;
 use polars_arrays_numbers::steps::Steps;
 use polars_compare_leaves::joining::Relation;
@@ -39,7 +40,7 @@ pub fn answer(
     call: &str,
     store: &Store,
     words: &mut Words,
-) -> Result<Option<String>, Fault>
+) -> Option<Result<String, Fault>>
     requires { HasGoodArrays store.now }
 {
     let answer = match call {
@@ -51,9 +52,9 @@ pub fn answer(
         "list_broadcast" => lists(alloc, store, words),
         "fixed_size_list_broadcast" => fixed_size_lists(alloc, store, words),
         "law_tally" | "law_steps" => law(alloc, call),
-        _ => return Ok(None),
+        _ => return None,
     };
-    Ok(Some(answer?))
+    Some(answer)
 }
 
 // A law, which holds as it is called.
@@ -66,14 +67,6 @@ fn law(alloc: Global, call: &str) -> Result<String, Fault> {
     Ok("holds".to_string(alloc)?)
 }
 
-// Whether two arrays are of one type and length, as the kernels ask.
-fn can_compare(left: &AnyArray, right: &AnyArray) -> bool
-    ensures one_type { IsTrue result → type_of left.now ≡ type_of right.now }
-    ensures one_length { IsTrue result → len_of left.now ≡ len_of right.now }
-{
-    left.same_type(right) && left.len() == right.len()
-}
-
 // Where rows are equal or not, null to null alone.
 fn missing(
     alloc: Global,
@@ -83,11 +76,7 @@ fn missing(
 ) -> Result<String, Fault>
     requires { HasGoodArrays store.now }
 {
-    let left = store.read(words)?;
-    let right = store.read(words)?;
-    if !can_compare(left, right) {
-        return Err(Fault::Case);
-    }
+    let (left, right) = read_alike(store, words)?;
     match relation {
         Relation::Equal => write_made(alloc, array_tot_eq_missing_kernel(alloc, left, right)),
         Relation::Unequal => write_made(alloc, array_tot_ne_missing_kernel(alloc, left, right)),
@@ -103,8 +92,7 @@ fn counted(
 ) -> Result<String, Fault>
     requires { HasGoodArrays store.now }
 {
-    let left = store.read(words)?;
-    let right = store.read(words)?;
+    let (left, right) = read_alike(store, words)?;
     if words.take("always") {
         counted_by::<Always>(alloc, left, right, relation)
     } else if words.take("never") {
@@ -123,38 +111,32 @@ fn counted_by<K: SeenKernel + Drop>(
 ) -> Result<String, Fault>
     requires good_left { IsGood left.now }
     requires good_right { IsGood right.now }
+    requires one_type { type_of left.now ≡ type_of right.now }
+    requires one_length { len_of left.now ≡ len_of right.now }
 {
-    if !can_compare(left, right) {
-        return Err(Fault::Case);
-    }
     let mut kernel = K::new();
     let bits = match relation {
         Relation::Equal => array_tot_eq_missing_kernel_counted(alloc, left, right, &mut kernel),
         Relation::Unequal => array_tot_ne_missing_kernel_counted(alloc, left, right, &mut kernel),
     };
-    write_seen(alloc, bits, kernel.seen())
+    write_seen(write_made(alloc, bits), kernel.seen())
 }
 
 // The same by the call that takes a counter.
 fn with_steps(alloc: Global, store: &Store, words: &mut Words) -> Result<String, Fault>
     requires { HasGoodArrays store.now }
 {
-    let left = store.read(words)?;
-    let right = store.read(words)?;
-    if !can_compare(left, right) {
-        return Err(Fault::Case);
-    }
+    let (left, right) = read_alike(store, words)?;
     let mut steps = Steps::new();
     let bits = array_tot_eq_missing_kernel_with_steps(alloc, left, right, &mut steps);
-    write_seen(alloc, bits, steps.seen())
+    write_seen(write_made(alloc, bits), steps.seen())
 }
 
 // Where lists have for items all rows of an array, in order.
 fn lists(alloc: Global, store: &Store, words: &mut Words) -> Result<String, Fault>
     requires { HasGoodArrays store.now }
 {
-    let lists = store.read(words)?;
-    let items = store.read(words)?;
+    let (lists, items) = read_two(store, words)?;
     match lists {
         AnyArray::List(lists) if lists.values().same_type(items) => {
             write_made(alloc, list_broadcast(alloc, lists, items))
@@ -167,8 +149,7 @@ fn lists(alloc: Global, store: &Store, words: &mut Words) -> Result<String, Faul
 fn fixed_size_lists(alloc: Global, store: &Store, words: &mut Words) -> Result<String, Fault>
     requires { HasGoodArrays store.now }
 {
-    let lists = store.read(words)?;
-    let items = store.read(words)?;
+    let (lists, items) = read_two(store, words)?;
     match lists {
         AnyArray::FixedSizeList(lists) if lists.values().same_type(items) => {
             write_made(alloc, fixed_size_list_broadcast(alloc, lists, items))

@@ -19,10 +19,10 @@ use recorded_text::words::Words;
 use std::alloc::Global;
 
 /// The answer to a call of this subject, or None for another one's.
-pub fn answer(alloc: Global, call: &str, words: &mut Words) -> Result<Option<String>, Fault> {
+pub fn answer(alloc: Global, call: &str, words: &mut Words) -> Option<Result<String, Fault>> {
     match call {
-        "join_nulls" | "join_masks" => Ok(Some(join(alloc, call, words)?)),
-        _ => Ok(None),
+        "join_nulls" | "join_masks" => Some(join(alloc, call, words)),
+        _ => None,
     }
 }
 

@@ -6,6 +6,23 @@ use recorded_text::bits_text::{write_made, write_made_present};
 use recorded_text::fault::Fault;
 use std::alloc::Global;
 
+/// A kernel of rows.
+#[derive(Clone, Copy)]
+pub enum Kernel {
+    Equality(Equality),
+    Order(Order),
+}
+
+impl Kernel {
+    /// The kernel of that name.
+    pub fn named(name: &str) -> Option<Kernel> {
+        match Equality::named(name) {
+            Some(kernel) => Some(Kernel::Equality(kernel)),
+            None => Order::named(name).map(Kernel::Order),
+        }
+    }
+}
+
 /// A kernel that says where rows are equal, or where they are not; the missing ones decide nulls too.
 #[derive(Clone, Copy)]
 pub enum Equality {
@@ -17,7 +34,7 @@ pub enum Equality {
 
 impl Equality {
     /// The kernel of that name.
-    pub fn named(name: &str) -> Option<Equality> {
+    fn named(name: &str) -> Option<Equality> {
         match name {
             "tot_eq_kernel" => Some(Equality::Equal),
             "tot_ne_kernel" => Some(Equality::Unequal),
@@ -53,7 +70,7 @@ pub enum Order {
 
 impl Order {
     /// The kernel of that name.
-    pub fn named(name: &str) -> Option<Order> {
+    fn named(name: &str) -> Option<Order> {
         match name {
             "tot_lt_kernel" => Some(Order::Less),
             "tot_le_kernel" => Some(Order::LessOrEqual),

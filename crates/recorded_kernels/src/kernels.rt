@@ -8,13 +8,18 @@
 
 ghost use Rattle.recorded_text.specs.Cases.{HasGoodArrays};
 
-use crate::kernel_names::{Equality, Order};
+use crate::kernel_names::{Equality, Kernel, Order};
 use crate::named_kinds::of_one_kind;
+use crate::operands::read_two;
+use crate::raw_bits::write_raw;
+use crate::scalars::write_truth;
+use polars_arrays_bits::bitmap::Bitmap;
+use polars_arrays_bits::error::ComputeError;
 use polars_arrays_flat::array::Array;
 use polars_arrays_nested::any_array::AnyArray;
 use polars_compare_equality::kernel::TotalEqKernel;
 use polars_compare_order::kernel::TotalOrdKernel;
-use recorded_text::bits_text::{write_made, write_made_present, write_unmasked};
+use recorded_text::bits_text::{write_made, write_made_present};
 use recorded_text::fault::Fault;
 use recorded_text::store::Store;
 use recorded_text::words::Words;
@@ -26,56 +31,58 @@ pub fn answer(
     call: &str,
     store: &Store,
     words: &mut Words,
-) -> Result<Option<String>, Fault>
+) -> Option<Result<String, Fault>>
     requires { HasGoodArrays store.now }
 {
-    let answer = if call == "can_compare" {
-        can_compare(alloc, store, words)
-    } else if let Some(kernel) = Equality::named(call) {
-        equality(alloc, store, words, kernel)
-    } else if let Some(kernel) = Order::named(call) {
-        order(alloc, store, words, kernel)
-    } else {
-        return Ok(None);
+    if call == "can_compare" {
+        return Some(equality(alloc, store, words, Question::CanCompare));
+    }
+    let answer = match Kernel::named(call)? {
+        Kernel::Equality(kernel) => equality(alloc, store, words, Question::Kernel(kernel)),
+        Kernel::Order(kernel) => order(alloc, store, words, kernel),
     };
-    Ok(Some(answer?))
+    Some(answer)
 }
 
-// Whether two arrays of one kind can be compared.
-fn can_compare(alloc: Global, store: &Store, words: &mut Words) -> Result<String, Fault>
-    requires { HasGoodArrays store.now }
-{
-    let these = store.read(words)?;
-    let those = store.read(words)?;
-    of_one_kind!(these, those, left, right => write_comparable(alloc, left, right),
-        Null Boolean Int8 Int16 Int32 Int64 Int128 UInt8 UInt16 UInt32 UInt64 UInt128
-        Binary LargeBinary Utf8 LargeUtf8 BinaryView Utf8View FixedSizeBinary
-        List FixedSizeList Struct Dictionary)
+// What is asked of the rows of two arrays of one kind that has an equality.
+#[derive(Clone, Copy)]
+enum Question {
+    CanCompare,
+    Kernel(Equality),
 }
 
-// The text of whether two arrays can be compared.
-fn write_comparable<A: TotalEqKernel>(alloc: Global, left: &A, right: &A) -> Result<String, Fault>
-    requires good_left { A.good left.now }
-    requires good_right { A.good right.now }
-{
-    Ok(left.can_compare(right).to_string(alloc)?)
-}
-
-// Where the rows of two arrays of one kind are equal.
+// What is asked of the equality of two arrays of one kind.
 fn equality(
     alloc: Global,
     store: &Store,
     words: &mut Words,
-    kernel: Equality,
+    question: Question,
 ) -> Result<String, Fault>
     requires { HasGoodArrays store.now }
 {
-    let these = store.read(words)?;
-    let those = store.read(words)?;
-    of_one_kind!(these, those, left, right => equal_rows(alloc, left, right, kernel),
+    let (these, those) = read_two(store, words)?;
+    of_one_kind!(these, those, left, right => compare(alloc, left, right, question),
         Null Boolean Int8 Int16 Int32 Int64 Int128 UInt8 UInt16 UInt32 UInt64 UInt128
         Binary LargeBinary Utf8 LargeUtf8 BinaryView Utf8View FixedSizeBinary
         List FixedSizeList Struct Dictionary)
+}
+
+// What is asked of the equality of rows.
+fn compare<A: TotalEqKernel>(
+    alloc: Global,
+    left: &A,
+    right: &A,
+    question: Question,
+) -> Result<String, Fault>
+    requires good_left { A.good left.now }
+    requires good_right { A.good right.now }
+{
+    let can = left.can_compare(right);
+    match question {
+        Question::CanCompare => write_truth(alloc, can),
+        Question::Kernel(kernel) if can => equal_rows(alloc, left, right, kernel),
+        Question::Kernel(_) => Err(Fault::Case),
+    }
 }
 
 // Where rows are equal. A raw bit is shown where both rows are present.
@@ -87,35 +94,48 @@ fn equal_rows<A: TotalEqKernel>(
 ) -> Result<String, Fault>
     requires good_left { A.good left.now }
     requires good_right { A.good right.now }
+    requires comparable { A.comparable left.now right.now }
 {
-    if !left.can_compare(right) {
-        return Err(Fault::Case);
-    }
-    let bits = match kernel {
-        Equality::Equal => left.tot_eq_kernel(alloc, right),
-        Equality::Unequal => left.tot_ne_kernel(alloc, right),
-        Equality::EqualMissing => left.tot_eq_missing_kernel(alloc, right),
-        Equality::UnequalMissing => left.tot_ne_missing_kernel(alloc, right),
-    };
     match kernel {
-        Equality::Equal | Equality::Unequal => {
-            write_unmasked(
-                alloc,
-                &bits?,
-                &left.missing_mask(alloc)?,
-                &right.missing_mask(alloc)?,
-            )
-        }
-        Equality::EqualMissing | Equality::UnequalMissing => write_made(alloc, bits),
+        Equality::Equal => write_made_raw(alloc, left.tot_eq_kernel(alloc, right), left, right),
+        Equality::Unequal => write_made_raw(alloc, left.tot_ne_kernel(alloc, right), left, right),
+        Equality::EqualMissing => write_made(alloc, left.tot_eq_missing_kernel(alloc, right)),
+        Equality::UnequalMissing => write_made(alloc, left.tot_ne_missing_kernel(alloc, right)),
     }
+}
+
+// The text of the raw bits that a call made of the rows of two arrays.
+fn write_made_raw<A: TotalEqKernel>(
+    alloc: Global,
+    bits: Result<Bitmap, ComputeError>,
+    left: &A,
+    right: &A,
+) -> Result<String, Fault>
+    requires good_left { A.good left.now }
+    requires good_right { A.good right.now }
+{
+    write_rows(alloc, &bits?, left, right)
+}
+
+// The text of the raw bits of the rows of two arrays.
+fn write_rows<A: TotalEqKernel>(
+    alloc: Global,
+    bits: &Bitmap,
+    left: &A,
+    right: &A,
+) -> Result<String, Fault>
+    requires good_left { A.good left.now }
+    requires good_right { A.good right.now }
+{
+    let mask = left.missing_mask(alloc)?;
+    write_raw(alloc, bits, &mask, right.missing_mask(alloc))
 }
 
 // How the rows of two arrays of one kind are ordered.
 fn order(alloc: Global, store: &Store, words: &mut Words, kernel: Order) -> Result<String, Fault>
     requires { HasGoodArrays store.now }
 {
-    let these = store.read(words)?;
-    let those = store.read(words)?;
+    let (these, those) = read_two(store, words)?;
     of_one_kind!(these, those, left, right => ordered_rows(alloc, left, right, kernel),
         Boolean Int8 Int16 Int32 Int64 Int128 UInt8 UInt16 UInt32 UInt64 UInt128
         Binary LargeBinary Utf8 LargeUtf8 BinaryView Utf8View)

@@ -7,7 +7,6 @@ use polars_arrays_bits::error::ComputeError;
 use polars_arrays_nested::any_array::AnyArray;
 use polars_arrays_numbers::steps::Steps;
 use polars_compare_nested::leaf_kernel::LeafKernel;
-use recorded_text::bits_text::write_made;
 use recorded_text::fault::Fault;
 use std::alloc::Global;
 
@@ -105,13 +104,9 @@ impl SeenKernel for Never {
     }
 }
 
-/// The text of bits, and how many comparisons were counted for them.
-pub fn write_seen(
-    alloc: Global,
-    bits: Result<Bitmap, ComputeError>,
-    seen: u64,
-) -> Result<String, Fault> {
-    let mut text = write_made(alloc, bits)?;
+/// A text, and how many comparisons were counted for it.
+pub fn write_seen(text: Result<String, Fault>, seen: u64) -> Result<String, Fault> {
+    let mut text = text?;
     write!(text, " in {seen} comparisons")?;
     Ok(text)
 }

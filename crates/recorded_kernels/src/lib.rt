@@ -12,6 +12,8 @@ mod kernels;
 mod leaf_kernels;
 mod named_comparisons;
 mod named_kinds;
+mod operands;
+mod raw_bits;
 mod scalars;
 mod stored_rows;
 mod view_rows;
@@ -25,8 +27,8 @@ use std::alloc::Global;
 // Returns the first answer that there is.
 macro_rules! first_answer {
     ($($answer:expr),+ $(,)?) => {
-        $(if let Some(answer) = $answer? {
-            return Ok(Some(answer));
+        $(if let Some(answer) = $answer {
+            return answer.map(Some);
         })+
     };
 }
@@ -49,6 +51,7 @@ pub fn answer(
         stored_rows::answer(alloc, call, store, words),
         view_rows::answer(alloc, call, store, words),
         named_comparisons::answer(alloc, call, words),
+        joining::answer(alloc, call, words),
     );
-    joining::answer(alloc, call, words)
+    Ok(None)
 }

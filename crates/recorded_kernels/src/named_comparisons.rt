@@ -7,7 +7,8 @@
 //! | `truth_comparison_masks COMPARISON BITS BITS` | which bits of two windows of one length pass |
 //! | `byte_comparison COMPARISON BYTES BYTES`, `byte_comparison_constant COMPARISON BYTES BYTES` | whether two byte strings pass |
 
-use crate::scalars::read_truth;
+use crate::operands::read_next_bytes;
+use crate::scalars::{read_truth, write_truth};
 use polars_arrays_bits::bit_mask::BitMask;
 use polars_arrays_bits::bitmap::Bitmap;
 use polars_arrays_numbers::comparison::{
@@ -17,7 +18,7 @@ use polars_compare_leaves::booleans::TruthComparison;
 use polars_compare_leaves::bytes::ByteComparison;
 use recorded_text::bits_text::write_made;
 use recorded_text::fault::Fault;
-use recorded_text::parts::{read_bits, read_bytes};
+use recorded_text::parts::read_bits;
 use recorded_text::words::Words;
 use std::alloc::Global;
 
@@ -82,14 +83,14 @@ macro_rules! with_comparison {
 pub(crate) use with_comparison;
 
 /// The answer to a call of this subject, or None for another one's.
-pub fn answer(alloc: Global, call: &str, words: &mut Words) -> Result<Option<String>, Fault> {
+pub fn answer(alloc: Global, call: &str, words: &mut Words) -> Option<Result<String, Fault>> {
     let answer = match call {
         "truth_comparison" => truth_comparison(alloc, words),
         "truth_comparison_masks" => truth_comparison_masks(alloc, words),
         "byte_comparison" | "byte_comparison_constant" => byte_comparison(alloc, call, words),
-        _ => return Ok(None),
+        _ => return None,
     };
-    Ok(Some(answer?))
+    Some(answer)
 }
 
 // Whether two truth values pass.
@@ -98,7 +99,7 @@ fn truth_comparison(alloc: Global, words: &mut Words) -> Result<String, Fault> {
     let (left, right) = (read_truth(words)?, read_truth(words)?);
     let passes =
         with_comparison!(comparison, comparison => TruthComparison::compare(comparison, left, right));
-    Ok(passes.to_string(alloc)?)
+    write_truth(alloc, passes)
 }
 
 // Which bits of two windows pass.
@@ -129,13 +130,13 @@ fn write_passing(
 // Whether two byte strings pass, by a call of `ByteComparison`.
 fn byte_comparison(alloc: Global, call: &str, words: &mut Words) -> Result<String, Fault> {
     let comparison = NamedComparison::read(words)?;
-    let left = read_bytes(alloc, words.read()?)?;
-    let right = read_bytes(alloc, words.read()?)?;
+    let left = read_next_bytes(alloc, words)?;
+    let right = read_next_bytes(alloc, words)?;
     let passes = match call {
         "byte_comparison" => bytes_pass(comparison, &left, &right),
         _ => bytes_pass_constant(comparison, &left, &right),
     };
-    Ok(passes.to_string(alloc)?)
+    write_truth(alloc, passes)
 }
 
 // Whether two byte strings pass.

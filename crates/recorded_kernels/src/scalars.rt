@@ -12,8 +12,9 @@
 ghost use Rattle.polars_arrays_nested.specs.GoodParts.{IsGood};
 ghost use Rattle.recorded_text.specs.Cases.{HasGoodArrays};
 
-use crate::kernel_names::{Equality, Order};
+use crate::kernel_names::{Equality, Kernel, Order};
 use crate::named_kinds::of_kind;
+use crate::operands::read_next_bytes;
 use polars_arrays_bits::error::ComputeError;
 use polars_arrays_flat::array::Array;
 use polars_arrays_flat::primitive::PrimitiveArray;
@@ -23,7 +24,6 @@ use polars_compare_equality::kernel::TotalEqKernel;
 use polars_compare_order::kernel::TotalOrdKernel;
 use recorded_text::bits_text::write_made_present;
 use recorded_text::fault::Fault;
-use recorded_text::parts::read_bytes;
 use recorded_text::store::Store;
 use recorded_text::words::Words;
 use std::alloc::Global;
@@ -35,22 +35,18 @@ pub fn answer(
     call: &str,
     store: &Store,
     words: &mut Words,
-) -> Result<Option<String>, Fault>
+) -> Option<Result<String, Fault>>
     requires { HasGoodArrays store.now }
 {
-    let Some(name) = call.strip_suffix("_broadcast") else {
-        return Ok(None);
+    let name = call.strip_suffix("_broadcast")?;
+    if name == "can" {
+        return Some(of_equality(alloc, store, words, Question::CanBroadcast));
+    }
+    let answer = match Kernel::named(name)? {
+        Kernel::Equality(kernel) => of_equality(alloc, store, words, Question::Kernel(kernel)),
+        Kernel::Order(kernel) => of_order(alloc, store, words, kernel),
     };
-    let answer = if name == "can" {
-        of_equality(alloc, store, words, Question::CanBroadcast)
-    } else if let Some(kernel) = Equality::named(name) {
-        of_equality(alloc, store, words, Question::Kernel(kernel))
-    } else if let Some(kernel) = Order::named(name) {
-        of_order(alloc, store, words, kernel)
-    } else {
-        return Ok(None);
-    };
-    Ok(Some(answer?))
+    Some(answer)
 }
 
 // What is asked of the rows of an array and a scalar that has an equality.
@@ -62,7 +58,7 @@ enum Question {
 
 // The text that the next word writes by its bytes.
 fn read_text(alloc: Global, words: &mut Words) -> Result<String, Fault> {
-    let bytes = read_bytes(alloc, words.read()?)?;
+    let bytes = read_next_bytes(alloc, words)?;
     match from_utf8(&bytes) {
         Ok(text) => Ok(text.to_string(alloc)?),
         Err(_) => Err(Fault::Word),
@@ -76,6 +72,11 @@ pub fn read_truth(words: &mut Words) -> Result<bool, Fault> {
         "false" => Ok(false),
         _ => Err(Fault::Word),
     }
+}
+
+/// The text of a truth value.
+pub fn write_truth(alloc: Global, truth: bool) -> Result<String, Fault> {
+    Ok(truth.to_string(alloc)?)
 }
 
 // What is asked of an array and of the scalar that words write as its kind wants it, or name.
@@ -127,7 +128,7 @@ fn equal_to_bytes(
 ) -> Result<String, Fault>
     requires { IsGood array.now }
 {
-    let bytes = read_bytes(alloc, words.read()?)?;
+    let bytes = read_next_bytes(alloc, words)?;
     of_kind!(array, rows => equal_to_scalar(alloc, rows, &bytes, question),
         Binary LargeBinary BinaryView FixedSizeBinary)
 }
@@ -171,7 +172,7 @@ fn equal_to_scalar<A: TotalEqKernel>(
 {
     let can = rows.can_broadcast(scalar);
     match question {
-        Question::CanBroadcast => Ok(can.to_string(alloc)?),
+        Question::CanBroadcast => write_truth(alloc, can),
         Question::Kernel(kernel) if can => equal_rows(alloc, rows, scalar, kernel),
         Question::Kernel(_) => Err(Fault::Case),
     }
@@ -246,7 +247,7 @@ fn ordered_beside_bytes(
 ) -> Result<String, Fault>
     requires { IsGood array.now }
 {
-    let bytes = read_bytes(alloc, words.read()?)?;
+    let bytes = read_next_bytes(alloc, words)?;
     of_kind!(array, rows => ordered_beside(alloc, rows, &bytes, kernel), Binary LargeBinary BinaryView)
 }
 

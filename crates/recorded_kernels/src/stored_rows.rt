@@ -10,9 +10,11 @@
 //! A window is `n` rows from row `a` on of A, and as many from row `b` on of B.
 
 ghost use Rattle.recorded_text.specs.Cases.{HasGoodArrays};
+ghost use Rattle.recorded_kernels.specs.Windows.{AreWindows};
 
 use crate::named_comparisons::{NamedComparison, with_comparison};
 use crate::named_kinds::{of_kind, of_one_kind};
+use crate::operands::read_next_bytes;
 use crate::scalars::read_truth;
 use crate::view_rows::{as_views, write_followed};
 use crate::windows::{Windows, is_within, read_windows};
@@ -33,7 +35,6 @@ use polars_compare_nested::sized::compare_sized_windows;
 use polars_compare_views::windows::{compare_view_bytes, compare_view_windows};
 use recorded_text::bits_text::write_made;
 use recorded_text::fault::Fault;
-use recorded_text::parts::read_bytes;
 use recorded_text::store::Store;
 use recorded_text::words::Words;
 use std::alloc::Global;
@@ -45,30 +46,63 @@ pub fn answer(
     call: &str,
     store: &Store,
     words: &mut Words,
-) -> Result<Option<String>, Fault>
+) -> Option<Result<String, Fault>>
     requires { HasGoodArrays store.now }
 {
     let answer = match call {
-        "compare_number_windows" => number_windows(alloc, store, words),
-        "compare_truth_windows" => truth_windows(alloc, store, words),
-        "compare_byte_windows" => byte_windows(alloc, store, words),
-        "compare_sized_windows" => sized_windows(alloc, store, words),
-        "compare_view_windows" => view_windows(alloc, store, words),
-        "compare_number" => number(alloc, store, words),
-        "compare_truth" => truth(alloc, store, words),
-        "compare_bytes" => bytes(alloc, store, words),
-        "compare_view_bytes" => view_bytes(alloc, store, words),
-        _ => return Ok(None),
+        "compare_number_windows"
+        | "compare_truth_windows"
+        | "compare_byte_windows"
+        | "compare_sized_windows"
+        | "compare_view_windows" => of_windows(alloc, call, store, words),
+        "compare_number" | "compare_truth" | "compare_bytes" | "compare_view_bytes" => {
+            beside_constant(alloc, call, store, words)
+        }
+        _ => return None,
     };
-    Ok(Some(answer?))
+    Some(answer)
 }
 
-// Which numbers of two windows pass.
-fn number_windows(alloc: Global, store: &Store, words: &mut Words) -> Result<String, Fault>
+// Which pairs of rows of two windows pass, by the call of their kind.
+fn of_windows(alloc: Global, call: &str, store: &Store, words: &mut Words) -> Result<String, Fault>
     requires { HasGoodArrays store.now }
 {
     let comparison = NamedComparison::read(words)?;
     let windows = read_windows(store, words)?;
+    match call {
+        "compare_number_windows" => number_windows(alloc, comparison, windows),
+        "compare_truth_windows" => truth_windows(alloc, comparison, windows),
+        "compare_byte_windows" => byte_windows(alloc, comparison, windows),
+        "compare_sized_windows" => sized_windows(alloc, comparison, windows),
+        _ => view_windows(alloc, comparison, windows),
+    }
+}
+
+// Which rows of an array pass with the constant that words write, by the call of its kind.
+fn beside_constant(
+    alloc: Global,
+    call: &str,
+    store: &Store,
+    words: &mut Words,
+) -> Result<String, Fault>
+    requires { HasGoodArrays store.now }
+{
+    let comparison = NamedComparison::read(words)?;
+    let array = store.read(words)?;
+    match call {
+        "compare_number" => number(alloc, comparison, array, words),
+        "compare_truth" => truth(alloc, comparison, array, words),
+        "compare_bytes" => bytes(alloc, comparison, array, words),
+        _ => view_bytes(alloc, comparison, array, words),
+    }
+}
+
+// Which numbers of two windows pass.
+fn number_windows(
+    alloc: Global,
+    comparison: NamedComparison,
+    windows: Windows,
+) -> Result<String, Fault> {
     of_one_kind!(windows.left, windows.right, left, right => numbers(alloc, comparison, left, right, windows),
         Int8 Int16 Int32 Int64 Int128 UInt8 UInt16 UInt32 UInt64 UInt128)
 }
@@ -92,17 +126,20 @@ fn numbers<T: NativeType>(
 }
 
 // Which truth values of two windows pass.
-fn truth_windows(alloc: Global, store: &Store, words: &mut Words) -> Result<String, Fault>
-    requires { HasGoodArrays store.now }
+fn truth_windows(
+    alloc: Global,
+    comparison: NamedComparison,
+    windows: Windows,
+) -> Result<String, Fault>
+    requires { AreWindows windows }
 {
-    let comparison = NamedComparison::read(words)?;
     let Windows {
         left,
         a,
         right,
         b,
         n,
-    } = read_windows(store, words)?;
+    } = windows;
     let (AnyArray::Boolean(left), AnyArray::Boolean(right)) = (left, right) else {
         return Err(Fault::Case);
     };
@@ -113,11 +150,11 @@ fn truth_windows(alloc: Global, store: &Store, words: &mut Words) -> Result<Stri
 }
 
 // Which byte strings of two windows pass. Those of a binary array may be set against text views too.
-fn byte_windows(alloc: Global, store: &Store, words: &mut Words) -> Result<String, Fault>
-    requires { HasGoodArrays store.now }
-{
-    let comparison = NamedComparison::read(words)?;
-    let windows = read_windows(store, words)?;
+fn byte_windows(
+    alloc: Global,
+    comparison: NamedComparison,
+    windows: Windows,
+) -> Result<String, Fault> {
     match (windows.left, windows.right) {
         (AnyArray::Binary(left), AnyArray::Utf8View(right)) => {
             strings(alloc, comparison, left, right, windows)
@@ -148,17 +185,18 @@ fn strings<L: ByteRows, R: ByteRows>(
 }
 
 // Which byte strings of one size each pass, in two windows.
-fn sized_windows(alloc: Global, store: &Store, words: &mut Words) -> Result<String, Fault>
-    requires { HasGoodArrays store.now }
-{
-    let comparison = NamedComparison::read(words)?;
+fn sized_windows(
+    alloc: Global,
+    comparison: NamedComparison,
+    windows: Windows,
+) -> Result<String, Fault> {
     let Windows {
         left,
         a,
         right,
         b,
         n,
-    } = read_windows(store, words)?;
+    } = windows;
     let (AnyArray::FixedSizeBinary(left), AnyArray::FixedSizeBinary(right)) = (left, right) else {
         return Err(Fault::Case);
     };
@@ -172,17 +210,18 @@ fn sized_windows(alloc: Global, store: &Store, words: &mut Words) -> Result<Stri
 }
 
 // Which byte strings kept by views pass, in two windows, and how many pairs are looked up in buffers.
-fn view_windows(alloc: Global, store: &Store, words: &mut Words) -> Result<String, Fault>
-    requires { HasGoodArrays store.now }
-{
-    let comparison = NamedComparison::read(words)?;
+fn view_windows(
+    alloc: Global,
+    comparison: NamedComparison,
+    windows: Windows,
+) -> Result<String, Fault> {
     let Windows {
         left,
         a,
         right,
         b,
         n,
-    } = read_windows(store, words)?;
+    } = windows;
     let (left, right) = (as_views(left)?, as_views(right)?);
     if !is_within(a, n, left.len()) || !is_within(b, n, right.len()) {
         return Err(Fault::Case);
@@ -196,11 +235,12 @@ fn view_windows(alloc: Global, store: &Store, words: &mut Words) -> Result<Strin
 }
 
 // Which numbers of an array pass with the one that words write.
-fn number(alloc: Global, store: &Store, words: &mut Words) -> Result<String, Fault>
-    requires { HasGoodArrays store.now }
-{
-    let comparison = NamedComparison::read(words)?;
-    let array = store.read(words)?;
+fn number(
+    alloc: Global,
+    comparison: NamedComparison,
+    array: &AnyArray,
+    words: &mut Words,
+) -> Result<String, Fault> {
     of_kind!(array, numbers => numbers_beside(alloc, comparison, numbers, words),
         Int8 Int16 Int32 Int64 Int128 UInt8 UInt16 UInt32 UInt64 UInt128)
 }
@@ -220,11 +260,13 @@ fn numbers_beside<T: NativeType + FromStr<Err: Drop>>(
 }
 
 // Which truth values of an array pass with the one that words write.
-fn truth(alloc: Global, store: &Store, words: &mut Words) -> Result<String, Fault>
-    requires { HasGoodArrays store.now }
-{
-    let comparison = NamedComparison::read(words)?;
-    let AnyArray::Boolean(truths) = store.read(words)? else {
+fn truth(
+    alloc: Global,
+    comparison: NamedComparison,
+    array: &AnyArray,
+    words: &mut Words,
+) -> Result<String, Fault> {
+    let AnyArray::Boolean(truths) = array else {
         return Err(Fault::Case);
     };
     let truth = read_truth(words)?;
@@ -235,12 +277,13 @@ fn truth(alloc: Global, store: &Store, words: &mut Words) -> Result<String, Faul
 }
 
 // Which byte strings of an array pass with the one that words write.
-fn bytes(alloc: Global, store: &Store, words: &mut Words) -> Result<String, Fault>
-    requires { HasGoodArrays store.now }
-{
-    let comparison = NamedComparison::read(words)?;
-    let array = store.read(words)?;
-    let bytes = read_bytes(alloc, words.read()?)?;
+fn bytes(
+    alloc: Global,
+    comparison: NamedComparison,
+    array: &AnyArray,
+    words: &mut Words,
+) -> Result<String, Fault> {
+    let bytes = read_next_bytes(alloc, words)?;
     rows_beside(alloc, comparison, array, &bytes)
 }
 
@@ -269,12 +312,14 @@ fn strings_beside<L: ByteRows>(
 }
 
 // Which byte strings kept by views pass with the one that words write.
-fn view_bytes(alloc: Global, store: &Store, words: &mut Words) -> Result<String, Fault>
-    requires { HasGoodArrays store.now }
-{
-    let comparison = NamedComparison::read(words)?;
-    let views = as_views(store.read(words)?)?;
-    let bytes = read_bytes(alloc, words.read()?)?;
+fn view_bytes(
+    alloc: Global,
+    comparison: NamedComparison,
+    array: &AnyArray,
+    words: &mut Words,
+) -> Result<String, Fault> {
+    let views = as_views(array)?;
+    let bytes = read_next_bytes(alloc, words)?;
     views_beside(alloc, comparison, views, &bytes)
 }
 

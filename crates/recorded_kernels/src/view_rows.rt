@@ -14,6 +14,8 @@ ghost use Rattle.recorded_text.specs.Cases.{HasGoodArrays};
 
 use crate::named_comparisons::{NamedComparison, with_comparison};
 use crate::named_kinds::of_one_kind;
+use crate::operands::{read_next_bytes, read_two};
+use crate::scalars::write_truth;
 use polars_arrays_bits::bitmap::Bitmap;
 use polars_arrays_bits::error::ComputeError;
 use polars_arrays_nested::any_array::AnyArray;
@@ -29,8 +31,8 @@ use polars_arrays_views::scalar::ScalarRow;
 use polars_compare_views::followed::FollowedKernel;
 use polars_compare_views::view_comparison::ViewComparison;
 use recorded_text::bits_text::write_made;
+use recorded_text::bytes_text::write_bytes;
 use recorded_text::fault::Fault;
-use recorded_text::parts::read_bytes;
 use recorded_text::store::Store;
 use recorded_text::words::Words;
 use std::alloc::Global;
@@ -41,26 +43,24 @@ pub fn answer(
     call: &str,
     store: &Store,
     words: &mut Words,
-) -> Result<Option<String>, Fault>
+) -> Option<Result<String, Fault>>
     requires { HasGoodArrays store.now }
 {
     let answer = match call {
-        "rows_equal" => are_equal(alloc, store, words),
-        "row_less" => is_less(alloc, store, words),
-        "row_equals_bytes" => equals_bytes(alloc, store, words),
-        "row_less_bytes" => is_less_than_bytes(alloc, store, words),
+        "rows_equal" | "row_less" => of_rows(alloc, call, store, words),
+        "row_equals_bytes" | "row_less_bytes" => beside_bytes(alloc, call, store, words),
         "bytes_less_row" => is_greater_than_bytes(alloc, store, words),
         "view_comparison" => passes(alloc, store, words),
         "view_comparison_bytes" => passes_with_bytes(alloc, store, words),
-        "tot_eq_kernel_followed" => equal_followed(alloc, store, words),
-        "tot_lt_kernel_followed" => less_followed(alloc, store, words),
-        "followed" => followed(alloc, store, words),
-        "scalar_row_len" => scalar_len(alloc, words),
-        "scalar_row_bytes" => scalar_bytes(alloc, words),
-        "scalar_row_prefix" => scalar_prefix(alloc, words),
-        _ => return Ok(None),
+        "tot_eq_kernel_followed" => of_stored_rows(alloc, store, words, Followed::Equal),
+        "tot_lt_kernel_followed" => of_stored_rows(alloc, store, words, Followed::Less),
+        "followed" => of_stored_rows(alloc, store, words, Followed::Counted),
+        "scalar_row_len" | "scalar_row_bytes" | "scalar_row_prefix" => of_scalar(
+            alloc, call, words,
+        ),
+        _ => return None,
     };
-    Ok(Some(answer?))
+    Some(answer)
 }
 
 /// The views of an array that keeps its rows so.
@@ -102,26 +102,18 @@ pub fn write_followed(
     Ok(text)
 }
 
-// Whether two rows are equal.
-fn are_equal(alloc: Global, store: &Store, words: &mut Words) -> Result<String, Fault>
+// Whether two rows are equal, or the first is less, by a call.
+fn of_rows(alloc: Global, call: &str, store: &Store, words: &mut Words) -> Result<String, Fault>
     requires { HasGoodArrays store.now }
 {
     let (left, i) = read_row(store, words)?;
     let (right, j) = read_row(store, words)?;
     let mut steps = Steps::new();
-    let equal = rows_equal(left, i, right, j, &mut steps);
-    write_counted(alloc, equal, &steps)
-}
-
-// Whether a row is less than another.
-fn is_less(alloc: Global, store: &Store, words: &mut Words) -> Result<String, Fault>
-    requires { HasGoodArrays store.now }
-{
-    let (left, i) = read_row(store, words)?;
-    let (right, j) = read_row(store, words)?;
-    let mut steps = Steps::new();
-    let less = row_less(left, i, right, j, &mut steps);
-    write_counted(alloc, less, &steps)
+    let truth = match call {
+        "rows_equal" => rows_equal(left, i, right, j, &mut steps),
+        _ => row_less(left, i, right, j, &mut steps),
+    };
+    write_counted(alloc, truth, &steps)
 }
 
 // Whether a comparison holds of two rows.
@@ -151,34 +143,33 @@ fn rows_pass(
     with_comparison!(comparison, comparison => ViewComparison::compare(comparison, left, i, right, j, steps))
 }
 
-// Whether a row has these bytes.
-fn equals_bytes(alloc: Global, store: &Store, words: &mut Words) -> Result<String, Fault>
+// Whether a row has these bytes, or is less than they are, by a call.
+fn beside_bytes(
+    alloc: Global,
+    call: &str,
+    store: &Store,
+    words: &mut Words,
+) -> Result<String, Fault>
     requires { HasGoodArrays store.now }
 {
     let (views, i) = read_row(store, words)?;
-    let bytes = read_bytes(alloc, words.read()?)?;
-    let equal = row_equals_bytes(views, i, &ScalarRow::new(&bytes));
-    Ok(equal.to_string(alloc)?)
-}
-
-// Whether a row is less than these bytes.
-fn is_less_than_bytes(alloc: Global, store: &Store, words: &mut Words) -> Result<String, Fault>
-    requires { HasGoodArrays store.now }
-{
-    let (views, i) = read_row(store, words)?;
-    let bytes = read_bytes(alloc, words.read()?)?;
-    let less = row_less_bytes(views, i, &ScalarRow::new(&bytes));
-    Ok(less.to_string(alloc)?)
+    let bytes = read_next_bytes(alloc, words)?;
+    let scalar = ScalarRow::new(&bytes);
+    let truth = match call {
+        "row_equals_bytes" => row_equals_bytes(views, i, &scalar),
+        _ => row_less_bytes(views, i, &scalar),
+    };
+    write_truth(alloc, truth)
 }
 
 // Whether these bytes are less than a row.
 fn is_greater_than_bytes(alloc: Global, store: &Store, words: &mut Words) -> Result<String, Fault>
     requires { HasGoodArrays store.now }
 {
-    let bytes = read_bytes(alloc, words.read()?)?;
+    let bytes = read_next_bytes(alloc, words)?;
     let (views, i) = read_row(store, words)?;
     let less = bytes_less_row(&ScalarRow::new(&bytes), views, i);
-    Ok(less.to_string(alloc)?)
+    write_truth(alloc, less)
 }
 
 // Whether a comparison holds of a row and these bytes.
@@ -187,9 +178,9 @@ fn passes_with_bytes(alloc: Global, store: &Store, words: &mut Words) -> Result<
 {
     let comparison = NamedComparison::read(words)?;
     let (views, i) = read_row(store, words)?;
-    let bytes = read_bytes(alloc, words.read()?)?;
+    let bytes = read_next_bytes(alloc, words)?;
     let passes = passes_beside(comparison, views, i, &ScalarRow::new(&bytes));
-    Ok(passes.to_string(alloc)?)
+    write_truth(alloc, passes)
 }
 
 // Whether a comparison holds of a row and a byte string.
@@ -204,89 +195,68 @@ fn passes_beside(
     with_comparison!(comparison, comparison => ViewComparison::compare_bytes(comparison, views, i, scalar))
 }
 
-// Where the stored rows of two arrays are equal.
-fn equal_followed(alloc: Global, store: &Store, words: &mut Words) -> Result<String, Fault>
-    requires { HasGoodArrays store.now }
-{
-    let these = store.read(words)?;
-    let those = store.read(words)?;
-    of_one_kind!(these, those, left, right => equal_rows(alloc, left, right), BinaryView Utf8View)
+// What is asked of the stored rows of two arrays.
+#[derive(Clone, Copy)]
+enum Followed {
+    Equal,
+    Less,
+    Counted,
 }
 
-// Where stored rows are equal, and how many pairs are looked up.
-fn equal_rows<A: FollowedKernel>(alloc: Global, left: &A, right: &A) -> Result<String, Fault> {
+// What is asked of the stored rows of the two arrays of one kind that words name.
+fn of_stored_rows(
+    alloc: Global,
+    store: &Store,
+    words: &mut Words,
+    asked: Followed,
+) -> Result<String, Fault>
+    requires { HasGoodArrays store.now }
+{
+    let (these, those) = read_two(store, words)?;
+    of_one_kind!(these, those, left, right => rows_followed(alloc, left, right, asked), BinaryView Utf8View)
+}
+
+// Where stored rows are equal or less, and how many pairs are looked up for it, or how many are for both.
+fn rows_followed<A: FollowedKernel>(
+    alloc: Global,
+    left: &A,
+    right: &A,
+    asked: Followed,
+) -> Result<String, Fault> {
     if left.count() != right.count() {
         return Err(Fault::Case);
     }
     let mut steps = Steps::new();
-    let bits = left.tot_eq_kernel_followed(alloc, right, &mut steps);
+    let bits = match asked {
+        Followed::Equal => left.tot_eq_kernel_followed(alloc, right, &mut steps),
+        Followed::Less => left.tot_lt_kernel_followed(alloc, right, &mut steps),
+        Followed::Counted => return pairs_followed(alloc, left, right),
+    };
     write_followed(alloc, bits, &steps)
-}
-
-// Where the stored rows of an array are less than those of another.
-fn less_followed(alloc: Global, store: &Store, words: &mut Words) -> Result<String, Fault>
-    requires { HasGoodArrays store.now }
-{
-    let these = store.read(words)?;
-    let those = store.read(words)?;
-    of_one_kind!(these, those, left, right => less_rows(alloc, left, right), BinaryView Utf8View)
-}
-
-// Where stored rows are less, and how many pairs are looked up.
-fn less_rows<A: FollowedKernel>(alloc: Global, left: &A, right: &A) -> Result<String, Fault> {
-    if left.count() != right.count() {
-        return Err(Fault::Case);
-    }
-    let mut steps = Steps::new();
-    let bits = left.tot_lt_kernel_followed(alloc, right, &mut steps);
-    write_followed(alloc, bits, &steps)
-}
-
-// How many pairs equality and order look up.
-fn followed(alloc: Global, store: &Store, words: &mut Words) -> Result<String, Fault>
-    requires { HasGoodArrays store.now }
-{
-    let these = store.read(words)?;
-    let those = store.read(words)?;
-    of_one_kind!(these, those, left, right => pairs_followed(alloc, left, right), BinaryView Utf8View)
 }
 
 // How many pairs of rows equality and order look up.
-fn pairs_followed<A: FollowedKernel>(alloc: Global, left: &A, right: &A) -> Result<String, Fault> {
-    if left.count() != right.count() {
-        return Err(Fault::Case);
-    }
+fn pairs_followed<A: FollowedKernel>(alloc: Global, left: &A, right: &A) -> Result<String, Fault>
+    requires { length (A.strings right.now) ≡ length (A.strings left.now) }
+{
     let (mut equal, mut less) = (Steps::new(), Steps::new());
     left.tot_eq_kernel_followed(alloc, right, &mut equal)?;
     left.tot_lt_kernel_followed(alloc, right, &mut less)?;
     Ok(format!(in alloc; "{} {}", equal.seen(), less.seen())?)
 }
 
-// How many bytes a byte string made ready has.
-fn scalar_len(alloc: Global, words: &mut Words) -> Result<String, Fault> {
-    let bytes = read_bytes(alloc, words.read()?)?;
-    Ok(ScalarRow::new(&bytes).len().to_string(alloc)?)
+// What a call says of the byte string that words write, made ready.
+fn of_scalar(alloc: Global, call: &str, words: &mut Words) -> Result<String, Fault> {
+    let bytes = read_next_bytes(alloc, words)?;
+    write_scalar(alloc, call, &ScalarRow::new(&bytes))
 }
 
-// The bytes of a byte string made ready.
-fn scalar_bytes(alloc: Global, words: &mut Words) -> Result<String, Fault> {
-    let bytes = read_bytes(alloc, words.read()?)?;
-    let scalar = ScalarRow::new(&bytes);
-    write_bytes(alloc, scalar.bytes())
-}
-
-// The text of bytes: `x` and two hexadecimal digits for each.
-fn write_bytes(alloc: Global, bytes: &[u8]) -> Result<String, Fault> {
-    let mut text = String::new(alloc);
-    text.push('x')?;
-    for byte in bytes {
-        write!(text, "{byte:02x}")?;
+// How many bytes it has, these bytes, or the first four of them, as its view has them, the first one being the
+// greatest.
+fn write_scalar(alloc: Global, call: &str, scalar: &ScalarRow<'_>) -> Result<String, Fault> {
+    match call {
+        "scalar_row_len" => Ok(scalar.len().to_string(alloc)?),
+        "scalar_row_bytes" => write_bytes(alloc, scalar.bytes()),
+        _ => Ok(scalar.view().prefix().to_string(alloc)?),
     }
-    Ok(text)
-}
-
-// The first four bytes of a byte string made ready, as its view has them, the first one being the greatest.
-fn scalar_prefix(alloc: Global, words: &mut Words) -> Result<String, Fault> {
-    let bytes = read_bytes(alloc, words.read()?)?;
-    Ok(ScalarRow::new(&bytes).view().prefix().to_string(alloc)?)
 }

@@ -15,14 +15,16 @@ ghost use Rattle.recorded_text.specs.Cases.{HasGoodArrays};
 ghost use Rattle.recorded_kernels.specs.Windows.{AreWindows};
 
 use crate::leaf_kernels::{Always, Never, SeenKernel, write_seen};
+use crate::raw_bits::write_raw;
 use polars_arrays_bits::bitmap::Bitmap;
 use polars_arrays_bits::error::ComputeError;
 use polars_arrays_nested::any_array::AnyArray;
 use polars_arrays_numbers::steps::Steps;
+use polars_compare_nested::leaf_kernel::LeafKernel;
 use polars_compare_nested::windows::{
     dictionary_windows, equal_windows, fixed_size_list_windows, list_windows, struct_windows,
 };
-use recorded_text::bits_text::write_unmasked;
+use recorded_text::bits_text::write_made;
 use recorded_text::fault::Fault;
 use recorded_text::store::Store;
 use recorded_text::words::Words;
@@ -70,21 +72,30 @@ pub fn answer(
     call: &str,
     store: &Store,
     words: &mut Words,
-) -> Result<Option<String>, Fault>
+) -> Option<Result<String, Fault>>
     requires { HasGoodArrays store.now }
 {
-    let Some(call) = Call::named(call) else {
-        return Ok(None);
-    };
+    let call = Call::named(call)?;
+    Some(compare_read(alloc, call, store, words))
+}
+
+// What a call says of the windows that words write, by the kernel of leaves that a last word may name.
+fn compare_read(
+    alloc: Global,
+    call: Call,
+    store: &Store,
+    words: &mut Words,
+) -> Result<String, Fault>
+    requires { HasGoodArrays store.now }
+{
     let windows = read_windows(store, words)?;
-    let answer = if words.take("always") {
+    if words.take("always") {
         compare::<Always>(alloc, call, windows)
     } else if words.take("never") {
         compare::<Never>(alloc, call, windows)
     } else {
         compare::<Steps>(alloc, call, windows)
-    };
-    Ok(Some(answer?))
+    }
 }
 
 /// The windows that words write, which lie within the arrays that they name.
@@ -117,11 +128,25 @@ pub fn is_within(at: usize, n: usize, len: usize) -> bool
     at <= len && n <= len - at
 }
 
-// What a call says of two windows by one kernel of leaves.
+// What a call says of two windows by one kernel of leaves, and how many comparisons were counted for it.
 fn compare<K: SeenKernel + Drop>(
     alloc: Global,
     call: Call,
     windows: Windows,
+) -> Result<String, Fault>
+    requires { AreWindows windows }
+{
+    let mut kernel = K::new();
+    let text = compare_by(alloc, call, windows, &mut kernel);
+    write_seen(text, kernel.seen())
+}
+
+// What a call says of two windows by a kernel of leaves.
+fn compare_by<K: LeafKernel>(
+    alloc: Global,
+    call: Call,
+    windows: Windows,
+    kernel: &mut K,
 ) -> Result<String, Fault>
     requires { AreWindows windows }
 {
@@ -135,47 +160,52 @@ fn compare<K: SeenKernel + Drop>(
     if !left.same_type(right) {
         return Err(Fault::Case);
     }
-    let mut kernel = K::new();
-    let steps = &mut kernel;
     let bits = match (call, left, right) {
-        (Call::Equal, _, _) => equal_windows(alloc, left, a, right, b, n, steps),
-        (Call::Leaf, _, _) if has_leaves(left) => steps.leaf_eq(alloc, left, a, right, b, n),
+        (Call::Equal, _, _) => {
+            return write_made(alloc, equal_windows(alloc, left, a, right, b, n, kernel));
+        }
+        (Call::Leaf, _, _) if has_leaves(left) => kernel.leaf_eq(alloc, left, a, right, b, n),
         (Call::List, AnyArray::List(left), AnyArray::List(right)) => {
-            list_windows(alloc, left, a, right, b, n, steps)
+            list_windows(alloc, left, a, right, b, n, kernel)
         }
         (Call::FixedSizeList, AnyArray::FixedSizeList(left), AnyArray::FixedSizeList(right)) => {
-            fixed_size_list_windows(alloc, left, a, right, b, n, steps)
+            fixed_size_list_windows(alloc, left, a, right, b, n, kernel)
         }
         (Call::Struct, AnyArray::Struct(left), AnyArray::Struct(right)) => {
-            struct_windows(alloc, left, a, right, b, n, steps)
+            struct_windows(alloc, left, a, right, b, n, kernel)
         }
         (Call::Dictionary, AnyArray::Dictionary(left), AnyArray::Dictionary(right)) => {
-            dictionary_windows(alloc, left, a, right, b, n, steps)
+            dictionary_windows(alloc, left, a, right, b, n, kernel)
         }
         _ => return Err(Fault::Case),
     };
-    match call {
-        Call::Equal => write_seen(alloc, bits, kernel.seen()),
-        _ => write_raw_seen(alloc, bits, windows, kernel.seen()),
-    }
+    write_made_raw(alloc, bits, windows)
 }
 
-// The text of raw bits of two windows, which say something where both rows are present, and how many comparisons
-// were counted for them.
-fn write_raw_seen(
+// The text of the raw bits that a call made of two windows.
+fn write_made_raw(
     alloc: Global,
     bits: Result<Bitmap, ComputeError>,
     windows: Windows,
-    seen: u64,
 ) -> Result<String, Fault>
     requires { AreWindows windows }
 {
-    let bits = bits?;
-    let left = windows.left.window_mask(alloc, windows.a, windows.n)?;
-    let right = windows.right.window_mask(alloc, windows.b, windows.n)?;
-    let mut text = write_unmasked(alloc, &bits, &left, &right)?;
-    write!(text, " in {seen} comparisons")?;
-    Ok(text)
+    write_rows(alloc, &bits?, windows)
+}
+
+// The text of the raw bits of two windows.
+fn write_rows(alloc: Global, bits: &Bitmap, windows: Windows) -> Result<String, Fault>
+    requires { AreWindows windows }
+{
+    let Windows {
+        left,
+        a,
+        right,
+        b,
+        n,
+    } = windows;
+    let mask = left.window_mask(alloc, a, n)?;
+    write_raw(alloc, bits, &mask, right.window_mask(alloc, b, n))
 }
 
 // Whether an array has leaves for rows.

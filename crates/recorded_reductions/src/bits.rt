@@ -70,9 +70,7 @@ fn write_counts(
     alloc: Global,
     made: Result<PrimitiveArray<u32>, ComputeError>,
 ) -> Result<String, Fault> {
-    let counts = made?;
-    let text = write_numbers(alloc, &counts)?;
-    Ok(text)
+    write_numbers(alloc, &made?)
 }
 
 // The rows of an array of counts, parted by spaces.

@@ -11,7 +11,8 @@ ghost use Rattle.std.specs.Prelude.{All, IsTrue};
 ghost use Rattle.polars_compute_slots.specs.State.{are_within, range_of};
 ghost use Rattle.recorded_text.specs.Cases.{HasGoodArrays};
 
-use crate::new_states::NewStates;
+use crate::columns::rows_named;
+use crate::new_states::{NewStates, read_new};
 use crate::seen::write_seen;
 use crate::state_kinds::RecordedState;
 use polars_arrays_bits::error::ComputeError;
@@ -31,7 +32,7 @@ pub fn write_all<N: NewStates>(
 ) -> Result<String, Fault>
     requires { HasGoodArrays store.now }
 {
-    write_seen(alloc, state_of_all::<N>(alloc, store, words)?)
+    write_seen(alloc, state_of_all::<N>(alloc, store, words))
 }
 
 /// What the array stores that the state ends in which words tell.
@@ -70,7 +71,7 @@ fn state_of_all<N: NewStates>(
 ) -> Result<N::State, Fault>
     requires { HasGoodArrays store.now }
 {
-    let mut state = N::read(alloc, store, words)?.new_state(alloc)?;
+    let mut state = read_new::<N>(alloc, store, words)?;
     append_copies(alloc, &mut state, store, words.rest())?;
     Ok(state)
 }
@@ -98,9 +99,16 @@ fn copy_all<S: RecordedState>(
 {
     let mut arrays = Vec::new(alloc);
     for name in names {
-        arrays.push(S::copy_rows(alloc, S::rows_in(store.array(name)?)?)?)?;
+        arrays.push(copy_named::<S>(alloc, store, name)?)?;
     }
     Ok(arrays)
+}
+
+// A copy of the array that a word names.
+fn copy_named<S: RecordedState>(alloc: Global, store: &Store, name: &str) -> Result<S::Array, Fault>
+    requires { HasGoodArrays store.now }
+{
+    S::copy_rows(alloc, rows_named::<S>(store, name)?)
 }
 
 // Appends all arrays. The error is `Case`, where the state does not accept one.

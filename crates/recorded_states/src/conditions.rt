@@ -12,8 +12,8 @@
 
 ghost use Rattle.recorded_text.specs.Cases.{HasGoodArrays};
 
-use crate::new_states::NewStates;
-use crate::state_kinds::RecordedState;
+use crate::columns::rows_named;
+use crate::new_states::{NewStates, read_new};
 use polars_compute_unique::kernel::RangedUniqueKernel;
 use recorded_text::fault::Fault;
 use recorded_text::store::Store;
@@ -31,8 +31,8 @@ pub fn fit<N: NewStates>(alloc: Global, store: &Store, words: &mut Words) -> Res
 pub fn accept<N: NewStates>(alloc: Global, store: &Store, words: &mut Words) -> Result<bool, Fault>
     requires { HasGoodArrays store.now }
 {
-    let state = N::read(alloc, store, words)?.new_state(alloc)?;
-    let array = N::State::rows_in(store.read(words)?)?;
+    let state = read_new::<N>(alloc, store, words)?;
+    let array = rows_named::<N::State>(store, words.read()?)?;
     Ok(state.accepts(array))
 }
 
@@ -44,7 +44,7 @@ pub fn have_one_range<N: NewStates>(
 ) -> Result<bool, Fault>
     requires { HasGoodArrays store.now }
 {
-    let state = N::read(alloc, store, words)?.new_state(alloc)?;
-    let other = N::read(alloc, store, words)?.new_state(alloc)?;
+    let state = read_new::<N>(alloc, store, words)?;
+    let other = read_new::<N>(alloc, store, words)?;
     Ok(state.same_range(&other))
 }

@@ -9,14 +9,13 @@ ghost use Rattle.polars_arrays_nested.specs.GoodParts.{IsGood};
 ghost use Rattle.polars_arrays_nested.specs.declared.any_array.AnyArray.{Dictionary};
 ghost use Rattle.recorded_text.specs.Cases.{HasGoodArrays};
 
-use crate::columns::{append_each, read_arrays};
+use crate::columns::{append_named, rows_named};
 use crate::new_states::{Entries, NewStates, NumberRange, new_state_over};
 use crate::pairs::{either_way, read_joined};
-use crate::questions::{Question, answer_question};
+use crate::questions::{Question, answer_question, write_truth};
 use crate::seen::write_seen;
 use crate::state_kinds::RecordedState;
 use crate::trees::merge_leaves;
-use polars_arrays_flat::primitive::PrimitiveArray;
 use polars_arrays_nested::any_array::AnyArray;
 use polars_arrays_nested::dictionary::DictionaryArray;
 use polars_compute_unique::dictionary::DictionaryRangedUniqueState;
@@ -51,7 +50,7 @@ pub fn answer(
     requires { HasGoodArrays store.now }
 {
     if let Some(question) = question_of(call) {
-        return Ok(Some(answer_question::<Entries>(alloc, question, store, words)?));
+        return answer_question::<Entries>(alloc, question, store, words).map(Some);
     }
     let answer = match call {
         "key_state" => write_state(alloc, store, words),
@@ -61,7 +60,7 @@ pub fn answer(
         "merge_tree_keys" => merge_leaves::<Entries>(alloc, store, words),
         _ => return Ok(None),
     };
-    Ok(Some(answer?))
+    answer.map(Some)
 }
 
 // The text of a state whose state of keys is another one.
@@ -70,22 +69,26 @@ fn write_state(alloc: Global, store: &Store, words: &mut Words) -> Result<String
 {
     let entries = store.read(words)?;
     let range: NumberRange<u32> = NumberRange::read(alloc, store, words)?;
-    let keys = read_arrays::<PrimitiveRangedUniqueState<u32>>(alloc, store, words.rest())?;
-    write_put(alloc, entries, range.new_state(alloc)?, &keys)
+    write_seen(
+        alloc,
+        state_put(alloc, entries, &range, store, words.rest()),
+    )
 }
 
-// The text of the state over entries in which a state of keys is put, and to which arrays are then appended.
-fn write_put(
+// The state over entries in which a state of keys is put, and to which arrays are then appended.
+fn state_put(
     alloc: Global,
     entries: &AnyArray,
-    keys: PrimitiveRangedUniqueState<u32>,
-    arrays: &[&PrimitiveArray<u32>],
-) -> Result<String, Fault>
-    requires { IsGood entries.now }
+    range: &NumberRange<u32>,
+    store: &Store,
+    names: &[&str],
+) -> Result<DictionaryRangedUniqueState, Fault>
+    requires good { IsGood entries.now }
+    requires arrays { HasGoodArrays store.now }
 {
     let mut state = new_state_over(alloc, entries)?;
-    match put_keys(&mut state, keys, arrays) {
-        Ok(()) => write_seen(alloc, state),
+    match put_keys(&mut state, range.new_state(alloc), store, names) {
+        Ok(()) => Ok(state),
         Err(fault) => {
             drop(state);
             Err(fault)
@@ -99,36 +102,39 @@ fn write_accepted(alloc: Global, store: &Store, words: &mut Words) -> Result<Str
 {
     let entries = store.read(words)?;
     let range: NumberRange<u32> = NumberRange::read(alloc, store, words)?;
-    let array = DictionaryRangedUniqueState::rows_in(store.read(words)?)?;
-    let accepts = accepts_put(alloc, entries, range.new_state(alloc)?, array)?;
-    Ok(accepts.to_string(alloc)?)
+    let array = rows_named::<DictionaryRangedUniqueState>(store, words.read()?)?;
+    write_truth(alloc, accepts_put(alloc, entries, &range, store, array))
 }
 
 // Whether the state over entries in which a state of keys is put accepts a dictionary array.
 fn accepts_put(
     alloc: Global,
     entries: &AnyArray,
-    keys: PrimitiveRangedUniqueState<u32>,
+    range: &NumberRange<u32>,
+    store: &Store,
     array: &DictionaryArray,
 ) -> Result<bool, Fault>
-    requires { IsGood entries.now }
+    requires good { IsGood entries.now }
+    requires arrays { HasGoodArrays store.now }
 {
-    let mut state = new_state_over(alloc, entries)?;
-    *state.key_state() = keys;
+    let state = state_put(alloc, entries, range, store, &[])?;
     let accepts = state.accepts(array);
     drop(state);
     Ok(accepts)
 }
 
-// Puts another state of keys in the place of the present one, and appends arrays to it.
+// Puts another state of keys in the place of the present one, and appends the arrays that words name to it.
 fn put_keys(
     state: &mut DictionaryRangedUniqueState,
-    keys: PrimitiveRangedUniqueState<u32>,
-    arrays: &[&PrimitiveArray<u32>],
-) -> Result<(), Fault> {
+    keys: Result<PrimitiveRangedUniqueState<u32>, Fault>,
+    store: &Store,
+    names: &[&str],
+) -> Result<(), Fault>
+    requires { HasGoodArrays store.now }
+{
     let key_state = state.key_state();
-    *key_state = keys;
-    append_each(key_state, arrays)
+    *key_state = keys?;
+    append_named(key_state, store, names)
 }
 
 // The entries that two merged states name.

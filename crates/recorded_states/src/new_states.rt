@@ -31,6 +31,17 @@ pub trait NewStates: Sized + Drop {
     fn new_state(&self, alloc: Global) -> Result<Self::State, Fault>;
 }
 
+/// A state of the range that words tell, which has seen nothing.
+pub fn read_new<N: NewStates>(
+    alloc: Global,
+    store: &Store,
+    words: &mut Words,
+) -> Result<N::State, Fault>
+    requires { HasGoodArrays store.now }
+{
+    N::read(alloc, store, words)?.new_state(alloc)
+}
+
 /// A range of numbers, the first and the last of which are two words.
 #[derive(Drop)]
 pub enum NumberRange<T: RecordedNumber> {

@@ -48,7 +48,7 @@ pub fn answer(
     requires { HasGoodArrays store.now }
 {
     match question_of(call) {
-        Some(question) => Ok(Some(answer_typed(alloc, question, store, words)?)),
+        Some(question) => answer_typed(alloc, question, store, words).map(Some),
         None => Ok(None),
     }
 }

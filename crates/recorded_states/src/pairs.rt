@@ -10,15 +10,12 @@
 
 ghost use Rattle.recorded_text.specs.Cases.{HasGoodArrays};
 
-use crate::columns::{Column, gathered, join, read_arrays};
+use crate::columns::{gathered, join, read_state, rows_named};
 use crate::new_states::{NewStates, NumberRange};
 use crate::numbers::RecordedNumber;
 use crate::seen::{BAR, push_seen};
-use crate::state_kinds::RecordedState;
-use polars_arrays_flat::primitive::PrimitiveArray;
-use polars_arrays_numbers::steps::Steps;
+use crate::state_kinds::{CountedState, RecordedState};
 use polars_compute_unique::kernel::RangedUniqueKernel;
-use polars_compute_unique::primitive::PrimitiveRangedUniqueState;
 use recorded_text::fault::Fault;
 use recorded_text::store::Store;
 use recorded_text::words::Words;
@@ -41,7 +38,7 @@ pub fn in_range<T: RecordedNumber>(
     requires { HasGoodArrays store.now }
 {
     let range: NumberRange<T> = NumberRange::read(alloc, store, words)?;
-    of_numbers(alloc, &range, store, words)
+    of_range(alloc, &range, store, words)
 }
 
 /// Two states of no numbers.
@@ -52,92 +49,76 @@ pub fn in_none<T: RecordedNumber>(
 ) -> Result<String, Fault>
     requires { HasGoodArrays store.now }
 {
-    of_numbers::<T>(alloc, &NumberRange::Empty, store, words)
+    let range: NumberRange<T> = NumberRange::Empty;
+    of_range(alloc, &range, store, words)
 }
 
-// Two states of numbers, and how many rows were read.
-fn of_numbers<T: RecordedNumber>(
+// Two states of one range, and how many rows were read.
+fn of_range<N: NewStates<State: CountedState>>(
     alloc: Global,
-    range: &NumberRange<T>,
+    range: &N,
     store: &Store,
     words: &mut Words,
 ) -> Result<String, Fault>
     requires { HasGoodArrays store.now }
 {
     let (left, right) = part_at_bar(words.rest())?;
-    let left = read_arrays::<PrimitiveRangedUniqueState<T>>(alloc, store, left)?;
-    let right = read_arrays::<PrimitiveRangedUniqueState<T>>(alloc, store, right)?;
-    write_counted(alloc, range, &left, &right)
-}
-
-// The text of how many rows were read, and of the states.
-fn write_counted<T: RecordedNumber>(
-    alloc: Global,
-    range: &NumberRange<T>,
-    left: &[&PrimitiveArray<T>],
-    right: &[&PrimitiveArray<T>],
-) -> Result<String, Fault> {
     let mut text = String::new(alloc);
-    push_counted(alloc, &mut text, range, left, right)?;
+    push_counted(alloc, &mut text, range, store, left, right)?;
     Ok(text)
 }
 
 // Adds how many rows were read, and the states.
-fn push_counted<T: RecordedNumber>(
+fn push_counted<N: NewStates<State: CountedState>>(
     alloc: Global,
     text: &mut String,
-    range: &NumberRange<T>,
-    left: &[&PrimitiveArray<T>],
-    right: &[&PrimitiveArray<T>],
-) -> Result<(), Fault> {
-    let first = counted(alloc, text, range, left)?;
+    range: &N,
+    store: &Store,
+    left: &[&str],
+    right: &[&str],
+) -> Result<(), Fault>
+    requires { HasGoodArrays store.now }
+{
+    let first = counted(alloc, text, range, store, left)?;
     text.push_str(BAR)?;
-    let second = counted(alloc, text, range, right)?;
+    let second = counted(alloc, text, range, store, right)?;
     text.push_str(BAR)?;
-    let again = gathered(alloc, range, left)?;
+    let again = gathered(alloc, range, store, left)?;
     push_states(alloc, text, first, second, again)
 }
 
 // A new state to which each array was appended. How many rows were read of each is added to a text.
-fn counted<T: RecordedNumber>(
+fn counted<N: NewStates<State: CountedState>>(
     alloc: Global,
     text: &mut String,
-    range: &NumberRange<T>,
-    arrays: &[&PrimitiveArray<T>],
-) -> Result<PrimitiveRangedUniqueState<T>, Fault> {
+    range: &N,
+    store: &Store,
+    names: &[&str],
+) -> Result<N::State, Fault>
+    requires { HasGoodArrays store.now }
+{
     let mut state = range.new_state(alloc)?;
-    push_steps(alloc, text, &mut state, arrays)?;
+    push_steps(text, &mut state, store, names)?;
     Ok(state)
 }
 
 // Appends each array. How many rows were read of each is added to a text.
-fn push_steps<T: RecordedNumber>(
-    alloc: Global,
+fn push_steps<S: CountedState>(
     text: &mut String,
-    state: &mut PrimitiveRangedUniqueState<T>,
-    arrays: &[&PrimitiveArray<T>],
-) -> Result<(), Fault> {
-    for (i, array) in arrays.iter().enumerate() {
+    state: &mut S,
+    store: &Store,
+    names: &[&str],
+) -> Result<(), Fault>
+    requires { HasGoodArrays store.now }
+{
+    for (i, name) in names.iter().enumerate() {
         if i > 0 {
             text.push(' ')?;
         }
-        let steps = append_counted(state, array)?;
-        text.push_str(&steps.to_string(alloc)?)?;
+        let steps = state.append_and_count(rows_named::<S>(store, name)?)?;
+        write!(text, "{steps}")?;
     }
     Ok(())
-}
-
-// Appends an array, and answers how many rows were read.
-fn append_counted<T: RecordedNumber>(
-    state: &mut PrimitiveRangedUniqueState<T>,
-    array: &PrimitiveArray<T>,
-) -> Result<u64, Fault> {
-    if !state.accepts(array) {
-        return Err(Fault::Case);
-    }
-    let mut steps = Steps::new();
-    state.append_counted(array, &mut steps);
-    Ok(steps.seen())
 }
 
 // Adds two states, and the second merged into another one that has seen what the first has.
@@ -150,48 +131,47 @@ fn push_states<S: RecordedState>(
 ) -> Result<(), Fault> {
     let mut both = again;
     join(&mut both, &second)?;
-    push_seen(alloc, text, first)?;
+    push_seen(alloc, text, Ok(first))?;
     text.push_str(BAR)?;
-    push_seen(alloc, text, second)?;
+    push_seen(alloc, text, Ok(second))?;
     text.push_str(BAR)?;
-    push_seen(alloc, text, both)
+    push_seen(alloc, text, Ok(both))
+}
+
+// Merges a state that was made into another one.
+fn join_made<S: RecordedState>(state: &mut S, made: Result<S, Fault>) -> Result<(), Fault> {
+    join(state, &made?)
 }
 
 // Adds the states of two columns, and the second merged into the first.
 fn push_columns<N: NewStates>(
     alloc: Global,
     text: &mut String,
-    left: &Column<'_, N>,
-    right: &Column<'_, N>,
-) -> Result<(), Fault> {
-    let first = left.state(alloc)?;
-    let second = right.state(alloc)?;
-    push_states(alloc, text, first, second, left.state(alloc)?)
+    store: &Store,
+    left: &[&str],
+    right: &[&str],
+) -> Result<(), Fault>
+    requires { HasGoodArrays store.now }
+{
+    push_seen(alloc, text, read_state::<N>(alloc, store, left))?;
+    text.push_str(BAR)?;
+    push_seen(alloc, text, read_state::<N>(alloc, store, right))?;
+    text.push_str(BAR)?;
+    push_seen(alloc, text, joined::<N>(alloc, store, left, right))
 }
 
 // The state of a column, into which that of another one was merged.
 fn joined<N: NewStates>(
     alloc: Global,
-    column: &Column<'_, N>,
-    other: &Column<'_, N>,
-) -> Result<N::State, Fault> {
-    let mut state = column.state(alloc)?;
-    join(&mut state, &other.state(alloc)?)?;
-    Ok(state)
-}
-
-// The two columns that words tell, parted by a bar.
-fn read_columns<'a, N: NewStates>(
-    alloc: Global,
-    store: &'a Store,
-    words: &[&str],
-) -> Result<(Column<'a, N>, Column<'a, N>), Fault>
+    store: &Store,
+    column: &[&str],
+    other: &[&str],
+) -> Result<N::State, Fault>
     requires { HasGoodArrays store.now }
 {
-    let (left, right) = part_at_bar(words)?;
-    let left = Column::read(alloc, store, left)?;
-    let right = Column::read(alloc, store, right)?;
-    Ok((left, right))
+    let mut state = read_state::<N>(alloc, store, column)?;
+    join_made(&mut state, read_state::<N>(alloc, store, other))?;
+    Ok(state)
 }
 
 /// The states of two columns, and the second merged into the first.
@@ -202,9 +182,9 @@ pub fn of_columns<N: NewStates>(
 ) -> Result<String, Fault>
     requires { HasGoodArrays store.now }
 {
-    let (left, right) = read_columns::<N>(alloc, store, words.rest())?;
+    let (left, right) = part_at_bar(words.rest())?;
     let mut text = String::new(alloc);
-    push_columns(alloc, &mut text, &left, &right)?;
+    push_columns::<N>(alloc, &mut text, store, left, right)?;
     Ok(text)
 }
 
@@ -216,12 +196,25 @@ pub fn either_way<N: NewStates>(
 ) -> Result<String, Fault>
     requires { HasGoodArrays store.now }
 {
-    let (left, right) = read_columns::<N>(alloc, store, words.rest())?;
+    let (left, right) = part_at_bar(words.rest())?;
     let mut text = String::new(alloc);
-    push_columns(alloc, &mut text, &left, &right)?;
-    text.push_str(BAR)?;
-    push_seen(alloc, &mut text, joined(alloc, &right, &left)?)?;
+    push_either_way::<N>(alloc, &mut text, store, left, right)?;
     Ok(text)
+}
+
+// Adds the states of two columns, and each merged into the other.
+fn push_either_way<N: NewStates>(
+    alloc: Global,
+    text: &mut String,
+    store: &Store,
+    left: &[&str],
+    right: &[&str],
+) -> Result<(), Fault>
+    requires { HasGoodArrays store.now }
+{
+    push_columns::<N>(alloc, text, store, left, right)?;
+    text.push_str(BAR)?;
+    push_seen(alloc, text, joined::<N>(alloc, store, right, left))
 }
 
 /// The state of one column, into which that of another one was merged.
@@ -232,6 +225,6 @@ pub fn read_joined<N: NewStates>(
 ) -> Result<N::State, Fault>
     requires { HasGoodArrays store.now }
 {
-    let (left, right) = read_columns::<N>(alloc, store, words.rest())?;
-    joined(alloc, &left, &right)
+    let (left, right) = part_at_bar(words.rest())?;
+    joined::<N>(alloc, store, left, right)
 }

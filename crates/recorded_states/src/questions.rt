@@ -49,11 +49,11 @@ pub fn answer_question<N: NewStates>(
         Question::Stored => appending::write_stored::<N>(alloc, store, words),
         Question::Pair => pairs::of_columns::<N>(alloc, store, words),
         Question::MergeTree => trees::merge_in_range::<N>(alloc, store, words),
-        Question::OneRange => trees::have_one_range::<N>(alloc, store, words),
+        Question::OneRange => write_truth(alloc, trees::have_one_range::<N>(alloc, store, words)),
     }
 }
 
-// The text of a truth value.
-fn write_truth(alloc: Global, truth: Result<bool, Fault>) -> Result<String, Fault> {
+/// The text of a truth value that was found.
+pub fn write_truth(alloc: Global, truth: Result<bool, Fault>) -> Result<String, Fault> {
     Ok(truth?.to_string(alloc)?)
 }

@@ -14,33 +14,33 @@ use std::alloc::Global;
 /// What stands between the parts of an answer.
 pub const BAR: &str = " | ";
 
-/// The text of a state.
-pub fn write_seen<S: RecordedState>(alloc: Global, state: S) -> Result<String, Fault> {
+/// The text of a state that was made.
+pub fn write_seen<S: RecordedState>(
+    alloc: Global,
+    state: Result<S, Fault>,
+) -> Result<String, Fault> {
     let mut text = String::new(alloc);
     push_seen(alloc, &mut text, state)?;
     Ok(text)
 }
 
-/// Adds a state to a text.
+/// Adds a state that was made to a text.
 pub fn push_seen<S: RecordedState>(
     alloc: Global,
     text: &mut String,
-    state: S,
+    state: Result<S, Fault>,
 ) -> Result<(), Fault> {
-    push_counts(alloc, text, &state)?;
+    let state = state?;
+    push_counts(text, &state)?;
     push_end::<S>(alloc, text, state.finalize_unique(alloc))
 }
 
 // Adds what a state answers before it ends.
-fn push_counts<S: RangedUniqueKernel>(
-    alloc: Global,
-    text: &mut String,
-    state: &S,
-) -> Result<(), Fault> {
+fn push_counts<S: RangedUniqueKernel>(text: &mut String, state: &S) -> Result<(), Fault> {
     let all = state.has_seen_all();
     let rows = state.finalize_n_unique();
     let present = state.finalize_n_unique_non_null();
-    text.push_str(&format!(in alloc; "{all} {rows} {present}")?)?;
+    write!(text, "{all} {rows} {present}")?;
     Ok(())
 }
 
@@ -52,7 +52,7 @@ fn push_end<S: RecordedState>(
 ) -> Result<(), Fault> {
     match end {
         Ok(array) => push_array::<S>(alloc, text, array),
-        Err(refused) => push_refusal(alloc, text, refused),
+        Err(refused) => push_refusal(text, refused),
     }
 }
 
@@ -80,9 +80,9 @@ fn push_rows(alloc: Global, text: &mut String, rows: &AnyArray) -> Result<(), Fa
 }
 
 // Adds why there are no rows, where it is not for memory.
-fn push_refusal(alloc: Global, text: &mut String, refused: ComputeError) -> Result<(), Fault> {
+fn push_refusal(text: &mut String, refused: ComputeError) -> Result<(), Fault> {
     match refused {
         ComputeError::Memory(_) => Err(Fault::Memory),
-        refused => Ok(text.push_str(&format!(in alloc; " refused: {refused}")?)?),
+        refused => Ok(write!(text, " refused: {refused}")?),
     }
 }

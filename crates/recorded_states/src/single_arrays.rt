@@ -8,10 +8,11 @@
 
 ghost use Rattle.recorded_text.specs.Cases.{HasGoodArrays};
 
-use crate::numbers::rows_in;
+use crate::columns::rows_named;
 use polars_arrays_bits::error::ComputeError;
 use polars_arrays_flat::boolean::BooleanArray;
 use polars_arrays_nested::any_array::AnyArray;
+use polars_compute_unique::boolean::BooleanUniqueKernelState;
 use polars_compute_unique::kernel::GenericUniqueKernel;
 use recorded_text::fault::Fault;
 use recorded_text::row_text::write_made;
@@ -28,20 +29,30 @@ pub fn answer(
 ) -> Result<Option<String>, Fault>
     requires { HasGoodArrays store.now }
 {
-    let answer = match call {
-        "unique" => write_unique(alloc, truths_in(store.read(words)?)?.unique(alloc)),
-        "n_unique" => write_count(alloc, truths_in(store.read(words)?)?.n_unique()),
-        "n_unique_non_null" => {
-            write_count(alloc, truths_in(store.read(words)?)?.n_unique_non_null())
+    match call {
+        "unique" | "n_unique" | "n_unique_non_null" => {
+            answer_distinct(alloc, call, store, words).map(Some)
         }
-        _ => return Ok(None),
-    };
-    Ok(Some(answer?))
+        _ => Ok(None),
+    }
 }
 
-// The truth values inside an array of them.
-fn truths_in(any: &AnyArray) -> Result<&BooleanArray, Fault> {
-    rows_in!(any, Boolean)
+// The answer to a call of this subject.
+fn answer_distinct(
+    alloc: Global,
+    call: &str,
+    store: &Store,
+    words: &mut Words,
+) -> Result<String, Fault>
+    requires { HasGoodArrays store.now }
+{
+    let truths = rows_named::<BooleanUniqueKernelState>(store, words.read()?)?;
+    match call {
+        "unique" => write_unique(alloc, truths.unique(alloc)),
+        "n_unique" => write_count(alloc, truths.n_unique()),
+        "n_unique_non_null" => write_count(alloc, truths.n_unique_non_null()),
+        _ => Err(Fault::Word),
+    }
 }
 
 // The rows of the array that a call made.

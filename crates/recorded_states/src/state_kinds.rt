@@ -9,6 +9,7 @@ use polars_arrays_flat::primitive::PrimitiveArray;
 use polars_arrays_nested::any_array::AnyArray;
 use polars_arrays_nested::dict_keys::DictKeys;
 use polars_arrays_nested::dictionary::DictionaryArray;
+use polars_arrays_numbers::steps::Steps;
 use polars_compute_unique::boolean::BooleanUniqueKernelState;
 use polars_compute_unique::dictionary::DictionaryRangedUniqueState;
 use polars_compute_unique::kernel::RangedUniqueKernel;
@@ -31,6 +32,23 @@ pub trait RecordedState: RangedUniqueKernel<Array: Drop> + Drop {
     /// An array whose rows are what these store, under a null too: their own values, or the keys of a dictionary.
     fn stored_rows(alloc: Global, rows: Self::Array) -> Result<AnyArray, Fault>
         ensures { IfOk result (λ stored. IsGood stored) };
+}
+
+/// A state that says how many rows it reads.
+pub trait CountedState: RecordedState {
+    /// Appends an array, and answers how many rows were read. The error is `Case`, where the state does not accept it.
+    fn append_and_count(&mut self, array: &Self::Array) -> Result<u64, Fault>;
+}
+
+impl<T: RecordedNumber> CountedState for PrimitiveRangedUniqueState<T> {
+    fn append_and_count(&mut self, array: &PrimitiveArray<T>) -> Result<u64, Fault> {
+        if !self.accepts(array) {
+            return Err(Fault::Case);
+        }
+        let mut steps = Steps::new();
+        self.append_counted(array, &mut steps);
+        Ok(steps.seen())
+    }
 }
 
 impl<T: RecordedNumber> RecordedState for PrimitiveRangedUniqueState<T> {
@@ -65,8 +83,9 @@ impl RecordedState for BooleanUniqueKernelState {
     }
 
     fn stored_rows(alloc: Global, rows: BooleanArray) -> Result<AnyArray, Fault> {
-        let values = rows.values().clone_bitmap(alloc)?;
-        Ok(AnyArray::Boolean(BooleanArray::try_new(values, None)?))
+        let values = copy_stored_truths(alloc, &rows);
+        drop(rows);
+        values
     }
 }
 
@@ -80,12 +99,24 @@ impl RecordedState for DictionaryRangedUniqueState {
     }
 
     fn written_rows(alloc: Global, rows: DictionaryArray) -> Result<AnyArray, Fault> {
-        copy_keys(alloc, rows.keys())
+        let keys = copy_keys(alloc, rows.keys());
+        drop(rows);
+        keys
     }
 
     fn stored_rows(alloc: Global, rows: DictionaryArray) -> Result<AnyArray, Fault> {
-        copy_stored_keys(alloc, rows.keys())
+        let keys = copy_stored_keys(alloc, rows.keys());
+        drop(rows);
+        keys
     }
+}
+
+// The stored truth values of an array, as rows.
+fn copy_stored_truths(alloc: Global, rows: &BooleanArray) -> Result<AnyArray, Fault>
+    ensures { IfOk result (λ copy. IsGood copy) }
+{
+    let values = rows.values().clone_bitmap(alloc)?;
+    Ok(AnyArray::Boolean(BooleanArray::try_new(values, None)?))
 }
 
 // The keys of a state's array, which are of type `u32`, as rows.

@@ -10,8 +10,8 @@
 
 ghost use Rattle.recorded_text.specs.Cases.{HasGoodArrays};
 
-use crate::columns::append;
-use crate::new_states::NewStates;
+use crate::columns::gathered;
+use crate::new_states::{NewStates, read_new};
 use crate::seen::write_seen;
 use crate::state_kinds::RecordedState;
 use polars_compute_unique::merge::{MergeTree, merge_tree};
@@ -72,7 +72,7 @@ fn write_merged<S: RecordedState>(alloc: Global, tree: MergeTree<S>) -> Result<S
     if !tree.one_range() {
         return Err(Fault::Case);
     }
-    write_seen(alloc, merge_tree(tree))
+    write_seen(alloc, Ok(merge_tree(tree)))
 }
 
 /// Whether the new states of a tree have one range.
@@ -80,11 +80,11 @@ pub fn have_one_range<N: NewStates>(
     alloc: Global,
     store: &Store,
     words: &mut Words,
-) -> Result<String, Fault>
+) -> Result<bool, Fault>
     requires { HasGoodArrays store.now }
 {
     let tree = read_tree::<N>(alloc, &Leaves::New, store, words.rest())?;
-    Ok(tree.one_range().to_string(alloc)?)
+    Ok(tree.one_range())
 }
 
 // The tree that words write.
@@ -97,10 +97,26 @@ fn read_tree<N: NewStates>(
     requires { HasGoodArrays store.now }
 {
     let mut trees = Vec::new(alloc);
-    read_trees(alloc, &mut trees, leaves, store, words)?;
+    read_only_tree(alloc, &mut trees, leaves, store, words)
+}
+
+// The one tree that words write.
+fn read_only_tree<N: NewStates>(
+    alloc: Global,
+    trees: &mut Vec<MergeTree<N::State>>,
+    leaves: &Leaves<N>,
+    store: &Store,
+    words: &[&str],
+) -> Result<MergeTree<N::State>, Fault>
+    requires { HasGoodArrays store.now }
+{
+    read_trees(alloc, trees, leaves, store, words)?;
+    if trees.len() > 1 {
+        return Err(Fault::Word);
+    }
     match trees.pop() {
-        Some(tree) if trees.is_empty() => Ok(tree),
-        _ => Err(Fault::Word),
+        Some(tree) => Ok(tree),
+        None => Err(Fault::Word),
     }
 }
 
@@ -137,26 +153,34 @@ fn read_part<N: NewStates>(
         return join_last(alloc, trees);
     }
     let state = read_leaf(alloc, leaves, store, words)?;
-    Ok(trees.push(MergeTree::Leaf(state))?)
+    push_tree(trees, MergeTree::Leaf(state))
+}
+
+// Adds a tree.
+fn push_tree<S: RecordedState>(
+    trees: &mut Vec<MergeTree<S>>,
+    tree: MergeTree<S>,
+) -> Result<(), Fault> {
+    trees.push(tree)?;
+    Ok(())
 }
 
 // Joins the last two trees.
 fn join_last<S: RecordedState>(alloc: Global, trees: &mut Vec<MergeTree<S>>) -> Result<(), Fault> {
-    match (trees.pop(), trees.pop()) {
-        (Some(right), Some(left)) => Ok(trees.push(join_two(alloc, left, right)?)?),
-        _ => Err(Fault::Word),
-    }
+    let right = box_last(alloc, trees)?;
+    let left = box_last(alloc, trees)?;
+    push_tree(trees, MergeTree::Node(left, right))
 }
 
-// A tree of two.
-fn join_two<S: RecordedState>(
+// The last tree, in a box.
+fn box_last<S: RecordedState>(
     alloc: Global,
-    left: MergeTree<S>,
-    right: MergeTree<S>,
-) -> Result<MergeTree<S>, Fault> {
-    let left = Box::new(alloc, left)?;
-    let right = Box::new(alloc, right)?;
-    Ok(MergeTree::Node(left, right))
+    trees: &mut Vec<MergeTree<S>>,
+) -> Result<Box<MergeTree<S>>, Fault> {
+    match trees.pop() {
+        Some(tree) => Ok(Box::new(alloc, tree)?),
+        None => Err(Fault::Word),
+    }
 }
 
 // The state of the leaf that words write.
@@ -171,7 +195,7 @@ fn read_leaf<N: NewStates>(
     match leaves {
         Leaves::Within(range) => read_gathered(alloc, range, store, words),
         Leaves::Gathered => read_gathered(alloc, &N::read(alloc, store, words)?, store, words),
-        Leaves::New => N::read(alloc, store, words)?.new_state(alloc),
+        Leaves::New => read_new::<N>(alloc, store, words),
     }
 }
 
@@ -184,8 +208,5 @@ fn read_gathered<N: NewStates>(
 ) -> Result<N::State, Fault>
     requires { HasGoodArrays store.now }
 {
-    let array = N::State::rows_in(store.read(words)?)?;
-    let mut state = range.new_state(alloc)?;
-    append(&mut state, array)?;
-    Ok(state)
+    gathered(alloc, range, store, &[words.read()?])
 }

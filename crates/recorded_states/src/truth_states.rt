@@ -31,7 +31,7 @@ pub fn answer(
     requires { HasGoodArrays store.now }
 {
     match question_of(call) {
-        Some(question) => Ok(Some(answer_question::<Truths>(alloc, question, store, words)?)),
+        Some(question) => answer_question::<Truths>(alloc, question, store, words).map(Some),
         None => Ok(None),
     }
 }

@@ -1,8 +1,11 @@
 //! Arrays of one level, as words write them.
 
+ghost use Rattle.std.specs.Prelude.{IfOk};
+ghost use Rattle.polars_arrays_nested.specs.GoodParts.{IsGood};
+
 use crate::fault::Fault;
 use crate::parts::{
-    Kept, read_bits, read_buffers, read_byte_buffer, read_numbers, read_validity, read_views,
+    Kept, read_buffers, read_byte_buffer, read_kept, read_kept_numbers, read_validity, read_views,
 };
 use crate::words::Words;
 use polars_arrays_bits::bitmap::Bitmap;
@@ -12,6 +15,7 @@ use polars_arrays_bytes::fixed_size::FixedSizeBinaryArray;
 use polars_arrays_bytes::text::Utf8Array;
 use polars_arrays_flat::boolean::BooleanArray;
 use polars_arrays_flat::primitive::PrimitiveArray;
+use polars_arrays_nested::any_array::AnyArray;
 use polars_arrays_numbers::native_type::NativeType;
 use polars_arrays_numbers::offset::Offset;
 use polars_arrays_views::binary_view::BinaryViewArray;
@@ -21,11 +25,12 @@ use std::alloc::Global;
 use std::str::FromStr;
 
 /// Truth values: their bits, and the validity.
-pub fn read_booleans(alloc: Global, kept: Kept, words: &mut Words) -> Result<BooleanArray, Fault> {
-    let values = kept.bits(alloc, read_bits(alloc, words.read()?)?)?;
+pub fn read_booleans(alloc: Global, kept: Kept, words: &mut Words) -> Result<AnyArray, Fault>
+    ensures { IfOk result (λ a. IsGood a) }
+{
+    let values = read_kept(alloc, kept, words.read()?)?;
     let validity = read_validity(alloc, kept, words)?;
-    let array = BooleanArray::try_new(values, validity)?;
-    Ok(array)
+    Ok(AnyArray::Boolean(BooleanArray::try_new(values, validity)?))
 }
 
 /// Numbers: how many, each of them, and the validity.
@@ -34,10 +39,9 @@ pub fn read_integers<T: NativeType + FromStr<Err: Drop>>(
     kept: Kept,
     words: &mut Words,
 ) -> Result<PrimitiveArray<T>, Fault> {
-    let values = kept.buffer(alloc, read_numbers(alloc, words)?)?;
+    let values = read_kept_numbers(alloc, kept, words)?;
     let validity = read_validity(alloc, kept, words)?;
-    let array = PrimitiveArray::try_new(values, validity)?;
-    Ok(array)
+    Ok(PrimitiveArray::try_new(values, validity)?)
 }
 
 // What strings between offsets are made of.
@@ -54,7 +58,7 @@ fn read_string_parts<O: Offset + FromStr<Err: Drop>>(
     kept: Kept,
     words: &mut Words,
 ) -> Result<StringParts<O>, Fault> {
-    let offsets = kept.buffer(alloc, read_numbers(alloc, words)?)?;
+    let offsets = read_kept_numbers(alloc, kept, words)?;
     let values = read_byte_buffer(alloc, kept, words)?;
     let validity = read_validity(alloc, kept, words)?;
     Ok(StringParts {
@@ -71,8 +75,7 @@ pub fn read_binary<O: Offset + FromStr<Err: Drop>>(
     words: &mut Words,
 ) -> Result<BinaryArray<O>, Fault> {
     let parts = read_string_parts(alloc, kept, words)?;
-    let array = BinaryArray::try_new(parts.offsets, parts.values, parts.validity)?;
-    Ok(array)
+    Ok(BinaryArray::try_new(parts.offsets, parts.values, parts.validity)?)
 }
 
 /// Texts between offsets, as byte strings.
@@ -82,8 +85,7 @@ pub fn read_text<O: Offset + FromStr<Err: Drop>>(
     words: &mut Words,
 ) -> Result<Utf8Array<O>, Fault> {
     let parts = read_string_parts(alloc, kept, words)?;
-    let array = Utf8Array::try_new(parts.offsets, parts.values, parts.validity)?;
-    Ok(array)
+    Ok(Utf8Array::try_new(parts.offsets, parts.values, parts.validity)?)
 }
 
 // What strings by views are made of.
@@ -107,37 +109,28 @@ fn read_view_parts(alloc: Global, kept: Kept, words: &mut Words) -> Result<ViewP
 }
 
 /// Byte strings by views: the views, the buffers, and the validity.
-pub fn read_binary_view(
-    alloc: Global,
-    kept: Kept,
-    words: &mut Words,
-) -> Result<BinaryViewArray, Fault> {
+pub fn read_binary_view(alloc: Global, kept: Kept, words: &mut Words) -> Result<AnyArray, Fault>
+    ensures { IfOk result (λ a. IsGood a) }
+{
     let parts = read_view_parts(alloc, kept, words)?;
-    let array = BinaryViewArray::try_new(parts.views, parts.buffers, parts.validity)?;
-    Ok(array)
+    Ok(AnyArray::BinaryView(BinaryViewArray::try_new(parts.views, parts.buffers, parts.validity)?))
 }
 
 /// Texts by views, as byte strings.
-pub fn read_text_view(
-    alloc: Global,
-    kept: Kept,
-    words: &mut Words,
-) -> Result<Utf8ViewArray, Fault> {
+pub fn read_text_view(alloc: Global, kept: Kept, words: &mut Words) -> Result<AnyArray, Fault>
+    ensures { IfOk result (λ a. IsGood a) }
+{
     let parts = read_view_parts(alloc, kept, words)?;
-    let array = Utf8ViewArray::try_new(parts.views, parts.buffers, parts.validity)?;
-    Ok(array)
+    Ok(AnyArray::Utf8View(Utf8ViewArray::try_new(parts.views, parts.buffers, parts.validity)?))
 }
 
 /// Byte strings of one size: the size, how many, the bytes, and the validity.
-pub fn read_sized(
-    alloc: Global,
-    kept: Kept,
-    words: &mut Words,
-) -> Result<FixedSizeBinaryArray, Fault> {
+pub fn read_sized(alloc: Global, kept: Kept, words: &mut Words) -> Result<AnyArray, Fault>
+    ensures { IfOk result (λ a. IsGood a) }
+{
     let size = words.read_number()?;
     let len = words.read_number()?;
     let values = read_byte_buffer(alloc, kept, words)?;
     let validity = read_validity(alloc, kept, words)?;
-    let array = FixedSizeBinaryArray::try_new(size, len, values, validity)?;
-    Ok(array)
+    Ok(AnyArray::FixedSizeBinary(FixedSizeBinaryArray::try_new(size, len, values, validity)?))
 }

@@ -3,14 +3,13 @@
 ghost use Rattle.std.specs.Prelude.{IfOk};
 ghost use Rattle.std.specs.List.{All};
 ghost use Rattle.polars_arrays_nested.specs.GoodParts.{IsGood};
-ghost use Rattle.polars_arrays_nested.specs.declared.any_array.AnyArray.{List, FixedSizeList, Struct, Dictionary};
 
 use crate::fault::Fault;
 use crate::flat::{
     read_binary, read_binary_view, read_booleans, read_integers, read_sized, read_text,
     read_text_view,
 };
-use crate::parts::{Kept, read_numbers, read_validity};
+use crate::parts::{Kept, read_kept_numbers, read_validity};
 use crate::words::Words;
 use polars_arrays_bits::bitmap::Bitmap;
 use polars_arrays_flat::data_type::Field;
@@ -67,21 +66,30 @@ fn read_whole(alloc: Global, kept: Kept, words: &mut Words, depth: usize) -> Res
 {
     let kind = words.read()?;
     match kind {
-        "null" => Ok(AnyArray::Null(NullArray::new(words.read_number()?))),
-        "bool" => Ok(AnyArray::Boolean(read_booleans(alloc, kept, words)?)),
-        "binary" => Ok(AnyArray::Binary(read_binary(alloc, kept, words)?)),
-        "largebinary" => Ok(AnyArray::LargeBinary(read_binary(alloc, kept, words)?)),
-        "utf8" => Ok(AnyArray::Utf8(read_text(alloc, kept, words)?)),
-        "largeutf8" => Ok(AnyArray::LargeUtf8(read_text(alloc, kept, words)?)),
-        "binaryview" => Ok(AnyArray::BinaryView(read_binary_view(alloc, kept, words)?)),
-        "utf8view" => Ok(AnyArray::Utf8View(read_text_view(alloc, kept, words)?)),
-        "fixedbinary" => Ok(AnyArray::FixedSizeBinary(read_sized(alloc, kept, words)?)),
         "list" | "largelist" | "fixedlist" | "struct" | "dict" => {
             if depth == 0 {
                 return Err(Fault::Depth(DEPTH));
             }
             read_holder(alloc, kept, words, kind, depth - 1)
         }
+        _ => read_flat(alloc, kept, words, kind),
+    }
+}
+
+// An array that holds no arrays.
+fn read_flat(alloc: Global, kept: Kept, words: &mut Words, kind: &str) -> Result<AnyArray, Fault>
+    ensures { IfOk result (λ a. IsGood a) }
+{
+    match kind {
+        "null" => Ok(AnyArray::Null(NullArray::new(words.read_number()?))),
+        "bool" => read_booleans(alloc, kept, words),
+        "binary" => Ok(AnyArray::Binary(read_binary(alloc, kept, words)?)),
+        "largebinary" => Ok(AnyArray::LargeBinary(read_binary(alloc, kept, words)?)),
+        "utf8" => Ok(AnyArray::Utf8(read_text(alloc, kept, words)?)),
+        "largeutf8" => Ok(AnyArray::LargeUtf8(read_text(alloc, kept, words)?)),
+        "binaryview" => read_binary_view(alloc, kept, words),
+        "utf8view" => read_text_view(alloc, kept, words),
+        "fixedbinary" => read_sized(alloc, kept, words),
         _ => read_number_array(alloc, kept, words, kind),
     }
 }
@@ -122,10 +130,10 @@ fn read_holder(
     ensures { IfOk result (λ a. IsGood a) }
 {
     match kind {
-        "fixedlist" => Ok(AnyArray::FixedSizeList(read_fixed_list(alloc, kept, words, depth)?)),
-        "struct" => Ok(AnyArray::Struct(read_struct(alloc, kept, words, depth)?)),
-        "dict" => Ok(AnyArray::Dictionary(read_dictionary(alloc, kept, words, depth)?)),
-        _ => Ok(AnyArray::List(read_list(alloc, kept, words, kind, depth)?)),
+        "fixedlist" => read_fixed_list(alloc, kept, words, depth),
+        "struct" => read_struct(alloc, kept, words, depth),
+        "dict" => read_dictionary(alloc, kept, words, depth),
+        _ => read_list(alloc, kept, words, kind, depth),
     }
 }
 
@@ -137,8 +145,8 @@ fn read_list(
     words: &mut Words,
     kind: &str,
     depth: usize,
-) -> Result<ListArray, Fault>
-    ensures { IfOk result (λ a. IsGood (List a)) }
+) -> Result<AnyArray, Fault>
+    ensures { IfOk result (λ a. IsGood a) }
 {
     let offsets = read_offsets(alloc, kept, words, kind)?;
     let validity = read_validity(alloc, kept, words)?;
@@ -154,12 +162,12 @@ fn list_of(
     offsets: ListOffsets,
     values: Result<Box<AnyArray>, Fault>,
     validity: Option<Bitmap>,
-) -> Result<ListArray, Fault>
+) -> Result<AnyArray, Fault>
     requires { IfOk values (λ a. IsGood a.value) }
-    ensures { IfOk result (λ a. IsGood (List a)) }
+    ensures { IfOk result (λ a. IsGood a) }
 {
     match values {
-        Ok(values) => Ok(ListArray::try_new(offsets, values, validity)?),
+        Ok(values) => Ok(AnyArray::List(ListArray::try_new(offsets, values, validity)?)),
         Err(fault) => {
             drop(offsets);
             Err(fault)
@@ -167,8 +175,8 @@ fn list_of(
     }
 }
 
-// An array, boxed for one that holds it.
-fn boxed(alloc: Global, array: Result<AnyArray, Fault>) -> Result<Box<AnyArray>, Fault>
+/// An array, boxed for one that holds it.
+pub(crate) fn boxed(alloc: Global, array: Result<AnyArray, Fault>) -> Result<Box<AnyArray>, Fault>
     requires { IfOk array (λ a. IsGood a) }
     ensures { IfOk result (λ a. IsGood a.value) }
 {
@@ -183,9 +191,9 @@ fn read_offsets(
     kind: &str,
 ) -> Result<ListOffsets, Fault> {
     if kind == "largelist" {
-        Ok(ListOffsets::Large(kept.buffer(alloc, read_numbers(alloc, words)?)?))
+        Ok(ListOffsets::Large(read_kept_numbers(alloc, kept, words)?))
     } else {
-        Ok(ListOffsets::Small(kept.buffer(alloc, read_numbers(alloc, words)?)?))
+        Ok(ListOffsets::Small(read_kept_numbers(alloc, kept, words)?))
     }
 }
 
@@ -196,14 +204,14 @@ fn read_fixed_list(
     kept: Kept,
     words: &mut Words,
     depth: usize,
-) -> Result<FixedSizeListArray, Fault>
-    ensures { IfOk result (λ a. IsGood (FixedSizeList a)) }
+) -> Result<AnyArray, Fault>
+    ensures { IfOk result (λ a. IsGood a) }
 {
     let width = words.read_number()?;
     let len = words.read_number()?;
     let validity = read_validity(alloc, kept, words)?;
     let values = boxed(alloc, read_array(alloc, kept, words, depth))?;
-    Ok(FixedSizeListArray::try_new(width, len, values, validity)?)
+    Ok(AnyArray::FixedSizeList(FixedSizeListArray::try_new(width, len, values, validity)?))
 }
 
 // The columns of structs, and the name of each.
@@ -220,8 +228,8 @@ fn read_struct(
     kept: Kept,
     words: &mut Words,
     depth: usize,
-) -> Result<StructArray, Fault>
-    ensures { IfOk result (λ a. IsGood (Struct a)) }
+) -> Result<AnyArray, Fault>
+    ensures { IfOk result (λ a. IsGood a) }
 {
     let len = words.read_number()?;
     let count = words.read_number()?;
@@ -260,13 +268,13 @@ fn struct_of(
     len: usize,
     columns: Result<Columns, Fault>,
     validity: Option<Bitmap>,
-) -> Result<StructArray, Fault>
+) -> Result<AnyArray, Fault>
     requires { IfOk columns (λ columns. All IsGood columns.values.items) }
-    ensures { IfOk result (λ a. IsGood (Struct a)) }
+    ensures { IfOk result (λ a. IsGood a) }
 {
     let Columns { names, values } = columns?;
     let fields = fields_of(alloc, &names, &values)?;
-    Ok(StructArray::try_new(fields, len, values, validity)?)
+    Ok(AnyArray::Struct(StructArray::try_new(fields, len, values, validity)?))
 }
 
 // A field for each column, of its name and type.
@@ -292,23 +300,20 @@ fn read_dictionary(
     kept: Kept,
     words: &mut Words,
     depth: usize,
-) -> Result<DictionaryArray, Fault>
-    ensures { IfOk result (λ a. IsGood (Dictionary a)) }
+) -> Result<AnyArray, Fault>
+    ensures { IfOk result (λ a. IsGood a) }
 {
     let keys = read_keys(alloc, kept, words)?;
     dictionary_of(keys, boxed(alloc, read_array(alloc, kept, words, depth)))
 }
 
 // A dictionary array of these parts.
-fn dictionary_of(
-    keys: DictKeys,
-    values: Result<Box<AnyArray>, Fault>,
-) -> Result<DictionaryArray, Fault>
+fn dictionary_of(keys: DictKeys, values: Result<Box<AnyArray>, Fault>) -> Result<AnyArray, Fault>
     requires { IfOk values (λ a. IsGood a.value) }
-    ensures { IfOk result (λ a. IsGood (Dictionary a)) }
+    ensures { IfOk result (λ a. IsGood a) }
 {
     match values {
-        Ok(values) => Ok(DictionaryArray::try_new(keys, values)?),
+        Ok(values) => Ok(AnyArray::Dictionary(DictionaryArray::try_new(keys, values)?)),
         Err(fault) => {
             drop(keys);
             Err(fault)
@@ -319,14 +324,14 @@ fn dictionary_of(
 // The keys of a dictionary array, of the type that the next word names.
 fn read_keys(alloc: Global, kept: Kept, words: &mut Words) -> Result<DictKeys, Fault> {
     match words.read()? {
-        "i8" => read_integers(alloc, kept, words).map(DictKeys::Int8),
-        "i16" => read_integers(alloc, kept, words).map(DictKeys::Int16),
-        "i32" => read_integers(alloc, kept, words).map(DictKeys::Int32),
-        "i64" => read_integers(alloc, kept, words).map(DictKeys::Int64),
-        "u8" => read_integers(alloc, kept, words).map(DictKeys::UInt8),
-        "u16" => read_integers(alloc, kept, words).map(DictKeys::UInt16),
-        "u32" => read_integers(alloc, kept, words).map(DictKeys::UInt32),
-        "u64" => read_integers(alloc, kept, words).map(DictKeys::UInt64),
+        "i8" => Ok(DictKeys::Int8(read_integers(alloc, kept, words)?)),
+        "i16" => Ok(DictKeys::Int16(read_integers(alloc, kept, words)?)),
+        "i32" => Ok(DictKeys::Int32(read_integers(alloc, kept, words)?)),
+        "i64" => Ok(DictKeys::Int64(read_integers(alloc, kept, words)?)),
+        "u8" => Ok(DictKeys::UInt8(read_integers(alloc, kept, words)?)),
+        "u16" => Ok(DictKeys::UInt16(read_integers(alloc, kept, words)?)),
+        "u32" => Ok(DictKeys::UInt32(read_integers(alloc, kept, words)?)),
+        "u64" => Ok(DictKeys::UInt64(read_integers(alloc, kept, words)?)),
         _ => Err(Fault::Word),
     }
 }

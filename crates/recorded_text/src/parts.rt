@@ -177,6 +177,15 @@ pub fn read_numbers<N: NativeType + FromStr<Err: Drop>>(
     Ok(Buffer::from_vec(numbers))
 }
 
+/// As many numbers as the next word says, as a buffer that is kept so.
+pub(crate) fn read_kept_numbers<N: NativeType + FromStr<Err: Drop>>(
+    alloc: Global,
+    kept: Kept,
+    words: &mut Words,
+) -> Result<Buffer<N>, Fault> {
+    kept.buffer(alloc, read_numbers(alloc, words)?)
+}
+
 /// The view that a word's sixteen bytes are.
 pub fn read_view(alloc: Global, word: &str) -> Result<View, Fault> {
     let bytes = read_bytes(alloc, word)?;

@@ -119,15 +119,13 @@ fn push_list(alloc: Global, text: &mut String, array: &ListArray, i: usize) -> R
     if i >= offsets.len() {
         return Err(Fault::Case);
     }
-    text.push('[')?;
-    for k in offsets.offset(i)..offsets.offset(i + 1) {
-        if k > offsets.offset(i) {
-            text.push(',')?;
-        }
-        push_row(alloc, text, array.values(), k)?;
-    }
-    text.push(']')?;
-    Ok(())
+    push_rows(
+        alloc,
+        text,
+        array.values(),
+        offsets.offset(i),
+        offsets.offset(i + 1),
+    )
 }
 
 // Adds list `i` of one width.
@@ -143,12 +141,27 @@ fn push_fixed_list(
     let Some(from) = array.width().checked_mul(i) else {
         return Err(Fault::Case);
     };
+    let to = from.saturating_add(array.width());
+    push_rows(alloc, text, array.values(), from, to)
+}
+
+// Adds the rows from row `from` on and before row `to`, between brackets.
+#[cycle(walk)]
+fn push_rows(
+    alloc: Global,
+    text: &mut String,
+    array: &AnyArray,
+    from: usize,
+    to: usize,
+) -> Result<(), Fault>
+    requires { IsGood array.now }
+{
     text.push('[')?;
-    for k in from..from.saturating_add(array.width()) {
+    for k in from..to {
         if k > from {
             text.push(',')?;
         }
-        push_row(alloc, text, array.values(), k)?;
+        push_row(alloc, text, array, k)?;
     }
     text.push(']')?;
     Ok(())

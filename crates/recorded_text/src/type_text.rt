@@ -10,7 +10,7 @@ use std::alloc::Global;
 /// The text of a type.
 pub fn write_type(alloc: Global, dtype: &ArrowDataType) -> Result<String, Fault> {
     let mut text = String::new(alloc);
-    push_type(alloc, &mut text, dtype)?;
+    push_type(&mut text, dtype)?;
     Ok(text)
 }
 
@@ -28,7 +28,7 @@ pub fn key_name(keys: IntegerType) -> &'static str {
     }
 }
 
-// The name of a type that holds no other one and no size, or None.
+// The name of a type without a number, with the parenthesis behind it where the type holds others, or None.
 fn plain_name(dtype: &ArrowDataType) -> Option<&'static str> {
     let name = match dtype {
         ArrowDataType::Null => "null",
@@ -49,6 +49,9 @@ fn plain_name(dtype: &ArrowDataType) -> Option<&'static str> {
         ArrowDataType::LargeUtf8 => "largeutf8",
         ArrowDataType::BinaryView => "binaryview",
         ArrowDataType::Utf8View => "utf8view",
+        ArrowDataType::List(_) => "list(",
+        ArrowDataType::LargeList(_) => "largelist(",
+        ArrowDataType::Struct(_) => "struct(",
         _ => return None,
     };
     Some(name)
@@ -56,28 +59,30 @@ fn plain_name(dtype: &ArrowDataType) -> Option<&'static str> {
 
 // Adds a type to a text.
 #[cycle(types)]
-fn push_type(alloc: Global, text: &mut String, dtype: &ArrowDataType) -> Result<(), Fault> {
+fn push_type(text: &mut String, dtype: &ArrowDataType) -> Result<(), Fault> {
+    push_head(text, dtype)?;
     match dtype {
-        ArrowDataType::FixedSizeBinary(size) => {
-            let size = size.to_string(alloc)?;
-            push_sized(text, "fixedbinary(", &size)
-        }
-        ArrowDataType::List(item) => push_holder(alloc, text, "list(", item),
-        ArrowDataType::LargeList(item) => push_holder(alloc, text, "largelist(", item),
-        ArrowDataType::FixedSizeList(item, width) => {
-            let name = format!(in alloc; "fixedlist({width} ")?;
-            push_holder(alloc, text, &name, item)
-        }
-        ArrowDataType::Struct(fields) => push_fields(alloc, text, fields),
-        ArrowDataType::Dictionary(keys, entry) => {
-            let name = format!(in alloc; "dict({} ", key_name(*keys))?;
-            push_holder(alloc, text, &name, entry)
-        }
-        _ => push_plain(text, dtype),
+        ArrowDataType::List(held)
+        | ArrowDataType::LargeList(held)
+        | ArrowDataType::FixedSizeList(held, _)
+        | ArrowDataType::Dictionary(_, held) => push_held(text, held),
+        ArrowDataType::Struct(fields) => push_fields(text, fields),
+        _ => Ok(()),
     }
 }
 
-// Adds a type that holds no other one and no size.
+// Adds what stands before the types that a type holds, or all of one that holds none.
+fn push_head(text: &mut String, dtype: &ArrowDataType) -> Result<(), Fault> {
+    match dtype {
+        ArrowDataType::FixedSizeBinary(size) => write!(text, "fixedbinary({size})")?,
+        ArrowDataType::FixedSizeList(_, width) => write!(text, "fixedlist({width} ")?,
+        ArrowDataType::Dictionary(keys, _) => write!(text, "dict({} ", key_name(*keys))?,
+        _ => push_plain(text, dtype)?,
+    }
+    Ok(())
+}
+
+// Adds the name of a type without a number.
 fn push_plain(text: &mut String, dtype: &ArrowDataType) -> Result<(), Fault> {
     match plain_name(dtype) {
         Some(name) => text.push_str(name)?,
@@ -86,37 +91,22 @@ fn push_plain(text: &mut String, dtype: &ArrowDataType) -> Result<(), Fault> {
     Ok(())
 }
 
-// Adds the name of a type and a number.
-fn push_sized(text: &mut String, name: &str, size: &str) -> Result<(), Fault> {
-    text.push_str(name)?;
-    text.push_str(size)?;
+// Adds the one type that another one holds.
+#[cycle(types)]
+fn push_held(text: &mut String, held: &ArrowDataType) -> Result<(), Fault> {
+    push_type(text, held)?;
     text.push(')')?;
     Ok(())
 }
 
-// Adds the name of a type and the type that it holds.
+// Adds the fields of a struct.
 #[cycle(types)]
-fn push_holder(
-    alloc: Global,
-    text: &mut String,
-    name: &str,
-    held: &ArrowDataType,
-) -> Result<(), Fault> {
-    text.push_str(name)?;
-    push_type(alloc, text, held)?;
-    text.push(')')?;
-    Ok(())
-}
-
-// Adds a struct of fields.
-#[cycle(types)]
-fn push_fields(alloc: Global, text: &mut String, fields: &[Field]) -> Result<(), Fault> {
-    text.push_str("struct(")?;
+fn push_fields(text: &mut String, fields: &[Field]) -> Result<(), Fault> {
     for (i, field) in fields.iter().enumerate() {
         if i > 0 {
             text.push_str(", ")?;
         }
-        push_field(alloc, text, field)?;
+        push_field(text, field)?;
     }
     text.push(')')?;
     Ok(())
@@ -124,8 +114,8 @@ fn push_fields(alloc: Global, text: &mut String, fields: &[Field]) -> Result<(),
 
 // Adds the name and the type of a field.
 #[cycle(types)]
-fn push_field(alloc: Global, text: &mut String, field: &Field) -> Result<(), Fault> {
+fn push_field(text: &mut String, field: &Field) -> Result<(), Fault> {
     text.push_str(&field.name)?;
     text.push(' ')?;
-    push_type(alloc, text, &field.dtype)
+    push_type(text, &field.dtype)
 }

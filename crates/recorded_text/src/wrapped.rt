@@ -5,10 +5,9 @@
 
 ghost use Rattle.std.specs.Prelude.{IfOk};
 ghost use Rattle.polars_arrays_nested.specs.GoodParts.{IsGood};
-ghost use Rattle.polars_arrays_nested.specs.declared.any_array.AnyArray.{List, FixedSizeList, Struct, Dictionary};
 
 use crate::fault::Fault;
-use crate::nested::{field_of, read_any};
+use crate::nested::{boxed, field_of, read_any};
 use crate::words::Words;
 use polars_arrays_bits::buffer::Buffer;
 use polars_arrays_flat::data_type::Field;
@@ -72,54 +71,53 @@ fn wrap(alloc: Global, kind: &str, array: Box<AnyArray>) -> Result<Box<AnyArray>
     requires { IsGood array.value }
     ensures { IfOk result (λ a. IsGood a.value) }
 {
-    let wrapped = match kind {
-        "list" => AnyArray::List(in_lists(alloc, array)?),
-        "fixedlist" => AnyArray::FixedSizeList(in_fixed_lists(array)?),
-        "struct" => AnyArray::Struct(in_structs(alloc, array)?),
-        "dict" => AnyArray::Dictionary(in_dictionary(alloc, array)?),
-        _ => return Err(Fault::Word),
-    };
-    Ok(Box::new(alloc, wrapped)?)
+    match kind {
+        "list" => boxed(alloc, in_lists(alloc, array)),
+        "fixedlist" => boxed(alloc, in_fixed_lists(array)),
+        "struct" => boxed(alloc, in_structs(alloc, array)),
+        "dict" => boxed(alloc, in_dictionary(alloc, array)),
+        _ => Err(Fault::Word),
+    }
 }
 
 // Lists of one row each.
-fn in_lists(alloc: Global, items: Box<AnyArray>) -> Result<ListArray, Fault>
+fn in_lists(alloc: Global, items: Box<AnyArray>) -> Result<AnyArray, Fault>
     requires { IsGood items.value }
-    ensures { IfOk result (λ a. IsGood (List a)) }
+    ensures { IfOk result (λ a. IsGood a) }
 {
     let offsets = places(alloc, items.len().saturating_add(1))?;
-    Ok(ListArray::try_new(ListOffsets::Small(offsets), items, None)?)
+    Ok(AnyArray::List(ListArray::try_new(ListOffsets::Small(offsets), items, None)?))
 }
 
 // Lists of width 1.
-fn in_fixed_lists(items: Box<AnyArray>) -> Result<FixedSizeListArray, Fault>
+fn in_fixed_lists(items: Box<AnyArray>) -> Result<AnyArray, Fault>
     requires { IsGood items.value }
-    ensures { IfOk result (λ a. IsGood (FixedSizeList a)) }
+    ensures { IfOk result (λ a. IsGood a) }
 {
     let len = items.len();
-    Ok(FixedSizeListArray::try_new(1, len, items, None)?)
+    Ok(AnyArray::FixedSizeList(FixedSizeListArray::try_new(1, len, items, None)?))
 }
 
 // Structs of one field.
-fn in_structs(alloc: Global, column: Box<AnyArray>) -> Result<StructArray, Fault>
+fn in_structs(alloc: Global, column: Box<AnyArray>) -> Result<AnyArray, Fault>
     requires { IsGood column.value }
-    ensures { IfOk result (λ a. IsGood (Struct a)) }
+    ensures { IfOk result (λ a. IsGood a) }
 {
     let len = column.len();
     let mut fields: Vec<Field> = Vec::new(alloc);
     fields.push(field_of(alloc, "f", &column)?)?;
     let mut columns = Vec::new(alloc);
     columns.push(Box::into_inner(column))?;
-    Ok(StructArray::try_new(fields, len, columns, None)?)
+    Ok(AnyArray::Struct(StructArray::try_new(fields, len, columns, None)?))
 }
 
 // A dictionary array whose keys name each entry once.
-fn in_dictionary(alloc: Global, entries: Box<AnyArray>) -> Result<DictionaryArray, Fault>
+fn in_dictionary(alloc: Global, entries: Box<AnyArray>) -> Result<AnyArray, Fault>
     requires { IsGood entries.value }
-    ensures { IfOk result (λ a. IsGood (Dictionary a)) }
+    ensures { IfOk result (λ a. IsGood a) }
 {
     let keys = PrimitiveArray::try_new(places(alloc, entries.len())?, None)?;
-    Ok(DictionaryArray::try_new(DictKeys::Int32(keys), entries)?)
+    Ok(AnyArray::Dictionary(DictionaryArray::try_new(DictKeys::Int32(keys), entries)?))
 }
 
 // The first `count` numbers, from 0 on.

@@ -13,20 +13,21 @@ use std::alloc::Global;
 /// Makes the calls.
 pub fn answer(alloc: Global, told: &mut Told) -> Result<(), Fault> {
     let array = numbers(alloc)?;
-    told.begin(alloc)?;
+    told.begin(alloc);
     let ended = change_rows(alloc, told, array);
     told.tell_outcome("all operations", "of arrays", ended);
-    told.end(alloc)?;
+    told.end(alloc);
     let array = numbers(alloc)?;
-    told.begin(alloc)?;
+    told.begin(alloc);
     let ended = change_numbers(alloc, told, array);
     told.tell_outcome("all operations", "of arrays of one type", ended);
-    told.end(alloc)?;
+    told.end(alloc);
     let array = numbers(alloc)?.share(alloc)?;
-    told.begin(alloc)?;
+    told.begin(alloc);
     let ended = share_again(alloc, told, array);
     told.tell_outcome("share", "what is shared", ended);
-    told.end(alloc)
+    told.end(alloc);
+    Ok(())
 }
 
 // The numbers 100 and -128, and a null.

@@ -22,43 +22,48 @@ pub fn answer(alloc: Global, told: &mut Told) -> Result<(), Fault> {
 // Bits of words.
 fn answer_words(alloc: Global, told: &mut Told) -> Result<(), Fault> {
     let words = buffer(alloc, &[9, 1])?;
-    told.begin(alloc)?;
+    told.begin(alloc);
     tell_words(told, words);
-    told.end(alloc)
+    told.end(alloc);
+    Ok(())
 }
 
 // Bits of truth values.
 fn answer_bits(alloc: Global, told: &mut Told) -> Result<(), Fault> {
     let left = Bitmap::from_bools(alloc, &[true, false, true, true])?;
     let right = Bitmap::from_bools(alloc, &[true, true, false, true])?;
-    told.begin(alloc)?;
+    told.begin(alloc);
     tell_bits(told, &left, &right);
-    told.end(alloc)
+    told.end(alloc);
+    Ok(())
 }
 
 // Bits in the making.
 fn answer_built(alloc: Global, told: &mut Told) -> Result<(), Fault> {
     let builder = BitmapBuilder::with_capacity(alloc, 3)?;
-    told.begin(alloc)?;
+    told.begin(alloc);
     tell_built(told, builder);
-    told.end(alloc)
+    told.end(alloc);
+    Ok(())
 }
 
 // Bits that change.
 fn answer_written(alloc: Global, told: &mut Told) -> Result<(), Fault> {
     let bits = MutableBitmap::from_len_zeroed(alloc, 4)?;
     let other = Bitmap::from_bools(alloc, &[true, true, false, true])?;
-    told.begin(alloc)?;
+    told.begin(alloc);
     tell_written(told, bits, &other);
-    told.end(alloc)
+    told.end(alloc);
+    Ok(())
 }
 
 // A buffer.
 fn answer_buffer(alloc: Global, told: &mut Told) -> Result<(), Fault> {
     let numbers = buffer(alloc, &[5u8, 6, 7])?;
-    told.begin(alloc)?;
+    told.begin(alloc);
     tell_buffer(told, numbers);
-    told.end(alloc)
+    told.end(alloc);
+    Ok(())
 }
 
 // A bitmap of words, and a part of it.

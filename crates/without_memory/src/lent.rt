@@ -12,9 +12,10 @@ use std::alloc::Global;
 /// Makes the calls.
 pub fn answer(alloc: Global, told: &mut Told) -> Result<(), Fault> {
     let store = store(alloc)?;
-    told.begin(alloc)?;
-    answer_lent(alloc, told, &store)?;
-    told.end(alloc)
+    told.begin(alloc);
+    let answered = answer_lent(alloc, told, &store);
+    told.end(alloc);
+    answered
 }
 
 // Makes the calls, and asks for no memory.

@@ -44,22 +44,24 @@ pub fn tell_made<A: Array + Drop>(told: &mut Told, sort: &str, made: Result<A, A
 fn make_numbers(alloc: Global, told: &mut Told) -> Result<(), Fault> {
     let values = buffer(alloc, &[1i32, 2])?;
     let validity = Bitmap::from_bools(alloc, &[true, false])?;
-    told.begin(alloc)?;
+    told.begin(alloc);
     tell_made(
         told,
         "PrimitiveArray",
         PrimitiveArray::try_new(values, Some(validity)),
     );
     tell_made(told, "NullArray", Ok(NullArray::new(3)));
-    told.end(alloc)
+    told.end(alloc);
+    Ok(())
 }
 
 // Numbers of a vector, whose rows from the second on are kept.
 fn make_vector(alloc: Global, told: &mut Told) -> Result<(), Fault> {
     let values = Vec::from_slice(alloc, &[1i32, 2, 3])?;
-    told.begin(alloc)?;
+    told.begin(alloc);
     cut_rows(told, PrimitiveArray::from_vec(values));
-    told.end(alloc)
+    told.end(alloc);
+    Ok(())
 }
 
 // The rows of an array from the second on.
@@ -76,68 +78,74 @@ fn cut_rows(told: &mut Told, array: PrimitiveArray<i32>) {
 fn make_truths(alloc: Global, told: &mut Told) -> Result<(), Fault> {
     let values = Bitmap::from_bools(alloc, &[true, false])?;
     let validity = Bitmap::from_bools(alloc, &[true])?;
-    told.begin(alloc)?;
+    told.begin(alloc);
     tell_made(
         told,
         "BooleanArray",
         BooleanArray::try_new(values, Some(validity)),
     );
-    told.end(alloc)
+    told.end(alloc);
+    Ok(())
 }
 
 // Byte strings.
 fn make_bytes(alloc: Global, told: &mut Told) -> Result<(), Fault> {
     let offsets = buffer(alloc, &[0i32, 1, 1])?;
     let values = buffer(alloc, b"a")?;
-    told.begin(alloc)?;
+    told.begin(alloc);
     tell_made(
         told,
         "BinaryArray",
         BinaryArray::try_new(offsets, values, None),
     );
-    told.end(alloc)
+    told.end(alloc);
+    Ok(())
 }
 
 // Texts, whose second one is no UTF-8.
 fn make_texts(alloc: Global, told: &mut Told) -> Result<(), Fault> {
     let offsets = buffer(alloc, &[0i64, 1, 2])?;
     let values = buffer(alloc, &[b'a', 255])?;
-    told.begin(alloc)?;
+    told.begin(alloc);
     tell_made(told, "Utf8Array", Utf8Array::try_new(offsets, values, None));
-    told.end(alloc)
+    told.end(alloc);
+    Ok(())
 }
 
 // Byte strings of one size.
 fn make_sized(alloc: Global, told: &mut Told) -> Result<(), Fault> {
     let values = buffer(alloc, b"abcd")?;
-    told.begin(alloc)?;
+    told.begin(alloc);
     let made = FixedSizeBinaryArray::try_new(2, 2, values, None);
     tell_made(told, "FixedSizeBinaryArray", made);
-    told.end(alloc)
+    told.end(alloc);
+    Ok(())
 }
 
 // Byte strings by views.
 fn make_views(alloc: Global, told: &mut Told) -> Result<(), Fault> {
     let views = buffer(alloc, &[View::of_short(b"a")])?;
     let buffers = Vec::new(alloc);
-    told.begin(alloc)?;
+    told.begin(alloc);
     tell_made(
         told,
         "BinaryViewArray",
         BinaryViewArray::try_new(views, buffers, None),
     );
-    told.end(alloc)
+    told.end(alloc);
+    Ok(())
 }
 
 // Texts by views.
 fn make_text_views(alloc: Global, told: &mut Told) -> Result<(), Fault> {
     let views = buffer(alloc, &[View::of_short(b"a")])?;
     let buffers = Vec::new(alloc);
-    told.begin(alloc)?;
+    told.begin(alloc);
     tell_made(
         told,
         "Utf8ViewArray",
         Utf8ViewArray::try_new(views, buffers, None),
     );
-    told.end(alloc)
+    told.end(alloc);
+    Ok(())
 }

@@ -25,17 +25,22 @@ mod states;
 mod told;
 mod types;
 
-/// Makes all calls, and prints what they answered.
+/// Makes all calls, and prints what they answered, in room that is made before.
 fn answer_all(rt: &(impl Print + AllocGlobal)) -> Result<(), Fault> {
+    let mut told = Told::new(rt.alloc())?;
+    answer_into(rt, &mut told)
+}
+
+// The same, where there is room for the answers.
+fn answer_into(rt: &(impl Print + AllocGlobal), told: &mut Told) -> Result<(), Fault> {
     let alloc = rt.alloc();
-    let mut told = Told::new(alloc)?;
-    lent::answer(alloc, &mut told)?;
-    bits::answer(alloc, &mut told)?;
-    made::answer(alloc, &mut told)?;
-    nested::answer(alloc, &mut told)?;
-    arithmetic::answer(alloc, &mut told)?;
-    states::answer(alloc, &mut told)?;
-    keys::answer(alloc, &mut told)?;
+    lent::answer(alloc, told)?;
+    bits::answer(alloc, told)?;
+    made::answer(alloc, told)?;
+    nested::answer(alloc, told)?;
+    arithmetic::answer(alloc, told)?;
+    states::answer(alloc, told)?;
+    keys::answer(alloc, told)?;
     println!(rt; "{}", told.lines()?)?;
     Ok(())
 }

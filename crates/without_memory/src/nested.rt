@@ -37,41 +37,44 @@ fn make_lists(alloc: Global, told: &mut Told) -> Result<(), Fault> {
     let offsets = buffer(alloc, &[0i32, 0, 2])?;
     let validity = Bitmap::from_bools(alloc, &[false, true])?;
     let items = boxed(alloc, ITEMS)?;
-    told.begin(alloc)?;
+    told.begin(alloc);
     let made = ListArray::try_new(ListOffsets::Small(offsets), items, Some(validity));
     tell_made(told, "ListArray", made);
-    told.end(alloc)
+    told.end(alloc);
+    Ok(())
 }
 
 // Lists of one width.
 fn make_fixed_lists(alloc: Global, told: &mut Told) -> Result<(), Fault> {
     let items = boxed(alloc, ITEMS)?;
-    told.begin(alloc)?;
+    told.begin(alloc);
     tell_made(
         told,
         "FixedSizeListArray",
         FixedSizeListArray::try_new(2, 1, items, None),
     );
-    told.end(alloc)
+    told.end(alloc);
+    Ok(())
 }
 
 // Structs of one field.
 fn make_structs(alloc: Global, told: &mut Told) -> Result<(), Fault> {
     let fields = fields(alloc)?;
     let columns = columns(alloc)?;
-    told.begin(alloc)?;
+    told.begin(alloc);
     tell_made(
         told,
         "StructArray",
         StructArray::try_new(fields, 2, columns, None),
     );
-    told.end(alloc)
+    told.end(alloc);
+    Ok(())
 }
 
 // A field of numbers.
 fn fields(alloc: Global) -> Result<Vec<Field>, Fault> {
-    let mut fields = Vec::new(alloc);
     let name = String::from_str(alloc, "a")?;
+    let mut fields = Vec::new(alloc);
     fields.push(Field {
         name,
         dtype: ArrowDataType::Int32,
@@ -83,27 +86,31 @@ fn fields(alloc: Global) -> Result<Vec<Field>, Fault> {
 fn columns(alloc: Global) -> Result<Vec<AnyArray>, Fault>
     ensures { IfOk result (λ columns. All IsGood columns.items) }
 {
+    let items = array(alloc, ITEMS)?;
     let mut columns = Vec::new(alloc);
-    columns.push(array(alloc, ITEMS)?)?;
+    columns.push(items)?;
     Ok(columns)
 }
 
 // Entries, whose second key is none of one.
 fn make_entries(alloc: Global, told: &mut Told) -> Result<(), Fault> {
-    let keys = PrimitiveArray::from_vec(Vec::from_slice(alloc, &[1u32, 2])?);
+    let keys = Vec::from_slice(alloc, &[1u32, 2])?;
     let entries = boxed(alloc, ITEMS)?;
-    told.begin(alloc)?;
+    let keys = PrimitiveArray::from_vec(keys);
+    told.begin(alloc);
     let made = DictionaryArray::try_new(DictKeys::UInt32(keys), entries);
     tell_made(told, "DictionaryArray", made);
-    told.end(alloc)
+    told.end(alloc);
+    Ok(())
 }
 
 // Lists, of which the second is kept.
 fn cut_lists(alloc: Global, told: &mut Told) -> Result<(), Fault> {
     let mut lists = boxed(alloc, "0 2 list 3 0 1 2 - 0 2 i32 2 1 2 -")?;
-    told.begin(alloc)?;
+    told.begin(alloc);
     cut_any(told, &mut lists);
-    told.end(alloc)
+    told.end(alloc);
+    Ok(())
 }
 
 // The second row of two.

@@ -69,11 +69,20 @@ pub fn store(alloc: Global) -> Result<Store, Fault>
     ensures { IfOk result (λ store. HasGoodArrays store) }
 {
     let mut store = Store::new(alloc);
+    add_all(alloc, &mut store)?;
+    Ok(store)
+}
+
+// Adds all arrays that are lent.
+fn add_all(alloc: Global, store: &mut Store) -> Result<(), Fault>
+    requires { HasGoodArrays store.old }
+    ensures { HasGoodArrays store.new }
+{
     for named in ARRAYS {
         let (name, text) = named;
         store.add(alloc, name, array(alloc, text)?)?;
     }
-    Ok(store)
+    Ok(())
 }
 
 /// A buffer of these elements.

@@ -89,34 +89,34 @@ fn tell_extremes(told: &mut Told, name: &str, array: &AnyArray) {
         told,
         "dyn_array_min_ignore_nan",
         name,
-        &dyn_array_min_ignore_nan(array),
+        dyn_array_min_ignore_nan(array),
     );
     tell_none(
         told,
         "dyn_array_max_ignore_nan",
         name,
-        &dyn_array_max_ignore_nan(array),
+        dyn_array_max_ignore_nan(array),
     );
     tell_none(
         told,
         "dyn_array_min_propagate_nan",
         name,
-        &dyn_array_min_propagate_nan(array),
+        dyn_array_min_propagate_nan(array),
     );
     tell_none(
         told,
         "dyn_array_max_propagate_nan",
         name,
-        &dyn_array_max_propagate_nan(array),
+        dyn_array_max_propagate_nan(array),
     );
     let both = dyn_array_min_max_propagate_nan(array);
-    tell_none(told, "dyn_array_min_max_propagate_nan", name, &both);
+    tell_none(told, "dyn_array_min_max_propagate_nan", name, both);
 }
 
 // Why there is no answer.
-fn tell_none<T>(told: &mut Told, call: &str, name: &str, answer: &Result<T, ComputeError>) {
+fn tell_none<T: Copy>(told: &mut Told, call: &str, name: &str, answer: Result<T, ComputeError>) {
     match answer {
         Ok(_) => told.tell(call, name, "an answer"),
-        Err(refused) => told.tell_refusal(call, name, refused),
+        Err(refused) => told.tell_refusal(call, name, &refused),
     }
 }

@@ -28,14 +28,32 @@ pub fn answer(alloc: Global, told: &mut Told) -> Result<(), Fault> {
 fn answer_from(alloc: Global, told: &mut Told, store: &Store) -> Result<(), Fault>
     requires { HasGoodArrays store.now }
 {
-    told.begin(alloc)?;
+    told.begin(alloc);
     tell_states(alloc, told, store)?;
-    told.end(alloc)?;
-    let left = Box::new(alloc, MergeTree::Leaf(BooleanUniqueKernelState::new()))?;
-    let right = Box::new(alloc, MergeTree::Leaf(truths_seen(store)?))?;
-    told.begin(alloc)?;
-    tell_merged(told, MergeTree::Node(left, right));
-    told.end(alloc)
+    told.end(alloc);
+    let tree = tree_of(alloc, truths_seen(store)?)?;
+    told.begin(alloc);
+    tell_merged(told, tree);
+    told.end(alloc);
+    Ok(())
+}
+
+// A tree of a state that has seen nothing and another one.
+fn tree_of(
+    alloc: Global,
+    other: BooleanUniqueKernelState,
+) -> Result<MergeTree<BooleanUniqueKernelState>, Fault> {
+    let left = leaf_of(alloc, BooleanUniqueKernelState::new())?;
+    let right = leaf_of(alloc, other)?;
+    Ok(MergeTree::Node(left, right))
+}
+
+// A state as a leaf, in a box.
+fn leaf_of(
+    alloc: Global,
+    state: BooleanUniqueKernelState,
+) -> Result<Box<MergeTree<BooleanUniqueKernelState>>, Fault> {
+    Ok(Box::new(alloc, MergeTree::Leaf(state))?)
 }
 
 /// A state of the numbers from one to another. The error is `Case` where there is none.
@@ -74,8 +92,7 @@ pub fn append<S: RangedUniqueKernel>(told: &mut Told, name: &str, state: &mut S,
 fn tell_states(alloc: Global, told: &mut Told, store: &Store) -> Result<(), Fault>
     requires { HasGoodArrays store.now }
 {
-    let empty = PrimitiveRangedUniqueState::<i64>::new_empty();
-    tell_state(told, "new_empty", &empty);
+    tell_empty(told, PrimitiveRangedUniqueState::new_empty());
     let (AnyArray::UInt8(few), AnyArray::UInt8(beyond)) = (
         store.array("few")?,
         store.array("beyond")?,
@@ -83,14 +100,22 @@ fn tell_states(alloc: Global, told: &mut Told, store: &Store) -> Result<(), Faul
         return Err(Fault::Case);
     };
     tell_numbers(told, new_state(alloc, 0u8, 126)?, few, beyond);
-    tell_joined(
-        told,
-        new_state(alloc, 0u8, 126)?,
-        new_state(alloc, 0u8, 126)?,
-        few,
-    );
+    tell_two(alloc, told, few)?;
     tell_state(told, "default", &BooleanUniqueKernelState::default());
     tell_state(told, "truths", &truths_seen(store)?);
+    Ok(())
+}
+
+// A state of no numbers.
+fn tell_empty(told: &mut Told, empty: PrimitiveRangedUniqueState<i64>) {
+    tell_state(told, "new_empty", &empty);
+}
+
+// Two states of the numbers from 0 to 126.
+fn tell_two(alloc: Global, told: &mut Told, few: &PrimitiveArray<u8>) -> Result<(), Fault> {
+    let state = new_state(alloc, 0u8, 126)?;
+    let other = new_state(alloc, 0u8, 126)?;
+    tell_joined(told, state, other, few);
     Ok(())
 }
 

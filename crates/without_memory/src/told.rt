@@ -26,7 +26,7 @@ pub struct Told {
     text: String,
     // The block that was asked for last.
     block: Vec<u8>,
-    // Whether an answer was not written.
+    // Whether an answer was not written, or a block was refused.
     is_short: bool,
 }
 
@@ -43,18 +43,24 @@ impl Told {
     }
 
     /// Asks for the block behind which nothing may be asked for.
-    pub fn begin(&mut self, alloc: Global) -> Result<(), Fault> {
-        self.block = Vec::with_capacity(alloc, BEGIN)?;
-        Ok(())
+    pub fn begin(&mut self, alloc: Global) {
+        self.ask(alloc, BEGIN);
     }
 
     /// Asks for the block behind which memory may be asked for again.
-    pub fn end(&mut self, alloc: Global) -> Result<(), Fault> {
-        self.block = Vec::with_capacity(alloc, END)?;
-        Ok(())
+    pub fn end(&mut self, alloc: Global) {
+        self.ask(alloc, END);
     }
 
-    /// All lines. The error is `Memory`, where one was not written.
+    // Asks for a block of so many bytes, and notes whether there was one.
+    fn ask(&mut self, alloc: Global, bytes: usize) {
+        match Vec::with_capacity(alloc, bytes) {
+            Ok(block) => self.block = block,
+            Err(_) => self.is_short = true,
+        }
+    }
+
+    /// All lines. The error is `Memory`, where one was not written, or a block was refused.
     pub fn lines(&self) -> Result<&str, Fault> {
         if self.is_short {
             return Err(Fault::Memory);

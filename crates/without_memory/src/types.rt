@@ -53,15 +53,22 @@ fn tell_type(alloc: Global, told: &mut Told, name: &str, array: &AnyArray) {
 // The name of a type, or why there is none.
 fn tell_name(told: &mut Told, name: &str, dtype: Result<ArrowDataType, ComputeError>) {
     match dtype {
-        Ok(ArrowDataType::Int8) => told.tell("dtype", name, "Int8"),
-        Ok(ArrowDataType::Boolean) => told.tell("dtype", name, "Boolean"),
-        Ok(ArrowDataType::Binary) => told.tell("dtype", name, "Binary"),
-        Ok(ArrowDataType::Utf8) => told.tell("dtype", name, "Utf8"),
-        Ok(ArrowDataType::BinaryView) => told.tell("dtype", name, "BinaryView"),
-        Ok(ArrowDataType::Utf8View) => told.tell("dtype", name, "Utf8View"),
-        Ok(ArrowDataType::FixedSizeBinary(2)) => told.tell("dtype", name, "FixedSizeBinary(2)"),
-        Ok(ArrowDataType::Null) => told.tell("dtype", name, "Null"),
-        Ok(_) => told.tell("dtype", name, "another one"),
+        Ok(dtype) => told.tell("dtype", name, name_of(&dtype)),
         Err(refused) => told.tell_refusal("dtype", name, &refused),
+    }
+}
+
+// The name of a type.
+fn name_of(dtype: &ArrowDataType) -> &'static str {
+    match dtype {
+        ArrowDataType::Int8 => "Int8",
+        ArrowDataType::Boolean => "Boolean",
+        ArrowDataType::Binary => "Binary",
+        ArrowDataType::Utf8 => "Utf8",
+        ArrowDataType::BinaryView => "BinaryView",
+        ArrowDataType::Utf8View => "Utf8View",
+        ArrowDataType::FixedSizeBinary(2) => "FixedSizeBinary(2)",
+        ArrowDataType::Null => "Null",
+        _ => "another one",
     }
 }

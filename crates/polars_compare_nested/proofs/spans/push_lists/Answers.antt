@@ -47,3 +47,17 @@ returns-in-Some-clause-bits g c =
     let have = rw c.requires.offsets at c.in-Some.ensures.alike in
     rw (c.extend_blocks.ensures, c.from_bitmap.ensures, width_blocks c.args.items.now all c.args.a c.args.rows c.in-Some.width spans have)
     (adds_lists c.args.items.now all c.args.a c.args.rows c.args.bits.now.bits)
+
+pub place_of-first-requires : goal.place_of-first-requires
+place_of-first-requires g c =
+    let last = lent_offset g.O.Number.value c.args.offsets.now _ (list_offsets c.args.array.now) _ c.requires.good.0.good c.requires.offsets c.requires.within in
+    (c.type_bounds.static-O, omega (arith, last))
+
+pub one_width-requires : goal.one_width-requires
+one_width-requires g c = (
+  c.type_bounds.static-O,
+  (
+    lent_offset g.O.Number.value c.args.offsets.now _ (list_offsets c.args.array.now) _ c.requires.good.0.good c.requires.offsets c.requires.within,
+    lists_lie _ (places g.O.Number.value c.args.offsets.now) (list_offsets c.args.array.now) c.args.a c.args.rows c.requires.good.0.good c.requires.offsets c.requires.within,
+  ),
+)

@@ -1,8 +1,9 @@
-use Rattle.std.proofs.Common.{◌≡◌, ◌≤◌, ◌<◌, ◌+◌, ◌∙◌, ℕ, length, sym, ap, subst, arith, rules}
+use Rattle.std.proofs.Common.{◌≡◌, ◌≤◌, ◌<◌, ◌+◌, ◌∙◌, ℕ, length, refl, sym, ap, subst, arith, rules}
 use Rattle.std.specs.Prelude.{IfOk}
 use Rattle.std.proofs.lemmas.Result.{MatchResult-weaker}
 use Rattle.polars_arrays_nested.specs.Parts.{columns}
-use Rattle.polars_arrays_nested.specs.declared.any_array.AnyArray.{List, Struct, Dictionary}
+use Rattle.polars_arrays_nested.specs.declared.any_array.AnyArray.{List, Struct, Dictionary, the_lemmas}
+use Rattle.polars_compare_nested.proofs.Cases.{list_sort}
 use Rattle.polars_compare_nested.proofs.Columns.{columns_tally-take, first_column, more_columns, no_columns, struct_bits, struct_count, struct_tally}
 use Rattle.polars_compare_nested.proofs.FewRows.{whole_joined}
 use Rattle.polars_compare_nested.proofs.KnownLists.{known_at, none_known}
@@ -268,3 +269,137 @@ nested_row-returns-in_ok-bits-in_default g t c = record {
   counted = c.in_ok-bits-in_default.ensures.counted;
   kept = c.in_ok-bits-in_default.ensures.kept;
 }
+
+pub raw_windows-as_list-requires : goal.raw_windows-as_list-requires
+raw_windows-as_list-requires g t c = rw (← c.requires.one_type) (list_sort c.args.left.now c.in-List.left c.in-List.is)
+
+pub raw_windows-list_windows-requires : goal.raw_windows-list_windows-requires
+raw_windows-list_windows-requires g t c κs within =
+    (search (rules, the_lemmas), (within, rw (c.in-List.is, c.as_list.ensures) at c.requires))
+
+pub raw_windows-returns-in-List : goal.raw_windows-returns-in-List
+raw_windows-returns-in-List g t c = rw (c.in-List.is, c.as_list.ensures) c.list_windows.ensures
+
+pub raw_windows-as_fixed_size_list-requires : goal.raw_windows-as_fixed_size_list-requires
+raw_windows-as_fixed_size_list-requires g t c = rw (← c.requires.one_type, c.in-FixedSizeList.is) refl
+
+pub raw_windows-fixed_size_list_windows-requires : goal.raw_windows-fixed_size_list_windows-requires
+raw_windows-fixed_size_list_windows-requires g t c κs within =
+    (search (rules, the_lemmas), (within, rw (c.in-FixedSizeList.is, c.as_fixed_size_list.ensures) at c.requires))
+
+pub raw_windows-returns-in-FixedSizeList : goal.raw_windows-returns-in-FixedSizeList
+raw_windows-returns-in-FixedSizeList g t c =
+    rw (c.in-FixedSizeList.is, c.as_fixed_size_list.ensures) c.fixed_size_list_windows.ensures
+
+pub raw_windows-as_struct-requires : goal.raw_windows-as_struct-requires
+raw_windows-as_struct-requires g t c = rw (← c.requires.one_type, c.in-Struct.is) refl
+
+pub raw_windows-struct_windows-requires : goal.raw_windows-struct_windows-requires
+raw_windows-struct_windows-requires g t c κs within =
+    (search (rules, the_lemmas), (within, rw (c.in-Struct.is, c.as_struct.ensures) at c.requires))
+
+pub raw_windows-returns-in-Struct : goal.raw_windows-returns-in-Struct
+raw_windows-returns-in-Struct g t c = rw (c.in-Struct.is, c.as_struct.ensures) c.struct_windows.ensures
+
+pub raw_windows-as_dictionary-requires : goal.raw_windows-as_dictionary-requires
+raw_windows-as_dictionary-requires g t c = rw (← c.requires.one_type, c.in-Dictionary.is) refl
+
+pub raw_windows-dictionary_windows-requires : goal.raw_windows-dictionary_windows-requires
+raw_windows-dictionary_windows-requires g t c κs within =
+    (search (rules, the_lemmas), (within, rw (c.in-Dictionary.is, c.as_dictionary.ensures) at c.requires))
+
+pub raw_windows-returns-in-Dictionary : goal.raw_windows-returns-in-Dictionary
+raw_windows-returns-in-Dictionary g t c =
+    rw (c.in-Dictionary.is, c.as_dictionary.ensures) c.dictionary_windows.ensures
+
+pub nested_row-as_dictionary-requires : goal.nested_row-as_dictionary-requires
+nested_row-as_dictionary-requires g t c = rw (← c.requires.one_type, c.in-Dictionary.is) refl
+
+pub nested_row-equal_entries-requires : goal.nested_row-equal_entries-requires
+nested_row-equal_entries-requires g t c κs within =
+    (search (rules, the_lemmas), (within, rw (c.in-Dictionary.is, c.as_dictionary.ensures) at c.requires))
+
+pub nested_row-returns-in-Dictionary-clause-told : goal.nested_row-returns-in-Dictionary-clause-told
+nested_row-returns-in-Dictionary-clause-told g t c =
+    rw (c.in-Dictionary.is, c.as_dictionary.ensures) c.equal_entries.ensures.told
+
+pub nested_row-returns-in-Dictionary-clause-counted :
+    goal.nested_row-returns-in-Dictionary-clause-counted
+nested_row-returns-in-Dictionary-clause-counted g t c =
+    rw (c.in-Dictionary.is, c.as_dictionary.ensures) c.equal_entries.ensures.counted
+
+pub nested_row-returns-in-Dictionary-clause-kept : goal.nested_row-returns-in-Dictionary-clause-kept
+nested_row-returns-in-Dictionary-clause-kept g t c = c.equal_entries.ensures.kept
+
+pub nested_row-equal_windows-requires : goal.nested_row-equal_windows-requires
+nested_row-equal_windows-requires g t c κs within = (omega arith, (within, c.requires))
+
+pub raw_row-nested_row-requires : goal.raw_row-nested_row-requires
+raw_row-nested_row-requires g t c κs within = (omega arith, (within, c.requires))
+
+pub raw_row-returns-in-Null-clause-told : goal.raw_row-returns-in-Null-clause-told
+raw_row-returns-in-Null-clause-told g t c = c.nested_row.ensures.told
+
+pub raw_row-returns-in-Null-clause-counted : goal.raw_row-returns-in-Null-clause-counted
+raw_row-returns-in-Null-clause-counted g t c = c.nested_row.ensures.counted
+
+pub equal_windows-raw_windows-requires : goal.equal_windows-raw_windows-requires
+equal_windows-raw_windows-requires g t c κs within = (omega arith, (within, c.requires))
+
+pub join_column-equal_windows-requires : goal.join_column-equal_windows-requires
+join_column-equal_windows-requires g t c κs within = (omega arith, (within, c.requires.windows))
+
+pub join_column-returns-clause-counted : goal.join_column-returns-clause-counted
+join_column-returns-clause-counted g t c = c.in_ok-same.ensures.counted
+
+pub join_column-returns-clause-kept : goal.join_column-returns-clause-kept
+join_column-returns-clause-kept g t c = c.in_ok-same.ensures.kept
+
+pub struct_windows-equal_windows-requires : goal.struct_windows-equal_windows-requires
+struct_windows-equal_windows-requires g t c κs within =
+    let pair = c.column_pair.ensures in (
+      omega (arith, pair.smaller),
+      (
+        within,
+        record {
+          left_good = pair.left_good;
+          right_good = pair.right_good;
+          one_type = pair.one_type;
+          left_in = rw pair.left_len c.requires.left_in;
+          right_in = rw pair.right_len c.requires.right_in;
+        },
+      ),
+    )
+
+pub dictionary_windows-returns : goal.dictionary_windows-returns
+dictionary_windows-returns g t c =
+    let all : c.loop-i.i ≡ c.args.n = omega arith in
+    record {
+      told = rw (c.freeze.ensures, ← all) c.loop-i.invariant.0;
+      counted = rw (← all) c.loop-i.invariant.1;
+      kept = c.loop-i.invariant.2;
+    }
+
+pub list_windows-returns : goal.list_windows-returns
+list_windows-returns g t c =
+    let all : c.loop-done.done ≡ c.args.n = omega (arith, c.loop-done.invariant.0) in
+    record {
+      told = rw (c.freeze.ensures, ← all) c.loop-done.invariant.1;
+      counted = rw (← all) c.loop-done.invariant.2;
+      kept = c.loop-done.invariant.3;
+    }
+
+pub dictionary_windows-equal_entries-requires : goal.dictionary_windows-equal_entries-requires
+dictionary_windows-equal_entries-requires g t c κs within = (
+  omega arith,
+  (
+    within,
+    record {
+      left_good = c.requires.left_good;
+      right_good = c.requires.right_good;
+      one_type = c.requires.one_type;
+      left_in = omega (arith, c.requires.left_in, c.loop-i-test.true);
+      right_in = omega (arith, c.requires.right_in, c.loop-i-test.true);
+    },
+  ),
+)

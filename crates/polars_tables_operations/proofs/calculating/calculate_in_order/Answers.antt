@@ -1,4 +1,20 @@
+use Rattle.polars_compare_equality.specs.SlotsLaws.{number_slots-as_long}
 use Rattle.polars_tables_operations.proofs.calculating.calculate_in_order.Goals as goal
+
+pub wrapping_sub-requires : goal.wrapping_sub-requires
+wrapping_sub-requires g c = (c.type_bounds.static-T, number_slots-as_long g.T.Number.value _ _ c.requires)
+
+pub wrapping_floor_div-requires : goal.wrapping_floor_div-requires
+wrapping_floor_div-requires g c = (c.type_bounds.static-T, number_slots-as_long g.T.Number.value _ _ c.requires)
+
+pub wrapping_trunc_div-requires : goal.wrapping_trunc_div-requires
+wrapping_trunc_div-requires g c = (c.type_bounds.static-T, number_slots-as_long g.T.Number.value _ _ c.requires)
+
+pub wrapping_mod-requires : goal.wrapping_mod-requires
+wrapping_mod-requires g c = (c.type_bounds.static-T, number_slots-as_long g.T.Number.value _ _ c.requires)
+
+pub legacy_div-requires : goal.legacy_div-requires
+legacy_div-requires g c = number_slots-as_long g.T.Number.value _ _ c.requires
 
 pub returns-in-Subtract : goal.returns-in-Subtract
 returns-in-Subtract g c =

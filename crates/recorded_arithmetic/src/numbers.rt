@@ -1,0 +1,77 @@
+//! What one array of numbers is asked.
+
+ghost use Rattle.recorded_text.specs.Cases.{HasGoodArrays};
+
+use crate::arrays::{write_applied, write_operated_by, write_operated_from};
+use crate::functions::{Change, write_changed};
+use crate::number_kinds::of_numbers;
+use crate::operands::{Operand, Part, read_operand};
+use crate::operations::{Function, Operation};
+use crate::sums::{add_masked, add_rows, add_values};
+use polars_arrays_bits::bitmap::Bitmap;
+use polars_arrays_flat::primitive::PrimitiveArray;
+use polars_arrays_nested::any_array::AnyArray;
+use polars_compute_arithmetic::arithmetic::HasPrimitiveArithmeticKernel;
+use polars_compute_bits::sum::WrappingSum;
+use recorded_text::fault::Fault;
+use recorded_text::store::Store;
+use recorded_text::words::Words;
+use std::alloc::Global;
+use std::fmt::Display;
+use std::str::FromStr;
+
+/// What an array of numbers is asked.
+#[derive(Clone, Copy)]
+pub enum Asked<'a> {
+    /// What a function makes of it.
+    Apply(Function),
+    /// What an operation makes of it and of the number that a word writes.
+    OperateBy(Operation, &'a str),
+    /// What an operation makes of the number that a word writes and of it.
+    OperateFrom(Operation, &'a str),
+    /// What is made of each value.
+    Change(Change),
+    /// The sum of its present rows.
+    SumRows,
+    /// The sum of its stored values.
+    SumValues,
+    /// The sum of its stored values whose bit is 1.
+    SumMasked(&'a Bitmap),
+}
+
+/// What the array answers that the next words tell.
+pub fn ask_next(
+    alloc: Global,
+    asked: Asked<'_>,
+    store: &Store,
+    words: &mut Words,
+) -> Result<String, Fault>
+    requires { HasGoodArrays store.now }
+{
+    ask(alloc, asked, read_operand(store, words)?)
+}
+
+/// What an array answers. One that is not of numbers of 8 to 64 bits has no answer.
+pub fn ask(alloc: Global, asked: Asked<'_>, these: Operand<'_>) -> Result<String, Fault> {
+    of_numbers!(these.array, array => ask_numbers(alloc, asked, array, these.part))
+}
+
+// What the numbers of one type answer.
+fn ask_numbers<T: HasPrimitiveArithmeticKernel + WrappingSum + Display + FromStr<Err: Drop>>(
+    alloc: Global,
+    asked: Asked<'_>,
+    array: &PrimitiveArray<T>,
+    part: Part,
+) -> Result<String, Fault> {
+    match asked {
+        Asked::Apply(function) => write_applied(alloc, function, array, part),
+        Asked::OperateBy(operation, word) => write_operated_by(alloc, operation, array, part, word),
+        Asked::OperateFrom(operation, word) => {
+            write_operated_from(alloc, operation, word, array, part)
+        }
+        Asked::Change(change) => write_changed(alloc, change, array, part),
+        Asked::SumRows => add_rows(alloc, array, part),
+        Asked::SumValues => add_values(alloc, array, part),
+        Asked::SumMasked(bits) => add_masked(alloc, array, part, bits),
+    }
+}

@@ -1,0 +1,18 @@
+//! Raw bits of two arrays as text. They say something where both rows are present.
+
+use polars_arrays_bits::bitmap::Bitmap;
+use polars_arrays_bits::error::ComputeError;
+use polars_arrays_flat::mask::Mask;
+use recorded_text::bits_text::write_unmasked;
+use recorded_text::fault::Fault;
+use std::alloc::Global;
+
+/// The text of raw bits under a mask and one that a call made.
+pub fn write_raw(
+    alloc: Global,
+    bits: &Bitmap,
+    left: &Mask<'_>,
+    right: Result<Mask<'_>, ComputeError>,
+) -> Result<String, Fault> {
+    write_unmasked(alloc, bits, left, &right?)
+}
