@@ -1,4 +1,4 @@
-use Rattle.std.proofs.Common.{◌≡◌, ◌<◌, ◌∙◌, ℕ, Bool, List, false, length, ap, sym, arith}
+use Rattle.std.proofs.Common.{rules, ◌≡◌, ◌<◌, ◌∙◌, ℕ, Bool, List, false, length, ap, sym, arith}
 use Rattle.polars_arrays_flat.specs.Row.{Row}
 use Rattle.polars_arrays_flat.specs.StoredRows.{number_slots}
 use Rattle.polars_arrays_folds.specs.Folds.{folded}
@@ -26,3 +26,6 @@ returns-in-0 g c =
     (λ i lt.
     let within : i < 64 = omega (arith, length-first (is_bit c.args.word) 64) in
     get_or-first (is_bit c.args.word) 64 i false within ∙ ap (λ (w : ℕ). is_bit w i) c.in-0.is ∙ zeros_bit i))
+
+pub returns-in_default : goal.returns-in_default
+returns-in_default c = search rules

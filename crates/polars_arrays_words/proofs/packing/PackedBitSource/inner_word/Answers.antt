@@ -1,0 +1,5 @@
+use Rattle.std.proofs.Common.{rules}
+use Rattle.polars_arrays_words.proofs.packing.PackedBitSource.inner_word.Goals as goal
+
+pub returns : goal.returns
+returns c = search rules

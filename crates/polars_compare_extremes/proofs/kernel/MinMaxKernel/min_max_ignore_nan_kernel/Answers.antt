@@ -1,0 +1,5 @@
+use Rattle.std.proofs.Common.{rules}
+use Rattle.polars_compare_extremes.proofs.kernel.MinMaxKernel.min_max_ignore_nan_kernel.Goals as goal
+
+pub returns : goal.returns
+returns c = search rules
