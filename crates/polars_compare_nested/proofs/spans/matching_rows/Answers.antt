@@ -19,33 +19,6 @@ loop-done-preserved g c = (
   match_behind c.args.left.now c.args.right.now c.args.a c.args.b c.loop-done.done c.min-count.result c.matching_word-word.result c.leading_bits-few.result c.loop-done.invariant.1 c.matching_word-word.ensures c.leading_bits-few.ensures.within c.leading_bits-few.ensures.ones,
 )
 
-pub matching_word-word-requires : goal.matching_word-word-requires
-matching_word-word-requires g c = (
-  c.type_bounds.static-L,
-  (
-    c.type_bounds.static-R,
-    (
-      c.requires.left_good,
-      (
-        c.requires.right_good,
-        (
-          c.requires.left_offsets,
-          (
-            c.requires.right_offsets,
-            (
-              omega (arith, c.requires.left_in, c.min-count.ensures, c.loop-done-test.true),
-              (
-                omega (arith, c.requires.right_in, c.min-count.ensures, c.loop-done-test.true),
-                omega (arith, c.min-count.ensures),
-              ),
-            ),
-          ),
-        ),
-      ),
-    ),
-  ),
-)
-
 pub returns : goal.returns
 returns g c = record {
   within = omega arith;
