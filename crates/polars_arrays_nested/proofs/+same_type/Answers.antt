@@ -1,4 +1,4 @@
-use Rattle.std.proofs.Common.{ap, sym, ◌∙◌}
+use Rattle.std.proofs.Common.{ap, sym, ◌∙◌, rules}
 use Rattle.polars_arrays_flat.specs.Kind.{NullKind, BooleanKind, Int8Kind, Int16Kind, Int32Kind, Int64Kind, Int128Kind, UInt8Kind, UInt16Kind, UInt32Kind, UInt64Kind, UInt128Kind, BinaryKind, LargeBinaryKind, Utf8Kind, LargeUtf8Kind, BinaryViewKind, Utf8ViewKind, FixedSizeBinaryKind}
 use Rattle.polars_arrays_nested.specs.Types.{type_of}
 use Rattle.polars_arrays_nested.proofs.SameTypes.{asked_of_other, asked_of_part, never, list_only, fixed_only, dictionary_only}
@@ -110,3 +110,21 @@ any_array::AnyArray::same_type-returns-in-Struct t c =
 pub any_array::AnyArray::same_type-returns-in-Dictionary : goal.any_array::AnyArray::same_type-returns-in-Dictionary
 any_array::AnyArray::same_type-returns-in-Dictionary t c =
     asked_of_part _ _ _ _ (ap type_of c.in-Dictionary.is) c.is_type_of-in-Dictionary.ensures
+
+pub dictionary::DictionaryArray::is_type_of-returns-else-same_keys : goal.dictionary::DictionaryArray::is_type_of-returns-else-same_keys
+dictionary::DictionaryArray::is_type_of-returns-else-same_keys t c = search rules
+
+pub list::ListArray::is_type_of-returns-then-is_large : goal.list::ListArray::is_type_of-returns-then-is_large
+list::ListArray::is_type_of-returns-then-is_large t c = search rules
+
+pub list::ListArray::is_type_of-returns-else-is_large : goal.list::ListArray::is_type_of-returns-else-is_large
+list::ListArray::is_type_of-returns-else-is_large t c = search rules
+
+pub dictionary::DictionaryArray::is_type_of-returns-then-same_keys : goal.dictionary::DictionaryArray::is_type_of-returns-then-same_keys
+dictionary::DictionaryArray::is_type_of-returns-then-same_keys t c = search rules
+
+pub fixed_size_list::FixedSizeListArray::is_type_of-returns-then-width : goal.fixed_size_list::FixedSizeListArray::is_type_of-returns-then-width
+fixed_size_list::FixedSizeListArray::is_type_of-returns-then-width t c = search rules
+
+pub fixed_size_list::FixedSizeListArray::is_type_of-returns-else-width : goal.fixed_size_list::FixedSizeListArray::is_type_of-returns-else-width
+fixed_size_list::FixedSizeListArray::is_type_of-returns-else-width t c = search rules

@@ -191,3 +191,6 @@ any_array::AnyArray::slice-returns-in-FixedSizeBinary t c =
     let rows = rw c.in-FixedSizeBinary.array-is at c.slice-in-FixedSizeBinary.ensures.rows in
     let stored = rw c.in-FixedSizeBinary.array-is at c.slice-in-FixedSizeBinary.ensures.stored in
     rw c.in-FixedSizeBinary.is (cut-sized c.slice-in-FixedSizeBinary.new.self c.in-FixedSizeBinary.array c.args.at c.args.n stored rows)
+
+pub struct_array::StructArray::slice-loop-i-init : goal.struct_array::StructArray::slice-loop-i-init
+struct_array::StructArray::slice-loop-i-init t c = search rules

@@ -1,5 +1,5 @@
 use Rattle.polars_arrays_flat.specs.DataType.{kind_of}
-use Rattle.std.proofs.Common.{ap}
+use Rattle.std.proofs.Common.{ap, rules}
 use Rattle.polars_arrays_nested.specs.Types.{type_of}
 use Rattle.polars_arrays_nested.proofs.SameTypes.{always}
 use Rattle.polars_arrays_nested.proofs.any_array.AnyArray.+has_type.Goals as goal
@@ -57,3 +57,33 @@ returns-in-BinaryView-BinaryView t c = always _ _ _ (ap type_of c.in-BinaryView-
 
 pub returns-in-Utf8View-Utf8View : goal.returns-in-Utf8View-Utf8View
 returns-in-Utf8View-Utf8View t c = always _ _ _ (ap type_of c.in-Utf8View-Utf8View.is-0) (ap kind_of c.in-Utf8View-Utf8View.is-1)
+
+pub returns-in-FixedSizeBinary-FixedSizeBinary : goal.returns-in-FixedSizeBinary-FixedSizeBinary
+returns-in-FixedSizeBinary-FixedSizeBinary t c = search rules
+
+pub returns-else-width : goal.returns-else-width
+returns-else-width t c = search rules
+
+pub returns-then-width : goal.returns-then-width
+returns-then-width t c = search rules
+
+pub returns-else-is_large : goal.returns-else-is_large
+returns-else-is_large t c = search rules
+
+pub returns-then-is_large : goal.returns-then-is_large
+returns-then-is_large t c = search rules
+
+pub returns-then-same_keys : goal.returns-then-same_keys
+returns-then-same_keys t c = search rules
+
+pub returns-then-not-is_large : goal.returns-then-not-is_large
+returns-then-not-is_large t c = search rules
+
+pub returns-in-Struct-default : goal.returns-in-Struct-default
+returns-in-Struct-default t c = search rules
+
+pub returns-else-same_keys : goal.returns-else-same_keys
+returns-else-same_keys t c = search rules
+
+pub returns-else-not-is_large : goal.returns-else-not-is_large
+returns-else-not-is_large t c = search rules
