@@ -1,13 +1,16 @@
 //! Arithmetic on arrays of numbers, written over an array that owns its values or into new ones.
 
-use crate::operands::{NumberType, number_array, windows};
+ghost use Rattle.std.specs.Prelude.{◌≡◌, length};
+ghost use Rattle.polars_arrays_flat.specs.StoredRows.{number_slots};
+
+use crate::operands::{NumberType, number_array, or_unsupported, two_arrays, windows};
+use crate::reductions::validity_from;
 use num_traits::AsPrimitive;
 use polars_arrays_bits::bitmap::Bitmap;
 use polars_arrays_bits::buffer::Buffer;
 use polars_arrays_bits::error::ComputeError;
 use polars_arrays_flat::array::Array;
 use polars_arrays_flat::primitive::PrimitiveArray;
-use polars_arrays_flat::validity::clone_validity;
 use polars_arrays_numbers::native_type::NativeType;
 use polars_compute_arithmetic::arithmetic::{ArithmeticKernel, HasPrimitiveArithmeticKernel};
 use std::alloc::Global;
@@ -65,17 +68,36 @@ impl<T: HasPrimitiveArithmeticKernel> Beside<T> for PrimitiveArray<T> {
         array: PrimitiveArray<T>,
     ) -> Result<PrimitiveArray<T>, ComputeError> {
         if array.len() != self.len() {
+            drop(array);
             return Err(ComputeError::Unsupported);
         }
-        let right = self.clone_array(alloc)?;
-        match operation {
-            PairOperation::Add => array.wrapping_add(alloc, right),
-            PairOperation::Sub => array.wrapping_sub(alloc, right),
-            PairOperation::Mul => array.wrapping_mul(alloc, right),
-            PairOperation::FloorDiv => array.wrapping_floor_div(alloc, right),
-            PairOperation::TruncDiv => array.wrapping_trunc_div(alloc, right),
-            PairOperation::Mod => array.wrapping_mod(alloc, right),
+        match self.clone_array(alloc) {
+            Ok(right) => run_pair(alloc, operation, array, right),
+            Err(refused) => {
+                drop(array);
+                Err(refused)
+            }
         }
+    }
+}
+
+// Runs an operation on two arrays of one length.
+#[inline(always)]
+fn run_pair<T: HasPrimitiveArithmeticKernel>(
+    alloc: Global,
+    operation: PairOperation,
+    left: PrimitiveArray<T>,
+    right: PrimitiveArray<T>,
+) -> Result<PrimitiveArray<T>, ComputeError>
+    requires { length (number_slots T.value left.values) ≡ length (number_slots T.value right.values) }
+{
+    match operation {
+        PairOperation::Add => left.wrapping_add(alloc, right),
+        PairOperation::Sub => left.wrapping_sub(alloc, right),
+        PairOperation::Mul => left.wrapping_mul(alloc, right),
+        PairOperation::FloorDiv => left.wrapping_floor_div(alloc, right),
+        PairOperation::TruncDiv => left.wrapping_trunc_div(alloc, right),
+        PairOperation::Mod => left.wrapping_mod(alloc, right),
     }
 }
 
@@ -127,12 +149,11 @@ fn owned_copy<T: NativeType>(
     alloc: Global,
     array: &PrimitiveArray<T>,
 ) -> Result<PrimitiveArray<T>, ComputeError> {
-    let values = Buffer::from_vec(Vec::from_slice(alloc, array.values())?);
     let mut copy = array.clone_array(alloc)?;
-    match PrimitiveArray::try_new(values, copy.take_validity()) {
-        Ok(owned) => Ok(owned),
-        Err(_) => Err(ComputeError::Unsupported),
-    }
+    let validity = copy.take_validity();
+    drop(copy);
+    let values = Vec::from_slice(alloc, array.values())?;
+    or_unsupported(PrimitiveArray::try_new(Buffer::from_vec(values), validity))
 }
 
 // Runs an operation so many times on what the last run made, which owns its values.
@@ -152,6 +173,7 @@ fn repeat_in_place<T: NativeType + AsPrimitive<u64>, B: Beside<T>>(
             .wrapping_mul(31)
             .wrapping_add(row_of(&array, round));
     }
+    drop(array);
     Ok(checksum)
 }
 
@@ -168,25 +190,26 @@ fn repeat_anew<T: NativeType + AsPrimitive<u64>, B: Beside<T>>(
     for round in 0..repeats {
         let made = beside.run(alloc, operation, array.clone_array(alloc)?)?;
         checksum = checksum.wrapping_mul(31).wrapping_add(row_of(&made, round));
+        drop(made);
     }
     Ok(checksum)
 }
 
-// Runs an operation in place or into new values.
+// Runs an operation in place or into new values. The checksum is 0 where a run gives nothing.
 #[inline(always)]
 fn repeat<T: NativeType + AsPrimitive<u64>, B: Beside<T>>(
     alloc: Global,
     operation: B::Operation,
-    array: &PrimitiveArray<T>,
-    beside: &B,
+    (array, beside): (&PrimitiveArray<T>, &B),
     in_place: bool,
     repeats: usize,
-) -> Result<u64, ComputeError> {
-    if in_place {
+) -> u64 {
+    let checksum = if in_place {
         repeat_in_place(alloc, operation, array, beside, repeats)
     } else {
         repeat_anew(alloc, operation, array, beside, repeats)
-    }
+    };
+    checksum.unwrap_or(0)
 }
 
 // Two validities of `len` bits: windows of the words, the second one a word later. None where there are
@@ -203,37 +226,60 @@ fn validities(
     Ok((Some(early), Some(late)))
 }
 
+// Two arrays of one type.
+fn pair_of<T: NativeType>(
+    alloc: Global,
+    left: &[i64],
+    right: &[i64],
+    words: &[u64],
+) -> Result<(PrimitiveArray<T>, PrimitiveArray<T>), ComputeError>
+where
+    i64: AsPrimitive<T>,
+{
+    two_arrays(alloc, left, right, validities(alloc, words, left.len())?)
+}
+
+// An array of one type.
+fn array_of<T: NativeType>(
+    alloc: Global,
+    values: &[i64],
+    words: &[u64],
+) -> Result<PrimitiveArray<T>, ComputeError>
+where
+    i64: AsPrimitive<T>,
+{
+    number_array(alloc, values, validity_from(alloc, words, 0, values.len())?)
+}
+
 // Runs an operation on two arrays.
 fn choose_pairs<T: HasPrimitiveArithmeticKernel + AsPrimitive<u64>>(
     alloc: Global,
-    left: &PrimitiveArray<T>,
-    right: &PrimitiveArray<T>,
+    operands: (&PrimitiveArray<T>, &PrimitiveArray<T>),
     operation: u32,
     in_place: bool,
     repeats: usize,
-) -> Result<u64, ComputeError> {
+) -> u64 {
     by_number!(
         operation,
         PairOperation: Add Sub Mul FloorDiv TruncDiv Mod,
-        |chosen| repeat(alloc, chosen, left, right, in_place, repeats),
-        Ok(0)
+        |chosen| repeat(alloc, chosen, operands, in_place, repeats),
+        0
     )
 }
 
 // Runs an operation on one array, or on one and a number.
 fn choose_lone<T: HasPrimitiveArithmeticKernel + AsPrimitive<u64>>(
     alloc: Global,
-    array: &PrimitiveArray<T>,
-    scalar: &Scalar<T>,
+    operands: (&PrimitiveArray<T>, &Scalar<T>),
     operation: u32,
     in_place: bool,
     repeats: usize,
-) -> Result<u64, ComputeError> {
+) -> u64 {
     by_number!(
         operation,
         LoneOperation: Abs Neg Add Sub Mul FloorDiv TruncDiv Mod,
-        |chosen| repeat(alloc, chosen, array, scalar, in_place, repeats),
-        Ok(0)
+        |chosen| repeat(alloc, chosen, operands, in_place, repeats),
+        0
     )
 }
 
@@ -250,10 +296,11 @@ fn time_pairs<T: HasPrimitiveArithmeticKernel + AsPrimitive<u64>>(
 where
     i64: AsPrimitive<T>,
 {
-    let (early, late) = validities(alloc, words, left.len())?;
-    let left = number_array::<i64, T>(alloc, left, early)?;
-    let right = number_array::<i64, T>(alloc, right, late)?;
-    choose_pairs(alloc, &left, &right, operation, in_place, repeats)
+    let arrays = pair_of::<T>(alloc, left, right, words)?;
+    let operands = (&arrays.0, &arrays.1);
+    let checksum = choose_pairs(alloc, operands, operation, in_place, repeats);
+    drop(arrays);
+    Ok(checksum)
 }
 
 // Makes an array of one type, and runs an operation on it and on the number.
@@ -269,17 +316,12 @@ fn time_lone<T: HasPrimitiveArithmeticKernel + AsPrimitive<u64>>(
 where
     i64: AsPrimitive<T>,
 {
-    let (early, _) = validities(alloc, words, values.len())?;
-    let array = number_array::<i64, T>(alloc, values, early)?;
+    let array = array_of::<T>(alloc, values, words)?;
     let number = scalar.as_();
-    choose_lone(
-        alloc,
-        &array,
-        &Scalar { number },
-        operation,
-        in_place,
-        repeats,
-    )
+    let operands = (&array, &Scalar { number });
+    let checksum = choose_lone(alloc, operands, operation, in_place, repeats);
+    drop(array);
+    Ok(checksum)
 }
 
 /// Runs an operation on arrays of these numbers, cut or widened to the type, of which the right one shares

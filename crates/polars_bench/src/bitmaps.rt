@@ -60,8 +60,8 @@ pub extern "C" fn polars_time_bitmaps(
     len: usize,
     repeats: usize,
 ) -> u64 {
-    let Ok((first, second)) = in_two_places(alloc, first, second, third, shift, len) else {
-        return 0;
-    };
-    time_pair(alloc, (&first, &second), kernel, repeats)
+    match in_two_places(alloc, first, second, third, shift, len) {
+        Ok(operands) => time_pair(alloc, (&operands.0, &operands.1), kernel, repeats),
+        Err(_) => 0,
+    }
 }

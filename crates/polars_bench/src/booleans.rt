@@ -68,8 +68,8 @@ pub extern "C" fn polars_time_truths(
     len: usize,
     repeats: usize,
 ) -> u64 {
-    let Ok((first, second)) = truths_in_two_places(alloc, left, right, shift, len) else {
-        return 0;
-    };
-    time_pair(alloc, (&first, &second), kernel, repeats)
+    match truths_in_two_places(alloc, left, right, shift, len) {
+        Ok(operands) => time_pair(alloc, (&operands.0, &operands.1), kernel, repeats),
+        Err(_) => 0,
+    }
 }

@@ -1,7 +1,8 @@
 //! Kernels on columns of numbers, one column after the other.
 
-use crate::nested_operands::{NoOperands, columns};
+use crate::nested_operands::columns;
 use crate::{Timed, bit_of, repeat};
+use polars_arrays_bits::error::ComputeError;
 use polars_arrays_flat::primitive::PrimitiveArray;
 use polars_compare_equality::kernel::TotalEqKernel;
 use std::alloc::Global;
@@ -58,7 +59,7 @@ fn time_columns(
     kernel: u32,
     rows: usize,
     repeats: usize,
-) -> Result<u64, NoOperands> {
+) -> Result<u64, ComputeError> {
     let left = columns(alloc, rows, left)?;
     let right = columns(alloc, rows, right)?;
     let (left, right) = (left.as_slice(), right.as_slice());

@@ -6,7 +6,8 @@ ghost use Rattle.polars_arrays_nested.specs.Types.{type_of};
 ghost use Rattle.std.specs.Prelude.{◌≡◌};
 
 use crate::bit_of;
-use crate::nested_operands::{NestedType, NoOperands, Parts, nested_array};
+use crate::nested_operands::{NestedType, Parts, boxed, nested_array};
+use polars_arrays_bits::error::ComputeError;
 use polars_arrays_nested::any_array::AnyArray;
 use polars_compare_nested::kernels::array_tot_eq_missing_kernel;
 use std::alloc::Global;
@@ -45,15 +46,15 @@ fn repeat_nested(
     left: &AnyArray,
     right: &AnyArray,
     repeats: usize,
-) -> Result<u64, NoOperands>
+) -> Result<u64, ComputeError>
     requires good_left { IsGood left.now }
     requires good_right { IsGood right.now }
 {
     if !left.same_type(right) || left.len() != right.len() {
-        return Err(NoOperands::Parts);
+        return Err(ComputeError::Unsupported);
     }
-    let left_clone = Box::new(alloc, left.clone_array(alloc)?)?;
-    let right_clone = Box::new(alloc, right.clone_array(alloc)?)?;
+    let left_clone = boxed(alloc, left.clone_array(alloc))?;
+    let right_clone = boxed(alloc, right.clone_array(alloc))?;
     let mut checksum: u64 = 0;
     for round in 0..repeats {
         let number = if round % 2 == 0 {
@@ -74,14 +75,14 @@ fn time_nested(
     kernel: u32,
     nested_type: NestedType,
     repeats: usize,
-) -> Result<u64, NoOperands> {
+) -> Result<u64, ComputeError> {
     let left = nested_array(alloc, nested_type, left)?;
     let right = nested_array(alloc, nested_type, right)?;
     by_number!(
         kernel,
         NestedKernel: TotEqMissing,
         |chosen| repeat_nested(alloc, chosen, &left, &right, repeats),
-        Err(NoOperands::Parts)
+        Err(ComputeError::Unsupported)
     )
 }
 
@@ -116,10 +117,14 @@ pub extern "C" fn polars_time_nested(
         present: right_present,
         bytes: right_bytes,
     };
-    by_number!(
+    let chosen = by_number!(
         nested_type,
         NestedType: Lists FixedLists Structs Dictionaries DeepLists TextLists,
-        |chosen| time_nested(alloc, &left, &right, kernel, chosen, repeats).unwrap_or(0),
-        0
-    )
+        |it| Some(it),
+        None
+    );
+    match chosen {
+        Some(it) => time_nested(alloc, &left, &right, kernel, it, repeats).unwrap_or(0),
+        None => 0,
+    }
 }

@@ -1,15 +1,14 @@
 //! Arrays that hold arrays that the kernels are run on, made once for many runs.
 
 ghost use Rattle.std.specs.List.{All};
-ghost use Rattle.std.specs.Prelude.{IfOk};
+ghost use Rattle.std.specs.Prelude.{◌≡◌, IfOk, Ok};
 ghost use Rattle.polars_arrays_nested.specs.GoodParts.{IsGood};
 
-use crate::operands::number_array;
-use crate::string_operands::shared;
+use crate::operands::{number_array, or_unsupported, push, shared};
+use crate::string_operands::texts;
 use polars_arrays_bits::bitmap::Bitmap;
 use polars_arrays_bits::buffer::Buffer;
-use polars_arrays_bits::error::{ArrayError, ComputeError};
-use polars_arrays_bytes::text::Utf8Array;
+use polars_arrays_bits::error::ComputeError;
 use polars_arrays_flat::data_type::{ArrowDataType, Field};
 use polars_arrays_flat::primitive::PrimitiveArray;
 use polars_arrays_nested::any_array::AnyArray;
@@ -19,7 +18,7 @@ use polars_arrays_nested::fixed_size_list::FixedSizeListArray;
 use polars_arrays_nested::list::ListArray;
 use polars_arrays_nested::list_offsets::ListOffsets;
 use polars_arrays_nested::struct_array::StructArray;
-use std::alloc::{AllocError, AllocFailed, Global};
+use std::alloc::Global;
 
 /// What an array holds.
 #[derive(Clone, Copy)]
@@ -51,53 +50,31 @@ pub(crate) struct Parts<'a> {
     pub(crate) bytes: &'a [u8],
 }
 
-/// Why there are no operands.
-#[derive(Debug, Drop)]
-pub(crate) enum NoOperands {
-    /// A growth was refused.
-    Memory,
-    /// The parts make no array, or no two arrays that can be compared.
-    Parts,
-}
-
-impl From<AllocError> for NoOperands {
-    fn from(_refused: AllocError) -> NoOperands {
-        NoOperands::Memory
-    }
-}
-
-impl<T: Drop> From<AllocFailed<T>> for NoOperands {
-    fn from(_refused: AllocFailed<T>) -> NoOperands {
-        NoOperands::Memory
-    }
-}
-
-impl From<ComputeError> for NoOperands {
-    fn from(_refused: ComputeError) -> NoOperands {
-        NoOperands::Memory
-    }
-}
-
-impl From<ArrayError> for NoOperands {
-    fn from(_refused: ArrayError) -> NoOperands {
-        NoOperands::Parts
-    }
-}
-
 // A copy of the words as the bits of `rows` rows, or none where there are no words.
-fn validity(alloc: Global, words: &[u64], rows: usize) -> Result<Option<Bitmap>, NoOperands> {
+fn validity(alloc: Global, words: &[u64], rows: usize) -> Result<Option<Bitmap>, ComputeError> {
     if words.is_empty() {
         return Ok(None);
     }
     if words.len() < rows.div_ceil(64) {
-        return Err(NoOperands::Parts);
+        return Err(ComputeError::Unsupported);
     }
     let words = shared(alloc, words)?;
     Ok(Some(Bitmap::from_words(words, 0, rows)))
 }
 
+/// What was made, in a box.
+pub(crate) fn boxed<T: Drop>(
+    alloc: Global,
+    made: Result<T, ComputeError>,
+) -> Result<Box<T>, ComputeError>
+    ensures { IfOk result (λ boxed. made ≡ Ok boxed.value) }
+{
+    let boxed = Box::new(alloc, made?)?;
+    Ok(boxed)
+}
+
 // The array in a box.
-fn boxed(alloc: Global, array: AnyArray) -> Result<Box<AnyArray>, NoOperands>
+fn boxed_array(alloc: Global, array: AnyArray) -> Result<Box<AnyArray>, ComputeError>
     requires { IsGood array }
     ensures { IfOk result (λ a. IsGood a.value) }
 {
@@ -106,31 +83,47 @@ fn boxed(alloc: Global, array: AnyArray) -> Result<Box<AnyArray>, NoOperands>
 }
 
 // An array of the numbers.
-fn item_array(alloc: Global, items: &[i32]) -> Result<Box<AnyArray>, NoOperands>
+fn item_array(alloc: Global, items: &[i32]) -> Result<Box<AnyArray>, ComputeError>
     ensures { IfOk result (λ a. IsGood a.value) }
 {
-    boxed(alloc, AnyArray::Int32(number_array(alloc, items, None)?))
+    boxed(alloc, number_array(alloc, items, None).map(AnyArray::Int32))
+}
+
+// Lists of the items between the offsets.
+fn lists_of(
+    alloc: Global,
+    offsets: Buffer<i32>,
+    items: Box<AnyArray>,
+    validity: Option<Bitmap>,
+) -> Result<Box<AnyArray>, ComputeError>
+    requires { IsGood items.value }
+    ensures { IfOk result (λ a. IsGood a.value) }
+{
+    let lists = ListArray::try_new(ListOffsets::Small(offsets), items, validity);
+    boxed(alloc, or_unsupported(lists).map(AnyArray::List))
 }
 
 // Lists of numbers between offsets. None is null where there are no words.
-fn list_array(alloc: Global, parts: &Parts) -> Result<Box<AnyArray>, NoOperands>
+fn list_array(alloc: Global, parts: &Parts) -> Result<Box<AnyArray>, ComputeError>
     ensures { IfOk result (λ a. IsGood a.value) }
 {
     let items = item_array(alloc, parts.items)?;
     let validity = validity(alloc, parts.present, parts.offsets.len().saturating_sub(1))?;
-    let offsets = shared(alloc, parts.offsets)?;
-    let array = ListArray::try_new(ListOffsets::Small(offsets), items, validity)?;
-    boxed(alloc, AnyArray::List(array))
+    lists_of(alloc, shared(alloc, parts.offsets)?, items, validity)
 }
 
 // Lists of one width of numbers. The items behind the last whole list are left out.
-fn fixed_list_array(alloc: Global, width: usize, items: &[i32]) -> Result<Box<AnyArray>, NoOperands>
+fn fixed_list_array(
+    alloc: Global,
+    width: usize,
+    items: &[i32],
+) -> Result<Box<AnyArray>, ComputeError>
     ensures { IfOk result (λ a. IsGood a.value) }
 {
     let rows = items.len().checked_div(width).unwrap_or(0);
     let items = items.get(..rows.saturating_mul(width)).unwrap_or(items);
-    let array = FixedSizeListArray::try_new(width, rows, item_array(alloc, items)?, None)?;
-    boxed(alloc, AnyArray::FixedSizeList(array))
+    let lists = FixedSizeListArray::try_new(width, rows, item_array(alloc, items)?, None);
+    boxed(alloc, or_unsupported(lists).map(AnyArray::FixedSizeList))
 }
 
 // How many columns of `rows` rows follow one another in the numbers.
@@ -149,10 +142,13 @@ pub(crate) fn columns(
     alloc: Global,
     rows: usize,
     values: &[i32],
-) -> Result<Vec<PrimitiveArray<i32>>, NoOperands> {
+) -> Result<Vec<PrimitiveArray<i32>>, ComputeError> {
     let mut columns = Vec::new(alloc);
     for k in 0..column_count(rows, values) {
-        columns.push(number_array(alloc, column(rows, values, k), None)?)?;
+        push(
+            &mut columns,
+            number_array(alloc, column(rows, values, k), None),
+        )?;
     }
     Ok(columns)
 }
@@ -163,11 +159,10 @@ fn column_array(
     rows: usize,
     values: &[i32],
     k: usize,
-) -> Result<AnyArray, NoOperands>
+) -> Result<AnyArray, ComputeError>
     ensures { IfOk result (λ a. IsGood a) }
 {
-    let array = number_array(alloc, column(rows, values, k), None)?;
-    Ok(AnyArray::Int32(array))
+    number_array(alloc, column(rows, values, k), None).map(AnyArray::Int32)
 }
 
 // Adds a column of the texts, if there are offsets.
@@ -176,7 +171,7 @@ fn push_texts(
     fields: &mut Vec<Field>,
     columns: &mut Vec<AnyArray>,
     parts: &Parts,
-) -> Result<(), NoOperands>
+) -> Result<(), ComputeError>
     requires { All IsGood columns.old.items }
     ensures { IfOk result (λ _. All IsGood columns.new.items) }
 {
@@ -191,7 +186,7 @@ fn push_texts(
 }
 
 // Structs of those columns, and of the texts.
-fn struct_array(alloc: Global, parts: &Parts) -> Result<Box<AnyArray>, NoOperands>
+fn struct_array(alloc: Global, parts: &Parts) -> Result<Box<AnyArray>, ComputeError>
     ensures { IfOk result (λ a. IsGood a.value) }
 {
     let (rows, values) = (parts.size, parts.items);
@@ -204,52 +199,47 @@ fn struct_array(alloc: Global, parts: &Parts) -> Result<Box<AnyArray>, NoOperand
         columns.push(column_array(alloc, rows, values, k)?)?;
     }
     push_texts(alloc, &mut fields, &mut columns, parts)?;
-    let array = StructArray::try_new(fields, rows, columns, None)?;
-    boxed(alloc, AnyArray::Struct(array))
+    let array = or_unsupported(StructArray::try_new(fields, rows, columns, None))?;
+    boxed_array(alloc, AnyArray::Struct(array))
 }
 
 // Texts between offsets. None is null where there are no words.
-fn text_array(alloc: Global, parts: &Parts) -> Result<AnyArray, NoOperands>
+fn text_array(alloc: Global, parts: &Parts) -> Result<AnyArray, ComputeError>
     ensures { IfOk result (λ a. IsGood a) }
 {
     let validity = validity(alloc, parts.present, parts.offsets.len().saturating_sub(1))?;
-    let offsets = shared(alloc, parts.offsets)?;
-    let texts = Utf8Array::try_new(offsets, shared(alloc, parts.bytes)?, validity)?;
-    Ok(AnyArray::Utf8(texts))
+    texts(alloc, parts.offsets, parts.bytes, validity).map(AnyArray::Utf8)
 }
 
 // Lists of texts.
-fn text_list_array(alloc: Global, parts: &Parts) -> Result<Box<AnyArray>, NoOperands>
+fn text_list_array(alloc: Global, parts: &Parts) -> Result<Box<AnyArray>, ComputeError>
     ensures { IfOk result (λ a. IsGood a.value) }
 {
-    let texts = boxed(alloc, text_array(alloc, parts)?)?;
-    let offsets = shared(alloc, parts.items)?;
-    let array = ListArray::try_new(ListOffsets::Small(offsets), texts, None)?;
-    boxed(alloc, AnyArray::List(array))
+    let texts = boxed(alloc, text_array(alloc, parts))?;
+    lists_of(alloc, shared(alloc, parts.items)?, texts, None)
 }
 
 // Rows that keys name among texts between offsets.
-fn dictionary_array(alloc: Global, parts: &Parts) -> Result<Box<AnyArray>, NoOperands>
+fn dictionary_array(alloc: Global, parts: &Parts) -> Result<Box<AnyArray>, ComputeError>
     ensures { IfOk result (λ a. IsGood a.value) }
 {
-    let entries = boxed(alloc, text_array(alloc, parts)?)?;
+    let entries = boxed(alloc, text_array(alloc, parts))?;
     let keys = number_array(alloc, parts.items, None)?;
-    let array = DictionaryArray::try_new(DictKeys::UInt32(keys), entries)?;
-    boxed(alloc, AnyArray::Dictionary(array))
+    let rows = DictionaryArray::try_new(DictKeys::UInt32(keys), entries);
+    boxed(alloc, or_unsupported(rows).map(AnyArray::Dictionary))
 }
 
 // Lists of one row, which is all rows of an array.
-fn listed(alloc: Global, items: Box<AnyArray>) -> Result<Box<AnyArray>, NoOperands>
+fn listed(alloc: Global, items: Box<AnyArray>) -> Result<Box<AnyArray>, ComputeError>
     requires { IsGood items.value }
     ensures { IfOk result (λ a. IsGood a.value) }
 {
-    let offsets = Buffer::from_vec(Vec::from_slice(alloc, &[0i32, 1])?);
-    let array = ListArray::try_new(ListOffsets::Small(offsets), items, None)?;
-    boxed(alloc, AnyArray::List(array))
+    let offsets = Vec::from_slice(alloc, &[0i32, 1])?;
+    lists_of(alloc, Buffer::from_vec(offsets), items, None)
 }
 
 // That many levels of lists of one row around a number.
-fn deep_list_array(alloc: Global, levels: usize, value: i32) -> Result<Box<AnyArray>, NoOperands>
+fn deep_list_array(alloc: Global, levels: usize, value: i32) -> Result<Box<AnyArray>, ComputeError>
     ensures { IfOk result (λ a. IsGood a.value) }
 {
     let mut array = item_array(alloc, &[value])?;
@@ -264,7 +254,7 @@ pub(crate) fn nested_array(
     alloc: Global,
     nested_type: NestedType,
     parts: &Parts,
-) -> Result<Box<AnyArray>, NoOperands>
+) -> Result<Box<AnyArray>, ComputeError>
     ensures { IfOk result (λ a. IsGood a.value) }
 {
     match nested_type {

@@ -1,6 +1,6 @@
 //! Kernels on arrays of numbers.
 
-use crate::operands::{NumberType, Numbers, comparable_numbers, number_array, windows};
+use crate::operands::{NumberType, Numbers, both, comparable_numbers, two_arrays, windows};
 use crate::{Timed, bit_of, repeat};
 use num_traits::AsPrimitive;
 use polars_arrays_bits::error::ComputeError;
@@ -40,35 +40,38 @@ impl<T: NativeType> Timed for Numbers<'_, T> {
 // Runs a kernel on the one and the other two arrays in turn.
 fn time_pairs<T: NativeType>(
     alloc: Global,
-    (left, right): (&PrimitiveArray<T>, &PrimitiveArray<T>),
-    (left_clone, right_clone): (&PrimitiveArray<T>, &PrimitiveArray<T>),
-    scalar: &T,
+    operands: (&Numbers<T>, &Numbers<T>),
     kernel: u32,
     repeats: usize,
-) -> Result<u64, ComputeError> {
-    let first = comparable_numbers(left, right, scalar)?;
-    let second = comparable_numbers(left_clone, right_clone, scalar)?;
+) -> u64 {
     by_number!(
         kernel,
         NumberKernel: TotEq TotLt TotEqBroadcast TotLtBroadcast TotEqMissing,
-        |chosen| Ok(repeat(alloc, chosen, (&first, &second), repeats)),
-        Err(ComputeError::Unsupported)
+        |chosen| repeat(alloc, chosen, operands, repeats),
+        0
     )
+}
+
+// Clones of two arrays.
+fn clones_of<T: NativeType>(
+    alloc: Global,
+    arrays: &(PrimitiveArray<T>, PrimitiveArray<T>),
+) -> Result<(PrimitiveArray<T>, PrimitiveArray<T>), ComputeError> {
+    both(arrays.0.clone_array(alloc), arrays.1.clone_array(alloc))
 }
 
 // Runs a kernel on two arrays and on clones of them in turn.
 fn time_clones<T: NativeType>(
     alloc: Global,
-    left: &PrimitiveArray<T>,
-    right: &PrimitiveArray<T>,
+    arrays: &(PrimitiveArray<T>, PrimitiveArray<T>),
     scalar: &T,
     kernel: u32,
     repeats: usize,
 ) -> Result<u64, ComputeError> {
-    let left_clone = left.clone_array(alloc)?;
-    let right_clone = right.clone_array(alloc)?;
-    let clones = (&left_clone, &right_clone);
-    time_pairs(alloc, (left, right), clones, scalar, kernel, repeats)
+    let clones = clones_of(alloc, arrays)?;
+    let first = comparable_numbers(&arrays.0, &arrays.1, scalar)?;
+    let second = comparable_numbers(&clones.0, &clones.1, scalar)?;
+    Ok(time_pairs(alloc, (&first, &second), kernel, repeats))
 }
 
 // Runs a kernel on arrays of one type.
@@ -86,9 +89,8 @@ where
     i64: AsPrimitive<T>,
 {
     let (early, late) = windows(alloc, validities, shift, left.len())?;
-    let left = number_array(alloc, left, Some(early))?;
-    let right = number_array(alloc, right, Some(late))?;
-    time_clones::<T>(alloc, &left, &right, &scalar.as_(), kernel, repeats)
+    let arrays = two_arrays(alloc, left, right, (Some(early), Some(late)))?;
+    time_clones::<T>(alloc, &arrays, &scalar.as_(), kernel, repeats)
 }
 
 /// Runs a kernel on arrays of these numbers, cut or widened to the type. Their validities are windows of

@@ -1,12 +1,12 @@
 //! What the kernels are run on, made once for many runs.
 
-ghost use Rattle.std.specs.Prelude.{◌≡◌, length, IfOk};
+ghost use Rattle.std.specs.Prelude.{◌≡◌, ◌++◌, ◌∷◌, [], length, IfOk, IsOkAnd, Ok};
 ghost use Rattle.polars_arrays_flat.specs.StoredRows.{number_slots, truth_slots};
 
 use num_traits::AsPrimitive;
 use polars_arrays_bits::bitmap::Bitmap;
 use polars_arrays_bits::buffer::Buffer;
-use polars_arrays_bits::error::ComputeError;
+use polars_arrays_bits::error::{ArrayError, ComputeError};
 use polars_arrays_flat::array::Array;
 use polars_arrays_flat::boolean::BooleanArray;
 use polars_arrays_flat::primitive::PrimitiveArray;
@@ -68,6 +68,44 @@ pub(crate) struct Truths {
     ghost as_long: { length (truth_slots right.values) ≡ length (truth_slots left.values) },
 }
 
+/// A copy of a slice, which clones share.
+pub(crate) fn shared<T: Copy>(alloc: Global, elements: &[T]) -> Result<Buffer<T>, ComputeError>
+    ensures { IfOk result (λ buffer. buffer.items ≡ elements.now) }
+{
+    Buffer::from_vec(Vec::from_slice(alloc, elements)?).share(alloc)
+}
+
+/// What parts make. The error is `Unsupported` where they make nothing.
+pub(crate) fn or_unsupported<A: Drop>(made: Result<A, ArrayError>) -> Result<A, ComputeError>
+    ensures { IfOk result (λ a. made ≡ Ok a) }
+{
+    match made {
+        Ok(array) => Ok(array),
+        Err(_) => Err(ComputeError::Unsupported),
+    }
+}
+
+/// Both, where both were made. The error is that of the first that was not.
+pub(crate) fn both<A: Drop, B: Drop>(
+    first: Result<A, ComputeError>,
+    second: Result<B, ComputeError>,
+) -> Result<(A, B), ComputeError> {
+    let first = first?;
+    let second = second?;
+    Ok((first, second))
+}
+
+/// Adds what was made.
+pub(crate) fn push<T: Drop>(
+    items: &mut Vec<T>,
+    made: Result<T, ComputeError>,
+) -> Result<(), ComputeError>
+    ensures { IfOk result (λ _. IsOkAnd made (λ x. items.new.items ≡ items.old.items ++ x ∷ [])) }
+{
+    items.push(made?)?;
+    Ok(())
+}
+
 /// Two windows of `len` bits of a copy of the words: one from bit `at` on, and one from a word later.
 pub(crate) fn windows(
     alloc: Global,
@@ -81,7 +119,7 @@ pub(crate) fn windows(
     if end == usize::MAX || words.len() < end.div_ceil(64) {
         return Err(ComputeError::Unsupported);
     }
-    let words = Buffer::from_vec(Vec::from_slice(alloc, words)?).share(alloc)?;
+    let words = shared(alloc, words)?;
     let same = words.clone_buffer(alloc)?;
     let early = Bitmap::from_words(words, at, len);
     let late = Bitmap::from_words(same, at + STRIDE, len);
@@ -127,17 +165,36 @@ pub(crate) fn converted<C: AsPrimitive<T>, T: NativeType>(
     Ok(made)
 }
 
+// The numbers in another type, which clones share.
+fn shared_numbers<C: AsPrimitive<T>, T: NativeType>(
+    alloc: Global,
+    values: &[C],
+) -> Result<Buffer<T>, ComputeError> {
+    Buffer::from_vec(converted(alloc, values)?).share(alloc)
+}
+
 /// An array of the numbers in another type, which its clones share.
 pub(crate) fn number_array<C: AsPrimitive<T>, T: NativeType>(
     alloc: Global,
     values: &[C],
     validity: Option<Bitmap>,
 ) -> Result<PrimitiveArray<T>, ComputeError> {
-    let values = Buffer::from_vec(converted(alloc, values)?).share(alloc)?;
-    match PrimitiveArray::try_new(values, validity) {
-        Ok(array) => Ok(array),
-        Err(_) => Err(ComputeError::Unsupported),
-    }
+    let values = shared_numbers(alloc, values)?;
+    or_unsupported(PrimitiveArray::try_new(values, validity))
+}
+
+/// Two such arrays, each with its validity.
+pub(crate) fn two_arrays<T: NativeType>(
+    alloc: Global,
+    left: &[i64],
+    right: &[i64],
+    (early, late): (Option<Bitmap>, Option<Bitmap>),
+) -> Result<(PrimitiveArray<T>, PrimitiveArray<T>), ComputeError>
+where
+    i64: AsPrimitive<T>,
+{
+    let left = number_array(alloc, left, early);
+    both(left, number_array(alloc, right, late))
 }
 
 /// Two arrays that can be compared, and a number. The error is `Unsupported` where they cannot.
@@ -156,22 +213,24 @@ pub(crate) fn comparable_numbers<'a, T: NativeType>(
     })
 }
 
-// An array of truth values with no validity.
-fn truth_array(values: Bitmap) -> Result<BooleanArray, ComputeError> {
-    match BooleanArray::try_new(values, None) {
-        Ok(array) => Ok(array),
-        Err(_) => Err(ComputeError::Unsupported),
-    }
-}
-
 // Two arrays of truth values that can be compared. The error is `Unsupported` where they cannot.
 fn comparable_truths(left: Bitmap, right: Bitmap) -> Result<Truths, ComputeError> {
-    let left = truth_array(left)?;
-    let right = truth_array(right)?;
+    let left = or_unsupported(BooleanArray::try_new(left, None))?;
+    let right = or_unsupported(BooleanArray::try_new(right, None))?;
     if !left.can_compare(&right) || right.len() != left.len() {
         return Err(ComputeError::Unsupported);
     }
     Ok(Truths { left, right })
+}
+
+// Two pairs of arrays whose values are the early and the late windows of the left and the right ones.
+fn two_truths(
+    (left, later_left): (Bitmap, Bitmap),
+    (right, later_right): (Bitmap, Bitmap),
+) -> Result<(Truths, Truths), ComputeError> {
+    let later = comparable_truths(later_left, later_right)?;
+    let early = comparable_truths(left, right)?;
+    Ok((early, later))
 }
 
 /// Two pairs of arrays of `len` truth values. In the first one the values are windows that begin
@@ -183,9 +242,7 @@ pub(crate) fn truths_in_two_places(
     shift: usize,
     len: usize,
 ) -> Result<(Truths, Truths), ComputeError> {
-    let (left, later_left) = windows(alloc, left, shift, len)?;
-    let (right, later_right) = windows(alloc, right, shift.saturating_mul(2), len)?;
-    let later = comparable_truths(later_left, later_right)?;
-    let early = comparable_truths(left, right)?;
-    Ok((early, later))
+    let left = windows(alloc, left, shift, len)?;
+    let right = windows(alloc, right, shift.saturating_mul(2), len)?;
+    two_truths(left, right)
 }

@@ -1,7 +1,7 @@
 //! Sums, reductions and extremes of an array of numbers, and counts of its bits.
 
 use crate::arithmetic::{NO_NUMBER, row_of};
-use crate::operands::{NumberType, number_array, windows};
+use crate::operands::{NumberType, both, number_array, windows};
 use crate::{Timed, repeat};
 use num_traits::AsPrimitive;
 use polars_arrays_bits::bitmap::Bitmap;
@@ -82,16 +82,15 @@ fn count_of(made: Result<PrimitiveArray<u32>, ComputeError>, i: usize) -> u64 {
 // Runs a kernel on an array and on its clone in turn.
 fn time_clones<T: BitNumber + WrappingSum + AsPrimitive<u64>>(
     alloc: Global,
-    array: &PrimitiveArray<T>,
-    clone: &PrimitiveArray<T>,
+    arrays: (&PrimitiveArray<T>, &PrimitiveArray<T>),
     kernel: u32,
     repeats: usize,
-) -> Result<u64, ComputeError> {
+) -> u64 {
     by_number!(
         kernel,
         ReductionKernel: Sum ReduceAnd ReduceOr ReduceXor Min Max MinMax CountOnes LeadingZeros TrailingZeros,
-        |chosen| Ok(repeat(alloc, chosen, (array, clone), repeats)),
-        Err(ComputeError::Unsupported)
+        |chosen| repeat(alloc, chosen, arrays, repeats),
+        0
     )
 }
 
@@ -109,6 +108,22 @@ pub(crate) fn validity_from(
     Ok(Some(validity))
 }
 
+// An array of one type, and its clone.
+fn array_and_clone<T: NativeType>(
+    alloc: Global,
+    values: &[i64],
+    validities: &[u64],
+    shift: usize,
+) -> Result<(PrimitiveArray<T>, PrimitiveArray<T>), ComputeError>
+where
+    i64: AsPrimitive<T>,
+{
+    let validity = validity_from(alloc, validities, shift, values.len())?;
+    let array = number_array::<i64, T>(alloc, values, validity)?;
+    let clone = array.clone_array(alloc);
+    both(Ok(array), clone)
+}
+
 // Runs a kernel on an array of one type.
 fn time_array<T: BitNumber + WrappingSum + AsPrimitive<u64>>(
     alloc: Global,
@@ -121,10 +136,8 @@ fn time_array<T: BitNumber + WrappingSum + AsPrimitive<u64>>(
 where
     i64: AsPrimitive<T>,
 {
-    let validity = validity_from(alloc, validities, shift, values.len())?;
-    let array = number_array(alloc, values, validity)?;
-    let clone = array.clone_array(alloc)?;
-    time_clones::<T>(alloc, &array, &clone, kernel, repeats)
+    let arrays = array_and_clone::<T>(alloc, values, validities, shift)?;
+    Ok(time_clones(alloc, (&arrays.0, &arrays.1), kernel, repeats))
 }
 
 /// Runs a kernel on an array of these numbers, cut or widened to the type. Its validity begins `shift` bits into the

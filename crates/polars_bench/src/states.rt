@@ -4,7 +4,7 @@ ghost use Rattle.std.specs.Prelude.{◌+◌, ◌≤◌, All, IsTrue, length};
 ghost use Rattle.polars_arrays_flat.specs.ArrayRows.{number_rows};
 ghost use Rattle.polars_compute_slots.specs.State.{RangeFits, are_within, new_state, numbers_between, range_of};
 
-use crate::operands::number_array;
+use crate::operands::{number_array, push};
 use crate::reductions::validity_from;
 use crate::{Timed, repeat};
 use polars_arrays_bits::error::ComputeError;
@@ -70,7 +70,9 @@ fn chunks_between<'a, T: UniqueNumber>(
         return Err(ComputeError::Unsupported);
     }
     let state = PrimitiveRangedUniqueState::new(alloc, least, greatest)?;
-    if !all_accepted(&state, arrays) {
+    let accepted = all_accepted(&state, arrays);
+    drop(state);
+    if !accepted {
         return Err(ComputeError::Unsupported);
     }
     Ok(Chunks {
@@ -106,14 +108,27 @@ fn cut<T: UniqueNumber>(
     let mut chunks = Vec::new(alloc);
     let whole = array.len() / chunk;
     for k in 0..whole {
-        chunks.push(part_of(alloc, array, chunk * k, chunk)?)?;
+        push(&mut chunks, part_of(alloc, array, chunk * k, chunk))?;
     }
     let at = chunk * whole;
-    chunks.push(part_of(alloc, array, at, array.len() - at)?)?;
+    push(&mut chunks, part_of(alloc, array, at, array.len() - at))?;
     Ok(chunks)
 }
 
 // Appends an array to new states, in chunks of so many rows.
+fn time_cut(
+    alloc: Global,
+    array: &PrimitiveArray<i32>,
+    greatest: i32,
+    chunk: usize,
+    repeats: usize,
+) -> Result<u64, ComputeError> {
+    let arrays = cut(alloc, array, chunk)?;
+    let chunks = chunks_between(alloc, &arrays, 0, greatest)?;
+    Ok(repeat(alloc, (), (&chunks, &chunks), repeats))
+}
+
+// Makes an array, and appends it to new states.
 fn time_chunks(
     alloc: Global,
     values: &[i64],
@@ -124,10 +139,8 @@ fn time_chunks(
     repeats: usize,
 ) -> Result<u64, ComputeError> {
     let validity = validity_from(alloc, validities, shift, values.len())?;
-    let array: PrimitiveArray<i32> = number_array(alloc, values, validity)?;
-    let arrays = cut(alloc, &array, chunk)?;
-    let chunks = chunks_between(alloc, &arrays, 0, greatest)?;
-    Ok(repeat(alloc, (), (&chunks, &chunks), repeats))
+    let array = number_array(alloc, values, validity)?;
+    time_cut(alloc, &array, greatest, chunk, repeats)
 }
 
 /// Appends these numbers, cut to 32 bits, to a state of those from 0 to `greatest`, in chunks of so many rows. Their validity
@@ -183,20 +196,49 @@ impl<T: UniqueNumber> Timed for Merges<'_, T> {
 }
 
 // A state that has seen an array's numbers, where they are from 0 to a greatest one.
+fn state_of(
+    alloc: Global,
+    array: &PrimitiveArray<i32>,
+    greatest: i32,
+) -> Result<PrimitiveRangedUniqueState<i32>, ComputeError> {
+    if !range_fits(0, greatest) {
+        return Err(ComputeError::Unsupported);
+    }
+    let mut state = PrimitiveRangedUniqueState::new(alloc, 0, greatest)?;
+    if state.accepts(array) {
+        state.append(array);
+    }
+    Ok(state)
+}
+
+// The same of an array of these numbers.
 fn gathered(
     alloc: Global,
     values: &[i64],
     greatest: i32,
 ) -> Result<PrimitiveRangedUniqueState<i32>, ComputeError> {
-    let array: PrimitiveArray<i32> = number_array(alloc, values, None)?;
+    let array = number_array(alloc, values, None)?;
+    state_of(alloc, &array, greatest)
+}
+
+// Merges two states.
+fn time_states(
+    alloc: Global,
+    left: &PrimitiveRangedUniqueState<i32>,
+    right: &PrimitiveRangedUniqueState<i32>,
+    greatest: i32,
+    repeats: usize,
+) -> Result<u64, ComputeError> {
     if !range_fits(0, greatest) {
         return Err(ComputeError::Unsupported);
     }
-    let mut state = PrimitiveRangedUniqueState::new(alloc, 0, greatest)?;
-    if state.accepts(&array) {
-        state.append(&array);
-    }
-    Ok(state)
+    let merges = Merges {
+        left,
+        right,
+        least: 0,
+        greatest,
+    };
+    Ok(repeat(alloc, (), (&merges, &merges), repeats))
 }
 
 // Merges states of two arrays.
@@ -209,16 +251,7 @@ fn time_merged(
 ) -> Result<u64, ComputeError> {
     let left = gathered(alloc, left, greatest)?;
     let right = gathered(alloc, right, greatest)?;
-    if !range_fits(0, greatest) {
-        return Err(ComputeError::Unsupported);
-    }
-    let merges = Merges {
-        left: &left,
-        right: &right,
-        least: 0,
-        greatest,
-    };
-    Ok(repeat(alloc, (), (&merges, &merges), repeats))
+    time_states(alloc, &left, &right, greatest, repeats)
 }
 
 /// Merges the states of two columns of these numbers, cut to 32 bits, into a new one of those from 0 to `greatest`.

@@ -1,7 +1,9 @@
 //! Arrays of byte strings, texts and views that the kernels are run on, made once for many runs.
 
-ghost use Rattle.std.specs.Prelude.{◌≡◌, length, IfOk};
+ghost use Rattle.std.specs.Prelude.{◌≡◌, length};
 
+use crate::operands::{or_unsupported, push, shared};
+use polars_arrays_bits::bitmap::Bitmap;
 use polars_arrays_bits::buffer::Buffer;
 use polars_arrays_bits::error::ComputeError;
 use polars_arrays_bytes::fixed_size::FixedSizeBinaryArray;
@@ -32,8 +34,8 @@ pub(crate) struct Strings<A: ByteRows + Drop, S: Copy> {
     ghost as_long: { length (A.slots right) ≡ length (A.slots left) },
 }
 
-/// Two arrays that can be compared, and a string. The error is `Unsupported` where they cannot.
-pub(crate) fn comparable_strings<A: ByteRows + Drop, S: Copy>(
+// Two arrays that can be compared, and a string. The error is `Unsupported` where they cannot.
+fn comparable_strings<A: ByteRows + Drop, S: Copy>(
     left: A,
     right: A,
     scalar: S,
@@ -48,11 +50,45 @@ pub(crate) fn comparable_strings<A: ByteRows + Drop, S: Copy>(
     })
 }
 
-/// A copy of a slice, which clones share.
-pub(crate) fn shared<T: Copy>(alloc: Global, elements: &[T]) -> Result<Buffer<T>, ComputeError>
-    ensures { IfOk result (λ buffer. buffer.items ≡ elements.now) }
-{
-    Buffer::from_vec(Vec::from_slice(alloc, elements)?).share(alloc)
+/// Two arrays of one type that parts make, and a string.
+pub(crate) fn strings_of<A: StringArray, S: Copy>(
+    alloc: Global,
+    left: &Parts,
+    right: &Parts,
+    scalar: S,
+) -> Result<Strings<A, S>, ComputeError> {
+    let left = A::of_parts(alloc, left)?;
+    comparable_strings(left, A::of_parts(alloc, right)?, scalar)
+}
+
+/// Second arrays of the same strings.
+pub(crate) fn clones_of<A: StringArray, S: Copy>(
+    alloc: Global,
+    strings: &Strings<A, S>,
+) -> Result<Strings<A, S>, ComputeError> {
+    let left = strings.left.clone_strings(alloc)?;
+    comparable_strings(left, strings.right.clone_strings(alloc)?, strings.scalar)
+}
+
+// The views, which clones share.
+fn shared_views(alloc: Global, views: &[[u8; 16]]) -> Result<Buffer<View>, ComputeError> {
+    let mut rows = Vec::with_capacity(alloc, views.len())?;
+    for view in views {
+        rows.push(View::new(*view))?;
+    }
+    Buffer::from_vec(rows).share(alloc)
+}
+
+/// Texts between the offsets in the bytes.
+pub(crate) fn texts(
+    alloc: Global,
+    offsets: &[i32],
+    bytes: &[u8],
+    validity: Option<Bitmap>,
+) -> Result<Utf8Array<i32>, ComputeError> {
+    let offsets = shared(alloc, offsets)?;
+    let bytes = shared(alloc, bytes)?;
+    or_unsupported(Utf8Array::try_new(offsets, bytes, validity))
 }
 
 /// A type of arrays of strings.
@@ -67,16 +103,10 @@ pub(crate) trait StringArray: ByteRows + Drop + Sized {
 // Views, and the one buffer that their strings lie in.
 impl StringArray for BinaryViewArray {
     fn of_parts(alloc: Global, parts: &Parts) -> Result<BinaryViewArray, ComputeError> {
-        let mut rows = Vec::with_capacity(alloc, parts.views.len())?;
-        for view in parts.views {
-            rows.push(View::new(*view))?;
-        }
+        let views = shared_views(alloc, parts.views)?;
         let mut buffers = Vec::new(alloc);
-        buffers.push(shared(alloc, parts.bytes)?)?;
-        match BinaryViewArray::try_new(Buffer::from_vec(rows).share(alloc)?, buffers, None) {
-            Ok(array) => Ok(array),
-            Err(_) => Err(ComputeError::Unsupported),
-        }
+        push(&mut buffers, shared(alloc, parts.bytes))?;
+        or_unsupported(BinaryViewArray::try_new(views, buffers, None))
     }
 
     fn clone_strings(&self, alloc: Global) -> Result<BinaryViewArray, ComputeError> {
@@ -87,11 +117,7 @@ impl StringArray for BinaryViewArray {
 // Texts between offsets.
 impl StringArray for Utf8Array<i32> {
     fn of_parts(alloc: Global, parts: &Parts) -> Result<Utf8Array<i32>, ComputeError> {
-        let offsets = shared(alloc, parts.offsets)?;
-        match Utf8Array::try_new(offsets, shared(alloc, parts.bytes)?, None) {
-            Ok(array) => Ok(array),
-            Err(_) => Err(ComputeError::Unsupported),
-        }
+        texts(alloc, parts.offsets, parts.bytes, None)
     }
 
     fn clone_strings(&self, alloc: Global) -> Result<Utf8Array<i32>, ComputeError> {
@@ -103,10 +129,8 @@ impl StringArray for Utf8Array<i32> {
 impl StringArray for FixedSizeBinaryArray {
     fn of_parts(alloc: Global, parts: &Parts) -> Result<FixedSizeBinaryArray, ComputeError> {
         let values = shared(alloc, parts.bytes)?;
-        match FixedSizeBinaryArray::try_new(SIZE, parts.bytes.len() / SIZE, values, None) {
-            Ok(array) => Ok(array),
-            Err(_) => Err(ComputeError::Unsupported),
-        }
+        let rows = parts.bytes.len() / SIZE;
+        or_unsupported(FixedSizeBinaryArray::try_new(SIZE, rows, values, None))
     }
 
     fn clone_strings(&self, alloc: Global) -> Result<FixedSizeBinaryArray, ComputeError> {

@@ -1,6 +1,6 @@
 //! Comparisons and extremes of arrays of views, of texts between offsets, and of byte strings of one size.
 
-use crate::string_operands::{Parts, StringArray, Strings, comparable_strings};
+use crate::string_operands::{Parts, StringArray, Strings, clones_of, strings_of};
 use crate::{NO_BIT, NO_BITMAP, Timed, bit_of, repeat};
 use polars_arrays_bits::error::ComputeError;
 use polars_arrays_bytes::fixed_size::FixedSizeBinaryArray;
@@ -142,12 +142,8 @@ fn time_arrays<A: StringArray, S: Copy>(
 where
     Strings<A, S>: Timed<Kernel = StringKernel>,
 {
-    let left = A::of_parts(alloc, left)?;
-    let right = A::of_parts(alloc, right)?;
-    let left_clone = left.clone_strings(alloc)?;
-    let right_clone = right.clone_strings(alloc)?;
-    let first = comparable_strings(left, right, scalar)?;
-    let second = comparable_strings(left_clone, right_clone, scalar)?;
+    let first = strings_of::<A, S>(alloc, left, right, scalar)?;
+    let second = clones_of(alloc, &first)?;
     Ok(time_pair(alloc, (&first, &second), kernel, repeats))
 }
 

@@ -12,22 +12,38 @@ use std::alloc::Global;
 
 /// Makes the calls.
 pub fn answer(alloc: Global, told: &mut Told) -> Result<(), Fault> {
-    let array = numbers(alloc)?;
+    tell_changed(alloc, told, numbers(alloc)?, "of arrays", &ROW_CALLS);
+    tell_changed(
+        alloc,
+        told,
+        numbers(alloc)?,
+        "of arrays of one type",
+        &NUMBER_CALLS,
+    );
+    tell_shared(alloc, told, numbers(alloc)?.share(alloc)?);
+    Ok(())
+}
+
+// Each operation on what the one before it made, and whether all of them succeeded.
+fn tell_changed<O: Operation>(
+    alloc: Global,
+    told: &mut Told,
+    array: PrimitiveArray<i8>,
+    operands: &str,
+    calls: &[(O, &str, &str)],
+) {
     told.begin(alloc);
-    let ended = change_rows(alloc, told, array);
-    told.tell_outcome("all operations", "of arrays", ended);
+    let ended = change(alloc, told, array, calls);
+    told.tell_outcome("all operations", operands, ended);
     told.end(alloc);
-    let array = numbers(alloc)?;
-    told.begin(alloc);
-    let ended = change_numbers(alloc, told, array);
-    told.tell_outcome("all operations", "of arrays of one type", ended);
-    told.end(alloc);
-    let array = numbers(alloc)?.share(alloc)?;
+}
+
+// An array that is shared, shared again, and whether it was.
+fn tell_shared(alloc: Global, told: &mut Told, array: PrimitiveArray<i8>) {
     told.begin(alloc);
     let ended = share_again(alloc, told, array);
     told.tell_outcome("share", "what is shared", ended);
     told.end(alloc);
-    Ok(())
 }
 
 // The numbers 100 and -128, and a null.
@@ -37,49 +53,138 @@ fn numbers(alloc: Global) -> Result<PrimitiveArray<i8>, Fault> {
     Ok(PrimitiveArray::try_new(values, Some(validity))?)
 }
 
-// Each operation on what the one before it made.
-fn change_rows(
-    alloc: Global,
-    told: &mut Told,
-    array: PrimitiveArray<i8>,
-) -> Result<(), ComputeError> {
-    let array = array.wrapping_abs(alloc)?;
-    told.tell_rows("wrapping_abs", "100 -128 null", &array);
-    let array = array.wrapping_neg(alloc)?;
-    told.tell_rows("wrapping_neg", "of that", &array);
-    let array = array.wrapping_add_scalar(alloc, 100)?;
-    told.tell_rows("wrapping_add_scalar 100", "of that", &array);
-    let array = array.wrapping_sub_scalar(alloc, 50)?;
-    told.tell_rows("wrapping_sub_scalar 50", "of that", &array);
-    let array = ArithmeticKernel::wrapping_sub_scalar_lhs(alloc, 100, array)?;
-    told.tell_rows("wrapping_sub_scalar_lhs 100", "of that", &array);
-    let array = array.wrapping_mul_scalar(alloc, 3)?;
-    told.tell_rows("wrapping_mul_scalar 3", "of that", &array);
-    let array = prim_unary_in_place(alloc, array, |x| x & 15)?;
-    told.tell_rows("prim_unary_in_place, the last four bits", "of that", &array);
-    let array = array.fill_with(alloc, 9)?;
-    told.tell_rows("fill_with 9", "of that", &array);
-    Ok(())
+/// An operation on an array.
+enum RowOperation {
+    Abs,
+    Neg,
+    AddScalar,
+    SubScalar,
+    SubScalarLhs,
+    MulScalar,
+    LastBits,
+    Fill,
 }
 
-// The same by the operations of the type of number.
-fn change_numbers(
+/// An operation of the type of number on an array.
+enum NumberOperation {
+    Abs,
+    Neg,
+    AddScalar,
+    SubScalar,
+    SubScalarLhs,
+    MulScalar,
+}
+
+/// The operations on arrays in their order, with the names of their calls and operands.
+const ROW_CALLS: [(RowOperation, &str, &str); 8] = [
+    (RowOperation::Abs, "wrapping_abs", "100 -128 null"),
+    (RowOperation::Neg, "wrapping_neg", "of that"),
+    (
+        RowOperation::AddScalar,
+        "wrapping_add_scalar 100",
+        "of that",
+    ),
+    (RowOperation::SubScalar, "wrapping_sub_scalar 50", "of that"),
+    (
+        RowOperation::SubScalarLhs,
+        "wrapping_sub_scalar_lhs 100",
+        "of that",
+    ),
+    (RowOperation::MulScalar, "wrapping_mul_scalar 3", "of that"),
+    (
+        RowOperation::LastBits,
+        "prim_unary_in_place, the last four bits",
+        "of that",
+    ),
+    (RowOperation::Fill, "fill_with 9", "of that"),
+];
+
+/// The same of those of the type of number.
+const NUMBER_CALLS: [(NumberOperation, &str, &str); 6] = [
+    (NumberOperation::Abs, "prim_wrapping_abs", "100 -128 null"),
+    (NumberOperation::Neg, "prim_wrapping_neg", "of that"),
+    (
+        NumberOperation::AddScalar,
+        "prim_wrapping_add_scalar 100",
+        "of that",
+    ),
+    (
+        NumberOperation::SubScalar,
+        "prim_wrapping_sub_scalar 50",
+        "of that",
+    ),
+    (
+        NumberOperation::SubScalarLhs,
+        "prim_wrapping_sub_scalar_lhs 100",
+        "of that",
+    ),
+    (
+        NumberOperation::MulScalar,
+        "prim_wrapping_mul_scalar 3",
+        "of that",
+    ),
+];
+
+/// An operation that writes over the values of an array.
+trait Operation {
+    /// What it makes of an array.
+    fn run(
+        &self,
+        alloc: Global,
+        array: PrimitiveArray<i8>,
+    ) -> Result<PrimitiveArray<i8>, ComputeError>;
+}
+
+impl Operation for RowOperation {
+    fn run(
+        &self,
+        alloc: Global,
+        array: PrimitiveArray<i8>,
+    ) -> Result<PrimitiveArray<i8>, ComputeError> {
+        match self {
+            RowOperation::Abs => array.wrapping_abs(alloc),
+            RowOperation::Neg => array.wrapping_neg(alloc),
+            RowOperation::AddScalar => array.wrapping_add_scalar(alloc, 100),
+            RowOperation::SubScalar => array.wrapping_sub_scalar(alloc, 50),
+            RowOperation::SubScalarLhs => {
+                ArithmeticKernel::wrapping_sub_scalar_lhs(alloc, 100, array)
+            }
+            RowOperation::MulScalar => array.wrapping_mul_scalar(alloc, 3),
+            RowOperation::LastBits => prim_unary_in_place(alloc, array, |x| x & 15),
+            RowOperation::Fill => array.fill_with(alloc, 9),
+        }
+    }
+}
+
+impl Operation for NumberOperation {
+    fn run(
+        &self,
+        alloc: Global,
+        array: PrimitiveArray<i8>,
+    ) -> Result<PrimitiveArray<i8>, ComputeError> {
+        match self {
+            NumberOperation::Abs => i8::prim_wrapping_abs(alloc, array),
+            NumberOperation::Neg => i8::prim_wrapping_neg(alloc, array),
+            NumberOperation::AddScalar => i8::prim_wrapping_add_scalar(alloc, array, 100),
+            NumberOperation::SubScalar => i8::prim_wrapping_sub_scalar(alloc, array, 50),
+            NumberOperation::SubScalarLhs => i8::prim_wrapping_sub_scalar_lhs(alloc, 100, array),
+            NumberOperation::MulScalar => i8::prim_wrapping_mul_scalar(alloc, array, 3),
+        }
+    }
+}
+
+// Each operation on what the one before it made.
+fn change<O: Operation>(
     alloc: Global,
     told: &mut Told,
     array: PrimitiveArray<i8>,
+    calls: &[(O, &str, &str)],
 ) -> Result<(), ComputeError> {
-    let array = i8::prim_wrapping_abs(alloc, array)?;
-    told.tell_rows("prim_wrapping_abs", "100 -128 null", &array);
-    let array = i8::prim_wrapping_neg(alloc, array)?;
-    told.tell_rows("prim_wrapping_neg", "of that", &array);
-    let array = i8::prim_wrapping_add_scalar(alloc, array, 100)?;
-    told.tell_rows("prim_wrapping_add_scalar 100", "of that", &array);
-    let array = i8::prim_wrapping_sub_scalar(alloc, array, 50)?;
-    told.tell_rows("prim_wrapping_sub_scalar 50", "of that", &array);
-    let array = i8::prim_wrapping_sub_scalar_lhs(alloc, 100, array)?;
-    told.tell_rows("prim_wrapping_sub_scalar_lhs 100", "of that", &array);
-    let array = i8::prim_wrapping_mul_scalar(alloc, array, 3)?;
-    told.tell_rows("prim_wrapping_mul_scalar 3", "of that", &array);
+    let mut array = array;
+    for (operation, call, operands) in calls {
+        array = operation.run(alloc, array)?;
+        told.tell_rows(call, operands, &array);
+    }
     Ok(())
 }
 

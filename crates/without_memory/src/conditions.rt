@@ -11,19 +11,26 @@ use polars_compute_unique::primitive::range_fits;
 use recorded_text::fault::Fault;
 use recorded_text::store::Store;
 
+/// Arrays that are set against each other, under the names that are told.
+const PAIRS: [(&str, &str, &str); 4] = [
+    ("numbers others", "numbers", "others"),
+    ("numbers short", "numbers", "short"),
+    ("numbers truths", "numbers", "truths"),
+    ("lists lists", "lists", "lists"),
+];
+
+/// Lists and items, under the names that are told.
+const BROADCASTS: [(&str, &str, &str); 2] = [
+    ("lists items", "lists", "items"),
+    ("lists texts", "lists", "texts"),
+];
+
 /// Makes the calls.
 pub fn answer(told: &mut Told, store: &Store) -> Result<(), Fault>
     requires { HasGoodArrays store.now }
 {
-    let numbers = store.array("numbers")?;
-    let others = store.array("others")?;
-    let lists = store.array("lists")?;
-    tell_pair(told, "numbers others", numbers, others);
-    tell_pair(told, "numbers short", numbers, store.array("short")?);
-    tell_pair(told, "numbers truths", numbers, store.array("truths")?);
-    tell_pair(told, "lists lists", lists, lists);
-    tell_broadcast(told, "lists items", lists, store.array("items")?);
-    tell_broadcast(told, "lists texts", lists, store.array("texts")?);
+    tell_pairs(told, store)?;
+    tell_broadcasts(told, store)?;
     told.tell("keys_fit", "texts", keys_fit(store.array("texts")?));
     told.tell("range_fits", "-128 127", range_fits(-128i8, 127));
     told.tell("range_fits", "1 0", range_fits(1i8, 0));
@@ -32,6 +39,26 @@ pub fn answer(told: &mut Told, store: &Store) -> Result<(), Fault>
         "0 18446744073709551615",
         range_fits(0, u64::MAX),
     );
+    Ok(())
+}
+
+// Arrays of one type and of several.
+fn tell_pairs(told: &mut Told, store: &Store) -> Result<(), Fault>
+    requires { HasGoodArrays store.now }
+{
+    for (names, left, right) in &PAIRS {
+        tell_pair(told, names, store.array(left)?, store.array(right)?);
+    }
+    Ok(())
+}
+
+// Lists, and what may be their items.
+fn tell_broadcasts(told: &mut Told, store: &Store) -> Result<(), Fault>
+    requires { HasGoodArrays store.now }
+{
+    for (names, lists, items) in &BROADCASTS {
+        tell_broadcast(told, names, store.array(lists)?, store.array(items)?);
+    }
     Ok(())
 }
 
@@ -45,12 +72,16 @@ fn tell_pair(told: &mut Told, names: &str, left: &AnyArray, right: &AnyArray)
     if let Some(validity) = left.validity() {
         told.tell_bits("validity of the left of", names, validity);
     }
-    match (left, right) {
-        (AnyArray::Int8(left), AnyArray::Int8(right)) => {
-            told.tell("can_compare", names, left.can_compare(right));
+    match left {
+        AnyArray::Int8(left) => {
+            if let AnyArray::Int8(right) = right {
+                told.tell("can_compare", names, left.can_compare(right));
+            }
         }
-        (AnyArray::List(left), AnyArray::List(right)) => {
-            told.tell("can_compare", names, left.can_compare(right));
+        AnyArray::List(left) => {
+            if let AnyArray::List(right) = right {
+                told.tell("can_compare", names, left.can_compare(right));
+            }
         }
         _ => {}
     }

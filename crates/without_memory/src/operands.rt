@@ -1,6 +1,6 @@
 //! The arrays that calls are asked of.
 
-ghost use Rattle.std.specs.Prelude.{IfOk};
+ghost use Rattle.std.specs.Prelude.{◌≡◌, IfOk, Ok};
 ghost use Rattle.polars_arrays_nested.specs.GoodParts.{IsGood};
 ghost use Rattle.recorded_text.specs.Cases.{HasGoodArrays};
 
@@ -61,7 +61,15 @@ pub fn array(alloc: Global, text: &str) -> Result<AnyArray, Fault>
 pub fn boxed(alloc: Global, text: &str) -> Result<Box<AnyArray>, Fault>
     ensures { IfOk result (λ array. IsGood array.value) }
 {
-    Ok(Box::new(alloc, array(alloc, text)?)?)
+    in_box(alloc, array(alloc, text))
+}
+
+// What was made, in a box.
+fn in_box<T: Drop>(alloc: Global, made: Result<T, Fault>) -> Result<Box<T>, Fault>
+    ensures { IfOk result (λ boxed. made ≡ Ok boxed.value) }
+{
+    let boxed = Box::new(alloc, made?)?;
+    Ok(boxed)
 }
 
 /// All arrays that are lent.
@@ -78,11 +86,19 @@ fn add_all(alloc: Global, store: &mut Store) -> Result<(), Fault>
     requires { HasGoodArrays store.old }
     ensures { HasGoodArrays store.new }
 {
-    for named in ARRAYS {
+    for named in &ARRAYS {
         let (name, text) = named;
-        store.add(alloc, name, array(alloc, text)?)?;
+        add(alloc, store, name, text)?;
     }
     Ok(())
+}
+
+// Adds the array that words write.
+fn add(alloc: Global, store: &mut Store, name: &str, text: &str) -> Result<(), Fault>
+    requires { HasGoodArrays store.old }
+    ensures { HasGoodArrays store.new }
+{
+    store.add(alloc, name, array(alloc, text)?)
 }
 
 /// A buffer of these elements.

@@ -69,19 +69,19 @@ impl Told {
     }
 
     // Notes whether an answer was written.
-    fn note(&mut self, written: Result<(), Fault>) {
+    fn note<E: Drop>(&mut self, written: Result<(), E>) {
         self.is_short |= written.is_err();
     }
 
     /// The answer of a call.
     pub fn tell<T: Copy + Display>(&mut self, call: &str, operands: &str, answer: T) {
-        let written = write_line(&mut self.text, call, operands, answer);
+        let written = writeln!(self.text, "{call} {operands} -> {answer}");
         self.note(written);
     }
 
     /// The answer of a call about row `i` of an array.
     pub fn tell_row<T: Copy + Display>(&mut self, call: &str, array: &str, i: usize, answer: T) {
-        let written = write_row(&mut self.text, call, array, i, answer);
+        let written = writeln!(self.text, "{call} {array} {i} -> {answer}");
         self.note(written);
     }
 
@@ -147,7 +147,7 @@ impl Told {
 
     /// Why a call gave nothing.
     pub fn tell_refusal<E: Display>(&mut self, call: &str, operands: &str, refused: &E) {
-        let written = write_refusal(&mut self.text, call, operands, refused);
+        let written = writeln!(self.text, "{call} {operands} -> refused: {refused}");
         self.note(written);
     }
 }
@@ -155,40 +155,6 @@ impl Told {
 // Writes what stands before an answer.
 fn write_call(text: &mut String, call: &str, operands: &str) -> Result<(), Fault> {
     write!(text, "{call} {operands} ->")?;
-    Ok(())
-}
-
-// Writes an answer.
-fn write_line<T: Copy + Display>(
-    text: &mut String,
-    call: &str,
-    operands: &str,
-    answer: T,
-) -> Result<(), Fault> {
-    writeln!(text, "{call} {operands} -> {answer}")?;
-    Ok(())
-}
-
-// Writes an answer about a row.
-fn write_row<T: Copy + Display>(
-    text: &mut String,
-    call: &str,
-    array: &str,
-    i: usize,
-    answer: T,
-) -> Result<(), Fault> {
-    writeln!(text, "{call} {array} {i} -> {answer}")?;
-    Ok(())
-}
-
-// Writes why there is no answer.
-fn write_refusal<E: Display>(
-    text: &mut String,
-    call: &str,
-    operands: &str,
-    refused: &E,
-) -> Result<(), Fault> {
-    writeln!(text, "{call} {operands} -> refused: {refused}")?;
     Ok(())
 }
 
