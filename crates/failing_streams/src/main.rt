@@ -25,16 +25,20 @@ mod manner;
 mod slow_reader;
 mod slow_writer;
 
+/// Prints a line that begins with `#`, or a case and its answer.
+fn print_line(rt: &(impl Print + AllocGlobal), line: &str) -> Result<()> {
+    if line.starts_with('#') {
+        println!(rt; "{line}")?;
+    } else {
+        let answer = answer(rt.alloc(), line)?;
+        println!(rt; "{line} -> {answer}")?;
+    }
+    Ok(())
+}
+
 fn main(rt: HostRuntime) -> Result<()> {
-    let alloc = rt.alloc();
-    for line in rt.lines(alloc) {
-        let line = line?;
-        if line.starts_with('#') {
-            println!(rt; "{line}")?;
-        } else {
-            let answer = answer(alloc, &line)?;
-            println!(rt; "{line} -> {answer}")?;
-        }
+    for line in rt.lines(rt.alloc()) {
+        print_line(&rt, &line?)?;
     }
     Ok(())
 }

@@ -58,6 +58,17 @@ pub fn nulls(alloc: Global, len: usize) -> Result<Box<AnyArray>, Fault>
     boxed(alloc, AnyArray::Null(NullArray::new(len)))
 }
 
+// Where rows begin and end, and which of them are present.
+fn row_parts(
+    alloc: Global,
+    offsets: &[i32],
+    present: Option<&[bool]>,
+) -> Result<(Buffer<i32>, Option<Bitmap>), Fault> {
+    let validity = validity(alloc, present)?;
+    let offsets = buffer(alloc, offsets)?;
+    Ok((offsets, validity))
+}
+
 /// Texts, of which text `i` has the bytes from end `i` up to end `i + 1`.
 pub fn texts(
     alloc: Global,
@@ -67,9 +78,9 @@ pub fn texts(
 ) -> Result<Box<AnyArray>, Fault>
     ensures { IfOk result (λ array. IsGood array.value) }
 {
-    let ends = buffer(alloc, ends)?;
     let bytes = buffer(alloc, bytes.as_bytes())?;
-    let array = Utf8Array::try_new(ends, bytes, validity(alloc, present)?)?;
+    let (ends, validity) = row_parts(alloc, ends, present)?;
+    let array = Utf8Array::try_new(ends, bytes, validity)?;
     boxed(alloc, AnyArray::Utf8(array))
 }
 
@@ -83,9 +94,9 @@ pub fn lists(
     requires { IsGood items.value }
     ensures { IfOk result (λ array. IsGood array.value) }
 {
-    match list_parts(alloc, offsets, present) {
+    match row_parts(alloc, offsets, present) {
         Ok((offsets, validity)) => {
-            let array = ListArray::try_new(offsets, items, validity)?;
+            let array = ListArray::try_new(ListOffsets::Small(offsets), items, validity)?;
             boxed(alloc, AnyArray::List(array))
         }
         Err(fault) => {
@@ -93,17 +104,6 @@ pub fn lists(
             Err(fault)
         }
     }
-}
-
-// The parts of lists beside their items.
-fn list_parts(
-    alloc: Global,
-    offsets: &[i32],
-    present: Option<&[bool]>,
-) -> Result<(ListOffsets, Option<Bitmap>), Fault> {
-    let validity = validity(alloc, present)?;
-    let offsets = buffer(alloc, offsets)?;
-    Ok((ListOffsets::Small(offsets), validity))
 }
 
 /// Lists of no items each.

@@ -47,43 +47,21 @@ fn push_same(
     pushed
 }
 
-// Adds the answer of a case, whose left array was made, and whose right one was made or not.
-fn push_beside(
-    alloc: Global,
-    text: &mut String,
-    left: &AnyArray,
-    right: Result<Box<AnyArray>, Fault>,
-) -> Result<(), Fault>
-    requires left { IsGood left.now }
-    requires right { IfOk right (λ array. IsGood array.value) }
-{
-    let right = right?;
-    let pushed = push_same(alloc, text, left, &right);
-    drop(right);
-    pushed
-}
-
-// Adds the answer of a case, whose arrays were made or not.
+// Adds the name of a case and its answer. Its arrays were made or not.
 fn push_answer(
     alloc: Global,
     text: &mut String,
+    name: &str,
     left: Result<Box<AnyArray>, Fault>,
     right: Result<Box<AnyArray>, Fault>,
 ) -> Result<(), Fault>
     requires left { IfOk left (λ array. IsGood array.value) }
     requires right { IfOk right (λ array. IsGood array.value) }
 {
-    match left {
-        Ok(left) => {
-            let pushed = push_beside(alloc, text, &left, right);
-            drop(left);
-            pushed
-        }
-        Err(fault) => {
-            drop(right);
-            Err(fault)
-        }
-    }
+    write!(text, "{name}: ")?;
+    let left = left?;
+    let right = right?;
+    push_same(alloc, text, &left, &right)
 }
 
 // Adds how an answer was refused, where it was, unless there was no memory for it.
@@ -106,12 +84,7 @@ fn push_case(
     requires left { IfOk left (λ array. IsGood array.value) }
     requires right { IfOk right (λ array. IsGood array.value) }
 {
-    if let Err(refused) = write!(text, "{name}: ") {
-        drop(left);
-        drop(right);
-        return Err(refused);
-    }
-    let answer = push_answer(alloc, text, left, right);
+    let answer = push_answer(alloc, text, name, left, right);
     push_refusal(text, answer)?;
     text.push('\n')
 }

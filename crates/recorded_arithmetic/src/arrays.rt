@@ -11,13 +11,11 @@ ghost use Rattle.std.specs.Prelude.{◌≡◌, length};
 ghost use Rattle.recorded_text.specs.Cases.{HasGoodArrays};
 
 use crate::made::write_made;
-use crate::number_kinds::of_one_kind;
-use crate::numbers::{Asked, ask, ask_next};
+use crate::numbers::{Asked, AskedBoth, ask, ask_both, ask_next};
 use crate::operands::{Part, clone_part, clone_parts, number_of, read_operand};
 use crate::operations::{Function, Operation};
 use polars_arrays_bits::error::ComputeError;
 use polars_arrays_flat::primitive::PrimitiveArray;
-use polars_arrays_nested::any_array::AnyArray;
 use polars_compute_arithmetic::arithmetic::{ArithmeticKernel, HasPrimitiveArithmeticKernel};
 use recorded_text::fault::Fault;
 use recorded_text::store::Store;
@@ -25,29 +23,6 @@ use recorded_text::words::Words;
 use std::alloc::Global;
 use std::fmt::Display;
 use std::str::FromStr;
-
-/// The answer to a call of this subject, or None for another one's.
-pub fn answer(
-    alloc: Global,
-    call: &str,
-    store: &Store,
-    words: &mut Words,
-) -> Result<Option<String>, Fault>
-    requires { HasGoodArrays store.now }
-{
-    let answer = if let Some(function) = Function::named(call) {
-        ask_next(alloc, Asked::Apply(function), store, words)
-    } else if let Some(operation) = Operation::named(call) {
-        of_arrays(alloc, operation, store, words)
-    } else if let Some(operation) = Operation::named_scalar(call) {
-        of_array_and_number(alloc, operation, store, words)
-    } else if let Some(operation) = Operation::named_scalar_lhs(call) {
-        of_number_and_array(alloc, operation, store, words)
-    } else {
-        return Ok(None);
-    };
-    answer.map(Some)
-}
 
 /// What a function makes of the numbers of one type.
 pub fn write_applied<T: HasPrimitiveArithmeticKernel + Display>(
@@ -73,8 +48,8 @@ fn apply<T: HasPrimitiveArithmeticKernel>(
     }
 }
 
-// What an operation makes of two arrays.
-fn of_arrays(
+/// What an operation makes of two arrays.
+pub fn of_arrays(
     alloc: Global,
     operation: Operation,
     store: &Store,
@@ -84,14 +59,11 @@ fn of_arrays(
 {
     let these = read_operand(store, words)?;
     let those = read_operand(store, words)?;
-    let parts = (these.part, those.part);
-    of_one_kind!(these.array, those.array, left, right
-            => write_operated(alloc, operation, left, right, parts),
-        Int8 Int16 Int32 Int64 UInt8 UInt16 UInt32 UInt64)
+    ask_both(alloc, AskedBoth::Operate(operation), these, those)
 }
 
-// What an operation makes of numbers of one type on both sides.
-fn write_operated<T: HasPrimitiveArithmeticKernel + Display>(
+/// What an operation makes of numbers of one type on both sides.
+pub fn write_operated<T: HasPrimitiveArithmeticKernel + Display>(
     alloc: Global,
     operation: Operation,
     left: &PrimitiveArray<T>,
@@ -123,8 +95,8 @@ fn operate<T: HasPrimitiveArithmeticKernel>(
     }
 }
 
-// What an operation makes of an array and a number.
-fn of_array_and_number(
+/// What an operation makes of an array and a number.
+pub fn of_array_and_number(
     alloc: Global,
     operation: Operation,
     store: &Store,
@@ -168,8 +140,8 @@ fn operate_by<T: HasPrimitiveArithmeticKernel>(
     }
 }
 
-// What an operation makes of a number and an array.
-fn of_number_and_array(
+/// What an operation makes of a number and an array.
+pub fn of_number_and_array(
     alloc: Global,
     operation: Operation,
     store: &Store,

@@ -12,8 +12,7 @@
 ghost use Rattle.recorded_text.specs.Cases.{HasGoodArrays};
 
 use crate::made::write_made;
-use crate::number_kinds::of_one_kind;
-use crate::numbers::{Asked, ask};
+use crate::numbers::{Asked, AskedBoth, ask, ask_both};
 use crate::operands::{Operand, Part, clone_part, clone_parts, read_operand};
 use polars_arrays_flat::primitive::PrimitiveArray;
 use polars_arrays_nested::any_array::AnyArray;
@@ -28,27 +27,8 @@ use recorded_text::words::Words;
 use std::alloc::Global;
 use std::fmt::Display;
 
-/// The answer to a call of this subject, or None for another one's.
-pub fn answer(
-    alloc: Global,
-    call: &str,
-    store: &Store,
-    words: &mut Words,
-) -> Result<Option<String>, Fault>
-    requires { HasGoodArrays store.now }
-{
-    let answer = match call {
-        "prim_unary_values" => unary_values(alloc, store, words),
-        "prim_unary_in_place" => unary_in_place(alloc, store, words),
-        "prim_binary_values" => binary_values(alloc, store, words),
-        "prim_binary_in_place" => binary_in_place(alloc, store, words),
-        _ => return Ok(None),
-    };
-    answer.map(Some)
-}
-
-// The answers at each value of an array: twice the value, the value in a wider type, the value negated, and whether it is 0.
-fn unary_values(alloc: Global, store: &Store, words: &mut Words) -> Result<String, Fault>
+/// The answers at each value of an array: twice the value, the value in a wider type, the value negated, and whether it is 0.
+pub fn unary_values(alloc: Global, store: &Store, words: &mut Words) -> Result<String, Fault>
     requires { HasGoodArrays store.now }
 {
     let function = words.read()?;
@@ -79,8 +59,8 @@ fn write_mapped<I: NativeType, O: NativeType + Display, F: Fn(I) -> O>(
     write_made(alloc, made)
 }
 
-// The answers at each two values of two arrays: a byte before another, the product, and whether the left one is less.
-fn binary_values(alloc: Global, store: &Store, words: &mut Words) -> Result<String, Fault>
+/// The answers at each two values of two arrays: a byte before another, the product, and whether the left one is less.
+pub fn binary_values(alloc: Global, store: &Store, words: &mut Words) -> Result<String, Fault>
     requires { HasGoodArrays store.now }
 {
     let function = words.read()?;
@@ -149,8 +129,8 @@ impl Change {
     }
 }
 
-// The answers at each value of an array, of its type.
-fn unary_in_place(alloc: Global, store: &Store, words: &mut Words) -> Result<String, Fault>
+/// The answers at each value of an array, of its type.
+pub fn unary_in_place(alloc: Global, store: &Store, words: &mut Words) -> Result<String, Fault>
     requires { HasGoodArrays store.now }
 {
     let change = Change::named(words.read()?);
@@ -173,11 +153,14 @@ pub fn write_changed<T: PlNumArithmetic + Display>(
     write_made(alloc, made)
 }
 
-// Which of two values is taken.
+/// Which of two values is taken.
 #[derive(Clone, Copy)]
-enum Choice {
+pub enum Choice {
+    /// The left one.
     Left,
+    /// The right one.
     Right,
+    /// The greater one.
     Greater,
 }
 
@@ -201,8 +184,8 @@ impl Choice {
     }
 }
 
-// The answers at each two values of two arrays of one type, of this type.
-fn binary_in_place(alloc: Global, store: &Store, words: &mut Words) -> Result<String, Fault>
+/// The answers at each two values of two arrays of one type, of this type.
+pub fn binary_in_place(alloc: Global, store: &Store, words: &mut Words) -> Result<String, Fault>
     requires { HasGoodArrays store.now }
 {
     let choice = Choice::named(words.read()?);
@@ -222,13 +205,21 @@ fn choose(
     those: Operand<'_>,
 ) -> Result<String, Fault> {
     let parts = (these.part, those.part);
-    of_one_kind!(these.array, those.array, left, right
-            => write_chosen(alloc, choice, left, right, parts),
-        Int8 Int16 Int32 Int64 Int128 UInt8 UInt16 UInt32 UInt64 UInt128)
+    match these.array {
+        AnyArray::Int128(left) => match those.array {
+            AnyArray::Int128(right) => write_chosen(alloc, choice, left, right, parts),
+            _ => Err(Fault::Case),
+        },
+        AnyArray::UInt128(left) => match those.array {
+            AnyArray::UInt128(right) => write_chosen(alloc, choice, left, right, parts),
+            _ => Err(Fault::Case),
+        },
+        _ => ask_both(alloc, AskedBoth::Choose(choice), these, those),
+    }
 }
 
-// The values that are taken from two arrays of one type.
-fn write_chosen<T: NativeType + Display>(
+/// The values that are taken from two arrays of one type.
+pub fn write_chosen<T: NativeType + Display>(
     alloc: Global,
     choice: Choice,
     left: &PrimitiveArray<T>,

@@ -8,6 +8,7 @@
 ghost use Rattle.recorded_text.specs.Cases.{HasGoodArrays};
 
 mod arrays;
+mod calls;
 mod functions;
 mod made;
 mod number_kinds;
@@ -17,19 +18,12 @@ mod operations;
 mod single_numbers;
 mod sums;
 
+use crate::calls::Call;
+use crate::numbers::{Asked, ask_next};
 use recorded_text::fault::Fault;
 use recorded_text::store::Store;
 use recorded_text::words::Words;
 use std::alloc::Global;
-
-// Returns the first answer that there is.
-macro_rules! first_answer {
-    ($($answer:expr),+ $(,)?) => {
-        $(if let Some(answer) = $answer? {
-            return Ok(Some(answer));
-        })+
-    };
-}
 
 /// The answer to a call of one of these subjects, or None for another one's.
 pub fn answer(
@@ -40,10 +34,29 @@ pub fn answer(
 ) -> Result<Option<String>, Fault>
     requires { HasGoodArrays store.now }
 {
-    first_answer!(
-        arrays::answer(alloc, call, store, words),
-        functions::answer(alloc, call, store, words),
-        sums::answer(alloc, call, store, words),
-    );
-    single_numbers::answer(alloc, call, words)
+    match Call::named(call) {
+        Some(call) => ask(alloc, call, store, words).map(Some),
+        None => Ok(None),
+    }
+}
+
+// The answer to a call.
+fn ask(alloc: Global, call: Call, store: &Store, words: &mut Words) -> Result<String, Fault>
+    requires { HasGoodArrays store.now }
+{
+    match call {
+        Call::Apply(function) => ask_next(alloc, Asked::Apply(function), store, words),
+        Call::Operate(operation) => arrays::of_arrays(alloc, operation, store, words),
+        Call::OperateBy(operation) => arrays::of_array_and_number(alloc, operation, store, words),
+        Call::OperateFrom(operation) => arrays::of_number_and_array(alloc, operation, store, words),
+        Call::UnaryValues => functions::unary_values(alloc, store, words),
+        Call::UnaryInPlace => functions::unary_in_place(alloc, store, words),
+        Call::BinaryValues => functions::binary_values(alloc, store, words),
+        Call::BinaryInPlace => functions::binary_in_place(alloc, store, words),
+        Call::SumRows => ask_next(alloc, Asked::SumRows, store, words),
+        Call::SumValues => ask_next(alloc, Asked::SumValues, store, words),
+        Call::SumMasked => sums::of_masked_values(alloc, store, words),
+        Call::Calculate => single_numbers::calculate(alloc, words),
+        Call::AddNumbers => single_numbers::add(alloc, words),
+    }
 }

@@ -22,7 +22,7 @@ pub fn write_made<T: NativeType + Display>(
 
 /// A number.
 pub fn write_number<T: Copy + Display>(alloc: Global, number: T) -> Result<String, Fault> {
-    Ok(number.to_string(alloc)?)
+    number.to_string(alloc).map_err(Fault::from)
 }
 
 // The rows of an array of numbers, parted by spaces.
@@ -43,9 +43,8 @@ fn write_rows<T: NativeType + Display>(
 // A number, or `null`.
 fn push_row<T: Display>(text: &mut String, value: &T, is_null: bool) -> Result<(), Fault> {
     if is_null {
-        text.push_str("null")?;
+        text.push_str("null").map_err(Fault::from)
     } else {
-        write!(text, "{value}")?;
+        write!(text, "{value}").map_err(Fault::from)
     }
-    Ok(())
 }

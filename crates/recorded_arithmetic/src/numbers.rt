@@ -1,10 +1,10 @@
-//! What one array of numbers is asked.
+//! What one array of numbers is asked, and what two of them are.
 
 ghost use Rattle.recorded_text.specs.Cases.{HasGoodArrays};
 
-use crate::arrays::{write_applied, write_operated_by, write_operated_from};
-use crate::functions::{Change, write_changed};
-use crate::number_kinds::of_numbers;
+use crate::arrays::{write_applied, write_operated, write_operated_by, write_operated_from};
+use crate::functions::{Change, Choice, write_changed, write_chosen};
+use crate::number_kinds::{of_numbers, of_one_kind};
 use crate::operands::{Operand, Part, read_operand};
 use crate::operations::{Function, Operation};
 use crate::sums::{add_masked, add_rows, add_values};
@@ -73,5 +73,41 @@ fn ask_numbers<T: HasPrimitiveArithmeticKernel + WrappingSum + Display + FromStr
         Asked::SumRows => add_rows(alloc, array, part),
         Asked::SumValues => add_values(alloc, array, part),
         Asked::SumMasked(bits) => add_masked(alloc, array, part, bits),
+    }
+}
+
+/// What two arrays of numbers of one type are asked.
+#[derive(Clone, Copy)]
+pub enum AskedBoth {
+    /// What an operation makes of them.
+    Operate(Operation),
+    /// The values that are taken from them.
+    Choose(Choice),
+}
+
+/// What two arrays answer. Those that are not of numbers of one type of 8 to 64 bits have no answer.
+pub fn ask_both(
+    alloc: Global,
+    asked: AskedBoth,
+    these: Operand<'_>,
+    those: Operand<'_>,
+) -> Result<String, Fault> {
+    let parts = (these.part, those.part);
+    of_one_kind!(these.array, those.array, left, right
+            => ask_pair(alloc, asked, left, right, parts),
+        Int8 Int16 Int32 Int64 UInt8 UInt16 UInt32 UInt64)
+}
+
+// What numbers of one type on both sides answer.
+fn ask_pair<T: HasPrimitiveArithmeticKernel + Display>(
+    alloc: Global,
+    asked: AskedBoth,
+    left: &PrimitiveArray<T>,
+    right: &PrimitiveArray<T>,
+    parts: (Part, Part),
+) -> Result<String, Fault> {
+    match asked {
+        AskedBoth::Operate(operation) => write_operated(alloc, operation, left, right, parts),
+        AskedBoth::Choose(choice) => write_chosen(alloc, choice, left, right, parts),
     }
 }

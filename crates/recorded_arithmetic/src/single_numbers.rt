@@ -7,7 +7,6 @@
 //! | `wrapping_add_number TYPE NUMBER NUMBER` | the sum of two numbers, of which the type may be `isize` or `usize` too |
 
 use crate::made::write_number;
-use crate::number_kinds::at_number_type;
 use crate::operations::{Function, Operation};
 use polars_compute_arithmetic::arithmetic::pl_num::PlNumArithmetic;
 use polars_compute_bits::sum::WrappingAdd;
@@ -28,33 +27,36 @@ enum Asked {
 impl Asked {
     // The function or the operation of that name.
     fn named(name: &str) -> Result<Asked, Fault> {
-        if let Some(function) = Function::named(name) {
-            Ok(Asked::Apply(function))
-        } else if let Some(operation) = Operation::named(name) {
-            Ok(Asked::Operate(operation))
-        } else {
-            Err(Fault::Word)
+        for (each, asked) in &CALCULATIONS {
+            if *each == name {
+                return Ok(*asked);
+            }
         }
+        Err(Fault::Word)
     }
 }
 
-/// The answer to a call of this subject, or None for another one's.
-pub fn answer(alloc: Global, call: &str, words: &mut Words) -> Result<Option<String>, Fault> {
-    match call {
-        "pl_num" => calculate(alloc, words).map(Some),
-        "wrapping_add_number" => add(alloc, words).map(Some),
-        _ => Ok(None),
-    }
-}
+// The functions and the operations by their names.
+const CALCULATIONS: [(&str, Asked); 9] = [
+    ("wrapping_abs", Asked::Apply(Function::Abs)),
+    ("wrapping_neg", Asked::Apply(Function::Neg)),
+    ("wrapping_add", Asked::Operate(Operation::Add)),
+    ("wrapping_sub", Asked::Operate(Operation::Sub)),
+    ("wrapping_mul", Asked::Operate(Operation::Mul)),
+    ("wrapping_floor_div", Asked::Operate(Operation::FloorDiv)),
+    ("wrapping_trunc_div", Asked::Operate(Operation::TruncDiv)),
+    ("wrapping_mod", Asked::Operate(Operation::Mod)),
+    ("legacy_div", Asked::Operate(Operation::LegacyDiv)),
+];
 
-// What the function or the operation answers that the next word names.
-fn calculate(alloc: Global, words: &mut Words) -> Result<String, Fault> {
+/// What the function or the operation answers that the next word names.
+pub fn calculate(alloc: Global, words: &mut Words) -> Result<String, Fault> {
     let asked = Asked::named(words.read()?)?;
     ask(alloc, asked, words.read()?, words)
 }
 
-// The sum of two numbers of the type that the next word names.
-fn add(alloc: Global, words: &mut Words) -> Result<String, Fault> {
+/// The sum of two numbers of the type that the next word names.
+pub fn add(alloc: Global, words: &mut Words) -> Result<String, Fault> {
     match words.read()? {
         "isize" => add_two::<isize>(alloc, words),
         "usize" => add_two::<usize>(alloc, words),
@@ -64,7 +66,17 @@ fn add(alloc: Global, words: &mut Words) -> Result<String, Fault> {
 
 // What numbers of the type of that name answer.
 fn ask(alloc: Global, asked: Asked, name: &str, words: &mut Words) -> Result<String, Fault> {
-    at_number_type!(name, ask_type(alloc, asked, words))
+    match name {
+        "i8" => ask_type::<i8>(alloc, asked, words),
+        "i16" => ask_type::<i16>(alloc, asked, words),
+        "i32" => ask_type::<i32>(alloc, asked, words),
+        "i64" => ask_type::<i64>(alloc, asked, words),
+        "u8" => ask_type::<u8>(alloc, asked, words),
+        "u16" => ask_type::<u16>(alloc, asked, words),
+        "u32" => ask_type::<u32>(alloc, asked, words),
+        "u64" => ask_type::<u64>(alloc, asked, words),
+        _ => Err(Fault::Word),
+    }
 }
 
 // What numbers of one type answer.

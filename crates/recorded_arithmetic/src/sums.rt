@@ -9,7 +9,7 @@
 ghost use Rattle.recorded_text.specs.Cases.{HasGoodArrays};
 
 use crate::made::write_number;
-use crate::numbers::{Asked, ask, ask_next};
+use crate::numbers::{Asked, ask};
 use crate::operands::{Part, clone_part, read_operand};
 use polars_arrays_bits::bit_mask::BitMask;
 use polars_arrays_bits::bitmap::Bitmap;
@@ -22,26 +22,8 @@ use recorded_text::words::Words;
 use std::alloc::Global;
 use std::fmt::Display;
 
-/// The answer to a call of this subject, or None for another one's.
-pub fn answer(
-    alloc: Global,
-    call: &str,
-    store: &Store,
-    words: &mut Words,
-) -> Result<Option<String>, Fault>
-    requires { HasGoodArrays store.now }
-{
-    let answer = match call {
-        "wrapping_sum_arr" => ask_next(alloc, Asked::SumRows, store, words),
-        "wrapping_sum" => ask_next(alloc, Asked::SumValues, store, words),
-        "wrapping_sum_with_validity" => of_masked_values(alloc, store, words),
-        _ => return Ok(None),
-    };
-    answer.map(Some)
-}
-
-// The sum of the stored values of an array whose bit is 1.
-fn of_masked_values(alloc: Global, store: &Store, words: &mut Words) -> Result<String, Fault>
+/// The sum of the stored values of an array whose bit is 1.
+pub fn of_masked_values(alloc: Global, store: &Store, words: &mut Words) -> Result<String, Fault>
     requires { HasGoodArrays store.now }
 {
     let these = read_operand(store, words)?;

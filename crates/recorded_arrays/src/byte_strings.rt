@@ -8,26 +8,15 @@ use recorded_text::parts::read_bytes;
 use recorded_text::words::Words;
 use std::alloc::Global;
 
-// How two byte strings are compared.
+/// How two byte strings are compared.
 #[derive(Clone, Copy)]
-enum Comparison {
+pub enum Comparison {
     Equal,
     Less,
 }
 
-/// The answer to a call of this subject, or None for another one's.
-pub fn answer(alloc: Global, call: &str, words: &mut Words) -> Result<Option<String>, Fault> {
-    let answer = match call {
-        "bytes_equal" => compare(alloc, Comparison::Equal, words),
-        "bytes_less" => compare(alloc, Comparison::Less, words),
-        "pair_less" => less_pair(alloc, words),
-        _ => return Ok(None),
-    };
-    answer.map(Some)
-}
-
-// Whether a comparison of two byte strings holds.
-fn compare(alloc: Global, comparison: Comparison, words: &mut Words) -> Result<String, Fault> {
+/// Whether a comparison of two byte strings holds.
+pub fn compare(alloc: Global, comparison: Comparison, words: &mut Words) -> Result<String, Fault> {
     let (left, right) = (words.read()?, words.read()?);
     let left = read_bytes(alloc, left)?;
     let right = read_bytes(alloc, right)?;
@@ -43,8 +32,8 @@ fn is_told(comparison: Comparison, left: &[u8], right: &[u8]) -> bool {
     }
 }
 
-// Whether a pair of numbers is less, the second of each being a length.
-fn less_pair(alloc: Global, words: &mut Words) -> Result<String, Fault> {
+/// Whether a pair of numbers is less, the second of each being a length.
+pub fn less_pair(alloc: Global, words: &mut Words) -> Result<String, Fault> {
     let (p, q) = (words.read_number()?, words.read_number()?);
     let (n, m) = (words.read_number()?, words.read_number()?);
     write_value(alloc, pair_less(p, q, n, m))

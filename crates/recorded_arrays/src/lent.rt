@@ -3,9 +3,8 @@
 
 ghost use Rattle.polars_arrays_nested.specs.GoodParts.{IsGood};
 ghost use Rattle.polars_arrays_nested.specs.declared.any_array.AnyArray.{List, Struct, Dictionary};
-ghost use Rattle.recorded_text.specs.Cases.{HasGoodArrays};
 
-use crate::values_text::{push_value, write_value, write_values};
+use crate::values_text::{push_text, push_value, write_value, write_values};
 use crate::{any_kind, number_arrays};
 use polars_arrays_flat::validity::is_present;
 use polars_arrays_nested::any_array::AnyArray;
@@ -17,14 +16,13 @@ use recorded_text::bits_text::write_bits;
 use recorded_text::bytes_text::{push_bytes, write_bytes};
 use recorded_text::fault::Fault;
 use recorded_text::row_text::write_rows;
-use recorded_text::store::Store;
 use recorded_text::type_text::key_name;
 use recorded_text::words::Words;
 use std::alloc::Global;
 
-// What is asked of an array.
+/// What is asked of an array.
 #[derive(Clone, Copy)]
-enum Asked {
+pub enum Asked {
     Len,
     NullCount,
     Validity,
@@ -40,44 +38,13 @@ enum Asked {
     Size,
 }
 
-impl Asked {
-    fn named(call: &str) -> Option<Asked> {
-        match call {
-            "array_len" => Some(Asked::Len),
-            "null_count" => Some(Asked::NullCount),
-            "validity" => Some(Asked::Validity),
-            "values" => Some(Asked::Values),
-            "offsets" => Some(Asked::Offsets),
-            "views" => Some(Asked::Views),
-            "array_buffers" => Some(Asked::Buffers),
-            "keys" => Some(Asked::Keys),
-            "key_value" => Some(Asked::KeyValue),
-            "column" => Some(Asked::Column),
-            "array_count" => Some(Asked::Count),
-            "width" => Some(Asked::Width),
-            "size" => Some(Asked::Size),
-            _ => None,
-        }
-    }
-}
-
-/// The answer to a call of this subject, or None for another one's.
-pub fn answer(
+/// What an array lends.
+pub fn ask(
     alloc: Global,
-    call: &str,
-    store: &Store,
+    asked: Asked,
+    array: &AnyArray,
     words: &mut Words,
-) -> Result<Option<String>, Fault>
-    requires { HasGoodArrays store.now }
-{
-    match Asked::named(call) {
-        Some(asked) => ask(alloc, asked, store.read(words)?, words).map(Some),
-        None => Ok(None),
-    }
-}
-
-// What an array lends.
-fn ask(alloc: Global, asked: Asked, array: &AnyArray, words: &mut Words) -> Result<String, Fault>
+) -> Result<String, Fault>
     requires { IsGood array.now }
 {
     match asked {
@@ -89,8 +56,8 @@ fn ask(alloc: Global, asked: Asked, array: &AnyArray, words: &mut Words) -> Resu
         Asked::Views => views(alloc, array),
         Asked::Buffers => buffers(alloc, array),
         Asked::Keys => keys(alloc, array),
-        Asked::KeyValue => key_value(alloc, array, words),
-        Asked::Column => column(alloc, array, words),
+        Asked::KeyValue => key_value(alloc, array, words.read_number()),
+        Asked::Column => column(alloc, array, words.read_number()),
         Asked::Count => count(alloc, array),
         Asked::Width => width(alloc, array),
         Asked::Size => size(alloc, array),
@@ -133,16 +100,16 @@ fn columns(alloc: Global, array: &StructArray) -> Result<String, Fault>
         if k > 0 {
             text.push_str(" | ")?;
         }
-        text.push_str(&write_rows(alloc, array.column(k))?)?;
+        push_text(&mut text, write_rows(alloc, array.column(k)))?;
     }
     Ok(text)
 }
 
 // The rows of the column of structs that the next word tells.
-fn column(alloc: Global, array: &AnyArray, words: &mut Words) -> Result<String, Fault>
+fn column(alloc: Global, array: &AnyArray, k: Result<usize, Fault>) -> Result<String, Fault>
     requires { IsGood array.now }
 {
-    let k = words.read_number()?;
+    let k = k?;
     match array {
         AnyArray::Struct(array) if k < array.values().len() => write_rows(alloc, array.column(k)),
         _ => Err(Fault::Case),
@@ -236,10 +203,10 @@ fn keys(alloc: Global, array: &AnyArray) -> Result<String, Fault> {
 }
 
 // The number of the entry of the row of a dictionary array that the next word tells.
-fn key_value(alloc: Global, array: &AnyArray, words: &mut Words) -> Result<String, Fault>
+fn key_value(alloc: Global, array: &AnyArray, i: Result<usize, Fault>) -> Result<String, Fault>
     requires { IsGood array.now }
 {
-    let i = words.read_number()?;
+    let i = i?;
     match array {
         AnyArray::Dictionary(array) => entry_of(alloc, array, i),
         _ => Err(Fault::Case),

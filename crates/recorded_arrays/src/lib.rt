@@ -1,11 +1,13 @@
 //! The recorded cases of arrays: what is made of parts, sliced, copied and shared, what arrays lend, which rows are null, and types.
 #![tactic(auto)]
 
+ghost use Rattle.polars_arrays_nested.specs.GoodParts.{IsGood};
 ghost use Rattle.recorded_text.specs.Cases.{HasGoodArrays};
 
 mod any_kind;
 mod arrays;
 mod byte_strings;
+mod calls;
 mod lent;
 mod null_rows;
 mod number_arrays;
@@ -17,19 +19,12 @@ mod values_text;
 mod views;
 mod windows;
 
+use crate::calls::{Call, OfOne, OfTwo};
+use polars_arrays_nested::any_array::AnyArray;
 use recorded_text::fault::Fault;
 use recorded_text::store::Store;
 use recorded_text::words::Words;
 use std::alloc::Global;
-
-// Returns the first answer that there is.
-macro_rules! first_answer {
-    ($($answer:expr),+ $(,)?) => {
-        $(if let Some(answer) = $answer? {
-            return Ok(Some(answer));
-        })+
-    };
-}
 
 /// The answer to a call of one of these subjects, or None for another one's.
 pub fn answer(
@@ -40,14 +35,69 @@ pub fn answer(
 ) -> Result<Option<String>, Fault>
     requires { HasGoodArrays store.now }
 {
-    first_answer!(
-        arrays::answer(alloc, call, store, words),
-        lent::answer(alloc, call, store, words),
-        null_rows::answer(alloc, call, store, words),
-        number_arrays::answer(alloc, call, store, words),
-        string_arrays::answer(alloc, call, store, words),
-        structs::answer(alloc, call, store, words),
-        types::answer(alloc, call, store, words),
-    );
-    views::answer(alloc, call, words)
+    match Call::named(call) {
+        Some(call) => ask(alloc, call, store, words).map(Some),
+        None => Ok(None),
+    }
+}
+
+// The answer to a call.
+fn ask(alloc: Global, call: Call, store: &Store, words: &mut Words) -> Result<String, Fault>
+    requires { HasGoodArrays store.now }
+{
+    match call {
+        Call::One(asked) => ask_next(alloc, asked, store, words),
+        Call::Two(asked) => ask_next_two(alloc, asked, store, words),
+        Call::StructOfParts => structs::try_new(alloc, store, words),
+        Call::NumberType(asked) => number_types::ask(alloc, asked, words),
+        Call::StringsType(strings) => types::strings_data_type(alloc, strings, words),
+        Call::Bytes(comparison) => byte_strings::compare(alloc, comparison, words),
+        Call::PairLess => byte_strings::less_pair(alloc, words),
+        Call::View(asked) => views::ask_next(alloc, asked, words),
+        Call::ViewOfShort => views::of_short(alloc, words),
+    }
+}
+
+// What the array answers that the next word names.
+fn ask_next(alloc: Global, asked: OfOne, store: &Store, words: &mut Words) -> Result<String, Fault>
+    requires { HasGoodArrays store.now }
+{
+    ask_one(alloc, asked, store.read(words)?, words)
+}
+
+// What an array answers.
+fn ask_one(
+    alloc: Global,
+    asked: OfOne,
+    array: &AnyArray,
+    words: &mut Words,
+) -> Result<String, Fault>
+    requires { IsGood array.now }
+{
+    match asked {
+        OfOne::Array(asked) => arrays::ask(alloc, asked, array, words),
+        OfOne::Lent(asked) => lent::ask(alloc, asked, array, words),
+        OfOne::NullRows(asked) => null_rows::ask(alloc, asked, array, words),
+        OfOne::Numbers(asked) => number_arrays::ask(alloc, asked, array, words),
+        OfOne::Strings(asked) => string_arrays::ask(alloc, asked, array, words),
+        OfOne::Type => types::dtype(alloc, array),
+        OfOne::TypeCopy => types::copied_type(alloc, array),
+    }
+}
+
+// What the two arrays answer that the next words name.
+fn ask_next_two(
+    alloc: Global,
+    asked: OfTwo,
+    store: &Store,
+    words: &mut Words,
+) -> Result<String, Fault>
+    requires { HasGoodArrays store.now }
+{
+    let left = store.read(words)?;
+    let right = store.read(words)?;
+    match asked {
+        OfTwo::Leaves => arrays::write_leaves(alloc, left, right),
+        OfTwo::Types(comparison) => types::write_comparison(alloc, left, right, comparison),
+    }
 }

@@ -5,7 +5,6 @@
 
 ghost use Rattle.polars_arrays_nested.specs.GoodParts.{IsGood};
 ghost use Rattle.polars_arrays_nested.specs.declared.any_array.AnyArray.{Dictionary};
-ghost use Rattle.recorded_text.specs.Cases.{HasGoodArrays};
 
 use crate::any_kind;
 use crate::values_text::write_value;
@@ -14,13 +13,12 @@ use polars_arrays_nested::any_array::AnyArray;
 use polars_arrays_nested::dictionary::DictionaryArray;
 use recorded_text::bits_text::write_made_mask;
 use recorded_text::fault::Fault;
-use recorded_text::store::Store;
 use recorded_text::words::Words;
 use std::alloc::Global;
 
-// What is asked of an array.
+/// What is asked of an array.
 #[derive(Clone, Copy)]
-enum Asked {
+pub enum Asked {
     IsNullRow,
     IsNullKey,
     MayHaveNulls,
@@ -29,42 +27,18 @@ enum Asked {
     WindowMask,
 }
 
-impl Asked {
-    fn named(call: &str) -> Option<Asked> {
-        match call {
-            "is_null_row" => Some(Asked::IsNullRow),
-            "dictionary_is_null_row" => Some(Asked::IsNullKey),
-            "may_have_nulls" => Some(Asked::MayHaveNulls),
-            "missing_mask" => Some(Asked::MissingMask),
-            "array_missing_mask" => Some(Asked::MaskOfKind),
-            "window_mask" => Some(Asked::WindowMask),
-            _ => None,
-        }
-    }
-}
-
-/// The answer to a call of this subject, or None for another one's.
-pub fn answer(
+/// What an array answers.
+pub fn ask(
     alloc: Global,
-    call: &str,
-    store: &Store,
+    asked: Asked,
+    array: &AnyArray,
     words: &mut Words,
-) -> Result<Option<String>, Fault>
-    requires { HasGoodArrays store.now }
-{
-    match Asked::named(call) {
-        Some(asked) => ask(alloc, asked, store.read(words)?, words).map(Some),
-        None => Ok(None),
-    }
-}
-
-// What an array answers.
-fn ask(alloc: Global, asked: Asked, array: &AnyArray, words: &mut Words) -> Result<String, Fault>
+) -> Result<String, Fault>
     requires { IsGood array.now }
 {
     match asked {
-        Asked::IsNullRow => is_null_row(alloc, array, words.read_number()?),
-        Asked::IsNullKey => is_null_key(alloc, array, words.read_number()?),
+        Asked::IsNullRow => is_null_row(alloc, array, words.read_number()),
+        Asked::IsNullKey => is_null_key(alloc, array, words.read_number()),
         Asked::MayHaveNulls => write_value(alloc, array.may_have_nulls()),
         Asked::MissingMask => write_made_mask(alloc, array.missing_mask(alloc)),
         Asked::MaskOfKind => any_kind::ask(alloc, any_kind::Asked::MissingMask, array),
@@ -73,9 +47,10 @@ fn ask(alloc: Global, asked: Asked, array: &AnyArray, words: &mut Words) -> Resu
 }
 
 // Whether row `i` is null.
-fn is_null_row(alloc: Global, array: &AnyArray, i: usize) -> Result<String, Fault>
+fn is_null_row(alloc: Global, array: &AnyArray, i: Result<usize, Fault>) -> Result<String, Fault>
     requires { IsGood array.now }
 {
+    let i = i?;
     if i >= array.len() {
         return Err(Fault::Case);
     }
@@ -83,9 +58,10 @@ fn is_null_row(alloc: Global, array: &AnyArray, i: usize) -> Result<String, Faul
 }
 
 // The same, asked of a dictionary array itself.
-fn is_null_key(alloc: Global, array: &AnyArray, i: usize) -> Result<String, Fault>
+fn is_null_key(alloc: Global, array: &AnyArray, i: Result<usize, Fault>) -> Result<String, Fault>
     requires { IsGood array.now }
 {
+    let i = i?;
     match array {
         AnyArray::Dictionary(array) => names_null(alloc, array, i),
         _ => Err(Fault::Case),

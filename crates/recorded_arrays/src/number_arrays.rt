@@ -5,9 +5,7 @@
 
 ghost use Rattle.std.specs.Prelude.{IfOk};
 ghost use Rattle.polars_arrays_flat.specs.Validity.{HasBits};
-ghost use Rattle.recorded_text.specs.Cases.{HasGoodArrays};
 
-use crate::number_types;
 use crate::values_text::{push_value, write_value, write_values};
 use polars_arrays_bits::bitmap::Bitmap;
 use polars_arrays_bits::error::ComputeError;
@@ -19,7 +17,6 @@ use polars_arrays_numbers::native_type::NativeType;
 use recorded_text::bits_text::{is_null, write_bits};
 use recorded_text::fault::Fault;
 use recorded_text::parts::{Kept, read_validity};
-use recorded_text::store::Store;
 use recorded_text::words::Words;
 use std::alloc::Global;
 use std::fmt::Display;
@@ -36,36 +33,6 @@ pub enum Asked {
     FillWith,
     GetMutValues,
     AsMutValues,
-}
-
-impl Asked {
-    fn named(call: &str) -> Option<Asked> {
-        match call {
-            "array_is_owned" => Some(Asked::IsOwned),
-            "array_share" => Some(Asked::Share),
-            "take_validity" => Some(Asked::TakeValidity),
-            "with_validity" => Some(Asked::WithValidity),
-            "fill_with" => Some(Asked::FillWith),
-            "get_mut_values" => Some(Asked::GetMutValues),
-            "as_mut_values" => Some(Asked::AsMutValues),
-            _ => None,
-        }
-    }
-}
-
-/// The answer to a call of this subject, or None for another one's.
-pub fn answer(
-    alloc: Global,
-    call: &str,
-    store: &Store,
-    words: &mut Words,
-) -> Result<Option<String>, Fault>
-    requires { HasGoodArrays store.now }
-{
-    match Asked::named(call) {
-        Some(asked) => ask(alloc, asked, store.read(words)?, words).map(Some),
-        None => number_types::answer(alloc, call, words),
-    }
 }
 
 /// What an array of numbers answers. One of another kind has no answer.
@@ -142,33 +109,25 @@ fn push_array<T: NativeType + Display>(
     text: &mut String,
     array: &PrimitiveArray<T>,
 ) -> Result<(), Fault> {
-    push_rows(text, array)?;
+    push_values(text, array.values(), array.validity())?;
     text.push_str("over ")?;
-    push_values(text, array.values())?;
+    push_values(text, array.values(), None)?;
     let kept = if array.is_owned() { "owned" } else { "shared" };
-    write!(text, "{} null, {kept}", array.null_count())?;
-    Ok(())
+    write!(text, "{} null, {kept}", array.null_count()).map_err(Fault::from)
 }
 
-// Adds the rows of an array of numbers.
-fn push_rows<T: NativeType + Display>(
+// Adds numbers, and `null` in place of those that a validity masks.
+fn push_values<T: NativeType + Display>(
     text: &mut String,
-    array: &PrimitiveArray<T>,
+    values: &[T],
+    validity: Option<&Bitmap>,
 ) -> Result<(), Fault> {
-    for (i, value) in array.values().iter().enumerate() {
-        if is_null(array.validity(), i) {
+    for i in 0..values.len() {
+        if is_null(validity, i) {
             text.push_str("null ")?;
         } else {
-            push_value(text, *value)?;
+            push_value(text, values[i])?;
         }
-    }
-    Ok(())
-}
-
-// Adds the stored values of an array of numbers, those of null rows too.
-fn push_values<T: NativeType + Display>(text: &mut String, values: &[T]) -> Result<(), Fault> {
-    for value in values {
-        push_value(text, *value)?;
     }
     Ok(())
 }
@@ -206,8 +165,8 @@ fn write_taken<T: NativeType + Display>(
 
 // The bits of a validity, or `none`.
 fn write_validity(alloc: Global, validity: Option<Bitmap>) -> Result<String, Fault> {
-    match &validity {
-        Some(bits) => write_bits(alloc, bits),
+    match validity {
+        Some(bits) => write_bits(alloc, &bits),
         None => write_value(alloc, "none"),
     }
 }

@@ -1,5 +1,6 @@
 //! What is made of a type of numbers that a word names: arrays of them, and the type of these.
 
+use crate::calls::find;
 use crate::number_arrays::{write_made, write_owned};
 use crate::types::write_made_type;
 use num_traits::Zero;
@@ -13,47 +14,59 @@ use std::alloc::Global;
 use std::fmt::Display;
 use std::str::FromStr;
 
-// What is asked of a type of numbers.
+/// What is asked of a type of numbers.
 #[derive(Clone, Copy)]
-enum Asked {
+pub enum Asked {
     FromVec,
     FullNull,
     DataType,
 }
 
-impl Asked {
-    fn named(call: &str) -> Option<Asked> {
-        match call {
-            "from_vec" => Some(Asked::FromVec),
-            "full_null" => Some(Asked::FullNull),
-            "arrow_data_type" => Some(Asked::DataType),
-            _ => None,
-        }
-    }
+// The types of numbers.
+#[derive(Clone, Copy)]
+enum NumberType {
+    Int8,
+    Int16,
+    Int32,
+    Int64,
+    Int128,
+    UInt8,
+    UInt16,
+    UInt32,
+    UInt64,
+    UInt128,
 }
 
-/// The answer to a call of this subject, or None for another one's.
-pub fn answer(alloc: Global, call: &str, words: &mut Words) -> Result<Option<String>, Fault> {
-    match Asked::named(call) {
-        Some(asked) => ask(alloc, asked, words.read()?, words).map(Some),
-        None => Ok(None),
-    }
-}
+// The types of numbers by their names.
+const NUMBER_TYPES: [(&str, NumberType); 10] = [
+    ("i8", NumberType::Int8),
+    ("i16", NumberType::Int16),
+    ("i32", NumberType::Int32),
+    ("i64", NumberType::Int64),
+    ("i128", NumberType::Int128),
+    ("u8", NumberType::UInt8),
+    ("u16", NumberType::UInt16),
+    ("u32", NumberType::UInt32),
+    ("u64", NumberType::UInt64),
+    ("u128", NumberType::UInt128),
+];
 
-// What the type of numbers answers whose name a word is.
-fn ask(alloc: Global, asked: Asked, name: &str, words: &mut Words) -> Result<String, Fault> {
-    match name {
-        "i8" => ask_type::<i8>(alloc, asked, words),
-        "i16" => ask_type::<i16>(alloc, asked, words),
-        "i32" => ask_type::<i32>(alloc, asked, words),
-        "i64" => ask_type::<i64>(alloc, asked, words),
-        "i128" => ask_type::<i128>(alloc, asked, words),
-        "u8" => ask_type::<u8>(alloc, asked, words),
-        "u16" => ask_type::<u16>(alloc, asked, words),
-        "u32" => ask_type::<u32>(alloc, asked, words),
-        "u64" => ask_type::<u64>(alloc, asked, words),
-        "u128" => ask_type::<u128>(alloc, asked, words),
-        _ => Err(Fault::Word),
+/// What the type of numbers answers that the next word names.
+pub fn ask(alloc: Global, asked: Asked, words: &mut Words) -> Result<String, Fault> {
+    let Some(number_type) = find(&NUMBER_TYPES, words.read()?) else {
+        return Err(Fault::Word);
+    };
+    match number_type {
+        NumberType::Int8 => ask_type::<i8>(alloc, asked, words),
+        NumberType::Int16 => ask_type::<i16>(alloc, asked, words),
+        NumberType::Int32 => ask_type::<i32>(alloc, asked, words),
+        NumberType::Int64 => ask_type::<i64>(alloc, asked, words),
+        NumberType::Int128 => ask_type::<i128>(alloc, asked, words),
+        NumberType::UInt8 => ask_type::<u8>(alloc, asked, words),
+        NumberType::UInt16 => ask_type::<u16>(alloc, asked, words),
+        NumberType::UInt32 => ask_type::<u32>(alloc, asked, words),
+        NumberType::UInt64 => ask_type::<u64>(alloc, asked, words),
+        NumberType::UInt128 => ask_type::<u128>(alloc, asked, words),
     }
 }
 

@@ -1,11 +1,9 @@
 //! Arrays of byte strings and of texts: what they lend of each row, null or not.
 
 ghost use Rattle.std.specs.Prelude.{◌≡◌};
-ghost use Rattle.recorded_text.specs.Cases.{HasGoodArrays};
 
-use crate::byte_strings;
 use crate::types::write_made_type;
-use crate::values_text::write_value;
+use crate::values_text::{push_text, write_value};
 use polars_arrays_bits::error::ComputeError;
 use polars_arrays_bytes::fixed_size::FixedSizeBinaryArray;
 use polars_arrays_bytes::of_size::OfSize;
@@ -18,13 +16,12 @@ use polars_arrays_numbers::offset::Offset;
 use polars_arrays_views::text_view::Utf8ViewArray;
 use recorded_text::bytes_text::write_strings;
 use recorded_text::fault::Fault;
-use recorded_text::store::Store;
 use recorded_text::words::Words;
 use std::alloc::Global;
 
-// What is asked of an array of byte strings or of texts.
+/// What is asked of an array of byte strings or of texts.
 #[derive(Clone, Copy)]
-enum Asked {
+pub enum Asked {
     Bytes,
     Value,
     OfSize,
@@ -32,40 +29,17 @@ enum Asked {
     AsBinview,
 }
 
-impl Asked {
-    fn named(call: &str) -> Option<Asked> {
-        match call {
-            "bytes" => Some(Asked::Bytes),
-            "value" => Some(Asked::Value),
-            "of_size" => Some(Asked::OfSize),
-            "as_binary" => Some(Asked::AsBinary),
-            "as_binview" => Some(Asked::AsBinview),
-            _ => None,
-        }
-    }
-}
-
-/// The answer to a call of this subject, or None for another one's.
-pub fn answer(
+/// What an array answers.
+pub fn ask(
     alloc: Global,
-    call: &str,
-    store: &Store,
+    asked: Asked,
+    array: &AnyArray,
     words: &mut Words,
-) -> Result<Option<String>, Fault>
-    requires { HasGoodArrays store.now }
-{
-    match Asked::named(call) {
-        Some(asked) => ask(alloc, asked, store.read(words)?, words).map(Some),
-        None => byte_strings::answer(alloc, call, words),
-    }
-}
-
-// What an array answers.
-fn ask(alloc: Global, asked: Asked, array: &AnyArray, words: &mut Words) -> Result<String, Fault> {
+) -> Result<String, Fault> {
     match asked {
         Asked::Bytes => bytes(alloc, array),
-        Asked::Value => value(alloc, array, words.read_number()?),
-        Asked::OfSize => of_size(alloc, array, words.read_number()?),
+        Asked::Value => value(alloc, array, words.read_number()),
+        Asked::OfSize => of_size(alloc, array, words.read_number()),
         Asked::AsBinary => as_binary(alloc, array),
         Asked::AsBinview => as_binview(alloc, array),
     }
@@ -86,7 +60,8 @@ fn bytes(alloc: Global, array: &AnyArray) -> Result<String, Fault> {
 }
 
 // The text of row `i`, null or not.
-fn value(alloc: Global, array: &AnyArray, i: usize) -> Result<String, Fault> {
+fn value(alloc: Global, array: &AnyArray, i: Result<usize, Fault>) -> Result<String, Fault> {
+    let i = i?;
     match array {
         AnyArray::Utf8(array) => text_at(alloc, array, i),
         AnyArray::LargeUtf8(array) => text_at(alloc, array, i),
@@ -112,7 +87,8 @@ fn viewed_text(alloc: Global, array: &Utf8ViewArray, i: usize) -> Result<String,
 }
 
 // The byte strings of an array of that size, known when the code is compiled.
-fn of_size(alloc: Global, array: &AnyArray, size: usize) -> Result<String, Fault> {
+fn of_size(alloc: Global, array: &AnyArray, size: Result<usize, Fault>) -> Result<String, Fault> {
+    let size = size?;
     let AnyArray::FixedSizeBinary(array) = array else {
         return Err(Fault::Case);
     };
@@ -167,6 +143,6 @@ fn write_typed<A: ByteRows>(
 ) -> Result<String, Fault> {
     let mut text = write_made_type(alloc, dtype)?;
     text.push_str(": ")?;
-    text.push_str(&write_strings(alloc, strings)?)?;
+    push_text(&mut text, write_strings(alloc, strings))?;
     Ok(text)
 }

@@ -17,25 +17,10 @@ use recorded_text::store::Store;
 use recorded_text::words::Words;
 use std::alloc::Global;
 
-/// The answer to a call of this subject, or None for another one's: `struct_try_new` has the number of rows, the
-/// validity, how many fields there are, the name of each and an array of its type, how many columns there are,
-/// and an array of which each is a copy.
-pub fn answer(
-    alloc: Global,
-    call: &str,
-    store: &Store,
-    words: &mut Words,
-) -> Result<Option<String>, Fault>
-    requires { HasGoodArrays store.now }
-{
-    match call {
-        "struct_try_new" => try_new(alloc, store, words).map(Some),
-        _ => Ok(None),
-    }
-}
-
-// The rows of the structs, or why there are none.
-fn try_new(alloc: Global, store: &Store, words: &mut Words) -> Result<String, Fault>
+/// The rows of the structs that words write, or why there are none: the number of rows, the validity, how many fields
+/// there are, the name of each and an array of its type, how many columns there are, and an array of which each is a
+/// copy.
+pub fn try_new(alloc: Global, store: &Store, words: &mut Words) -> Result<String, Fault>
     requires { HasGoodArrays store.now }
 {
     let len = words.read_number()?;
@@ -57,7 +42,7 @@ fn write_struct(alloc: Global, made: Result<StructArray, ArrayError>) -> Result<
 
 // Why there are no structs.
 fn refusal(alloc: Global, error: &ArrayError) -> Result<String, Fault> {
-    Ok(format!(in alloc; "refused: {error}")?)
+    format!(in alloc; "refused: {error}").map_err(Fault::from)
 }
 
 // As many fields as the next word says.
@@ -93,6 +78,5 @@ fn read_copy(alloc: Global, store: &Store, words: &mut Words) -> Result<AnyArray
     requires { HasGoodArrays store.now }
     ensures { IfOk result (λ copy. IsGood copy) }
 {
-    let copy = store.read(words)?.clone_array(alloc)?;
-    Ok(copy)
+    store.read(words)?.clone_array(alloc).map_err(Fault::from)
 }

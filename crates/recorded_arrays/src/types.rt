@@ -1,7 +1,5 @@
 //! Types of arrays: their names, and when they are the same.
 
-ghost use Rattle.recorded_text.specs.Cases.{HasGoodArrays};
-
 use crate::values_text::write_value;
 use polars_arrays_bits::error::ComputeError;
 use polars_arrays_bytes::offset_type::OffsetType;
@@ -9,51 +7,23 @@ use polars_arrays_flat::data_type::{ArrowDataType, Field, is_struct_of, same_fie
 use polars_arrays_nested::any_array::AnyArray;
 use polars_arrays_nested::data_types::clone_type;
 use recorded_text::fault::Fault;
-use recorded_text::store::Store;
 use recorded_text::type_text::write_type;
 use recorded_text::words::Words;
 use std::alloc::Global;
 
-/// The answer to a call of this subject, or None for another one's.
-pub fn answer(
+/// Whether the types of two arrays stand a test.
+pub fn write_comparison(
     alloc: Global,
-    call: &str,
-    store: &Store,
-    words: &mut Words,
-) -> Result<Option<String>, Fault>
-    requires { HasGoodArrays store.now }
-{
-    let answer = match call {
-        "dtype" => dtype(alloc, store.read(words)?),
-        "clone_type" => copied_type(alloc, store.read(words)?),
-        "binary_data_type" => binary_data_type(alloc, words.read()?),
-        "text_data_type" => text_data_type(alloc, words.read()?),
-        _ => return answer_test(alloc, call, store, words),
-    };
-    answer.map(Some)
+    left: &AnyArray,
+    right: &AnyArray,
+    comparison: NamedComparison,
+) -> Result<String, Fault> {
+    write_value(alloc, is_told(alloc, left, right, comparison)?)
 }
 
-// The answer to a test of two arrays, or None for another call.
-fn answer_test(
-    alloc: Global,
-    call: &str,
-    store: &Store,
-    words: &mut Words,
-) -> Result<Option<String>, Fault>
-    requires { HasGoodArrays store.now }
-{
-    let Some(comparison) = NamedComparison::from_name(call) else {
-        return Ok(None);
-    };
-    let left = store.read(words)?;
-    let right = store.read(words)?;
-    let holds = is_told(alloc, left, right, comparison)?;
-    write_value(alloc, holds).map(Some)
-}
-
-// What is tested of the types of two arrays.
+/// What is tested of the types of two arrays.
 #[derive(Clone, Copy)]
-enum NamedComparison {
+pub enum NamedComparison {
     SameType,
     HasType,
     SameKind,
@@ -62,24 +32,6 @@ enum NamedComparison {
     StructOf,
     SameField,
     EqualField,
-}
-
-impl NamedComparison {
-    // The test of that name.
-    fn from_name(name: &str) -> Option<NamedComparison> {
-        let comparison = match name {
-            "same_type" => NamedComparison::SameType,
-            "has_type" => NamedComparison::HasType,
-            "same_kind" => NamedComparison::SameKind,
-            "type_eq" => NamedComparison::Equal,
-            "same_fields" => NamedComparison::SameFields,
-            "is_struct_of" => NamedComparison::StructOf,
-            "same_field" => NamedComparison::SameField,
-            "field_eq" => NamedComparison::EqualField,
-            _ => return None,
-        };
-        Some(comparison)
-    }
 }
 
 // Whether the types of two arrays stand the test, where fields are tested the first fields of structs.
@@ -173,33 +125,43 @@ pub fn write_made_type(
     text
 }
 
-// The type of an array.
-fn dtype(alloc: Global, array: &AnyArray) -> Result<String, Fault> {
+/// The type of an array.
+pub fn dtype(alloc: Global, array: &AnyArray) -> Result<String, Fault> {
     write_made_type(alloc, array.dtype(alloc))
 }
 
-// A copy of the type of an array.
-fn copied_type(alloc: Global, array: &AnyArray) -> Result<String, Fault> {
+/// A copy of the type of an array.
+pub fn copied_type(alloc: Global, array: &AnyArray) -> Result<String, Fault> {
     let dtype = array.dtype(alloc)?;
     let copy = clone_type(alloc, &dtype);
     drop(dtype);
     write_made_type(alloc, copy)
 }
 
-// The type of an array of byte strings between offsets.
-fn binary_data_type(alloc: Global, offsets: &str) -> Result<String, Fault> {
-    match offsets {
-        "i32" => write_made_type(alloc, Ok(<i32 as OffsetType>::binary_data_type())),
-        "i64" => write_made_type(alloc, Ok(<i64 as OffsetType>::binary_data_type())),
+/// What stands between offsets.
+#[derive(Clone, Copy)]
+pub enum Strings {
+    Bytes,
+    Texts,
+}
+
+/// The type of an array of byte strings, or of texts, between offsets of the type that the next word names.
+pub fn strings_data_type(
+    alloc: Global,
+    strings: Strings,
+    words: &mut Words,
+) -> Result<String, Fault> {
+    match words.read()? {
+        "i32" => write_made_type(alloc, Ok(data_type::<i32>(strings))),
+        "i64" => write_made_type(alloc, Ok(data_type::<i64>(strings))),
         _ => Err(Fault::Word),
     }
 }
 
-// The type of an array of texts between offsets.
-fn text_data_type(alloc: Global, offsets: &str) -> Result<String, Fault> {
-    match offsets {
-        "i32" => write_made_type(alloc, Ok(<i32 as OffsetType>::text_data_type())),
-        "i64" => write_made_type(alloc, Ok(<i64 as OffsetType>::text_data_type())),
-        _ => Err(Fault::Word),
+// The type of an array of strings between such offsets.
+fn data_type<O: OffsetType>(strings: Strings) -> ArrowDataType {
+    match strings {
+        Strings::Bytes => O::binary_data_type(),
+        Strings::Texts => O::text_data_type(),
     }
 }

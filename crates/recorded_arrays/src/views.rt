@@ -12,9 +12,9 @@ use recorded_text::parts::{Kept, read_buffers, read_bytes, read_view};
 use recorded_text::words::Words;
 use std::alloc::Global;
 
-// What is asked of the view that the next word's bytes are.
+/// What is asked of a view.
 #[derive(Clone, Copy)]
-enum Asked {
+pub enum Asked {
     AsU128,
     Len,
     Buffer,
@@ -28,38 +28,13 @@ enum Asked {
     InlinedLess,
 }
 
-impl Asked {
-    fn named(call: &str) -> Option<Asked> {
-        match call {
-            "as_u128" => Some(Asked::AsU128),
-            "view_len" => Some(Asked::Len),
-            "view_buffer" => Some(Asked::Buffer),
-            "view_offset" => Some(Asked::Offset),
-            "view_prefix" => Some(Asked::Prefix),
-            "view_inlined" => Some(Asked::Inlined),
-            "view_in_buffer" => Some(Asked::InBuffer),
-            "view_is_good" => Some(Asked::IsGood),
-            "same_head" => Some(Asked::SameHead),
-            "same_tail" => Some(Asked::SameTail),
-            "inlined_less" => Some(Asked::InlinedLess),
-            _ => None,
-        }
-    }
+/// What the view answers that the next word's bytes are.
+pub fn ask_next(alloc: Global, asked: Asked, words: &mut Words) -> Result<String, Fault> {
+    ask(alloc, asked, read(alloc, words)?, words)
 }
 
-/// The answer to a call of this subject, or None for another one's.
-pub fn answer(alloc: Global, call: &str, words: &mut Words) -> Result<Option<String>, Fault> {
-    if call == "view_of_short" {
-        return of_short(alloc, words).map(Some);
-    }
-    match Asked::named(call) {
-        Some(asked) => ask(alloc, asked, read(alloc, words)?, words).map(Some),
-        None => Ok(None),
-    }
-}
-
-// The view of a row of at most 12 bytes.
-fn of_short(alloc: Global, words: &mut Words) -> Result<String, Fault> {
+/// The view of a row of at most 12 bytes.
+pub fn of_short(alloc: Global, words: &mut Words) -> Result<String, Fault> {
     let bytes = read_bytes(alloc, words.read()?)?;
     if bytes.len() > 12 {
         return Err(Fault::Case);
@@ -84,9 +59,24 @@ fn ask(alloc: Global, asked: Asked, view: View, words: &mut Words) -> Result<Str
         Asked::Inlined => inlined(alloc, &view),
         Asked::InBuffer => in_buffer(alloc, &view, words),
         Asked::IsGood => is_good(alloc, &view, words),
-        Asked::SameHead => write_value(alloc, view.same_head(&read(alloc, words)?)),
-        Asked::SameTail => write_value(alloc, view.same_tail(&read(alloc, words)?)),
-        Asked::InlinedLess => inlined_less(alloc, &view, &read(alloc, words)?),
+        Asked::SameHead | Asked::SameTail | Asked::InlinedLess => {
+            compare(alloc, asked, &view, read(alloc, words))
+        }
+    }
+}
+
+// Whether a view and one that was read are the same in part, or the left row is less.
+fn compare(
+    alloc: Global,
+    asked: Asked,
+    left: &View,
+    right: Result<View, Fault>,
+) -> Result<String, Fault> {
+    let right = right?;
+    match asked {
+        Asked::SameHead => write_value(alloc, left.same_head(&right)),
+        Asked::SameTail => write_value(alloc, left.same_tail(&right)),
+        _ => inlined_less(alloc, left, &right),
     }
 }
 

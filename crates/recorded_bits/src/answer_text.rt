@@ -8,7 +8,7 @@ use std::fmt::Display;
 
 /// The text of a value.
 pub fn write_value<N: Display + Drop>(alloc: Global, value: N) -> Result<String, Fault> {
-    Ok(value.to_string(alloc)?)
+    value.to_string(alloc).map_err(Fault::from)
 }
 
 /// What was found, or `none`.
@@ -21,28 +21,30 @@ pub fn write_found<N: Display + Drop>(alloc: Global, found: Option<N>) -> Result
 
 /// Numbers between brackets, parted by one space.
 pub fn write_numbers<N: Display>(alloc: Global, numbers: &[N]) -> Result<String, Fault> {
-    let mut text = String::from_str(alloc, "[")?;
-    push_numbers(alloc, &mut text, numbers)?;
-    text.push(']')?;
+    let mut text = String::new(alloc);
+    push_numbers(&mut text, numbers)?;
     Ok(text)
 }
 
-/// Adds numbers to a text, parted by one space.
-fn push_numbers<N: Display>(alloc: Global, text: &mut String, numbers: &[N]) -> Result<(), Fault> {
+/// Adds numbers between brackets to a text, parted by one space.
+fn push_numbers<N: Display>(text: &mut String, numbers: &[N]) -> Result<(), Fault> {
+    text.push('[')?;
     for i in 0..numbers.len() {
         if i > 0 {
             text.push(' ')?;
         }
-        push_number(alloc, text, &numbers[i])?;
+        write!(text, "{}", numbers[i])?;
     }
-    Ok(())
+    text.push(']').map_err(Fault::from)
 }
 
-/// Adds a number to a text.
-fn push_number<N: Display>(alloc: Global, text: &mut String, number: &N) -> Result<(), Fault> {
-    let number = number.to_string(alloc)?;
-    text.push_str(&number)?;
-    Ok(())
+/// All answers, where there are these, with bits as the last one.
+pub fn write_told(
+    alloc: Global,
+    told: Result<Told, Fault>,
+    bits: &Bitmap,
+) -> Result<String, Fault> {
+    told?.with_bits(alloc, bits)
 }
 
 /// The answers to the operations of one line, parted by one space.
@@ -64,8 +66,12 @@ impl Told {
         if !self.text.is_empty() {
             self.text.push(' ')?;
         }
-        self.text.push_str(answer)?;
-        Ok(())
+        self.text.push_str(answer).map_err(Fault::from)
+    }
+
+    /// One answer more, where there is one that is known when the code is compiled.
+    pub fn add_found(&mut self, answer: Result<&str, Fault>) -> Result<(), Fault> {
+        self.add(answer?)
     }
 
     /// One answer more, where there is one.
@@ -79,8 +85,8 @@ impl Told {
         self.add_text(write_value(alloc, value))
     }
 
-    /// All answers, with bits as the last one.
-    pub fn with_bits(mut self, alloc: Global, bits: &Bitmap) -> Result<String, Fault> {
+    // All answers, with bits as the last one.
+    fn with_bits(mut self, alloc: Global, bits: &Bitmap) -> Result<String, Fault> {
         self.add_text(write_bits(alloc, bits))?;
         Ok(self.into_text())
     }

@@ -21,6 +21,7 @@
 ghost use Rattle.std.specs.Prelude.{◌↔◌, ◌+◌, ◌≤◌, IsTrue};
 
 use crate::answer_text::{write_found, write_value};
+use crate::names::{Merge, Operator};
 use crate::truth_values::{CostlyBits, SingleBits};
 use polars_arrays_bits::bitmap::Bitmap;
 use polars_arrays_bits::error::ComputeError;
@@ -30,46 +31,76 @@ use recorded_text::fault::Fault;
 use recorded_text::parts::{read_bits, read_numbers};
 use recorded_text::words::Words;
 use std::alloc::Global;
+use std::str::FromStr;
 
-/// The answer to a call on bitmaps, or None for another one's.
-pub fn answer(alloc: Global, call: &str, words: &mut Words) -> Option<Result<String, Fault>> {
-    if is_of_one(call) {
-        return Some(of_one(alloc, call, words));
-    }
-    let answer = match call {
-        "and" | "or" | "xor" | "xnor" | "and_not" | "or_not" | "num_intersections_with" => {
-            of_two(alloc, call, words)
-        }
-        "merge_eq" | "merge_ne" => of_three(alloc, call, words),
-        "new_zeroed" => write_read(alloc, read_zeroed(alloc, words)),
-        "new_with_value" => write_read(alloc, read_filled(alloc, words)),
-        "set_bits_filled" => count_filled(alloc, words),
-        "from_bools" => write_read(alloc, read_bools(alloc, words)),
-        "from_words" => write_read(alloc, read_words(alloc, words)),
-        _ => return None,
-    };
-    Some(answer)
+/// What is asked of one bitmap.
+#[derive(Clone, Copy)]
+pub enum OfOne {
+    Not,
+    Share,
+    Clone,
+    Values,
+    WideValues,
+    SetBits,
+    UnsetBits,
+    Len,
+    Bit,
+    Get,
+    Slice,
+    SliceClone,
+    MeetShared,
+    Counted,
 }
 
-// Whether a call is one on one bitmap.
-fn is_of_one(call: &str) -> bool {
-    matches!(
-        call,
-        "not"
-            | "bitmap_share"
-            | "clone_bitmap"
-            | "from_values"
-            | "from_wide_values"
-            | "set_bits"
-            | "unset_bits"
-            | "bitmap_len"
-            | "get_bit"
-            | "bitmap_get"
-            | "bitmap_slice"
-            | "slice_clone"
-            | "meet_shared"
-            | "from_counted"
-    )
+/// What is asked of bitmaps, and of those that are made.
+#[derive(Clone, Copy)]
+pub enum Asked {
+    One(OfOne),
+    Combined(Operator),
+    CountBoth,
+    Merged(Merge),
+    Zeroed,
+    Filled,
+    CountFilled,
+    Bools,
+    Words,
+}
+
+/// What bitmaps answer that the next words write or make.
+pub fn ask(alloc: Global, asked: Asked, words: &mut Words) -> Result<String, Fault> {
+    match asked {
+        Asked::One(of_one) => ask_next(alloc, of_one, words),
+        Asked::Combined(_) | Asked::CountBoth => {
+            ask_more(alloc, asked, read_bitmaps(alloc, words, 2))
+        }
+        Asked::Merged(_) => ask_more(alloc, asked, read_bitmaps(alloc, words, 3)),
+        Asked::Zeroed => write_read(alloc, read_zeroed(alloc, words)),
+        Asked::Filled => write_read(alloc, read_filled(alloc, words)),
+        Asked::CountFilled => count_filled(alloc, words),
+        Asked::Bools => write_read(alloc, read_bools(alloc, words)),
+        Asked::Words => write_read(alloc, read_words(alloc, words)),
+    }
+}
+
+// What the bitmaps answer that were read.
+fn ask_more(
+    alloc: Global,
+    asked: Asked,
+    operands: Result<Vec<Bitmap>, Fault>,
+) -> Result<String, Fault> {
+    ask_all(alloc, asked, &operands?)
+}
+
+// What two or three bitmaps answer.
+fn ask_all(alloc: Global, asked: Asked, operands: &[Bitmap]) -> Result<String, Fault> {
+    match (asked, operands) {
+        (Asked::Combined(operator), [x, y]) => write_read(alloc, combine(alloc, operator, x, y)),
+        (Asked::CountBoth, [x, y]) => write_count(alloc, count_both(x, y)),
+        (Asked::Merged(merge), [q, l, r]) => {
+            write_read(alloc, combine_three(alloc, merge, q, l, r))
+        }
+        _ => Err(Fault::Case),
+    }
 }
 
 /// Whether there are `n` places from place `at` on.
@@ -88,8 +119,10 @@ pub fn read_truth(words: &mut Words) -> Result<bool, Fault> {
     }
 }
 
-/// The two places that the next words write.
-pub fn read_places(words: &mut Words) -> Result<(usize, usize), Fault> {
+/// The two numbers that the next words write.
+pub fn read_pair<A: Copy + FromStr<Err: Drop>, B: Copy + FromStr<Err: Drop>>(
+    words: &mut Words,
+) -> Result<(A, B), Fault> {
     let first = words.read_number()?;
     let second = words.read_number()?;
     Ok((first, second))
@@ -100,27 +133,35 @@ pub fn read_bitmap(alloc: Global, words: &mut Words) -> Result<Bitmap, Fault> {
     read_bits(alloc, words.read()?)
 }
 
-/// The operator of this name on the bits of two bitmaps.
-pub fn combine(alloc: Global, call: &str, x: &Bitmap, y: &Bitmap) -> Result<Bitmap, Fault> {
+/// So many bitmaps, which the next words write.
+pub fn read_bitmaps(alloc: Global, words: &mut Words, count: usize) -> Result<Vec<Bitmap>, Fault> {
+    let mut bitmaps = Vec::new(alloc);
+    for _ in 0..count {
+        bitmaps.push(read_bitmap(alloc, words)?)?;
+    }
+    Ok(bitmaps)
+}
+
+/// An operator on the bits of two bitmaps, which must be as many.
+pub fn combine(alloc: Global, operator: Operator, x: &Bitmap, y: &Bitmap) -> Result<Bitmap, Fault> {
     if x.len() != y.len() {
         return Err(Fault::Case);
     }
-    let bits = match call {
-        "and" => x.and(alloc, y),
-        "or" => x.or(alloc, y),
-        "xor" => x.xor(alloc, y),
-        "xnor" => x.xnor(alloc, y),
-        "and_not" => x.and_not(alloc, y),
-        "or_not" => x.or_not(alloc, y),
-        _ => return Err(Fault::Word),
+    let bits = match operator {
+        Operator::And => x.and(alloc, y),
+        Operator::Or => x.or(alloc, y),
+        Operator::Xor => x.xor(alloc, y),
+        Operator::Xnor => x.xnor(alloc, y),
+        Operator::AndNot => x.and_not(alloc, y),
+        Operator::OrNot => x.or_not(alloc, y),
     };
-    Ok(bits?)
+    bits.map_err(Fault::from)
 }
 
-/// The merge of this name of three bitmaps.
+/// A merge of three bitmaps, which must have as many bits.
 pub fn combine_three(
     alloc: Global,
-    call: &str,
+    merge: Merge,
     q: &Bitmap,
     l: &Bitmap,
     r: &Bitmap,
@@ -128,12 +169,11 @@ pub fn combine_three(
     if q.len() != l.len() || q.len() != r.len() {
         return Err(Fault::Case);
     }
-    let bits = match call {
-        "merge_eq" => Bitmap::merge_eq(alloc, q, l, r),
-        "merge_ne" => Bitmap::merge_ne(alloc, q, l, r),
-        _ => return Err(Fault::Word),
+    let bits = match merge {
+        Merge::Eq => Bitmap::merge_eq(alloc, q, l, r),
+        Merge::Ne => Bitmap::merge_ne(alloc, q, l, r),
     };
-    Ok(bits?)
+    bits.map_err(Fault::from)
 }
 
 /// How many bits are true in both bitmaps.
@@ -165,51 +205,35 @@ pub fn write_read(alloc: Global, bits: Result<Bitmap, Fault>) -> Result<String, 
     write_bits(alloc, &bits?)
 }
 
-// The answer to a call on one bitmap.
-fn of_one(alloc: Global, call: &str, words: &mut Words) -> Result<String, Fault> {
+// What the bitmap answers that the next word writes.
+fn ask_next(alloc: Global, asked: OfOne, words: &mut Words) -> Result<String, Fault> {
     let x = read_bitmap(alloc, words)?;
-    ask_one(alloc, call, &x, words)
+    ask_one(alloc, asked, &x, words)
 }
 
-// What is asked of one bitmap.
-fn ask_one(alloc: Global, call: &str, x: &Bitmap, words: &mut Words) -> Result<String, Fault> {
-    match call {
-        "not" => write_made(alloc, x.not(alloc)),
-        "clone_bitmap" => write_made(alloc, x.clone_bitmap(alloc)),
-        "bitmap_share" => write_read(alloc, share(alloc, x)),
-        "from_values" => write_made(alloc, one_by_one(alloc, x, false)),
-        "from_wide_values" => write_made(alloc, one_by_one(alloc, x, true)),
-        "set_bits" => write_value(alloc, x.set_bits()),
-        "unset_bits" => write_value(alloc, x.unset_bits()),
-        "bitmap_len" => write_value(alloc, x.len()),
-        "get_bit" | "bitmap_get" => ask_bit(alloc, call, x, words),
-        _ => ask_clones(alloc, call, x, words),
-    }
-}
-
-// What is asked of one bit.
-fn ask_bit(alloc: Global, call: &str, x: &Bitmap, words: &mut Words) -> Result<String, Fault> {
-    let i = words.read_number()?;
-    match call {
-        "get_bit" => bit(alloc, x, i),
-        _ => write_found(alloc, x.get(i)),
-    }
-}
-
-// What is asked of a bitmap and of clones of it.
-fn ask_clones(alloc: Global, call: &str, x: &Bitmap, words: &mut Words) -> Result<String, Fault> {
-    match call {
-        "bitmap_slice" => slice(alloc, x, words),
-        "slice_clone" => slice_clone(alloc, x, words),
-        "meet_shared" => meet_shared(alloc, x, words),
-        "from_counted" => of_counted(alloc, x, words),
-        _ => Err(Fault::Word),
+// What one bitmap answers.
+fn ask_one(alloc: Global, asked: OfOne, x: &Bitmap, words: &mut Words) -> Result<String, Fault> {
+    match asked {
+        OfOne::Not => write_made(alloc, x.not(alloc)),
+        OfOne::Clone => write_made(alloc, x.clone_bitmap(alloc)),
+        OfOne::Share => write_read(alloc, share(alloc, x)),
+        OfOne::Values => write_made(alloc, one_by_one(alloc, x, false)),
+        OfOne::WideValues => write_made(alloc, one_by_one(alloc, x, true)),
+        OfOne::SetBits => write_value(alloc, x.set_bits()),
+        OfOne::UnsetBits => write_value(alloc, x.unset_bits()),
+        OfOne::Len => write_value(alloc, x.len()),
+        OfOne::Bit => bit(alloc, x, words.read_number()),
+        OfOne::Get => get(alloc, x, words.read_number()),
+        OfOne::Slice => slice(alloc, x, words),
+        OfOne::SliceClone => slice_clone(alloc, x, words),
+        OfOne::MeetShared => meet_shared(alloc, x, words),
+        OfOne::Counted => of_counted(alloc, x, read_costs(alloc, words)),
     }
 }
 
 // A clone of a bitmap that shares its words with later clones.
 fn share(alloc: Global, bits: &Bitmap) -> Result<Bitmap, Fault> {
-    Ok(bits.clone_bitmap(alloc)?.share(alloc)?)
+    bits.clone_bitmap(alloc)?.share(alloc).map_err(Fault::from)
 }
 
 // The bits of a bitmap, packed one by one.
@@ -218,22 +242,28 @@ fn one_by_one(alloc: Global, bits: &Bitmap, wide: bool) -> Result<Bitmap, Comput
 }
 
 // Bit `i`, where there is one.
-fn bit(alloc: Global, x: &Bitmap, i: usize) -> Result<String, Fault> {
+fn bit(alloc: Global, x: &Bitmap, i: Result<usize, Fault>) -> Result<String, Fault> {
+    let i = i?;
     if i >= x.len() {
         return Err(Fault::Case);
     }
     write_value(alloc, x.get_bit(i))
 }
 
+// Bit `i`, or `none`.
+fn get(alloc: Global, x: &Bitmap, i: Result<usize, Fault>) -> Result<String, Fault> {
+    write_found(alloc, x.get(i?))
+}
+
 // A window of a clone.
 fn slice(alloc: Global, x: &Bitmap, words: &mut Words) -> Result<String, Fault> {
-    let (at, n) = read_places(words)?;
+    let (at, n) = read_pair(words)?;
     write_read(alloc, cut(alloc, x, at, n))
 }
 
 // A window of a clone of shared words, and then the bitmap itself.
 fn slice_clone(alloc: Global, x: &Bitmap, words: &mut Words) -> Result<String, Fault> {
-    let (at, n) = read_places(words)?;
+    let (at, n) = read_pair(words)?;
     let x = share(alloc, x)?;
     write_both(alloc, cut(alloc, &x, at, n), &x)
 }
@@ -252,7 +282,7 @@ fn write_both(
 
 // How many bits are true in two windows of a bitmap, of which clones share the words.
 fn meet_shared(alloc: Global, x: &Bitmap, words: &mut Words) -> Result<String, Fault> {
-    let (p, q) = read_places(words)?;
+    let (p, q) = read_pair(words)?;
     let n = words.read_number()?;
     let x = share(alloc, x)?;
     write_count(alloc, meet(alloc, &x, p, q, n))
@@ -261,19 +291,12 @@ fn meet_shared(alloc: Global, x: &Bitmap, words: &mut Words) -> Result<String, F
 // How many of `n` bits are true in two windows of a bitmap.
 fn meet(alloc: Global, x: &Bitmap, p: usize, q: usize, n: usize) -> Result<usize, Fault> {
     let left = cut(alloc, x, p, n)?;
-    count_shared(alloc, &left, x, q, n)
+    count_with(&left, cut(alloc, x, q, n))
 }
 
-// How many bits are true in a bitmap and in a window of another.
-fn count_shared(
-    alloc: Global,
-    left: &Bitmap,
-    x: &Bitmap,
-    q: usize,
-    n: usize,
-) -> Result<usize, Fault> {
-    let right = cut(alloc, x, q, n)?;
-    count_both(left, &right)
+// How many bits are true in a bitmap and in one that was found.
+fn count_with(x: &Bitmap, y: Result<Bitmap, Fault>) -> Result<usize, Fault> {
+    count_both(x, &y?)
 }
 
 // The text of a count, where there is one.
@@ -281,50 +304,16 @@ fn write_count(alloc: Global, count: Result<usize, Fault>) -> Result<String, Fau
     write_value(alloc, count?)
 }
 
-// The answer to a call on two bitmaps.
-fn of_two(alloc: Global, call: &str, words: &mut Words) -> Result<String, Fault> {
-    let x = read_bitmap(alloc, words)?;
-    let y = read_bitmap(alloc, words)?;
-    ask_two(alloc, call, &x, &y)
-}
-
-// What is asked of two bitmaps.
-fn ask_two(alloc: Global, call: &str, x: &Bitmap, y: &Bitmap) -> Result<String, Fault> {
-    match call {
-        "num_intersections_with" => write_count(alloc, count_both(x, y)),
-        _ => write_read(alloc, combine(alloc, call, x, y)),
-    }
-}
-
-// The answer to a call on three bitmaps.
-fn of_three(alloc: Global, call: &str, words: &mut Words) -> Result<String, Fault> {
-    let q = read_bitmap(alloc, words)?;
-    let l = read_bitmap(alloc, words)?;
-    with_third(alloc, call, &q, &l, words)
-}
-
-// The answer to a call on three bitmaps, of which the last is not read yet.
-fn with_third(
-    alloc: Global,
-    call: &str,
-    q: &Bitmap,
-    l: &Bitmap,
-    words: &mut Words,
-) -> Result<String, Fault> {
-    let r = read_bitmap(alloc, words)?;
-    write_read(alloc, combine_three(alloc, call, q, l, &r))
-}
-
 // As many bits as the next word says, all false.
 fn read_zeroed(alloc: Global, words: &mut Words) -> Result<Bitmap, Fault> {
-    Ok(Bitmap::new_zeroed(alloc, words.read_number()?)?)
+    Bitmap::new_zeroed(alloc, words.read_number()?).map_err(Fault::from)
 }
 
 // As many bits as the next words say, of one value.
 fn read_filled(alloc: Global, words: &mut Words) -> Result<Bitmap, Fault> {
     let value = read_truth(words)?;
     let n = words.read_number()?;
-    Ok(Bitmap::new_with_value(alloc, value, n)?)
+    Bitmap::new_with_value(alloc, value, n).map_err(Fault::from)
 }
 
 // How many of these bits are true.
@@ -340,13 +329,13 @@ fn read_bools(alloc: Global, words: &mut Words) -> Result<Bitmap, Fault> {
     for _ in 0..count {
         values.push(read_truth(words)?)?;
     }
-    Ok(Bitmap::from_bools(alloc, &values)?)
+    Bitmap::from_bools(alloc, &values).map_err(Fault::from)
 }
 
 // The bits of words from a bit on.
 fn read_words(alloc: Global, words: &mut Words) -> Result<Bitmap, Fault> {
     let numbers = read_numbers::<u64>(alloc, words)?;
-    let (at, n) = read_places(words)?;
+    let (at, n) = read_pair(words)?;
     match numbers.len().checked_mul(64) {
         Some(all) if is_within(at, n, all) => Ok(Bitmap::from_words(numbers, at, n)),
         _ => Err(Fault::Case),
@@ -354,16 +343,20 @@ fn read_words(alloc: Global, words: &mut Words) -> Result<Bitmap, Fault> {
 }
 
 // The bits of a bitmap, packed one by one, and what a counter shows that rises by the cost of each.
-fn of_counted(alloc: Global, bits: &Bitmap, words: &mut Words) -> Result<String, Fault> {
-    let costs = read_costs(alloc, words)?;
+fn of_counted(
+    alloc: Global,
+    bits: &Bitmap,
+    costs: Result<Vec<usize>, Fault>,
+) -> Result<String, Fault> {
+    write_costly(alloc, bits, &costs?)
+}
+
+// The same, where there is a cost for each bit.
+fn write_costly(alloc: Global, bits: &Bitmap, costs: &[usize]) -> Result<String, Fault> {
     if costs.len() != bits.len() {
         return Err(Fault::Case);
     }
-    let values = CostlyBits {
-        bits,
-        costs: &costs,
-    };
-    write_counted(alloc, &values)
+    write_counted(alloc, &CostlyBits { bits, costs })
 }
 
 // What each bit costs.

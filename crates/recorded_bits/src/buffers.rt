@@ -16,8 +16,8 @@
 //! | `first` | the elements of the buffer that was cloned last |
 
 use crate::answer_text::{Told, write_numbers};
-use crate::bits::{is_within, read_places};
-use crate::numbers::{at_number_type, at_type};
+use crate::bits::{is_within, read_pair};
+use crate::names::find_word;
 use polars_arrays_bits::buffer::Buffer;
 use polars_arrays_numbers::native_type::NativeType;
 use recorded_text::fault::Fault;
@@ -28,19 +28,6 @@ use std::fmt::Display;
 use std::mem::replace;
 use std::str::FromStr;
 
-/// The answer to a call on buffers, or None for another one's.
-pub fn answer(alloc: Global, call: &str, words: &mut Words) -> Option<Result<String, Fault>> {
-    match call {
-        "buffer" => Some(of_type(alloc, words)),
-        _ => None,
-    }
-}
-
-// What the operations of a line answer, at the type that the next word names.
-fn of_type(alloc: Global, words: &mut Words) -> Result<String, Fault> {
-    at_number_type!(words.read()?, operate(alloc, words))
-}
-
 // A buffer, and the one that was cloned last.
 #[derive(Drop)]
 struct Clones<T: NativeType> {
@@ -48,18 +35,62 @@ struct Clones<T: NativeType> {
     first: Option<Buffer<T>>,
 }
 
-// What the operations of a line answer.
-fn operate<T: NativeType + Display + FromStr<Err: Drop>>(
+// What an operation does.
+#[derive(Clone, Copy)]
+enum Operation {
+    Slice,
+    Share,
+    Clone,
+    GetMut,
+    AsMutSlice,
+    IsOwned,
+    Len,
+    List,
+    First,
+}
+
+// The operations by their names.
+const OPERATIONS: [(&str, Operation); 9] = [
+    ("slice", Operation::Slice),
+    ("share", Operation::Share),
+    ("clone", Operation::Clone),
+    ("get_mut", Operation::GetMut),
+    ("as_mut_slice", Operation::AsMutSlice),
+    ("is_owned", Operation::IsOwned),
+    ("len", Operation::Len),
+    ("list", Operation::List),
+    ("first", Operation::First),
+];
+
+/// What the operations of a line answer.
+pub fn operate<T: NativeType + Display + FromStr<Err: Drop>>(
     alloc: Global,
     words: &mut Words,
 ) -> Result<String, Fault> {
-    let buffer = read_numbers::<T>(alloc, words)?;
-    let mut clones = Clones {
+    let mut clones = read_clones::<T>(alloc, words)?;
+    tell(alloc, &mut clones, words)
+}
+
+// The buffer that a line begins with, which was not cloned yet.
+fn read_clones<T: NativeType + FromStr<Err: Drop>>(
+    alloc: Global,
+    words: &mut Words,
+) -> Result<Clones<T>, Fault> {
+    let buffer = read_numbers(alloc, words)?;
+    Ok(Clones {
         buffer,
         first: None,
-    };
+    })
+}
+
+// What the operations before `end` do to buffers answer.
+fn tell<T: NativeType + Display + FromStr<Err: Drop>>(
+    alloc: Global,
+    clones: &mut Clones<T>,
+    words: &mut Words,
+) -> Result<String, Fault> {
     let mut told = Told::new(alloc);
-    apply_all(alloc, &mut clones, words, &mut told)?;
+    apply_all(alloc, clones, words, &mut told)?;
     Ok(told.into_text())
 }
 
@@ -73,7 +104,7 @@ fn apply_all<T: NativeType + Display + FromStr<Err: Drop>>(
     for _ in 0..u64::MAX {
         match words.read()? {
             "end" => break,
-            operation => apply(alloc, clones, operation, words, told)?,
+            word => apply(alloc, clones, find_word(&OPERATIONS, word), words, told)?,
         }
     }
     Ok(())
@@ -83,15 +114,20 @@ fn apply_all<T: NativeType + Display + FromStr<Err: Drop>>(
 fn apply<T: NativeType + Display + FromStr<Err: Drop>>(
     alloc: Global,
     clones: &mut Clones<T>,
-    operation: &str,
+    operation: Result<Operation, Fault>,
     words: &mut Words,
     told: &mut Told,
 ) -> Result<(), Fault> {
-    match operation {
-        "share" => share(alloc, &mut clones.buffer),
-        "clone" => clone(alloc, clones),
-        "first" => told.add_text(list(alloc, &clones.first)),
-        _ => apply_to_one(alloc, &mut clones.buffer, operation, words, told),
+    match operation? {
+        Operation::Slice => slice(&mut clones.buffer, read_pair(words)),
+        Operation::Share => share(alloc, &mut clones.buffer),
+        Operation::Clone => clone(alloc, clones),
+        Operation::GetMut => told.add_found(write_if_owned(&mut clones.buffer, read_pair(words))),
+        Operation::AsMutSlice => write_owned(&mut clones.buffer, read_pair(words)),
+        Operation::IsOwned => told.add_value(alloc, clones.buffer.is_owned()),
+        Operation::Len => told.add_value(alloc, clones.buffer.len()),
+        Operation::List => told.add_text(write_numbers(alloc, clones.buffer.as_slice())),
+        Operation::First => told.add_text(list(alloc, &clones.first)),
     }
 }
 
@@ -120,38 +156,6 @@ fn list<T: NativeType + Display>(
     }
 }
 
-// What an operation does to one buffer, and answers.
-fn apply_to_one<T: NativeType + Display + FromStr<Err: Drop>>(
-    alloc: Global,
-    buffer: &mut Buffer<T>,
-    operation: &str,
-    words: &mut Words,
-    told: &mut Told,
-) -> Result<(), Fault> {
-    match operation {
-        "is_owned" => told.add_value(alloc, buffer.is_owned()),
-        "len" => told.add_value(alloc, buffer.len()),
-        "list" => told.add_text(write_numbers(alloc, buffer.as_slice())),
-        "slice" => slice(buffer, read_places(words)),
-        _ => write(buffer, operation, words, told),
-    }
-}
-
-// Writes an element of a buffer in the way that an operation names, and says whether it is written where it asks that.
-fn write<T: NativeType + FromStr<Err: Drop>>(
-    buffer: &mut Buffer<T>,
-    operation: &str,
-    words: &mut Words,
-    told: &mut Told,
-) -> Result<(), Fault> {
-    let (i, element) = (words.read_number()?, words.read_number()?);
-    match operation {
-        "get_mut" => told.add(write_if_owned(buffer, i, element)?),
-        "as_mut_slice" => write_owned(buffer, i, element),
-        _ => Err(Fault::Word),
-    }
-}
-
 // Keeps elements of a buffer, where it has them.
 fn slice<T: NativeType>(
     buffer: &mut Buffer<T>,
@@ -177,20 +181,21 @@ fn write_at<T: NativeType>(elements: &mut [T], i: usize, element: T) -> Result<(
 // Writes an element of a buffer that owns its elements: `some` where it does, or `none`.
 fn write_if_owned<T: NativeType>(
     buffer: &mut Buffer<T>,
-    i: usize,
-    element: T,
+    written: Result<(usize, T), Fault>,
 ) -> Result<&'static str, Fault> {
+    let (i, element) = written?;
     match buffer.get_mut() {
-        Some(elements) => {
-            write_at(elements, i, element)?;
-            Ok("some")
-        }
+        Some(elements) => write_at(elements, i, element).map(|()| "some"),
         None => Ok("none"),
     }
 }
 
 // Writes an element of a buffer that has to own its elements.
-fn write_owned<T: NativeType>(buffer: &mut Buffer<T>, i: usize, element: T) -> Result<(), Fault> {
+fn write_owned<T: NativeType>(
+    buffer: &mut Buffer<T>,
+    written: Result<(usize, T), Fault>,
+) -> Result<(), Fault> {
+    let (i, element) = written?;
     if !buffer.is_owned() {
         return Err(Fault::Case);
     }

@@ -13,8 +13,9 @@
 //! | `fallen` | by how much the room has fallen since the builder was made |
 //! | `freeze` | all bits |
 
-use crate::answer_text::Told;
+use crate::answer_text::{Told, write_told};
 use crate::bits::{read_bitmap, read_truth};
+use crate::names::find_word;
 use crate::truth_values::SingleBits;
 use polars_arrays_bits::bitmap::Bitmap;
 use polars_arrays_bits::builder::BitmapBuilder;
@@ -22,20 +23,46 @@ use recorded_text::fault::Fault;
 use recorded_text::words::Words;
 use std::alloc::Global;
 
-/// The answer to a call on builders, or None for another one's.
-pub fn answer(alloc: Global, call: &str, words: &mut Words) -> Option<Result<String, Fault>> {
-    match call {
-        "builder" => Some(operate(alloc, words)),
-        _ => None,
-    }
+// What an operation does.
+#[derive(Clone, Copy)]
+enum Operation {
+    Push,
+    Fill,
+    Values,
+    WideValues,
+    Len,
+    Room,
+    Fallen,
 }
 
-// What the operations of a line answer.
-fn operate(alloc: Global, words: &mut Words) -> Result<String, Fault> {
-    let mut builder = BitmapBuilder::with_capacity(alloc, words.read_number()?)?;
+// The operations by their names.
+const OPERATIONS: [(&str, Operation); 7] = [
+    ("push", Operation::Push),
+    ("fill", Operation::Fill),
+    ("values", Operation::Values),
+    ("wide_values", Operation::WideValues),
+    ("len", Operation::Len),
+    ("room", Operation::Room),
+    ("fallen", Operation::Fallen),
+];
+
+/// What the operations of a line answer.
+pub fn operate(alloc: Global, words: &mut Words) -> Result<String, Fault> {
+    let mut builder = read_builder(alloc, words)?;
+    let told = tell(alloc, &mut builder, words);
+    write_told(alloc, told, &builder.freeze())
+}
+
+// A builder with as much room as the next word says.
+fn read_builder(alloc: Global, words: &mut Words) -> Result<BitmapBuilder, Fault> {
+    BitmapBuilder::with_capacity(alloc, words.read_number()?).map_err(Fault::from)
+}
+
+// What the operations before `freeze` do to a builder answer.
+fn tell(alloc: Global, builder: &mut BitmapBuilder, words: &mut Words) -> Result<Told, Fault> {
     let mut told = Told::new(alloc);
-    apply_all(alloc, &mut builder, words, &mut told)?;
-    told.with_bits(alloc, &builder.freeze())
+    apply_all(alloc, builder, words, &mut told)?;
+    Ok(told)
 }
 
 // What the operations before `freeze` do to a builder, and answer.
@@ -49,7 +76,14 @@ fn apply_all(
     for _ in 0..u64::MAX {
         match words.read()? {
             "freeze" => break,
-            operation => apply(alloc, builder, room, operation, words, told)?,
+            word => apply(
+                alloc,
+                builder,
+                room,
+                find_word(&OPERATIONS, word),
+                words,
+                told,
+            )?,
         }
     }
     Ok(())
@@ -60,15 +94,18 @@ fn apply(
     alloc: Global,
     builder: &mut BitmapBuilder,
     room: usize,
-    operation: &str,
+    operation: Result<Operation, Fault>,
     words: &mut Words,
     told: &mut Told,
 ) -> Result<(), Fault> {
-    match operation {
-        "len" => told.add_value(alloc, builder.len()),
-        "room" => tell_room(alloc, builder, words.read_number()?, told),
-        "fallen" => told.add_value(alloc, room.saturating_sub(builder.room())),
-        _ => extend(alloc, builder, operation, words),
+    match operation? {
+        Operation::Push => push_truth(builder, read_truth(words)),
+        Operation::Fill => fill_read(builder, words),
+        Operation::Values => push_read(builder, read_bitmap(alloc, words), false),
+        Operation::WideValues => push_read(builder, read_bitmap(alloc, words), true),
+        Operation::Len => told.add_value(alloc, builder.len()),
+        Operation::Room => tell_room(alloc, builder, words.read_number(), told),
+        Operation::Fallen => told.add_value(alloc, room.saturating_sub(builder.room())),
     }
 }
 
@@ -76,26 +113,21 @@ fn apply(
 fn tell_room(
     alloc: Global,
     builder: &BitmapBuilder,
-    n: usize,
+    n: Result<usize, Fault>,
     told: &mut Told,
 ) -> Result<(), Fault> {
-    told.add_value(alloc, n <= builder.room())
+    told.add_value(alloc, n? <= builder.room())
 }
 
-// Pushes what an operation says, where there is room for it.
-fn extend(
-    alloc: Global,
-    builder: &mut BitmapBuilder,
-    operation: &str,
-    words: &mut Words,
-) -> Result<(), Fault> {
-    match operation {
-        "push" => push(builder, read_truth(words)?),
-        "fill" => fill(builder, words.read_number()?, read_truth(words)?),
-        "values" => push_read(builder, read_bitmap(alloc, words), false),
-        "wide_values" => push_read(builder, read_bitmap(alloc, words), true),
-        _ => Err(Fault::Word),
-    }
+// Pushes the truth value that was read.
+fn push_truth(builder: &mut BitmapBuilder, value: Result<bool, Fault>) -> Result<(), Fault> {
+    push(builder, value?)
+}
+
+// Pushes as many bits as the next words say, of one value.
+fn fill_read(builder: &mut BitmapBuilder, words: &mut Words) -> Result<(), Fault> {
+    let n = words.read_number()?;
+    fill(builder, n, read_truth(words)?)
 }
 
 // Pushes the bits that were read, packed one by one.

@@ -10,8 +10,9 @@
 //! | `compare_constant COMPARISON TYPE LIST NUMBER` | which numbers pass with the last one |
 
 use crate::answer_text::write_value;
-use crate::bits::is_within;
-use crate::numbers::{at_number_type, at_type};
+use crate::bits::{is_within, read_pair};
+use crate::names::find_word;
+use crate::number_types::{Asked, ask_next};
 use polars_arrays_bits::buffer::Buffer;
 use polars_arrays_bits::slices::{compare_constant, compare_pairs, compare_windows};
 use polars_arrays_numbers::comparison::{
@@ -25,53 +26,72 @@ use recorded_text::words::Words;
 use std::alloc::Global;
 use std::str::FromStr;
 
-/// The answer to a call on comparisons, or None for another one's.
-pub fn answer(alloc: Global, call: &str, words: &mut Words) -> Option<Result<String, Fault>> {
-    match call {
-        "compare" | "packs_by_bit" | "compare_pairs" | "compare_windows" | "compare_constant" => {
-            Some(by_name(alloc, call, words))
-        }
-        _ => None,
-    }
+/// What numbers are asked with a comparison.
+#[derive(Clone, Copy)]
+pub enum Compared {
+    Two,
+    PacksByBit,
+    Pairs,
+    Windows,
+    Constant,
 }
 
-// The answer to a call with the comparison and at the type that the next words name.
-fn by_name(alloc: Global, call: &str, words: &mut Words) -> Result<String, Fault> {
-    let comparison = words.read()?;
-    at_number_type!(words.read()?, by_test(alloc, call, comparison, words))
+/// The comparisons.
+#[derive(Clone, Copy)]
+pub enum Test {
+    Equal,
+    Unequal,
+    Less,
+    LessOrEqual,
+    Greater,
+    GreaterOrEqual,
 }
 
-// The answer to a call with the comparison of a name.
-fn by_test<T: NativeType + FromStr<Err: Drop>>(
+// The comparisons by their names.
+const TESTS: [(&str, Test); 6] = [
+    ("equal", Test::Equal),
+    ("unequal", Test::Unequal),
+    ("less", Test::Less),
+    ("less_or_equal", Test::LessOrEqual),
+    ("greater", Test::Greater),
+    ("greater_or_equal", Test::GreaterOrEqual),
+];
+
+/// The answer to a call with the comparison and at the type that the next words name.
+pub fn by_name(alloc: Global, compared: Compared, words: &mut Words) -> Result<String, Fault> {
+    let test = find_word(&TESTS, words.read()?)?;
+    ask_next(alloc, Asked::Compared(compared, test), words)
+}
+
+/// The answer to a call with a comparison.
+pub fn by_test<T: NativeType + FromStr<Err: Drop>>(
     alloc: Global,
-    call: &str,
-    comparison: &str,
+    compared: Compared,
+    test: Test,
     words: &mut Words,
 ) -> Result<String, Fault> {
-    match comparison {
-        "equal" => ask::<T, Equal>(alloc, call, &Equal, words),
-        "unequal" => ask::<T, Unequal>(alloc, call, &Unequal, words),
-        "less" => ask::<T, Less>(alloc, call, &Less, words),
-        "less_or_equal" => ask::<T, LessOrEqual>(alloc, call, &LessOrEqual, words),
-        "greater" => ask::<T, Greater>(alloc, call, &Greater, words),
-        "greater_or_equal" => ask::<T, GreaterOrEqual>(alloc, call, &GreaterOrEqual, words),
-        _ => Err(Fault::Word),
+    match test {
+        Test::Equal => ask::<T, Equal>(alloc, compared, &Equal, words),
+        Test::Unequal => ask::<T, Unequal>(alloc, compared, &Unequal, words),
+        Test::Less => ask::<T, Less>(alloc, compared, &Less, words),
+        Test::LessOrEqual => ask::<T, LessOrEqual>(alloc, compared, &LessOrEqual, words),
+        Test::Greater => ask::<T, Greater>(alloc, compared, &Greater, words),
+        Test::GreaterOrEqual => ask::<T, GreaterOrEqual>(alloc, compared, &GreaterOrEqual, words),
     }
 }
 
 fn ask<T: NativeType + FromStr<Err: Drop>, E: Comparison<T, T>>(
     alloc: Global,
-    call: &str,
+    compared: Compared,
     comparison: &E,
     words: &mut Words,
 ) -> Result<String, Fault> {
-    match call {
-        "compare" => two::<T, E>(alloc, comparison, words),
-        "packs_by_bit" => write_value(alloc, comparison.packs_by_bit()),
-        "compare_pairs" => pairs::<T, E>(alloc, comparison, words),
-        "compare_windows" => windows::<T, E>(alloc, comparison, words),
-        "compare_constant" => constant::<T, E>(alloc, comparison, words),
-        _ => Err(Fault::Word),
+    match compared {
+        Compared::Two => two::<T, E>(alloc, comparison, words),
+        Compared::PacksByBit => write_value(alloc, comparison.packs_by_bit()),
+        Compared::Pairs => pairs::<T, E>(alloc, comparison, words),
+        Compared::Windows => windows::<T, E>(alloc, comparison, words),
+        Compared::Constant => constant::<T, E>(alloc, comparison, words),
     }
 }
 
@@ -81,8 +101,7 @@ fn two<T: NativeType + FromStr<Err: Drop>, E: Comparison<T, T>>(
     comparison: &E,
     words: &mut Words,
 ) -> Result<String, Fault> {
-    let left = words.read_number()?;
-    let right = words.read_number()?;
+    let (left, right) = read_pair(words)?;
     write_value(alloc, comparison.compare(left, right))
 }
 

@@ -5,25 +5,26 @@
 //! | `compute_error memory`, `compute_error unsupported`, `compute_error key KEY LEN` | the text of an error of a computation |
 //! | `array_error length`, `array_error offsets ROW`, `array_error field AT`, `array_error view ROW`, `array_error not_utf8 ROW`, `array_error key ROW` | the text of an error of the parts of an array |
 
+use crate::bits::read_pair;
 use polars_arrays_bits::error::{ArrayError, ComputeError};
 use recorded_text::fault::Fault;
 use recorded_text::words::Words;
 use std::alloc::{AllocError, Global};
 use std::fmt::Display;
 
-/// The answer to a call on errors, or None for another one's.
-pub fn answer(alloc: Global, call: &str, words: &mut Words) -> Option<Result<String, Fault>> {
-    let answer = match call {
-        "compute_error" => write_error(alloc, read_compute_error(words)),
-        "array_error" => write_error(alloc, read_array_error(words)),
-        _ => return None,
-    };
-    Some(answer)
+/// The text of the error of a computation that the next words name.
+pub fn write_compute_error(alloc: Global, words: &mut Words) -> Result<String, Fault> {
+    write_error(alloc, read_compute_error(words))
+}
+
+/// The text of the error of an array's parts that the next words name.
+pub fn write_array_error(alloc: Global, words: &mut Words) -> Result<String, Fault> {
+    write_error(alloc, read_array_error(words))
 }
 
 // The text of an error, where the words name one.
 fn write_error<E: Display + Drop>(alloc: Global, error: Result<E, Fault>) -> Result<String, Fault> {
-    Ok(error?.to_string(alloc)?)
+    error?.to_string(alloc).map_err(Fault::from)
 }
 
 fn read_compute_error(words: &mut Words) -> Result<ComputeError, Fault> {
@@ -36,8 +37,7 @@ fn read_compute_error(words: &mut Words) -> Result<ComputeError, Fault> {
 }
 
 fn read_key_error(words: &mut Words) -> Result<ComputeError, Fault> {
-    let key = words.read_number()?;
-    let len = words.read_number()?;
+    let (key, len) = read_pair(words)?;
     Ok(ComputeError::KeyOutOfRange { key, len })
 }
 

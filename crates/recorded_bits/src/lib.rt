@@ -6,71 +6,50 @@ mod answer_text;
 mod bits;
 mod buffers;
 mod builders;
+mod calls;
 mod comparisons;
 mod errors;
 mod masks;
 mod mutable_bits;
+mod names;
+mod number_types;
 mod numbers;
 mod sweeps;
 mod truth_values;
 
+use crate::calls::{CALLS, Call};
+use crate::names::find;
+use crate::number_types::{Asked, ask_next};
+use polars_arrays_numbers::steps::Steps;
 use recorded_text::fault::Fault;
 use recorded_text::words::Words;
 use std::alloc::Global;
 
-/// What a call may be about.
-#[derive(Clone, Copy)]
-enum Subject {
-    Numbers,
-    Bits,
-    Masks,
-    Builders,
-    MutableBits,
-    Buffers,
-    Comparisons,
-    Errors,
-    Sweeps,
-}
-
-/// The subjects, in the order in which they are asked.
-const SUBJECTS: [Subject; 9] = [
-    Subject::Numbers,
-    Subject::Bits,
-    Subject::Masks,
-    Subject::Builders,
-    Subject::MutableBits,
-    Subject::Buffers,
-    Subject::Comparisons,
-    Subject::Errors,
-    Subject::Sweeps,
-];
-
 /// The answer to a call of one of these subjects, or None for another one's.
 pub fn answer(alloc: Global, call: &str, words: &mut Words) -> Result<Option<String>, Fault> {
-    for subject in SUBJECTS {
-        if let Some(answer) = ask(subject, alloc, call, words) {
-            return Ok(Some(answer?));
-        }
+    match find(&CALLS, call) {
+        Some(call) => ask(alloc, call, words).map(Some),
+        None => Ok(None),
     }
-    Ok(None)
 }
 
-// The answer to a call of this subject, or None for another one's.
-fn ask(
-    subject: Subject,
-    alloc: Global,
-    call: &str,
-    words: &mut Words,
-) -> Option<Result<String, Fault>> {
-    match subject {
-        Subject::Numbers => numbers::answer(alloc, call, words),
-        Subject::Bits => bits::answer(alloc, call, words),
-        Subject::Masks => masks::answer(alloc, call, words),
-        Subject::Builders => builders::answer(alloc, call, words),
-        Subject::MutableBits => mutable_bits::answer(alloc, call, words),
-        Subject::Buffers => buffers::answer(alloc, call, words),
-        Subject::Comparisons => comparisons::answer(alloc, call, words),
-        Subject::Errors => errors::answer(alloc, call, words),
-        Subject::Sweeps => sweeps::answer(alloc, call, words),
+// The answer to a call.
+fn ask(alloc: Global, call: Call, words: &mut Words) -> Result<String, Fault> {
+    match call {
+        Call::NumberType(asked) => ask_next(alloc, Asked::Type(asked), words),
+        Call::Offset(asked) => numbers::of_offset(alloc, asked, words),
+        Call::Key => numbers::of_key(alloc, words),
+        Call::Steps => numbers::count(alloc, Steps::new(), words),
+        Call::DefaultSteps => numbers::count(alloc, Steps::default(), words),
+        Call::Bits(asked) => bits::ask(alloc, asked, words),
+        Call::Masks(asked) => masks::ask(alloc, asked, words),
+        Call::Builder => builders::operate(alloc, words),
+        Call::MutableBits => mutable_bits::operate(alloc, words),
+        Call::Buffer => ask_next(alloc, Asked::Buffer, words),
+        Call::Compared(compared) => comparisons::by_name(alloc, compared, words),
+        Call::ComputeError => errors::write_compute_error(alloc, words),
+        Call::ArrayError => errors::write_array_error(alloc, words),
+        Call::Sweep => sweeps::answer(alloc, words),
+        Call::SweepOfBlocks => sweeps::answer_of_blocks(alloc, words),
     }
 }

@@ -17,7 +17,8 @@
 ghost use Rattle.std.specs.Prelude.{◌≡◌, ◌+◌, ◌≤◌, length, IfOk};
 
 use crate::answer_text::write_value;
-use crate::bits::{is_within, read_bitmap, read_places, write_read};
+use crate::bits::{is_within, read_bitmap, read_pair, write_read};
+use crate::names::{Merge, Operator};
 use polars_arrays_bits::bit_mask::BitMask;
 use polars_arrays_bits::bitmap::Bitmap;
 use recorded_text::bits_text::write_made;
@@ -25,25 +26,69 @@ use recorded_text::fault::Fault;
 use recorded_text::words::Words;
 use std::alloc::Global;
 
-/// The answer to a call on masks, or None for another one's.
-pub fn answer(alloc: Global, call: &str, words: &mut Words) -> Option<Result<String, Fault>> {
-    let answer = match call {
-        "mask_not"
-        | "to_bitmap"
-        | "window"
-        | "mask_len"
-        | "mask_unset_bits"
-        | "mask_get"
-        | "few_bits"
-        | "all_set"
-        | "all_in_blocks" => of_one(alloc, call, words),
-        "mask_and" | "mask_or" | "mask_xor" | "mask_xnor" | "mask_and_not" | "mask_or_not" => {
-            of_two(alloc, call, words)
+/// What is asked of one window.
+#[derive(Clone, Copy)]
+pub enum OfOne {
+    Not,
+    Bits,
+    Window,
+    Len,
+    UnsetBits,
+    Get,
+    FewBits,
+    AllSet,
+    Blocks,
+}
+
+/// What is asked of windows.
+#[derive(Clone, Copy)]
+pub enum Asked {
+    One(OfOne),
+    Combined(Operator),
+    Merged(Merge),
+}
+
+/// What the windows answer that the next words write.
+pub fn ask(alloc: Global, asked: Asked, words: &mut Words) -> Result<String, Fault> {
+    match asked {
+        Asked::One(of_one) => ask_next(alloc, of_one, words),
+        Asked::Combined(_) => ask_more(alloc, asked, read_windows(alloc, words, 2)),
+        Asked::Merged(_) => ask_more(alloc, asked, read_windows(alloc, words, 3)),
+    }
+}
+
+// So many windows, which the next words write.
+fn read_windows(alloc: Global, words: &mut Words, count: usize) -> Result<Vec<Window>, Fault> {
+    let mut windows = Vec::new(alloc);
+    for _ in 0..count {
+        windows.push(Window::read(alloc, words)?)?;
+    }
+    Ok(windows)
+}
+
+// What the windows answer that were read.
+fn ask_more(
+    alloc: Global,
+    asked: Asked,
+    operands: Result<Vec<Window>, Fault>,
+) -> Result<String, Fault> {
+    ask_all(alloc, asked, &operands?)
+}
+
+// What two or three windows answer.
+fn ask_all(alloc: Global, asked: Asked, operands: &[Window]) -> Result<String, Fault> {
+    match (asked, operands) {
+        (Asked::Combined(operator), [x, y]) => {
+            write_read(alloc, combine(alloc, operator, &x.mask(), &y.mask()))
         }
-        "mask_merge_eq" | "mask_merge_ne" => of_three(alloc, call, words),
-        _ => return None,
-    };
-    Some(answer)
+        (Asked::Merged(merge), [q, l, r]) => {
+            write_read(
+                alloc,
+                combine_three(alloc, merge, &q.mask(), &l.mask(), &r.mask()),
+            )
+        }
+        _ => Err(Fault::Case),
+    }
 }
 
 /// A window of bits, where they have one.
@@ -69,7 +114,7 @@ impl Window {
     // The bits and the window that the next three words write.
     fn read(alloc: Global, words: &mut Words) -> Result<Window, Fault> {
         let bits = read_bitmap(alloc, words)?;
-        let (at, n) = read_places(words)?;
+        let (at, n) = read_pair(words)?;
         if !is_within(at, n, bits.len()) {
             return Err(Fault::Case);
         }
@@ -82,32 +127,31 @@ impl Window {
     }
 }
 
-/// The operator of this name on the bits of two windows.
+/// An operator on the bits of two windows, which must be as many.
 pub fn combine(
     alloc: Global,
-    call: &str,
+    operator: Operator,
     x: &BitMask<'_>,
     y: &BitMask<'_>,
 ) -> Result<Bitmap, Fault> {
     if x.len() != y.len() {
         return Err(Fault::Case);
     }
-    let bits = match call {
-        "mask_and" => x.and(alloc, y),
-        "mask_or" => x.or(alloc, y),
-        "mask_xor" => x.xor(alloc, y),
-        "mask_xnor" => x.xnor(alloc, y),
-        "mask_and_not" => x.and_not(alloc, y),
-        "mask_or_not" => x.or_not(alloc, y),
-        _ => return Err(Fault::Word),
+    let bits = match operator {
+        Operator::And => x.and(alloc, y),
+        Operator::Or => x.or(alloc, y),
+        Operator::Xor => x.xor(alloc, y),
+        Operator::Xnor => x.xnor(alloc, y),
+        Operator::AndNot => x.and_not(alloc, y),
+        Operator::OrNot => x.or_not(alloc, y),
     };
-    Ok(bits?)
+    bits.map_err(Fault::from)
 }
 
-/// The merge of this name of three windows.
+/// A merge of three windows, which must have as many bits.
 pub fn combine_three(
     alloc: Global,
-    call: &str,
+    merge: Merge,
     q: &BitMask<'_>,
     l: &BitMask<'_>,
     r: &BitMask<'_>,
@@ -115,12 +159,11 @@ pub fn combine_three(
     if q.len() != l.len() || q.len() != r.len() {
         return Err(Fault::Case);
     }
-    let bits = match call {
-        "mask_merge_eq" => BitMask::merge_eq(alloc, q, l, r),
-        "mask_merge_ne" => BitMask::merge_ne(alloc, q, l, r),
-        _ => return Err(Fault::Word),
+    let bits = match merge {
+        Merge::Eq => BitMask::merge_eq(alloc, q, l, r),
+        Merge::Ne => BitMask::merge_ne(alloc, q, l, r),
     };
-    Ok(bits?)
+    bits.map_err(Fault::from)
 }
 
 /// Whether the `n` bits of a window from place `at` on are all true.
@@ -139,48 +182,56 @@ pub fn fold_blocks(
     n: usize,
 ) -> Result<Bitmap, Fault> {
     match width.checked_mul(n) {
-        Some(len) if len <= mask.len() => Ok(mask.all_in_blocks(alloc, width, n)?),
+        Some(len) if len <= mask.len() => {
+            mask.all_in_blocks(alloc, width, n).map_err(Fault::from)
+        }
         _ => Err(Fault::Case),
     }
 }
 
-// The answer to a call on one window.
-fn of_one(alloc: Global, call: &str, words: &mut Words) -> Result<String, Fault> {
+// What the window answers that the next words write.
+fn ask_next(alloc: Global, asked: OfOne, words: &mut Words) -> Result<String, Fault> {
     let window = Window::read(alloc, words)?;
-    ask_one(alloc, call, &window.mask(), words)
+    ask_one(alloc, asked, &window.mask(), words)
 }
 
-// What is asked of one window.
+// What one window answers.
 fn ask_one(
     alloc: Global,
-    call: &str,
+    asked: OfOne,
     mask: &BitMask<'_>,
     words: &mut Words,
 ) -> Result<String, Fault> {
-    match call {
-        "mask_not" => write_made(alloc, mask.not(alloc)),
-        "to_bitmap" => write_made(alloc, mask.to_bitmap(alloc)),
-        "mask_len" => write_value(alloc, mask.len()),
-        "mask_unset_bits" => write_value(alloc, mask.unset_bits()),
-        "mask_get" => bit(alloc, mask, words.read_number()?),
-        _ => ask_part(alloc, call, mask, read_places(words)?),
+    match asked {
+        OfOne::Not => write_made(alloc, mask.not(alloc)),
+        OfOne::Bits => write_made(alloc, mask.to_bitmap(alloc)),
+        OfOne::Len => write_value(alloc, mask.len()),
+        OfOne::UnsetBits => write_value(alloc, mask.unset_bits()),
+        OfOne::Get => bit(alloc, mask, words.read_number()),
+        _ => ask_part(alloc, asked, mask, read_pair(words)),
     }
 }
 
-// What is asked of a window and of two numbers: a place and how many bits, or the width and the number of blocks.
+// What a window answers for two numbers: a place and how many bits, or the width and the number of blocks.
 fn ask_part(
     alloc: Global,
-    call: &str,
+    asked: OfOne,
     mask: &BitMask<'_>,
-    (first, second): (usize, usize),
+    numbers: Result<(usize, usize), Fault>,
 ) -> Result<String, Fault> {
-    match call {
-        "window" => part(alloc, mask, first, second),
-        "few_bits" => few_bits(alloc, mask, first, second),
-        "all_set" => write_value(alloc, is_all_set(mask, first, second)?),
-        "all_in_blocks" => write_read(alloc, fold_blocks(alloc, mask, first, second)),
+    let (first, second) = numbers?;
+    match asked {
+        OfOne::Window => part(alloc, mask, first, second),
+        OfOne::FewBits => few_bits(alloc, mask, first, second),
+        OfOne::AllSet => write_truth(alloc, is_all_set(mask, first, second)),
+        OfOne::Blocks => write_read(alloc, fold_blocks(alloc, mask, first, second)),
         _ => Err(Fault::Word),
     }
+}
+
+// The text of a truth value, where there is one.
+fn write_truth(alloc: Global, truth: Result<bool, Fault>) -> Result<String, Fault> {
+    write_value(alloc, truth?)
 }
 
 // A part of a window, where it has one.
@@ -200,35 +251,10 @@ fn few_bits(alloc: Global, mask: &BitMask<'_>, at: usize, n: usize) -> Result<St
 }
 
 // Bit `i`, where there is one.
-fn bit(alloc: Global, mask: &BitMask<'_>, i: usize) -> Result<String, Fault> {
+fn bit(alloc: Global, mask: &BitMask<'_>, i: Result<usize, Fault>) -> Result<String, Fault> {
+    let i = i?;
     if i >= mask.len() {
         return Err(Fault::Case);
     }
     write_value(alloc, mask.get(i))
-}
-
-// The answer to a call on two windows.
-fn of_two(alloc: Global, call: &str, words: &mut Words) -> Result<String, Fault> {
-    let x = Window::read(alloc, words)?;
-    let y = Window::read(alloc, words)?;
-    write_read(alloc, combine(alloc, call, &x.mask(), &y.mask()))
-}
-
-// The answer to a call on three windows.
-fn of_three(alloc: Global, call: &str, words: &mut Words) -> Result<String, Fault> {
-    let q = Window::read(alloc, words)?;
-    let l = Window::read(alloc, words)?;
-    with_third(alloc, call, &q.mask(), &l.mask(), words)
-}
-
-// The answer to a call on three windows, of which the last is not read yet.
-fn with_third(
-    alloc: Global,
-    call: &str,
-    q: &BitMask<'_>,
-    l: &BitMask<'_>,
-    words: &mut Words,
-) -> Result<String, Fault> {
-    let r = Window::read(alloc, words)?;
-    write_read(alloc, combine_three(alloc, call, q, l, &r.mask()))
 }

@@ -16,8 +16,9 @@
 //! | `len`, `count` | how many bits there are, and are true |
 //! | `freeze` | all bits |
 
-use crate::answer_text::{Told, write_value};
-use crate::bits::{read_bitmap, read_truth};
+use crate::answer_text::{Told, write_told, write_value};
+use crate::bits::{read_bitmap, read_bitmaps, read_truth};
+use crate::names::{Merge, find_word};
 use crate::truth_values::SingleBits;
 use polars_arrays_bits::bit_mask::BitMask;
 use polars_arrays_bits::bitmap::Bitmap;
@@ -26,30 +27,76 @@ use recorded_text::fault::Fault;
 use recorded_text::words::Words;
 use std::alloc::Global;
 
-/// The answer to a call on bitmaps of this kind, or None for another one's.
-pub fn answer(alloc: Global, call: &str, words: &mut Words) -> Option<Result<String, Fault>> {
-    match call {
-        "mutable" => Some(operate(alloc, words)),
-        _ => None,
-    }
-}
-
 // The bits that the operations of a line begin with.
 fn begin(alloc: Global, words: &mut Words) -> Result<MutableBitmap, Fault> {
     match words.read()? {
-        "zeroed" => Ok(MutableBitmap::from_len_zeroed(alloc, words.read_number()?)?),
-        "set" => Ok(MutableBitmap::from_len_set(alloc, words.read_number()?)?),
+        "zeroed" => read_zeroed(alloc, words),
+        "set" => read_set(alloc, words),
         "of" => read_mutable(alloc, words),
         _ => Err(Fault::Word),
     }
 }
 
-// What the operations of a line answer.
-fn operate(alloc: Global, words: &mut Words) -> Result<String, Fault> {
+// As many bits as the next word says, all false.
+fn read_zeroed(alloc: Global, words: &mut Words) -> Result<MutableBitmap, Fault> {
+    MutableBitmap::from_len_zeroed(alloc, words.read_number()?).map_err(Fault::from)
+}
+
+// As many bits as the next word says, all true.
+fn read_set(alloc: Global, words: &mut Words) -> Result<MutableBitmap, Fault> {
+    MutableBitmap::from_len_set(alloc, words.read_number()?).map_err(Fault::from)
+}
+
+// What an operation does.
+#[derive(Clone, Copy)]
+enum Operation {
+    Set,
+    Or,
+    Join(Join),
+    Merge(Merge),
+    Get,
+    Len,
+    Count,
+}
+
+// How the bits of a bitmap are joined with those that are there.
+#[derive(Clone, Copy)]
+enum Join {
+    And,
+    AndValues,
+    AndWideValues,
+    AndMask,
+    OrNotMask,
+}
+
+// The operations by their names.
+const OPERATIONS: [(&str, Operation); 12] = [
+    ("set", Operation::Set),
+    ("or", Operation::Or),
+    ("and", Operation::Join(Join::And)),
+    ("and_values", Operation::Join(Join::AndValues)),
+    ("and_wide_values", Operation::Join(Join::AndWideValues)),
+    ("and_mask", Operation::Join(Join::AndMask)),
+    ("or_not_mask", Operation::Join(Join::OrNotMask)),
+    ("merge_eq", Operation::Merge(Merge::Eq)),
+    ("merge_ne", Operation::Merge(Merge::Ne)),
+    ("get", Operation::Get),
+    ("len", Operation::Len),
+    ("count", Operation::Count),
+];
+
+/// What the operations of a line answer.
+pub fn operate(alloc: Global, words: &mut Words) -> Result<String, Fault> {
     let mut bits = begin(alloc, words)?;
+    let told = tell(alloc, &mut bits, words);
+    write_told(alloc, told, &bits.freeze())
+}
+
+// What the operations before `freeze` do to bits answer.
+fn tell(alloc: Global, bits: &mut MutableBitmap, words: &mut Words) -> Result<Told, Fault> {
     let mut told = Told::new(alloc);
-    apply_all(alloc, &mut bits, words, &mut told)?;
-    told.with_bits(alloc, &bits.freeze())
+    apply_all(alloc, bits, words, &mut told)?;
+    Ok(told)
 }
 
 // What the operations before `freeze` do to bits, and answer.
@@ -62,7 +109,7 @@ fn apply_all(
     for _ in 0..u64::MAX {
         match words.read()? {
             "freeze" => break,
-            operation => apply(alloc, bits, operation, words, told)?,
+            word => apply(alloc, bits, find_word(&OPERATIONS, word), words, told)?,
         }
     }
     Ok(())
@@ -72,43 +119,34 @@ fn apply_all(
 fn apply(
     alloc: Global,
     bits: &mut MutableBitmap,
-    operation: &str,
+    operation: Result<Operation, Fault>,
     words: &mut Words,
     told: &mut Told,
 ) -> Result<(), Fault> {
-    match operation {
-        "len" => told.add_value(alloc, bits.len()),
-        "count" => told.add_value(alloc, bits.set_bits()),
-        "get" => told.add_text(bit(alloc, bits, words.read_number()?)),
-        _ => change(alloc, bits, operation, words),
-    }
-}
-
-// Changes the bits as an operation says.
-fn change(
-    alloc: Global,
-    bits: &mut MutableBitmap,
-    operation: &str,
-    words: &mut Words,
-) -> Result<(), Fault> {
-    match operation {
-        "set" => set(bits, words.read_number()?, read_truth(words)?),
-        "or" => or_assign(bits, read_mutable(alloc, words)),
-        "and" => and_assign(bits, read_bitmap(alloc, words)),
-        "and_values" => and_values(bits, read_bitmap(alloc, words), false),
-        "and_wide_values" => and_values(bits, read_bitmap(alloc, words), true),
-        "and_mask" | "or_not_mask" => assign_mask(bits, operation, read_bitmap(alloc, words)),
-        "merge_eq" | "merge_ne" => merge_read(alloc, bits, operation, words),
-        _ => Err(Fault::Word),
+    match operation? {
+        Operation::Set => set_read(bits, words),
+        Operation::Or => or_assign(bits, read_mutable(alloc, words)),
+        Operation::Join(join) => join_read(bits, join, read_bitmap(alloc, words)),
+        Operation::Merge(merge) => merge_read(bits, merge, read_bitmaps(alloc, words, 2)),
+        Operation::Get => told.add_text(bit(alloc, bits, words.read_number())),
+        Operation::Len => told.add_value(alloc, bits.len()),
+        Operation::Count => told.add_value(alloc, bits.set_bits()),
     }
 }
 
 // Bit `i`, where there is one.
-fn bit(alloc: Global, bits: &MutableBitmap, i: usize) -> Result<String, Fault> {
+fn bit(alloc: Global, bits: &MutableBitmap, i: Result<usize, Fault>) -> Result<String, Fault> {
+    let i = i?;
     if i >= bits.len() {
         return Err(Fault::Case);
     }
     write_value(alloc, bits.get(i))
+}
+
+// The bit becomes the value that the next words tell.
+fn set_read(bits: &mut MutableBitmap, words: &mut Words) -> Result<(), Fault> {
+    let i = words.read_number()?;
+    set(bits, i, read_truth(words)?)
 }
 
 // Bit `i` becomes `value`, where there is one.
@@ -122,8 +160,9 @@ fn set(bits: &mut MutableBitmap, i: usize, value: bool) -> Result<(), Fault> {
 
 // The bits that the next word writes, to be changed.
 fn read_mutable(alloc: Global, words: &mut Words) -> Result<MutableBitmap, Fault> {
-    let bits = read_bitmap(alloc, words)?;
-    Ok(bits.into_mut(alloc)?)
+    read_bitmap(alloc, words)?
+        .into_mut(alloc)
+        .map_err(Fault::from)
 }
 
 // Each bit becomes true where the other's is, where they are as many.
@@ -136,74 +175,71 @@ fn or_assign(bits: &mut MutableBitmap, other: Result<MutableBitmap, Fault>) -> R
     Ok(())
 }
 
-// Each bit stays true where the other's is, where they are as many.
-fn and_assign(bits: &mut MutableBitmap, other: Result<Bitmap, Fault>) -> Result<(), Fault> {
-    let other = other?;
-    if other.len() != bits.len() {
-        return Err(Fault::Case);
-    }
-    bits.and_assign(&other);
-    Ok(())
-}
-
-// The same by the bits of the other one, each asked for by itself.
-fn and_values(
+// The bits are joined with those that were read.
+fn join_read(
     bits: &mut MutableBitmap,
-    other: Result<Bitmap, Fault>,
-    wide: bool,
-) -> Result<(), Fault> {
-    let other = other?;
-    if other.len() != bits.len() {
-        return Err(Fault::Case);
-    }
-    bits.and_assign_values(&SingleBits { bits: &other, wide });
-    Ok(())
-}
-
-// Each bit is joined with the other's by the operation of this name, where they are as many.
-fn assign_mask(
-    bits: &mut MutableBitmap,
-    operation: &str,
+    join: Join,
     other: Result<Bitmap, Fault>,
 ) -> Result<(), Fault> {
-    let other = other?;
+    join_with(bits, join, &other?)
+}
+
+// Each bit is joined with the other's, where they are as many.
+fn join_with(bits: &mut MutableBitmap, join: Join, other: &Bitmap) -> Result<(), Fault> {
     if other.len() != bits.len() {
         return Err(Fault::Case);
     }
-    let other = BitMask::from_bitmap(&other);
-    match operation {
-        "and_mask" => bits.and_assign_mask(&other),
-        _ => bits.or_not_assign_mask(&other),
+    match join {
+        Join::And => bits.and_assign(other),
+        Join::AndValues => bits.and_assign_values(&SingleBits {
+            bits: other,
+            wide: false,
+        }),
+        Join::AndWideValues => bits.and_assign_values(&SingleBits {
+            bits: other,
+            wide: true,
+        }),
+        Join::AndMask => bits.and_assign_mask(&BitMask::from_bitmap(other)),
+        Join::OrNotMask => bits.or_not_assign_mask(&BitMask::from_bitmap(other)),
     }
     Ok(())
 }
 
-// The bits are merged with those that the next two words write.
+// The bits are merged with those that were read.
 fn merge_read(
-    alloc: Global,
     bits: &mut MutableBitmap,
-    operation: &str,
-    words: &mut Words,
+    merge: Merge,
+    present: Result<Vec<Bitmap>, Fault>,
 ) -> Result<(), Fault> {
-    let left = read_bitmap(alloc, words)?;
-    merge(bits, operation, &left, read_bitmap(alloc, words))
+    merge_all(bits, merge, &present?)
+}
+
+// The bits are merged with which rows are present on both sides.
+fn merge_all(bits: &mut MutableBitmap, merge: Merge, present: &[Bitmap]) -> Result<(), Fault> {
+    match present {
+        [left, right] => merge_masks(
+            bits,
+            merge,
+            &BitMask::from_bitmap(left),
+            &BitMask::from_bitmap(right),
+        ),
+        _ => Err(Fault::Case),
+    }
 }
 
 // The bits are merged with which rows are present on each side, where they are as many.
-fn merge(
+fn merge_masks(
     bits: &mut MutableBitmap,
-    operation: &str,
-    left: &Bitmap,
-    right: Result<Bitmap, Fault>,
+    merge: Merge,
+    left: &BitMask<'_>,
+    right: &BitMask<'_>,
 ) -> Result<(), Fault> {
-    let right = right?;
     if left.len() != bits.len() || right.len() != bits.len() {
         return Err(Fault::Case);
     }
-    let (left, right) = (BitMask::from_bitmap(left), BitMask::from_bitmap(&right));
-    match operation {
-        "merge_eq" => bits.merge_eq_assign(&left, &right),
-        _ => bits.merge_ne_assign(&left, &right),
+    match merge {
+        Merge::Eq => bits.merge_eq_assign(left, right),
+        Merge::Ne => bits.merge_ne_assign(left, right),
     }
     Ok(())
 }

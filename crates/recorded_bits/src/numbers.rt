@@ -10,6 +10,7 @@
 //! | `steps N NUMBER..`, `default_steps N NUMBER..` | what a counter shows to which the N numbers were added |
 
 use crate::answer_text::{write_found, write_value};
+use crate::number_types::{NumberType, read_type};
 use polars_arrays_numbers::dictionary_key::DictionaryKey;
 use polars_arrays_numbers::native_type::{
     NativeType, greatest_value, has_wide_values, least_value,
@@ -23,80 +24,73 @@ use std::alloc::Global;
 use std::fmt::Display;
 use std::str::FromStr;
 
-// What a function answers at that type of a list whose name a word is.
-macro_rules! at_type {
-    ($word:expr, $function:ident $arguments:tt, $($name:literal $type:ty),+) => {
-        match $word {
-            $($name => $function::<$type> $arguments,)+
-            _ => Err(Fault::Word),
-        }
-    };
+/// What a number type itself is asked.
+#[derive(Clone, Copy)]
+pub enum OfType {
+    Least,
+    Greatest,
+    Width,
+    IsSigned,
+    HasWideValues,
 }
 
-// What a function answers at the number type whose name a word is.
-macro_rules! at_number_type {
-    ($word:expr, $function:ident $arguments:tt) => {
-        at_type!($word, $function $arguments, "i8" i8, "i16" i16, "i32" i32, "i64" i64,
-            "i128" i128, "u8" u8, "u16" u16, "u32" u32, "u64" u64, "u128" u128)
-    };
+/// How an offset is asked for its place.
+#[derive(Clone, Copy)]
+pub enum OfOffset {
+    Found,
+    Known,
 }
 
-pub(crate) use at_number_type;
-pub(crate) use at_type;
-
-/// The answer to a call on numbers, or None for another one's.
-pub fn answer(alloc: Global, call: &str, words: &mut Words) -> Option<Result<String, Fault>> {
-    let answer = match call {
-        "least_value" | "greatest_value" | "number_width" | "is_signed" | "has_wide_values" => {
-            of_type(alloc, call, words)
-        }
-        "to_place" | "place" => of_offset(alloc, call, words),
-        "to_entry" => of_key(alloc, words),
-        "steps" => count(alloc, Steps::new(), words),
-        "default_steps" => count(alloc, Steps::default(), words),
-        _ => return None,
-    };
-    Some(answer)
-}
-
-// What is asked of the number type that the next word names.
-fn of_type(alloc: Global, call: &str, words: &mut Words) -> Result<String, Fault> {
-    at_number_type!(words.read()?, ask_type(alloc, call))
-}
-
-// What is asked of an offset of the type that the next word names.
-fn of_offset(alloc: Global, call: &str, words: &mut Words) -> Result<String, Fault> {
-    at_type!(words.read()?, ask_offset(alloc, call, words), "i32" i32, "i64" i64)
-}
-
-// The entry that a key of the type that the next word names stands for.
-fn of_key(alloc: Global, words: &mut Words) -> Result<String, Fault> {
-    at_type!(words.read()?, entry(alloc, words), "i8" i8, "i16" i16, "i32" i32, "i64" i64,
-        "u8" u8, "u16" u16, "u32" u32, "u64" u64)
-}
-
-// What is asked of a number type.
-fn ask_type<T: NativeType + Display>(alloc: Global, call: &str) -> Result<String, Fault> {
-    match call {
-        "least_value" => write_value(alloc, least_value::<T>()),
-        "greatest_value" => write_value(alloc, greatest_value::<T>()),
-        "number_width" => write_value(alloc, T::width()),
-        "is_signed" => write_value(alloc, T::is_signed()),
-        "has_wide_values" => write_value(alloc, has_wide_values::<T>()),
+/// What is asked of an offset of the type that the next word names.
+pub fn of_offset(alloc: Global, asked: OfOffset, words: &mut Words) -> Result<String, Fault> {
+    match read_type(words)? {
+        NumberType::Int32 => ask_offset::<i32>(alloc, asked, words),
+        NumberType::Int64 => ask_offset::<i64>(alloc, asked, words),
         _ => Err(Fault::Word),
+    }
+}
+
+/// The entry that a key of the type that the next word names stands for.
+pub fn of_key(alloc: Global, words: &mut Words) -> Result<String, Fault> {
+    match read_type(words)? {
+        NumberType::Int8 => entry::<i8>(alloc, words),
+        NumberType::Int16 => entry::<i16>(alloc, words),
+        NumberType::Int32 => entry::<i32>(alloc, words),
+        NumberType::Int64 => entry::<i64>(alloc, words),
+        NumberType::UInt8 => entry::<u8>(alloc, words),
+        NumberType::UInt16 => entry::<u16>(alloc, words),
+        NumberType::UInt32 => entry::<u32>(alloc, words),
+        NumberType::UInt64 => entry::<u64>(alloc, words),
+        NumberType::Int128 | NumberType::UInt128 => Err(Fault::Word),
+    }
+}
+
+/// What a number type itself answers.
+pub fn ask_type<T: NativeType + Display>(alloc: Global, asked: OfType) -> Result<String, Fault> {
+    match asked {
+        OfType::Least => write_value(alloc, least_value::<T>()),
+        OfType::Greatest => write_value(alloc, greatest_value::<T>()),
+        OfType::Width => write_value(alloc, T::width()),
+        OfType::IsSigned => write_value(alloc, T::is_signed()),
+        OfType::HasWideValues => write_value(alloc, has_wide_values::<T>()),
     }
 }
 
 // What is asked of an offset.
 fn ask_offset<O: Offset + FromStr<Err: Drop>>(
     alloc: Global,
-    call: &str,
+    asked: OfOffset,
     words: &mut Words,
 ) -> Result<String, Fault> {
     let offset: O = words.read_number()?;
-    if call == "to_place" {
-        return write_found(alloc, offset.to_place());
+    match asked {
+        OfOffset::Found => write_found(alloc, offset.to_place()),
+        OfOffset::Known => write_place(alloc, offset),
     }
+}
+
+// The place of an offset that has one.
+fn write_place<O: Offset>(alloc: Global, offset: O) -> Result<String, Fault> {
     if offset.to_place().is_none() {
         return Err(Fault::Case);
     }
@@ -112,8 +106,8 @@ fn entry<K: DictionaryKey + FromStr<Err: Drop>>(
     write_found(alloc, key.to_entry())
 }
 
-// What a counter shows to which numbers are added.
-fn count(alloc: Global, mut steps: Steps, words: &mut Words) -> Result<String, Fault> {
+/// What a counter shows to which numbers are added.
+pub fn count(alloc: Global, mut steps: Steps, words: &mut Words) -> Result<String, Fault> {
     let numbers = read_numbers::<u64>(alloc, words)?;
     add_all(&mut steps, numbers.as_slice());
     write_value(alloc, steps.seen())

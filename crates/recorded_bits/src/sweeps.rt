@@ -10,7 +10,9 @@
 //! list at the first place, the second one the second list at the second place, and the third one the third
 //! list at a place that the two give. The answers' bits go into the sum in order, and a count as one number.
 
+use crate::bits::read_pair;
 use crate::builders::{fill, push, push_all};
+use crate::names::{Merge, Operator, find_word};
 use crate::{bits, masks};
 use polars_arrays_bits::bit_mask::BitMask;
 use polars_arrays_bits::bitmap::Bitmap;
@@ -23,24 +25,18 @@ use std::alloc::Global;
 /// How many places in words there are to begin at: those of one word, and two of the next.
 const PLACES: usize = 66;
 
-/// The answer to a sweep, or None for another call.
-pub fn answer(alloc: Global, call: &str, words: &mut Words) -> Option<Result<String, Fault>> {
-    let sum = match call {
-        "sweep" => read_sweep(alloc, words),
-        "sweep_blocks" => read_sweep_of_blocks(alloc, words),
-        _ => return None,
-    };
-    Some(write_sum(alloc, sum))
-}
-
 /// The sum over the answers to the call that the next words write.
-fn read_sweep(alloc: Global, words: &mut Words) -> Result<Sum, Fault> {
-    sweep(alloc, words.read()?, words.read_number()?)
+pub fn answer(alloc: Global, words: &mut Words) -> Result<String, Fault> {
+    let call = words.read()?;
+    let n = words.read_number()?;
+    write_sum(alloc, sweep(alloc, call, n))
 }
 
 /// The sum over blocks of the width and the number that the next words write.
-fn read_sweep_of_blocks(alloc: Global, words: &mut Words) -> Result<Sum, Fault> {
-    sweep_blocks(alloc, words.read_number()?, words.read_number()?)
+pub fn answer_of_blocks(alloc: Global, words: &mut Words) -> Result<String, Fault> {
+    let (width, n) = read_pair(words)?;
+    let sum = sweep_values(alloc, AtPlace::Blocks { width, n }, pattern(alloc));
+    write_sum(alloc, sum)
 }
 
 /// The text of a sum.
@@ -70,8 +66,7 @@ impl Sum {
 
     /// Adds the bits that a call made.
     fn add_made(&mut self, bits: Result<Bitmap, ComputeError>) -> Result<(), Fault> {
-        self.add_bits(&bits?);
-        Ok(())
+        self.add_found(bits.map_err(Fault::from))
     }
 
     /// Adds bits, where there are some.
@@ -80,9 +75,15 @@ impl Sum {
         Ok(())
     }
 
-    /// Adds a count.
-    fn add_count(&mut self, count: usize) -> Result<(), Fault> {
-        self.add(count as u64);
+    /// Adds a truth value, where there is one.
+    fn add_truth(&mut self, truth: Result<bool, Fault>) -> Result<(), Fault> {
+        self.add(u64::from(truth?));
+        Ok(())
+    }
+
+    /// Adds a count, where there is one.
+    fn add_count(&mut self, count: Result<usize, Fault>) -> Result<(), Fault> {
+        self.add(count? as u64);
         Ok(())
     }
 }
@@ -196,19 +197,81 @@ impl Lists {
 /// The sum over the answers to a call at all pairs of places, or at all places of runs.
 fn sweep(alloc: Global, call: &str, n: usize) -> Result<Sum, Fault> {
     match call {
-        "all_set" => sweep_runs(alloc, n),
-        "extend_values" => sweep_appended(alloc, n, false),
-        "extend_wide_values" => sweep_appended(alloc, n, true),
-        _ => sweep_pairs(alloc, call, n),
+        "all_set" => sweep_values(alloc, AtPlace::Run { n }, pattern(alloc)),
+        "extend_values" => sweep_values(alloc, AtPlace::Appended, first_values(alloc, n)),
+        "extend_wide_values" => sweep_values(alloc, AtPlace::WideAppended, first_values(alloc, n)),
+        _ => sweep_pairs(alloc, find_word(&PAIRED, call), n),
     }
 }
 
+/// What is asked at a pair of places.
+#[derive(Clone, Copy)]
+enum Asked {
+    Combined(Operator),
+    Not,
+    Merged(Merge),
+    CountSet,
+    CountBoth,
+    OfMasks(OfMasks),
+}
+
+/// What masks are asked at a pair of places.
+#[derive(Clone, Copy)]
+enum OfMasks {
+    Combined(Operator),
+    Not,
+    Merged(Merge),
+    Bits,
+    CountUnset,
+}
+
+/// The calls that are asked at pairs of places.
+const PAIRED: [(&str, Asked); 22] = [
+    ("and", Asked::Combined(Operator::And)),
+    ("or", Asked::Combined(Operator::Or)),
+    ("xor", Asked::Combined(Operator::Xor)),
+    ("xnor", Asked::Combined(Operator::Xnor)),
+    ("and_not", Asked::Combined(Operator::AndNot)),
+    ("or_not", Asked::Combined(Operator::OrNot)),
+    ("not", Asked::Not),
+    ("merge_eq", Asked::Merged(Merge::Eq)),
+    ("merge_ne", Asked::Merged(Merge::Ne)),
+    ("set_bits", Asked::CountSet),
+    ("num_intersections_with", Asked::CountBoth),
+    ("mask_and", Asked::OfMasks(OfMasks::Combined(Operator::And))),
+    ("mask_or", Asked::OfMasks(OfMasks::Combined(Operator::Or))),
+    ("mask_xor", Asked::OfMasks(OfMasks::Combined(Operator::Xor))),
+    (
+        "mask_xnor",
+        Asked::OfMasks(OfMasks::Combined(Operator::Xnor)),
+    ),
+    (
+        "mask_and_not",
+        Asked::OfMasks(OfMasks::Combined(Operator::AndNot)),
+    ),
+    (
+        "mask_or_not",
+        Asked::OfMasks(OfMasks::Combined(Operator::OrNot)),
+    ),
+    ("mask_not", Asked::OfMasks(OfMasks::Not)),
+    ("mask_merge_eq", Asked::OfMasks(OfMasks::Merged(Merge::Eq))),
+    ("mask_merge_ne", Asked::OfMasks(OfMasks::Merged(Merge::Ne))),
+    ("to_bitmap", Asked::OfMasks(OfMasks::Bits)),
+    ("mask_unset_bits", Asked::OfMasks(OfMasks::CountUnset)),
+];
+
 /// The sum over the answers to a call at all pairs of places.
-fn sweep_pairs(alloc: Global, call: &str, n: usize) -> Result<Sum, Fault> {
+fn sweep_pairs(alloc: Global, asked: Result<Asked, Fault>, n: usize) -> Result<Sum, Fault> {
     let lists = Lists::new(alloc, n)?;
+    sweep_lists(alloc, asked, &lists)
+}
+
+/// The same over three lists.
+fn sweep_lists(alloc: Global, asked: Result<Asked, Fault>, lists: &Lists) -> Result<Sum, Fault> {
+    let asked = asked?;
     let mut sum = Sum::new();
     for p in 0..PLACES {
-        sweep_second(alloc, call, &lists, p, &mut sum)?;
+        sweep_second(alloc, asked, lists, p, &mut sum)?;
     }
     Ok(sum)
 }
@@ -216,13 +279,13 @@ fn sweep_pairs(alloc: Global, call: &str, n: usize) -> Result<Sum, Fault> {
 /// The answers where the first list is at place `p`.
 fn sweep_second(
     alloc: Global,
-    call: &str,
+    asked: Asked,
     lists: &Lists,
     p: usize,
     sum: &mut Sum,
 ) -> Result<(), Fault> {
     for q in 0..PLACES {
-        add_answer(alloc, call, lists, p, q, sum)?;
+        add_answer(alloc, asked, lists, p, q, sum)?;
     }
     Ok(())
 }
@@ -230,43 +293,39 @@ fn sweep_second(
 /// The answer where the first two lists are at places `p` and `q`.
 fn add_answer(
     alloc: Global,
-    call: &str,
+    asked: Asked,
     lists: &Lists,
     p: usize,
     q: usize,
     sum: &mut Sum,
 ) -> Result<(), Fault> {
     let (x, y, z) = lists.bitmaps(p, q)?;
-    match call {
-        "and" | "or" | "xor" | "xnor" | "and_not" | "or_not" => {
-            sum.add_found(bits::combine(alloc, call, x, y))
-        }
-        "not" => sum.add_made(x.not(alloc)),
-        "merge_eq" | "merge_ne" => sum.add_found(bits::combine_three(alloc, call, x, y, z)),
-        "set_bits" => sum.add_count(x.set_bits()),
-        "num_intersections_with" => sum.add_count(bits::count_both(x, y)?),
-        _ => add_mask_answer(alloc, call, lists, p, q, sum),
+    match asked {
+        Asked::Combined(operator) => sum.add_found(bits::combine(alloc, operator, x, y)),
+        Asked::Not => sum.add_made(x.not(alloc)),
+        Asked::Merged(merge) => sum.add_found(bits::combine_three(alloc, merge, x, y, z)),
+        Asked::CountSet => sum.add_count(Ok(x.set_bits())),
+        Asked::CountBoth => sum.add_count(bits::count_both(x, y)),
+        Asked::OfMasks(of_masks) => add_mask_answer(alloc, of_masks, lists, p, q, sum),
     }
 }
 
 /// The same for a call on masks.
 fn add_mask_answer(
     alloc: Global,
-    call: &str,
+    asked: OfMasks,
     lists: &Lists,
     p: usize,
     q: usize,
     sum: &mut Sum,
 ) -> Result<(), Fault> {
     let (x, y, z) = lists.masks(p, q)?;
-    match call {
-        "mask_not" => sum.add_made(x.not(alloc)),
-        "to_bitmap" => sum.add_made(x.to_bitmap(alloc)),
-        "mask_unset_bits" => sum.add_count(x.unset_bits()),
-        "mask_merge_eq" | "mask_merge_ne" => {
-            sum.add_found(masks::combine_three(alloc, call, &x, &y, &z))
-        }
-        _ => sum.add_found(masks::combine(alloc, call, &x, &y)),
+    match asked {
+        OfMasks::Combined(operator) => sum.add_found(masks::combine(alloc, operator, &x, &y)),
+        OfMasks::Not => sum.add_made(x.not(alloc)),
+        OfMasks::Merged(merge) => sum.add_found(masks::combine_three(alloc, merge, &x, &y, &z)),
+        OfMasks::Bits => sum.add_made(x.to_bitmap(alloc)),
+        OfMasks::CountUnset => sum.add_count(Ok(x.unset_bits())),
     }
 }
 
@@ -276,29 +335,75 @@ fn pattern(alloc: Global) -> Result<Bitmap, Fault> {
     for i in 0..200 {
         values[i] = i % 37 != 3;
     }
-    Ok(Bitmap::from_bools(alloc, &values)?)
+    Bitmap::from_bools(alloc, &values).map_err(Fault::from)
 }
 
-/// Whether the runs of `n` values of the pattern are true throughout, from each place on.
-fn sweep_runs(alloc: Global, n: usize) -> Result<Sum, Fault> {
-    let bits = pattern(alloc)?;
-    let mut sum = Sum::new();
-    for at in 0..PLACES {
-        let all = masks::is_all_set(&BitMask::from_bitmap(&bits), at, n)?;
-        sum.add(u64::from(all));
-    }
-    Ok(sum)
-}
-
-/// The first `n` values of the pattern, behind true ones up to each place and before a false one.
-fn sweep_appended(alloc: Global, n: usize, wide: bool) -> Result<Sum, Fault> {
+/// The first `n` values of the pattern.
+fn first_values(alloc: Global, n: usize) -> Result<Bitmap, Fault> {
     let mut values = pattern(alloc)?;
     bits::keep(&mut values, 0, n)?;
+    Ok(values)
+}
+
+/// What is asked of values at each place.
+#[derive(Clone, Copy)]
+enum AtPlace {
+    /// Whether the run of `n` values from the place on is true throughout.
+    Run { n: usize },
+    /// The values behind true ones up to the place and before a false one.
+    Appended,
+    /// The same, packed in the way for wide elements.
+    WideAppended,
+    /// The `n` blocks of so many values from the place on.
+    Blocks { width: usize, n: usize },
+}
+
+/// The sum over the answers of values at each place.
+fn sweep_values(
+    alloc: Global,
+    asked: AtPlace,
+    values: Result<Bitmap, Fault>,
+) -> Result<Sum, Fault> {
+    sweep_places(alloc, asked, &values?)
+}
+
+/// The same of values that are there.
+fn sweep_places(alloc: Global, asked: AtPlace, values: &Bitmap) -> Result<Sum, Fault> {
     let mut sum = Sum::new();
     for at in 0..PLACES {
-        sum.add_found(appended(alloc, at, &values, wide))?;
+        add_at(alloc, asked, values, at, &mut sum)?;
     }
     Ok(sum)
+}
+
+/// The answer of values at a place.
+fn add_at(
+    alloc: Global,
+    asked: AtPlace,
+    values: &Bitmap,
+    at: usize,
+    sum: &mut Sum,
+) -> Result<(), Fault> {
+    match asked {
+        AtPlace::Run { n } => {
+            sum.add_truth(masks::is_all_set(&BitMask::from_bitmap(values), at, n))
+        }
+        AtPlace::Appended => sum.add_found(appended(alloc, at, values, false)),
+        AtPlace::WideAppended => sum.add_found(appended(alloc, at, values, true)),
+        AtPlace::Blocks { width, n } => sum.add_found(blocks(alloc, values, at, width, n)),
+    }
+}
+
+/// Which of `n` blocks of values from place `at` on are true throughout.
+fn blocks(
+    alloc: Global,
+    values: &Bitmap,
+    at: usize,
+    width: usize,
+    n: usize,
+) -> Result<Bitmap, Fault> {
+    let mask = masks::window_of(values, at, width.saturating_mul(n))?;
+    masks::fold_blocks(alloc, &mask, width, n)
 }
 
 /// These values behind `at` true ones and before a false one.
@@ -319,16 +424,4 @@ fn append(
     fill(builder, at, true)?;
     push_all(builder, values, wide)?;
     push(builder, false)
-}
-
-/// The blocks of the pattern from each place on.
-fn sweep_blocks(alloc: Global, width: usize, n: usize) -> Result<Sum, Fault> {
-    let bits = pattern(alloc)?;
-    let len = width.saturating_mul(n);
-    let mut sum = Sum::new();
-    for at in 0..PLACES {
-        let mask = masks::window_of(&bits, at, len)?;
-        sum.add_found(masks::fold_blocks(alloc, &mask, width, n))?;
-    }
-    Ok(sum)
 }

@@ -42,25 +42,27 @@ pub fn answer(
         "fault_text" => answer_fault(alloc, words),
         _ => return Ok(None),
     };
-    Ok(Some(answer?))
+    answer.map(Some)
 }
 
 /// What arguments ask for.
 fn answer_command(alloc: Global, text: &str) -> Result<String, Fault> {
     let arguments = split_arguments(alloc, text)?;
-    Ok(command_name(command(&arguments)).to_string(alloc)?)
+    command_name(command(&arguments))
+        .to_string(alloc)
+        .map_err(Fault::from)
 }
 
 /// The status after a run.
 fn answer_status(alloc: Global, words: &mut Words) -> Result<String, Fault> {
     let outcome = read_outcome(words)?;
-    Ok(exit_status(&outcome).to_string(alloc)?)
+    exit_status(&outcome).to_string(alloc).map_err(Fault::from)
 }
 
 /// What is printed where a run stopped.
 fn answer_fault(alloc: Global, words: &mut Words) -> Result<String, Fault> {
     let fault = read_fault(words.read()?)?;
-    Ok(fault_text(&fault).to_string(alloc)?)
+    fault_text(&fault).to_string(alloc).map_err(Fault::from)
 }
 
 /// What a line is answered.
@@ -68,7 +70,7 @@ fn answer_text(alloc: Global, line: &str) -> Result<String, Fault> {
     match answer_line(alloc, line) {
         Ok(answer) => Ok(answer),
         Err(LineError::Memory) => Err(Fault::Memory),
-        Err(fault) => Ok(format!(in alloc; "refused: {fault}")?),
+        Err(fault) => format!(in alloc; "refused: {fault}").map_err(Fault::from),
     }
 }
 
@@ -90,8 +92,18 @@ fn answer_read(alloc: Global, bytes: &[u8]) -> Result<String, Fault> {
 fn answer_repeated(alloc: Global, words: &mut Words) -> Result<String, Fault> {
     let times = words.read_number()?;
     let piece = read_bytes(alloc, words.read()?)?;
+    answer_ending(alloc, words, times, &piece)
+}
+
+/// What the line is answered that begins with the bytes of the next word.
+fn answer_ending(
+    alloc: Global,
+    words: &mut Words,
+    times: u32,
+    piece: &[u8],
+) -> Result<String, Fault> {
     let mut bytes = read_bytes(alloc, words.read()?)?;
-    push_repeated(&mut bytes, times, &piece)?;
+    push_repeated(&mut bytes, times, piece)?;
     answer_read(alloc, &bytes)
 }
 
@@ -117,8 +129,7 @@ fn answer_run(alloc: Global, words: &mut Words) -> Result<String, Fault> {
 /// What a run reports, and the bytes that it wrote.
 fn write_run(alloc: Global, report: Report, written: &[u8]) -> Result<String, Fault> {
     let Report { lines, refused } = report;
-    let mut text = String::new(alloc);
-    write!(text, "lines {lines} refused {refused} ")?;
+    let mut text = format!(in alloc; "lines {lines} refused {refused} ")?;
     push_bytes(&mut text, written)?;
     Ok(text)
 }
@@ -154,16 +165,20 @@ fn command_name(command: Command) -> &'static str {
 
 /// The outcome of a run: `lines N refused N`, or its fault.
 fn read_outcome(words: &mut Words) -> Result<Result<Report, RunError>, Fault> {
-    let word = words.read()?;
-    if word != "lines" {
-        return Ok(Err(read_fault(word)?));
+    match words.read()? {
+        "lines" => read_report(words).map(Ok),
+        word => read_fault(word).map(Err),
     }
+}
+
+/// What a run reports: `N refused N`, behind `lines`.
+fn read_report(words: &mut Words) -> Result<Report, Fault> {
     let lines = words.read_number()?;
     if words.read()? != "refused" {
         return Err(Fault::Word);
     }
     let refused = words.read_number()?;
-    Ok(Ok(Report { lines, refused }))
+    Ok(Report { lines, refused })
 }
 
 /// The fault of a run that a word names.

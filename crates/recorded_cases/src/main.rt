@@ -32,28 +32,47 @@ fn answer_text(rt: &(impl Print + Eprint + AllocGlobal), text: &str) -> Result<(
     let alloc = rt.alloc();
     let mut store = Store::new(alloc);
     for line in text.lines() {
-        match answer_line(alloc, &mut store, line) {
-            Ok(Some(answer)) => println!(rt; "{answer}")?,
-            Ok(None) => {}
-            Err(fault) => {
-                eprintln!(rt; "{fault}: {line}")?;
-                return Err(fault);
-            }
-        }
+        print_answer(rt, line, answer_line(alloc, &mut store, line))?;
     }
     Ok(())
+}
+
+/// Prints the answer to a line, where it has one, or else the line that can't be answered.
+fn print_answer(
+    rt: &(impl Print + Eprint),
+    line: &str,
+    answer: Result<Option<String>, Fault>,
+) -> Result<(), Fault> {
+    match answer {
+        Ok(Some(answer)) => println!(rt; "{answer}").map_err(Fault::from),
+        Ok(None) => Ok(()),
+        Err(fault) => {
+            eprintln!(rt; "{fault}: {line}")?;
+            Err(fault)
+        }
+    }
+}
+
+/// Answers a file.
+fn answer_file(rt: &(impl Files + Print + Eprint + AllocGlobal), name: &str) -> Result<(), Fault> {
+    let text = fs::read_to_string(rt, name)?;
+    answer_text(rt, &text)
+}
+
+/// Answers standard input.
+fn answer_input(rt: &(impl Input + Print + Eprint + AllocGlobal)) -> Result<(), Fault> {
+    let text = io::read_to_string(rt.alloc(), rt.reader())?;
+    answer_text(rt, &text)
 }
 
 /// Answers each file that the arguments name, or standard input where they name none.
 fn answer_all<R: Env + Files + Input + Print + Eprint + AllocGlobal>(rt: &R) -> Result<(), Fault> {
     let names: Vec<String> = env::args(rt)?.skip(1).collect(rt.alloc())?;
     if names.is_empty() {
-        let text = io::read_to_string(rt.alloc(), rt.reader())?;
-        return answer_text(rt, &text);
+        return answer_input(rt);
     }
     for name in &names {
-        let text = fs::read_to_string(rt, name.as_str())?;
-        answer_text(rt, &text)?;
+        answer_file(rt, name.as_str())?;
     }
     Ok(())
 }

@@ -12,6 +12,7 @@ use recorded_text::store::Store;
 use recorded_text::words::Words;
 use recorded_text::wrapped::{FAR_LEVELS, LEVELS, read_wrapped};
 use std::alloc::Global;
+use std::fmt::Display;
 
 /// The answer to a line, where it has one.
 pub fn answer_line(alloc: Global, store: &mut Store, line: &str) -> Result<Option<String>, Fault>
@@ -23,7 +24,7 @@ pub fn answer_line(alloc: Global, store: &mut Store, line: &str) -> Result<Optio
     }
     if line.starts_with('#') {
         store.clear();
-        return Ok(Some(line.to_string(alloc)?));
+        return line.to_string(alloc).map(Some).map_err(Fault::from);
     }
     let words: Vec<&str> = line.split(' ').collect(alloc)?;
     let mut words = Words::new(&words);
@@ -42,10 +43,25 @@ fn answer_words(
 {
     let first = words.read()?;
     if words.take("=") {
-        return define(alloc, store, first, words);
+        let made = read_array(alloc, store, words);
+        return add_made(alloc, store, first, words, made);
     }
-    let answer = answer_question(alloc, store, line, first, words)?;
-    Ok(Some(format!(in alloc; "{line} -> {answer}")?))
+    write_answer(
+        alloc,
+        line,
+        answer_question(alloc, store, line, first, words),
+    )
+}
+
+// A question and its answer.
+fn write_answer(
+    alloc: Global,
+    line: &str,
+    answer: Result<String, Fault>,
+) -> Result<Option<String>, Fault> {
+    let answer = answer?;
+    let text = format!(in alloc; "{line} -> {answer}");
+    text.map(Some).map_err(Fault::from)
 }
 
 // The answer to a question, behind whose operands nothing stands.
@@ -59,9 +75,22 @@ fn answer_question(
     requires { HasGoodArrays store.now }
 {
     let text = line.split_once(' ').map_or("", |(_, text)| text);
-    if let Some(answer) = lines::answer(alloc, call, text, words)? {
-        return Ok(answer);
+    match lines::answer(alloc, call, text, words) {
+        Ok(Some(answer)) => Ok(answer),
+        Ok(None) => answer_operands(alloc, store, call, words),
+        Err(fault) => Err(fault),
     }
+}
+
+// The answer to a call whose operands are all words that are left.
+fn answer_operands(
+    alloc: Global,
+    store: &Store,
+    call: &str,
+    words: &mut Words,
+) -> Result<String, Fault>
+    requires { HasGoodArrays store.now }
+{
     let answer = answer_call(alloc, store, call, words)?;
     if !words.are_read() {
         return Err(Fault::Word);
@@ -69,31 +98,31 @@ fn answer_question(
     Ok(answer)
 }
 
-// Names a copy of an array after the word `copy`, an array in many others after `wrapped`, and in more than the usual
-// stack may hold after `wrapped_far`, or else the array that words write, or says why there is none.
-fn define(
-    alloc: Global,
-    store: &mut Store,
-    name: &str,
-    words: &mut Words,
-) -> Result<Option<String>, Fault>
-    requires { HasGoodArrays store.old }
-    ensures { HasGoodArrays store.new }
+// A copy of an array after the word `copy`, an array in many others after `wrapped`, and in more than the usual stack may
+// hold after `wrapped_far`, or else the array that words write.
+fn read_array(alloc: Global, store: &Store, words: &mut Words) -> Result<AnyArray, Fault>
+    requires { HasGoodArrays store.now }
+    ensures { IfOk result (λ array. IsGood array) }
 {
     if words.take("copy") {
-        let copy = store.read(words)?.clone_array(alloc)?;
-        return add(alloc, store, name, words, copy);
+        return copy_array(alloc, store.read(words)?);
     }
     if words.take("wrapped") {
-        let wrapped = read_wrapped(alloc, words, LEVELS);
-        return add_made(alloc, store, name, words, wrapped);
+        return read_wrapped(alloc, words, LEVELS);
     }
     if words.take("wrapped_far") {
-        let wrapped = read_wrapped(alloc, words, FAR_LEVELS);
-        return add_made(alloc, store, name, words, wrapped);
+        return read_wrapped(alloc, words, FAR_LEVELS);
     }
-    let array = read_any(alloc, words);
-    add_made(alloc, store, name, words, array)
+    read_any(alloc, words)
+}
+
+// A copy of an array.
+fn copy_array(alloc: Global, array: &AnyArray) -> Result<AnyArray, Fault>
+    requires { IsGood array.now }
+    ensures { IfOk result (λ copy. IsGood copy) }
+{
+    let copy = array.clone_array(alloc)?;
+    Ok(copy)
 }
 
 // Names an array that was made, or says why it was not.
@@ -137,10 +166,16 @@ fn add(
 // Says why parts make no array, or that it would be too deep. Another fault is one of the line.
 fn refuse(alloc: Global, name: &str, fault: Fault) -> Result<Option<String>, Fault> {
     match fault {
-        Fault::Parts(error) => Ok(Some(format!(in alloc; "{name} = refused: {error}")?)),
-        Fault::Depth(_) => Ok(Some(format!(in alloc; "{name} = refused: {fault}")?)),
+        Fault::Parts(error) => write_refusal(alloc, name, &error),
+        Fault::Depth(_) => write_refusal(alloc, name, &fault),
         fault => Err(fault),
     }
+}
+
+// A name, and why there is no array of that name.
+fn write_refusal(alloc: Global, name: &str, why: &impl Display) -> Result<Option<String>, Fault> {
+    let text = format!(in alloc; "{name} = refused: {why}");
+    text.map(Some).map_err(Fault::from)
 }
 
 // Returns the first answer that there is.

@@ -93,6 +93,22 @@ fn counted(
     requires { HasGoodArrays store.now }
 {
     let (left, right) = read_alike(store, words)?;
+    counted_with(alloc, left, right, relation, words)
+}
+
+// The same of two arrays by the kernel of leaves that a last word may name.
+fn counted_with(
+    alloc: Global,
+    left: &AnyArray,
+    right: &AnyArray,
+    relation: Relation,
+    words: &mut Words,
+) -> Result<String, Fault>
+    requires good_left { IsGood left.now }
+    requires good_right { IsGood right.now }
+    requires one_type { type_of left.now ≡ type_of right.now }
+    requires one_length { len_of left.now ≡ len_of right.now }
+{
     if words.take("always") {
         counted_by::<Always>(alloc, left, right, relation)
     } else if words.take("never") {

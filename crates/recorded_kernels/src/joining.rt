@@ -49,9 +49,29 @@ fn lent(validity: &Option<Bitmap>) -> Option<BitMask<'_>>
 fn join(alloc: Global, call: &str, words: &mut Words) -> Result<String, Fault> {
     let relation = read_relation(words)?;
     let raw = read_bits(alloc, words.read()?)?;
+    let validities = read_validities(alloc, words)?;
+    join_read(
+        alloc,
+        call,
+        relation,
+        raw,
+        &validities.left,
+        &validities.right,
+    )
+}
+
+// The validities of two arrays.
+#[derive(Drop)]
+struct Validities {
+    left: Option<Bitmap>,
+    right: Option<Bitmap>,
+}
+
+// Two validities, the left one first.
+fn read_validities(alloc: Global, words: &mut Words) -> Result<Validities, Fault> {
     let left = read_validity(alloc, Kept::Owned, words)?;
     let right = read_validity(alloc, Kept::Owned, words)?;
-    join_read(alloc, call, relation, raw, &left, &right)
+    Ok(Validities { left, right })
 }
 
 // Raw bits joined with two validities of as many bits, by a call.

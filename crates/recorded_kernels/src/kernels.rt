@@ -6,6 +6,7 @@
 //! | `tot_eq_kernel A B`, and so of `ne`, `lt`, `le`, `gt` and `ge` | the bits, with `x` where a row is masked |
 //! | `tot_eq_missing_kernel A B`, `tot_ne_missing_kernel A B` | the bits |
 
+ghost use Rattle.polars_arrays_nested.specs.GoodParts.{IsGood};
 ghost use Rattle.recorded_text.specs.Cases.{HasGoodArrays};
 
 use crate::kernel_names::{Equality, Kernel, Order};
@@ -61,10 +62,51 @@ fn equality(
     requires { HasGoodArrays store.now }
 {
     let (these, those) = read_two(store, words)?;
+    compare_any(alloc, these, those, question)
+}
+
+// The same of the two arrays.
+fn compare_any(
+    alloc: Global,
+    these: &AnyArray,
+    those: &AnyArray,
+    question: Question,
+) -> Result<String, Fault>
+    requires good_left { IsGood these.now }
+    requires good_right { IsGood those.now }
+{
     of_one_kind!(these, those, left, right => compare(alloc, left, right, question),
-        Null Boolean Int8 Int16 Int32 Int64 Int128 UInt8 UInt16 UInt32 UInt64 UInt128
-        Binary LargeBinary Utf8 LargeUtf8 BinaryView Utf8View FixedSizeBinary
-        List FixedSizeList Struct Dictionary)
+        Null Boolean List FixedSizeList Struct Dictionary,
+        _ => compare_strings(alloc, these, those, question))
+}
+
+// The same of byte strings, of texts, and of numbers.
+fn compare_strings(
+    alloc: Global,
+    these: &AnyArray,
+    those: &AnyArray,
+    question: Question,
+) -> Result<String, Fault>
+    requires good_left { IsGood these.now }
+    requires good_right { IsGood those.now }
+{
+    of_one_kind!(these, those, left, right => compare(alloc, left, right, question),
+        Binary LargeBinary Utf8 LargeUtf8 BinaryView Utf8View FixedSizeBinary,
+        _ => compare_numbers(alloc, these, those, question))
+}
+
+// The same of numbers.
+fn compare_numbers(
+    alloc: Global,
+    these: &AnyArray,
+    those: &AnyArray,
+    question: Question,
+) -> Result<String, Fault>
+    requires good_left { IsGood these.now }
+    requires good_right { IsGood those.now }
+{
+    of_one_kind!(these, those, left, right => compare(alloc, left, right, question),
+        Int8 Int16 Int32 Int64 Int128 UInt8 UInt16 UInt32 UInt64 UInt128)
 }
 
 // What is asked of the equality of rows.
@@ -137,8 +179,22 @@ fn order(alloc: Global, store: &Store, words: &mut Words, kernel: Order) -> Resu
 {
     let (these, those) = read_two(store, words)?;
     of_one_kind!(these, those, left, right => ordered_rows(alloc, left, right, kernel),
-        Boolean Int8 Int16 Int32 Int64 Int128 UInt8 UInt16 UInt32 UInt64 UInt128
-        Binary LargeBinary Utf8 LargeUtf8 BinaryView Utf8View)
+        Boolean Binary LargeBinary Utf8 LargeUtf8 BinaryView Utf8View,
+        _ => order_numbers(alloc, these, those, kernel))
+}
+
+// How the numbers of two arrays of one kind are ordered.
+fn order_numbers(
+    alloc: Global,
+    these: &AnyArray,
+    those: &AnyArray,
+    kernel: Order,
+) -> Result<String, Fault>
+    requires good_left { IsGood these.now }
+    requires good_right { IsGood those.now }
+{
+    of_one_kind!(these, those, left, right => ordered_rows(alloc, left, right, kernel),
+        Int8 Int16 Int32 Int64 Int128 UInt8 UInt16 UInt32 UInt64 UInt128)
 }
 
 // How rows are ordered. A bit is shown where both rows are present.

@@ -7,10 +7,13 @@
 //! | `truth_comparison_masks COMPARISON BITS BITS` | which bits of two windows of one length pass |
 //! | `byte_comparison COMPARISON BYTES BYTES`, `byte_comparison_constant COMPARISON BYTES BYTES` | whether two byte strings pass |
 
+ghost use Rattle.std.specs.Prelude.{◌≡◌, length};
+
 use crate::operands::read_next_bytes;
 use crate::scalars::{read_truth, write_truth};
 use polars_arrays_bits::bit_mask::BitMask;
 use polars_arrays_bits::bitmap::Bitmap;
+use polars_arrays_bits::error::ComputeError;
 use polars_arrays_numbers::comparison::{
     Equal, Greater, GreaterOrEqual, Less, LessOrEqual, Unequal,
 };
@@ -121,10 +124,19 @@ fn write_passing(
         return Err(Fault::Case);
     }
     let (left, right) = (BitMask::from_bitmap(left), BitMask::from_bitmap(right));
-    write_made(
-        alloc,
-        with_comparison!(comparison, comparison => comparison.compare_masks(alloc, &left, &right)),
-    )
+    write_made(alloc, passing_bits(alloc, comparison, &left, &right))
+}
+
+// Which bits of two masks of one length pass.
+fn passing_bits(
+    alloc: Global,
+    comparison: NamedComparison,
+    left: &BitMask<'_>,
+    right: &BitMask<'_>,
+) -> Result<Bitmap, ComputeError>
+    requires { length right.now ≡ length left.now }
+{
+    with_comparison!(comparison, comparison => comparison.compare_masks(alloc, left, right))
 }
 
 // Whether two byte strings pass, by a call of `ByteComparison`.

@@ -12,12 +12,19 @@ macro_rules! of_kind {
 
 pub(crate) use of_kind;
 
-/// What is asked of the arrays inside two of one kind. It has an answer for the kinds that are named alone.
+/// What is asked of the arrays inside two of one kind. It has an answer for the kinds that are named alone, and what
+/// follows them for others of the first array, where that is given.
 macro_rules! of_one_kind {
     ($these:expr, $those:expr, $left:ident, $right:ident => $each:expr, $($kind:ident)+) => {
-        match ($these, $those) {
-            $((AnyArray::$kind($left), AnyArray::$kind($right)) => $each,)+
-            _ => Err(Fault::Case),
+        of_one_kind!($these, $those, $left, $right => $each, $($kind)+, _ => Err(Fault::Case))
+    };
+    ($these:expr, $those:expr, $left:ident, $right:ident => $each:expr, $($kind:ident)+, _ => $others:expr) => {
+        match $these {
+            $(AnyArray::$kind($left) => match $those {
+                AnyArray::$kind($right) => $each,
+                _ => Err(Fault::Case),
+            },)+
+            _ => $others,
         }
     };
 }

@@ -103,9 +103,19 @@ fn of_equality(
         | AnyArray::FixedSizeList(_)
         | AnyArray::Struct(_)
         | AnyArray::Dictionary(_) => { equal_to_array(alloc, array, store.read(words)?, question) }
-        _ => of_kind!(array, rows => equal_to_number(alloc, rows, words, question),
-            Int8 Int16 Int32 Int64 Int128 UInt8 UInt16 UInt32 UInt64 UInt128),
+        _ => equal_to_numbers(alloc, array, words, question),
     }
+}
+
+// What is asked of numbers.
+fn equal_to_numbers(
+    alloc: Global,
+    array: &AnyArray,
+    words: &mut Words,
+    question: Question,
+) -> Result<String, Fault> {
+    of_kind!(array, rows => equal_to_number(alloc, rows, words, question),
+        Int8 Int16 Int32 Int64 Int128 UInt8 UInt16 UInt32 UInt64 UInt128)
 }
 
 // What is asked of numbers of one type.
@@ -222,9 +232,19 @@ fn of_order(alloc: Global, store: &Store, words: &mut Words, kernel: Order) -> R
         AnyArray::Utf8(_) | AnyArray::LargeUtf8(_) | AnyArray::Utf8View(_) => {
             ordered_beside_text(alloc, array, words, kernel)
         }
-        _ => of_kind!(array, rows => ordered_beside_number(alloc, rows, words, kernel),
-            Int8 Int16 Int32 Int64 Int128 UInt8 UInt16 UInt32 UInt64 UInt128),
+        _ => ordered_beside_numbers(alloc, array, words, kernel),
     }
+}
+
+// How numbers stand to the one that words write.
+fn ordered_beside_numbers(
+    alloc: Global,
+    array: &AnyArray,
+    words: &mut Words,
+    kernel: Order,
+) -> Result<String, Fault> {
+    of_kind!(array, rows => ordered_beside_number(alloc, rows, words, kernel),
+        Int8 Int16 Int32 Int64 Int128 UInt8 UInt16 UInt32 UInt64 UInt128)
 }
 
 // How numbers of one type stand to the one that words write.

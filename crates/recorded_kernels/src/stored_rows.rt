@@ -9,6 +9,7 @@
 //!
 //! A window is `n` rows from row `a` on of A, and as many from row `b` on of B.
 
+ghost use Rattle.std.specs.Prelude.{◌+◌, ◌≤◌, length};
 ghost use Rattle.recorded_text.specs.Cases.{HasGoodArrays};
 ghost use Rattle.recorded_kernels.specs.Windows.{AreWindows};
 
@@ -18,7 +19,10 @@ use crate::operands::read_next_bytes;
 use crate::scalars::read_truth;
 use crate::view_rows::{as_views, write_followed};
 use crate::windows::{Windows, is_within, read_windows};
+use polars_arrays_bits::bitmap::Bitmap;
+use polars_arrays_bits::error::ComputeError;
 use polars_arrays_flat::array::Array;
+use polars_arrays_flat::boolean::BooleanArray;
 use polars_arrays_flat::byte_rows::ByteRows;
 use polars_arrays_flat::primitive::PrimitiveArray;
 use polars_arrays_nested::any_array::AnyArray;
@@ -119,10 +123,23 @@ fn numbers<T: NativeType>(
     if !is_within(a, n, left.len()) || !is_within(b, n, right.len()) {
         return Err(Fault::Case);
     }
-    write_made(
-        alloc,
-        with_comparison!(comparison, comparison => compare_number_windows(alloc, comparison, left, a, right, b, n)),
-    )
+    write_made(alloc, number_bits(alloc, comparison, left, a, right, b, n))
+}
+
+// Which numbers of one type pass, in windows that lie within the arrays.
+fn number_bits<T: NativeType>(
+    alloc: Global,
+    comparison: NamedComparison,
+    left: &PrimitiveArray<T>,
+    a: usize,
+    right: &PrimitiveArray<T>,
+    b: usize,
+    n: usize,
+) -> Result<Bitmap, ComputeError>
+    requires left_in { a + n ≤ length left.now.values }
+    requires right_in { b + n ≤ length right.now.values }
+{
+    with_comparison!(comparison, comparison => compare_number_windows(alloc, comparison, left, a, right, b, n))
 }
 
 // Which truth values of two windows pass.
@@ -143,10 +160,23 @@ fn truth_windows(
     let (AnyArray::Boolean(left), AnyArray::Boolean(right)) = (left, right) else {
         return Err(Fault::Case);
     };
-    write_made(
-        alloc,
-        with_comparison!(comparison, comparison => compare_truth_windows(alloc, comparison, left, a, right, b, n)),
-    )
+    write_made(alloc, truth_bits(alloc, comparison, left, a, right, b, n))
+}
+
+// Which truth values pass, in windows that lie within the arrays.
+fn truth_bits(
+    alloc: Global,
+    comparison: NamedComparison,
+    left: &BooleanArray,
+    a: usize,
+    right: &BooleanArray,
+    b: usize,
+    n: usize,
+) -> Result<Bitmap, ComputeError>
+    requires left_in { a + n ≤ length left.now.values }
+    requires right_in { b + n ≤ length right.now.values }
+{
+    with_comparison!(comparison, comparison => compare_truth_windows(alloc, comparison, left, a, right, b, n))
 }
 
 // Which byte strings of two windows pass. Those of a binary array may be set against text views too.
@@ -178,10 +208,23 @@ fn strings<L: ByteRows, R: ByteRows>(
     if !is_within(a, n, left.count()) || !is_within(b, n, right.count()) {
         return Err(Fault::Case);
     }
-    write_made(
-        alloc,
-        with_comparison!(comparison, comparison => compare_byte_windows(alloc, comparison, left, a, right, b, n)),
-    )
+    write_made(alloc, string_bits(alloc, comparison, left, a, right, b, n))
+}
+
+// Which byte strings pass, in windows that lie within the arrays.
+fn string_bits<L: ByteRows, R: ByteRows>(
+    alloc: Global,
+    comparison: NamedComparison,
+    left: &L,
+    a: usize,
+    right: &R,
+    b: usize,
+    n: usize,
+) -> Result<Bitmap, ComputeError>
+    requires left_in { a + n ≤ length (L.strings left.now) }
+    requires right_in { b + n ≤ length (R.strings right.now) }
+{
+    with_comparison!(comparison, comparison => compare_byte_windows(alloc, comparison, left, a, right, b, n))
 }
 
 // Which byte strings of one size each pass, in two windows.
@@ -227,11 +270,28 @@ fn view_windows(
         return Err(Fault::Case);
     }
     let mut steps = Steps::new();
-    let followed = &mut steps;
-    let bits = with_comparison!(comparison, comparison => {
-        compare_view_windows(alloc, comparison, left, a, right, b, n, followed)
-    });
+    let bits = view_bits(alloc, comparison, left, a, right, b, n, &mut steps);
     write_followed(alloc, bits, &steps)
+}
+
+// Which byte strings kept by views pass, in windows that lie within the arrays, where each pair that is looked up in
+// buffers is counted.
+fn view_bits(
+    alloc: Global,
+    comparison: NamedComparison,
+    left: &BinaryViewArray,
+    a: usize,
+    right: &BinaryViewArray,
+    b: usize,
+    n: usize,
+    followed: &mut Steps,
+) -> Result<Bitmap, ComputeError>
+    requires left_in { a + n ≤ length left.now.views }
+    requires right_in { b + n ≤ length right.now.views }
+{
+    with_comparison!(comparison, comparison => {
+        compare_view_windows(alloc, comparison, left, a, right, b, n, followed)
+    })
 }
 
 // Which numbers of an array pass with the one that words write.
@@ -253,10 +313,17 @@ fn numbers_beside<T: NativeType + FromStr<Err: Drop>>(
     words: &mut Words,
 ) -> Result<String, Fault> {
     let number: T = words.read_number()?;
-    write_made(
-        alloc,
-        with_comparison!(comparison, comparison => compare_number(alloc, comparison, numbers, number)),
-    )
+    write_made(alloc, numbers_passing(alloc, comparison, numbers, number))
+}
+
+// Which numbers of one type pass with one.
+fn numbers_passing<T: NativeType>(
+    alloc: Global,
+    comparison: NamedComparison,
+    numbers: &PrimitiveArray<T>,
+    number: T,
+) -> Result<Bitmap, ComputeError> {
+    with_comparison!(comparison, comparison => compare_number(alloc, comparison, numbers, number))
 }
 
 // Which truth values of an array pass with the one that words write.
@@ -270,10 +337,17 @@ fn truth(
         return Err(Fault::Case);
     };
     let truth = read_truth(words)?;
-    write_made(
-        alloc,
-        with_comparison!(comparison, comparison => compare_truth(alloc, comparison, truths, truth)),
-    )
+    write_made(alloc, truths_passing(alloc, comparison, truths, truth))
+}
+
+// Which truth values pass with one.
+fn truths_passing(
+    alloc: Global,
+    comparison: NamedComparison,
+    truths: &BooleanArray,
+    truth: bool,
+) -> Result<Bitmap, ComputeError> {
+    with_comparison!(comparison, comparison => compare_truth(alloc, comparison, truths, truth))
 }
 
 // Which byte strings of an array pass with the one that words write.

@@ -239,10 +239,35 @@ fn rows_followed<A: FollowedKernel>(
 fn pairs_followed<A: FollowedKernel>(alloc: Global, left: &A, right: &A) -> Result<String, Fault>
     requires { length (A.strings right.now) ≡ length (A.strings left.now) }
 {
-    let (mut equal, mut less) = (Steps::new(), Steps::new());
-    left.tot_eq_kernel_followed(alloc, right, &mut equal)?;
-    left.tot_lt_kernel_followed(alloc, right, &mut less)?;
-    Ok(format!(in alloc; "{} {}", equal.seen(), less.seen())?)
+    let equal = pairs_of_equality(alloc, left, right)?;
+    let less = pairs_of_order(alloc, left, right)?;
+    Ok(format!(in alloc; "{equal} {less}")?)
+}
+
+// How many pairs of rows equality looks up.
+fn pairs_of_equality<A: FollowedKernel>(
+    alloc: Global,
+    left: &A,
+    right: &A,
+) -> Result<u64, ComputeError>
+    requires { length (A.strings right.now) ≡ length (A.strings left.now) }
+{
+    let mut steps = Steps::new();
+    left.tot_eq_kernel_followed(alloc, right, &mut steps)?;
+    Ok(steps.seen())
+}
+
+// How many pairs of rows order looks up.
+fn pairs_of_order<A: FollowedKernel>(
+    alloc: Global,
+    left: &A,
+    right: &A,
+) -> Result<u64, ComputeError>
+    requires { length (A.strings right.now) ≡ length (A.strings left.now) }
+{
+    let mut steps = Steps::new();
+    left.tot_lt_kernel_followed(alloc, right, &mut steps)?;
+    Ok(steps.seen())
 }
 
 // What a call says of the byte string that words write, made ready.

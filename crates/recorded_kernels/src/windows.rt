@@ -9,6 +9,7 @@
 //! LEAVES is `always` or `never`, for leaves that are said to agree all, or none of them.
 
 ghost use Rattle.std.specs.Prelude.{◌≡◌, ◌+◌, ◌≤◌, IfOk, IsTrue};
+ghost use Rattle.polars_arrays_nested.specs.GoodParts.{IsGood};
 ghost use Rattle.polars_arrays_nested.specs.Types.{type_of};
 ghost use Rattle.polars_compare_nested.specs.Leaf.{is_leaf};
 ghost use Rattle.recorded_text.specs.Cases.{HasGoodArrays};
@@ -89,6 +90,18 @@ fn compare_read(
     requires { HasGoodArrays store.now }
 {
     let windows = read_windows(store, words)?;
+    compare_with(alloc, call, windows, words)
+}
+
+// What a call says of two windows by the kernel of leaves that a last word may name.
+fn compare_with(
+    alloc: Global,
+    call: Call,
+    windows: Windows,
+    words: &mut Words,
+) -> Result<String, Fault>
+    requires { AreWindows windows }
+{
     if words.take("always") {
         compare::<Always>(alloc, call, windows)
     } else if words.take("never") {
@@ -98,15 +111,23 @@ fn compare_read(
     }
 }
 
+// The array that words name, and the place in it that they write.
+fn read_place<'a>(store: &'a Store, words: &mut Words) -> Result<(&'a AnyArray, usize), Fault>
+    requires { HasGoodArrays store.now }
+    ensures { IfOk result (λ place. IsGood place.0.now) }
+{
+    let array = store.read(words)?;
+    let at = words.read_number()?;
+    Ok((array, at))
+}
+
 /// The windows that words write, which lie within the arrays that they name.
 pub fn read_windows<'a>(store: &'a Store, words: &mut Words) -> Result<Windows<'a>, Fault>
     requires { HasGoodArrays store.now }
     ensures { IfOk result (λ windows. AreWindows windows) }
 {
-    let left = store.read(words)?;
-    let a = words.read_number()?;
-    let right = store.read(words)?;
-    let b = words.read_number()?;
+    let (left, a) = read_place(store, words)?;
+    let (right, b) = read_place(store, words)?;
     let n = words.read_number()?;
     if is_within(a, n, left.len()) && is_within(b, n, right.len()) {
         Ok(Windows {
@@ -160,26 +181,50 @@ fn compare_by<K: LeafKernel>(
     if !left.same_type(right) {
         return Err(Fault::Case);
     }
-    let bits = match (call, left, right) {
-        (Call::Equal, _, _) => {
-            return write_made(alloc, equal_windows(alloc, left, a, right, b, n, kernel));
+    if let Call::Equal = call {
+        return write_made(alloc, equal_windows(alloc, left, a, right, b, n, kernel));
+    }
+    match raw_bits(alloc, call, windows, kernel) {
+        Some(bits) => write_made_raw(alloc, bits, windows),
+        None => Err(Fault::Case),
+    }
+}
+
+// The raw bits of two windows of one type, by the call for arrays of their kind, or None where they are of another one.
+fn raw_bits<K: LeafKernel>(
+    alloc: Global,
+    call: Call,
+    windows: Windows,
+    kernel: &mut K,
+) -> Option<Result<Bitmap, ComputeError>>
+    requires windows { AreWindows windows }
+    requires one_type { type_of windows.left.now ≡ type_of windows.right.now }
+{
+    let Windows {
+        left,
+        a,
+        right,
+        b,
+        n,
+    } = windows;
+    match (call, left, right) {
+        (Call::Leaf, _, _) if has_leaves(left) => {
+            Some(kernel.leaf_eq(alloc, left, a, right, b, n))
         }
-        (Call::Leaf, _, _) if has_leaves(left) => kernel.leaf_eq(alloc, left, a, right, b, n),
         (Call::List, AnyArray::List(left), AnyArray::List(right)) => {
-            list_windows(alloc, left, a, right, b, n, kernel)
+            Some(list_windows(alloc, left, a, right, b, n, kernel))
         }
         (Call::FixedSizeList, AnyArray::FixedSizeList(left), AnyArray::FixedSizeList(right)) => {
-            fixed_size_list_windows(alloc, left, a, right, b, n, kernel)
+            Some(fixed_size_list_windows(alloc, left, a, right, b, n, kernel))
         }
         (Call::Struct, AnyArray::Struct(left), AnyArray::Struct(right)) => {
-            struct_windows(alloc, left, a, right, b, n, kernel)
+            Some(struct_windows(alloc, left, a, right, b, n, kernel))
         }
         (Call::Dictionary, AnyArray::Dictionary(left), AnyArray::Dictionary(right)) => {
-            dictionary_windows(alloc, left, a, right, b, n, kernel)
+            Some(dictionary_windows(alloc, left, a, right, b, n, kernel))
         }
-        _ => return Err(Fault::Case),
-    };
-    write_made_raw(alloc, bits, windows)
+        _ => None,
+    }
 }
 
 // The text of the raw bits that a call made of two windows.

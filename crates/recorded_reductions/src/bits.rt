@@ -31,25 +31,45 @@ pub fn answer(
 ) -> Result<Option<String>, Fault>
     requires { HasGoodArrays store.now }
 {
-    let answer = if let Some(count) = Count::named(call) {
-        count_bits(alloc, count, store.read(words)?)
-    } else if let Some(join) = reduction(call) {
-        reduce_bits(alloc, join, store.read(words)?)
-    } else {
-        return Ok(None);
-    };
-    Ok(Some(answer?))
+    match question_of(call) {
+        Some(question) => of_array(alloc, question, store.read(words)?).map(Some),
+        None => Ok(None),
+    }
 }
 
-// What the reduction of that name joins bits by.
-fn reduction(call: &str) -> Option<Join> {
-    Join::named(call.strip_prefix("reduce_")?)
+// What is asked of the bits of an array's rows.
+#[derive(Clone, Copy)]
+enum Question {
+    // How many there are in each row.
+    Count(Count),
+    // What they reduce to.
+    Reduce(Join),
 }
 
-// The counts of an array's rows.
-fn count_bits(alloc: Global, count: Count, array: &AnyArray) -> Result<String, Fault> {
-    of_kind!(array, rows => count_each(alloc, count, rows),
+// What a call asks, or None for a call of another subject.
+fn question_of(call: &str) -> Option<Question> {
+    match call.strip_prefix("reduce_") {
+        Some(name) => Join::named(name).map(Question::Reduce),
+        None => Count::named(call).map(Question::Count),
+    }
+}
+
+// What is asked of an array's rows.
+fn of_array(alloc: Global, question: Question, array: &AnyArray) -> Result<String, Fault> {
+    of_kind!(array, rows => of_rows(alloc, question, rows),
         Boolean Int8 Int16 Int32 Int64 UInt8 UInt16 UInt32 UInt64)
+}
+
+// What is asked of rows of one kind.
+fn of_rows<K: BitwiseKernel<Scalar: Copy + Display>>(
+    alloc: Global,
+    question: Question,
+    rows: &K,
+) -> Result<String, Fault> {
+    match question {
+        Question::Count(count) => count_each(alloc, count, rows),
+        Question::Reduce(join) => reduce_rows(alloc, join, rows),
+    }
 }
 
 // The counts of rows of one kind.
@@ -80,25 +100,19 @@ fn write_numbers(alloc: Global, counts: &PrimitiveArray<u32>) -> Result<String, 
         if i > 0 {
             text.push(' ')?;
         }
-        push_row(alloc, &mut text, *count, is_null(counts.validity(), i))?;
+        push_row(&mut text, *count, is_null(counts.validity(), i))?;
     }
     Ok(text)
 }
 
 // Adds a count, or that it is null.
-fn push_row(alloc: Global, text: &mut String, count: u32, null: bool) -> Result<(), Fault> {
-    if null {
-        text.push_str("null")?;
+fn push_row(text: &mut String, count: u32, null: bool) -> Result<(), Fault> {
+    let pushed = if null {
+        text.push_str("null")
     } else {
-        text.push_str(&count.to_string(alloc)?)?;
-    }
-    Ok(())
-}
-
-// What an array's rows reduce to.
-fn reduce_bits(alloc: Global, join: Join, array: &AnyArray) -> Result<String, Fault> {
-    of_kind!(array, rows => reduce_rows(alloc, join, rows),
-        Boolean Int8 Int16 Int32 Int64 UInt8 UInt16 UInt32 UInt64)
+        write!(text, "{count}")
+    };
+    pushed.map_err(Fault::from)
 }
 
 // What rows of one kind reduce to.

@@ -38,8 +38,7 @@ pub fn answer(
     let Some(extremes) = Extremes::named(name) else {
         return Ok(None);
     };
-    let answer = write_extremes(alloc, extremes, store.read(words)?);
-    Ok(Some(answer?))
+    write_extremes(alloc, extremes, store.read(words)?).map(Some)
 }
 
 // The extremes of an array, as text. For both there is one name alone.
@@ -82,14 +81,14 @@ fn write_both(
 fn why_refused(alloc: Global, refused: ComputeError) -> Result<String, Fault> {
     match refused {
         ComputeError::Memory(_) => Err(Fault::Memory),
-        refused => Ok(format!(in alloc; "refused: {refused}")?),
+        refused => format!(in alloc; "refused: {refused}").map_err(Fault::from),
     }
 }
 
 // The text of a scalar.
 fn write_scalar(alloc: Global, scalar: AnyScalar<'_>) -> Result<String, Fault> {
     let mut text = String::new(alloc);
-    push_scalar(alloc, &mut text, scalar)?;
+    push_scalar(&mut text, scalar)?;
     Ok(text)
 }
 
@@ -100,36 +99,31 @@ fn write_two(
     greatest: AnyScalar<'_>,
 ) -> Result<String, Fault> {
     let mut text = String::new(alloc);
-    push_two(alloc, &mut text, least, greatest)?;
+    push_two(&mut text, least, greatest)?;
     Ok(text)
 }
 
 // Adds two scalars to a text.
-fn push_two(
-    alloc: Global,
-    text: &mut String,
-    least: AnyScalar<'_>,
-    greatest: AnyScalar<'_>,
-) -> Result<(), Fault> {
-    push_scalar(alloc, text, least)?;
+fn push_two(text: &mut String, least: AnyScalar<'_>, greatest: AnyScalar<'_>) -> Result<(), Fault> {
+    push_scalar(text, least)?;
     text.push(' ')?;
-    push_scalar(alloc, text, greatest)
+    push_scalar(text, greatest)
 }
 
 // Adds a scalar to a text: the name of its kind, and the row.
-fn push_scalar(alloc: Global, text: &mut String, scalar: AnyScalar<'_>) -> Result<(), Fault> {
+fn push_scalar(text: &mut String, scalar: AnyScalar<'_>) -> Result<(), Fault> {
     match scalar {
-        AnyScalar::Boolean(truth) => push_plain(alloc, text, "bool ", truth),
-        AnyScalar::Int8(number) => push_plain(alloc, text, "i8 ", number),
-        AnyScalar::Int16(number) => push_plain(alloc, text, "i16 ", number),
-        AnyScalar::Int32(number) => push_plain(alloc, text, "i32 ", number),
-        AnyScalar::Int64(number) => push_plain(alloc, text, "i64 ", number),
-        AnyScalar::Int128(number) => push_plain(alloc, text, "i128 ", number),
-        AnyScalar::UInt8(number) => push_plain(alloc, text, "u8 ", number),
-        AnyScalar::UInt16(number) => push_plain(alloc, text, "u16 ", number),
-        AnyScalar::UInt32(number) => push_plain(alloc, text, "u32 ", number),
-        AnyScalar::UInt64(number) => push_plain(alloc, text, "u64 ", number),
-        AnyScalar::UInt128(number) => push_plain(alloc, text, "u128 ", number),
+        AnyScalar::Boolean(truth) => push_plain(text, "bool ", truth),
+        AnyScalar::Int8(number) => push_plain(text, "i8 ", number),
+        AnyScalar::Int16(number) => push_plain(text, "i16 ", number),
+        AnyScalar::Int32(number) => push_plain(text, "i32 ", number),
+        AnyScalar::Int64(number) => push_plain(text, "i64 ", number),
+        AnyScalar::Int128(number) => push_plain(text, "i128 ", number),
+        AnyScalar::UInt8(number) => push_plain(text, "u8 ", number),
+        AnyScalar::UInt16(number) => push_plain(text, "u16 ", number),
+        AnyScalar::UInt32(number) => push_plain(text, "u32 ", number),
+        AnyScalar::UInt64(number) => push_plain(text, "u64 ", number),
+        AnyScalar::UInt128(number) => push_plain(text, "u128 ", number),
         AnyScalar::Binary(bytes) => push_string(text, "binary ", bytes),
         AnyScalar::LargeBinary(bytes) => push_string(text, "largebinary ", bytes),
         AnyScalar::Utf8(found) => push_string(text, "utf8 ", found.as_bytes()),
@@ -140,15 +134,8 @@ fn push_scalar(alloc: Global, text: &mut String, scalar: AnyScalar<'_>) -> Resul
 }
 
 // Adds a name and a number or a truth value.
-fn push_plain<T: Copy + Display>(
-    alloc: Global,
-    text: &mut String,
-    name: &str,
-    scalar: T,
-) -> Result<(), Fault> {
-    text.push_str(name)?;
-    text.push_str(&scalar.to_string(alloc)?)?;
-    Ok(())
+fn push_plain<T: Copy + Display>(text: &mut String, name: &str, scalar: T) -> Result<(), Fault> {
+    write!(text, "{name}{scalar}").map_err(Fault::from)
 }
 
 // Adds a name and a byte string.

@@ -16,6 +16,8 @@ use crate::found_text::{
     write_found, write_pair, write_string, write_strings, write_text, write_texts,
 };
 use crate::kinds::of_kind;
+use polars_arrays_flat::boolean::BooleanArray;
+use polars_arrays_flat::primitive::PrimitiveArray;
 use polars_arrays_nested::any_array::AnyArray;
 use polars_arrays_numbers::native_type::NativeType;
 use polars_compare_extremes::borrowed::{BytesMinMaxKernel, TextMinMaxKernel};
@@ -35,47 +37,103 @@ pub fn answer(
 ) -> Result<Option<String>, Fault>
     requires { HasGoodArrays store.now }
 {
-    let Some(call) = call.strip_suffix("_kernel") else {
-        return Ok(None);
-    };
-    let answer = if let Some(extremes) = Extremes::named(call) {
-        of_rows(alloc, extremes, store.read(words)?)
-    } else if let Some(extremes) = named_behind("slice_", call) {
-        of_stored(alloc, extremes, store.read(words)?)
-    } else if let Some(extremes) = named_behind("bytes_", call) {
-        of_bytes(alloc, extremes, store.read(words)?)
-    } else if let Some(extremes) = named_behind("text_", call) {
-        of_texts(alloc, extremes, store.read(words)?)
-    } else {
-        return Ok(None);
-    };
-    Ok(Some(answer?))
+    match asked_of(call) {
+        Some((subject, extremes)) => {
+            of_array(alloc, subject, extremes, store.read(words)?).map(Some)
+        }
+        None => Ok(None),
+    }
 }
 
-// The call whose name stands behind a beginning.
-fn named_behind(beginning: &str, call: &str) -> Option<Extremes> {
-    Extremes::named(call.strip_prefix(beginning)?)
+// What numbers of an array the extremes are of.
+#[derive(Clone, Copy)]
+enum Numbers {
+    // Its rows, which may be truth values too.
+    Rows,
+    // Those that it stores.
+    Stored,
+}
+
+// What of an array the extremes are of.
+#[derive(Clone, Copy)]
+enum Subject {
+    // Its numbers.
+    Numbers(Numbers),
+    // Its byte strings.
+    Bytes,
+    // Its texts.
+    Texts,
+}
+
+// What a call asks, or None for a call of another subject.
+fn asked_of(call: &str) -> Option<(Subject, Extremes)> {
+    let call = call.strip_suffix("_kernel")?;
+    let (subject, name) = if let Some(name) = call.strip_prefix("slice_") {
+        (Subject::Numbers(Numbers::Stored), name)
+    } else if let Some(name) = call.strip_prefix("bytes_") {
+        (Subject::Bytes, name)
+    } else if let Some(name) = call.strip_prefix("text_") {
+        (Subject::Texts, name)
+    } else {
+        (Subject::Numbers(Numbers::Rows), call)
+    };
+    Some((subject, Extremes::named(name)?))
+}
+
+// The extremes of what is asked of an array.
+fn of_array(
+    alloc: Global,
+    subject: Subject,
+    extremes: Extremes,
+    array: &AnyArray,
+) -> Result<String, Fault>
+    requires { IsGood array.now }
+{
+    match subject {
+        Subject::Numbers(numbers) => of_plain(alloc, numbers, extremes, array),
+        Subject::Bytes => of_bytes(alloc, extremes, array),
+        Subject::Texts => of_texts(alloc, extremes, array),
+    }
 }
 
 // The extremes of an array of numbers or truth values.
-fn of_rows(alloc: Global, extremes: Extremes, array: &AnyArray) -> Result<String, Fault> {
-    of_kind!(array, rows => write_extremes(alloc, extremes, rows),
-        Boolean Int8 Int16 Int32 Int64 Int128 UInt8 UInt16 UInt32 UInt64 UInt128)
+fn of_plain(
+    alloc: Global,
+    numbers: Numbers,
+    extremes: Extremes,
+    array: &AnyArray,
+) -> Result<String, Fault> {
+    match array {
+        AnyArray::Boolean(rows) => of_truths(alloc, numbers, extremes, rows),
+        array => of_kind!(array, rows => of_numbers(alloc, numbers, extremes, rows),
+            Int8 Int16 Int32 Int64 Int128 UInt8 UInt16 UInt32 UInt64 UInt128),
+    }
 }
 
-// The extremes of the stored numbers of an array.
-fn of_stored(alloc: Global, extremes: Extremes, array: &AnyArray) -> Result<String, Fault> {
-    of_kind!(array, rows => of_numbers(alloc, extremes, rows.values()),
-        Int8 Int16 Int32 Int64 Int128 UInt8 UInt16 UInt32 UInt64 UInt128)
+// The extremes of truth values, which are no stored numbers.
+fn of_truths(
+    alloc: Global,
+    numbers: Numbers,
+    extremes: Extremes,
+    rows: &BooleanArray,
+) -> Result<String, Fault> {
+    match numbers {
+        Numbers::Rows => write_extremes(alloc, extremes, rows),
+        Numbers::Stored => Err(Fault::Case),
+    }
 }
 
 // The extremes of numbers.
 fn of_numbers<T: NativeType + Display>(
     alloc: Global,
+    numbers: Numbers,
     extremes: Extremes,
-    numbers: &[T],
+    rows: &PrimitiveArray<T>,
 ) -> Result<String, Fault> {
-    write_extremes(alloc, extremes, &numbers)
+    match numbers {
+        Numbers::Rows => write_extremes(alloc, extremes, rows),
+        Numbers::Stored => write_extremes(alloc, extremes, &rows.values()),
+    }
 }
 
 // The extremes of rows, as text.

@@ -8,13 +8,13 @@ use std::fmt::Display;
 
 /// The text of nothing found.
 pub fn write_none(alloc: Global) -> Result<String, Fault> {
-    Ok("none".to_string(alloc)?)
+    "none".to_string(alloc).map_err(Fault::from)
 }
 
 /// The text of a number or a truth value.
 pub fn write_found<T: Copy + Display>(alloc: Global, found: Option<T>) -> Result<String, Fault> {
     match found {
-        Some(found) => Ok(found.to_string(alloc)?),
+        Some(found) => found.to_string(alloc).map_err(Fault::from),
         None => write_none(alloc),
     }
 }
@@ -25,7 +25,7 @@ pub fn write_pair<T: Copy + Display>(
     found: Option<(T, T)>,
 ) -> Result<String, Fault> {
     match found {
-        Some((least, greatest)) => Ok(format!(in alloc; "{least} {greatest}")?),
+        Some((least, greatest)) => { format!(in alloc; "{least} {greatest}").map_err(Fault::from) }
         None => write_none(alloc),
     }
 }

@@ -39,7 +39,7 @@ pub fn answer(
         "greater" => of_strings(alloc, question, &Greater, store.read(words)?),
         _ => return Err(Fault::Word),
     };
-    Ok(Some(answer?))
+    answer.map(Some)
 }
 
 // What is asked of the best byte string.

@@ -29,13 +29,15 @@ pub fn answer(alloc: Global, call: &str, words: &mut Words) -> Result<Option<Str
         "bool" => join_truths(alloc, join, words),
         name => at_number_type!(name, join_numbers(alloc, join, words)),
     };
-    Ok(Some(answer?))
+    answer.map(Some)
 }
 
 // The truth value that two of them are joined to.
 fn join_truths(alloc: Global, join: Join, words: &mut Words) -> Result<String, Fault> {
-    let (left, right) = (read_truth(words)?, read_truth(words)?);
-    Ok(join_scalars::<BooleanArray>(join, left, right).to_string(alloc)?)
+    let left = read_truth(words)?;
+    let right = read_truth(words)?;
+    let joined = join_scalars::<BooleanArray>(join, left, right);
+    joined.to_string(alloc).map_err(Fault::from)
 }
 
 // The number that two of them are joined to.
@@ -44,8 +46,10 @@ fn join_numbers<T: BitNumber + Display + FromStr<Err: Drop>>(
     join: Join,
     words: &mut Words,
 ) -> Result<String, Fault> {
-    let (left, right): (T, T) = (words.read_number()?, words.read_number()?);
-    Ok(join_scalars::<PrimitiveArray<T>>(join, left, right).to_string(alloc)?)
+    let left: T = words.read_number()?;
+    let right: T = words.read_number()?;
+    let joined = join_scalars::<PrimitiveArray<T>>(join, left, right);
+    joined.to_string(alloc).map_err(Fault::from)
 }
 
 // What two scalars are joined to.

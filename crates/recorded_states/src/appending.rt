@@ -11,15 +11,14 @@ ghost use Rattle.std.specs.Prelude.{All, IsTrue};
 ghost use Rattle.polars_compute_slots.specs.State.{are_within, range_of};
 ghost use Rattle.recorded_text.specs.Cases.{HasGoodArrays};
 
-use crate::columns::rows_named;
+use crate::columns::{if_done, rows_named};
 use crate::new_states::{NewStates, read_new};
 use crate::seen::write_seen;
-use crate::state_kinds::RecordedState;
+use crate::state_kinds::{RecordedState, Shown};
 use polars_arrays_bits::error::ComputeError;
 use polars_compute_unique::kernel::RangedUniqueKernel;
 use polars_compute_unique::merge::append_all;
 use recorded_text::fault::Fault;
-use recorded_text::row_text::write_made;
 use recorded_text::store::Store;
 use recorded_text::words::Words;
 use std::alloc::Global;
@@ -52,15 +51,19 @@ fn write_end<S: RecordedState>(
     alloc: Global,
     end: Result<S::Array, ComputeError>,
 ) -> Result<String, Fault> {
-    match end {
-        Ok(array) => write_array::<S>(alloc, array),
-        Err(refused) => Err(Fault::from(refused)),
-    }
+    write_rows::<S>(alloc, &end?)
 }
 
-// What an array stores.
-fn write_array<S: RecordedState>(alloc: Global, array: S::Array) -> Result<String, Fault> {
-    write_made(alloc, S::stored_rows(alloc, array)?)
+// What an array stores for each row.
+fn write_rows<S: RecordedState>(alloc: Global, rows: &S::Array) -> Result<String, Fault> {
+    let mut text = String::new(alloc);
+    for i in 0..S::count_rows(rows) {
+        if i > 0 {
+            text.push(' ')?;
+        }
+        S::push_row(&mut text, rows, Shown::Stored, i)?;
+    }
+    Ok(text)
 }
 
 // A new state of the range that words tell, to which copies of the arrays that further words name were appended.
@@ -72,11 +75,11 @@ fn state_of_all<N: NewStates>(
     requires { HasGoodArrays store.now }
 {
     let mut state = read_new::<N>(alloc, store, words)?;
-    append_copies(alloc, &mut state, store, words.rest())?;
-    Ok(state)
+    let appended = append_copies(alloc, &mut state, store, words.rest());
+    if_done(state, appended)
 }
 
-// Appends copies of the arrays that words name.
+// Appends copies of the arrays that words name. The error is `Case`, where the state does not accept one.
 fn append_copies<S: RecordedState>(
     alloc: Global,
     state: &mut S,
@@ -86,7 +89,11 @@ fn append_copies<S: RecordedState>(
     requires { HasGoodArrays store.now }
 {
     let arrays = copy_all::<S>(alloc, store, names)?;
-    append_accepted(state, &arrays)
+    if !all_accepted(state, &arrays) {
+        return Err(Fault::Case);
+    }
+    append_all(state, &arrays);
+    Ok(())
 }
 
 // Copies of the arrays that words name.
@@ -99,25 +106,9 @@ fn copy_all<S: RecordedState>(
 {
     let mut arrays = Vec::new(alloc);
     for name in names {
-        arrays.push(copy_named::<S>(alloc, store, name)?)?;
+        arrays.push(S::copy_rows(alloc, rows_named::<S>(store, name)?)?)?;
     }
     Ok(arrays)
-}
-
-// A copy of the array that a word names.
-fn copy_named<S: RecordedState>(alloc: Global, store: &Store, name: &str) -> Result<S::Array, Fault>
-    requires { HasGoodArrays store.now }
-{
-    S::copy_rows(alloc, rows_named::<S>(store, name)?)
-}
-
-// Appends all arrays. The error is `Case`, where the state does not accept one.
-fn append_accepted<S: RangedUniqueKernel>(state: &mut S, arrays: &[S::Array]) -> Result<(), Fault> {
-    if !all_accepted(state, arrays) {
-        return Err(Fault::Case);
-    }
-    append_all(state, arrays);
-    Ok(())
 }
 
 // Whether a state accepts an array.

@@ -2,7 +2,7 @@
 
 ghost use Rattle.recorded_text.specs.Cases.{HasGoodArrays};
 
-use crate::new_states::{NewStates, read_new};
+use crate::new_states::NewStates;
 use crate::state_kinds::RecordedState;
 use polars_compute_unique::kernel::RangedUniqueKernel;
 use recorded_text::fault::Fault;
@@ -59,8 +59,16 @@ pub fn gathered<N: NewStates>(
     requires { HasGoodArrays store.now }
 {
     let mut state = range.new_state(alloc)?;
-    append_named(&mut state, store, names)?;
-    Ok(state)
+    let appended = append_named(&mut state, store, names);
+    if_done(state, appended)
+}
+
+/// A state, where what was done to it has no fault.
+pub fn if_done<S: RecordedState>(state: S, done: Result<(), Fault>) -> Result<S, Fault> {
+    match done {
+        Ok(()) => Ok(state),
+        Err(fault) => Err(fault),
+    }
 }
 
 /// The state of a column: a new one of the range that words tell, to which each array was appended that further words name.
@@ -72,7 +80,6 @@ pub fn read_state<N: NewStates>(
     requires { HasGoodArrays store.now }
 {
     let mut words = Words::new(words);
-    let mut state = read_new::<N>(alloc, store, &mut words)?;
-    append_named(&mut state, store, words.rest())?;
-    Ok(state)
+    let range = N::read(alloc, store, &mut words)?;
+    gathered(alloc, &range, store, words.rest())
 }

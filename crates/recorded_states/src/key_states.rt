@@ -9,7 +9,7 @@ ghost use Rattle.polars_arrays_nested.specs.GoodParts.{IsGood};
 ghost use Rattle.polars_arrays_nested.specs.declared.any_array.AnyArray.{Dictionary};
 ghost use Rattle.recorded_text.specs.Cases.{HasGoodArrays};
 
-use crate::columns::{append_named, rows_named};
+use crate::columns::{append_named, if_done, rows_named};
 use crate::new_states::{Entries, NewStates, NumberRange, new_state_over};
 use crate::pairs::{either_way, read_joined};
 use crate::questions::{Question, answer_question, write_truth};
@@ -87,13 +87,8 @@ fn state_put(
     requires arrays { HasGoodArrays store.now }
 {
     let mut state = new_state_over(alloc, entries)?;
-    match put_keys(&mut state, range.new_state(alloc), store, names) {
-        Ok(()) => Ok(state),
-        Err(fault) => {
-            drop(state);
-            Err(fault)
-        }
-    }
+    let put = put_keys(&mut state, range.new_state(alloc), store, names);
+    if_done(state, put)
 }
 
 // Whether a state whose state of keys is another one accepts a dictionary array.

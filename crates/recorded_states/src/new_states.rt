@@ -84,7 +84,7 @@ fn state_between<T: RecordedNumber>(
     if !range_fits(least, greatest) {
         return Err(Fault::Case);
     }
-    Ok(PrimitiveRangedUniqueState::new(alloc, least, greatest)?)
+    PrimitiveRangedUniqueState::new(alloc, least, greatest).map_err(Fault::from)
 }
 
 /// Both truth values, for which no word stands.
@@ -171,5 +171,5 @@ fn state_over(alloc: Global, entries: AnyArray) -> Result<DictionaryRangedUnique
         drop(entries);
         return Err(Fault::Case);
     }
-    Ok(DictionaryRangedUniqueState::new(alloc, entries)?)
+    DictionaryRangedUniqueState::new(alloc, entries).map_err(Fault::from)
 }

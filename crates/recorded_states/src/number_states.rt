@@ -2,7 +2,7 @@
 
 ghost use Rattle.recorded_text.specs.Cases.{HasGoodArrays};
 
-use crate::new_states::NumberRange;
+use crate::new_states::{NewStates, NumberRange};
 use crate::numbers::RecordedNumber;
 use crate::pairs;
 use crate::questions::{Question, answer_question};
@@ -88,7 +88,12 @@ fn answer_numbers<T: RecordedNumber>(
         NumberQuestion::OfRange(question) => {
             answer_question::<NumberRange<T>>(alloc, question, store, words)
         }
-        NumberQuestion::Counted => pairs::in_range::<T>(alloc, store, words),
-        NumberQuestion::CountedInNone => pairs::in_none::<T>(alloc, store, words),
+        NumberQuestion::Counted => {
+            let range = NumberRange::<T>::read(alloc, store, words);
+            pairs::of_range(alloc, range, store, words)
+        }
+        NumberQuestion::CountedInNone => {
+            pairs::of_range(alloc, Ok(NumberRange::<T>::Empty), store, words)
+        }
     }
 }

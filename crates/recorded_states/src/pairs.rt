@@ -10,10 +10,9 @@
 
 ghost use Rattle.recorded_text.specs.Cases.{HasGoodArrays};
 
-use crate::columns::{gathered, join, read_state, rows_named};
-use crate::new_states::{NewStates, NumberRange};
-use crate::numbers::RecordedNumber;
-use crate::seen::{BAR, push_seen};
+use crate::columns::{gathered, if_done, join, read_state, rows_named};
+use crate::new_states::NewStates;
+use crate::seen::{BAR, add_seen, write_seen};
 use crate::state_kinds::{CountedState, RecordedState};
 use polars_compute_unique::kernel::RangedUniqueKernel;
 use recorded_text::fault::Fault;
@@ -29,62 +28,41 @@ fn part_at_bar<'a>(words: &'a [&'a str]) -> Result<(&'a [&'a str], &'a [&'a str]
     }
 }
 
-/// Two states of the numbers of a range.
-pub fn in_range<T: RecordedNumber>(
+/// Two states of one range that was read, and how many rows were read.
+pub fn of_range<N: NewStates<State: CountedState>>(
     alloc: Global,
+    range: Result<N, Fault>,
     store: &Store,
     words: &mut Words,
 ) -> Result<String, Fault>
     requires { HasGoodArrays store.now }
 {
-    let range: NumberRange<T> = NumberRange::read(alloc, store, words)?;
-    of_range(alloc, &range, store, words)
-}
-
-/// Two states of no numbers.
-pub fn in_none<T: RecordedNumber>(
-    alloc: Global,
-    store: &Store,
-    words: &mut Words,
-) -> Result<String, Fault>
-    requires { HasGoodArrays store.now }
-{
-    let range: NumberRange<T> = NumberRange::Empty;
-    of_range(alloc, &range, store, words)
-}
-
-// Two states of one range, and how many rows were read.
-fn of_range<N: NewStates<State: CountedState>>(
-    alloc: Global,
-    range: &N,
-    store: &Store,
-    words: &mut Words,
-) -> Result<String, Fault>
-    requires { HasGoodArrays store.now }
-{
+    let range = range?;
     let (left, right) = part_at_bar(words.rest())?;
-    let mut text = String::new(alloc);
-    push_counted(alloc, &mut text, range, store, left, right)?;
-    Ok(text)
+    write_counted(alloc, &range, store, left, right)
 }
 
-// Adds how many rows were read, and the states.
-fn push_counted<N: NewStates<State: CountedState>>(
+// How many rows were read of the arrays before the bar and of those behind it, and the states.
+fn write_counted<N: NewStates<State: CountedState>>(
     alloc: Global,
-    text: &mut String,
     range: &N,
     store: &Store,
     left: &[&str],
     right: &[&str],
-) -> Result<(), Fault>
+) -> Result<String, Fault>
     requires { HasGoodArrays store.now }
 {
-    let first = counted(alloc, text, range, store, left)?;
+    let mut text = String::new(alloc);
+    let first = counted(alloc, &mut text, range, store, left)?;
     text.push_str(BAR)?;
-    let second = counted(alloc, text, range, store, right)?;
-    text.push_str(BAR)?;
-    let again = gathered(alloc, range, store, left)?;
-    push_states(alloc, text, first, second, again)
+    let second = counted(alloc, &mut text, range, store, right)?;
+    add_states(
+        alloc,
+        text,
+        first,
+        second,
+        gathered(alloc, range, store, left),
+    )
 }
 
 // A new state to which each array was appended. How many rows were read of each is added to a text.
@@ -98,8 +76,8 @@ fn counted<N: NewStates<State: CountedState>>(
     requires { HasGoodArrays store.now }
 {
     let mut state = range.new_state(alloc)?;
-    push_steps(text, &mut state, store, names)?;
-    Ok(state)
+    let pushed = push_steps(text, &mut state, store, names);
+    if_done(state, pushed)
 }
 
 // Appends each array. How many rows were read of each is added to a text.
@@ -112,30 +90,32 @@ fn push_steps<S: CountedState>(
     requires { HasGoodArrays store.now }
 {
     for (i, name) in names.iter().enumerate() {
-        if i > 0 {
-            text.push(' ')?;
-        }
+        let before = if i > 0 { " " } else { "" };
         let steps = state.append_and_count(rows_named::<S>(store, name)?)?;
-        write!(text, "{steps}")?;
+        write!(text, "{before}{steps}")?;
     }
     Ok(())
 }
 
-// Adds two states, and the second merged into another one that has seen what the first has.
-fn push_states<S: RecordedState>(
+// A text, and behind it two states, and the second merged into another one that has seen what the first has.
+fn add_states<S: RecordedState>(
     alloc: Global,
-    text: &mut String,
+    text: String,
     first: S,
     second: S,
-    again: S,
-) -> Result<(), Fault> {
-    let mut both = again;
-    join(&mut both, &second)?;
-    push_seen(alloc, text, Ok(first))?;
-    text.push_str(BAR)?;
-    push_seen(alloc, text, Ok(second))?;
-    text.push_str(BAR)?;
-    push_seen(alloc, text, Ok(both))
+    again: Result<S, Fault>,
+) -> Result<String, Fault> {
+    let both = with_joined(again, &second);
+    let text = add_seen(alloc, Ok(text), Ok(first));
+    let text = add_seen(alloc, text, Ok(second));
+    add_seen(alloc, text, both)
+}
+
+// A state that was made, into which another one was merged.
+fn with_joined<S: RecordedState>(made: Result<S, Fault>, other: &S) -> Result<S, Fault> {
+    let mut state = made?;
+    let joined = join(&mut state, other);
+    if_done(state, joined)
 }
 
 // Merges a state that was made into another one.
@@ -143,21 +123,18 @@ fn join_made<S: RecordedState>(state: &mut S, made: Result<S, Fault>) -> Result<
     join(state, &made?)
 }
 
-// Adds the states of two columns, and the second merged into the first.
-fn push_columns<N: NewStates>(
+// The states of two columns, and the second merged into the first.
+fn write_columns<N: NewStates>(
     alloc: Global,
-    text: &mut String,
     store: &Store,
     left: &[&str],
     right: &[&str],
-) -> Result<(), Fault>
+) -> Result<String, Fault>
     requires { HasGoodArrays store.now }
 {
-    push_seen(alloc, text, read_state::<N>(alloc, store, left))?;
-    text.push_str(BAR)?;
-    push_seen(alloc, text, read_state::<N>(alloc, store, right))?;
-    text.push_str(BAR)?;
-    push_seen(alloc, text, joined::<N>(alloc, store, left, right))
+    let text = write_seen(alloc, read_state::<N>(alloc, store, left));
+    let text = add_seen(alloc, text, read_state::<N>(alloc, store, right));
+    add_seen(alloc, text, joined::<N>(alloc, store, left, right))
 }
 
 // The state of a column, into which that of another one was merged.
@@ -170,8 +147,8 @@ fn joined<N: NewStates>(
     requires { HasGoodArrays store.now }
 {
     let mut state = read_state::<N>(alloc, store, column)?;
-    join_made(&mut state, read_state::<N>(alloc, store, other))?;
-    Ok(state)
+    let joined = join_made(&mut state, read_state::<N>(alloc, store, other));
+    if_done(state, joined)
 }
 
 /// The states of two columns, and the second merged into the first.
@@ -183,9 +160,7 @@ pub fn of_columns<N: NewStates>(
     requires { HasGoodArrays store.now }
 {
     let (left, right) = part_at_bar(words.rest())?;
-    let mut text = String::new(alloc);
-    push_columns::<N>(alloc, &mut text, store, left, right)?;
-    Ok(text)
+    write_columns::<N>(alloc, store, left, right)
 }
 
 /// The states of two columns, the second merged into the first, and the first into the second.
@@ -197,24 +172,8 @@ pub fn either_way<N: NewStates>(
     requires { HasGoodArrays store.now }
 {
     let (left, right) = part_at_bar(words.rest())?;
-    let mut text = String::new(alloc);
-    push_either_way::<N>(alloc, &mut text, store, left, right)?;
-    Ok(text)
-}
-
-// Adds the states of two columns, and each merged into the other.
-fn push_either_way<N: NewStates>(
-    alloc: Global,
-    text: &mut String,
-    store: &Store,
-    left: &[&str],
-    right: &[&str],
-) -> Result<(), Fault>
-    requires { HasGoodArrays store.now }
-{
-    push_columns::<N>(alloc, text, store, left, right)?;
-    text.push_str(BAR)?;
-    push_seen(alloc, text, joined::<N>(alloc, store, right, left))
+    let text = write_columns::<N>(alloc, store, left, right);
+    add_seen(alloc, text, joined::<N>(alloc, store, right, left))
 }
 
 /// The state of one column, into which that of another one was merged.

@@ -55,5 +55,5 @@ pub fn answer_question<N: NewStates>(
 
 /// The text of a truth value that was found.
 pub fn write_truth(alloc: Global, truth: Result<bool, Fault>) -> Result<String, Fault> {
-    Ok(truth?.to_string(alloc)?)
+    truth?.to_string(alloc).map_err(Fault::from)
 }

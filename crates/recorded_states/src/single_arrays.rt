@@ -62,5 +62,5 @@ fn write_unique(alloc: Global, made: Result<BooleanArray, ComputeError>) -> Resu
 
 // The text of a number of rows.
 fn write_count(alloc: Global, count: usize) -> Result<String, Fault> {
-    Ok(count.to_string(alloc)?)
+    count.to_string(alloc).map_err(Fault::from)
 }

@@ -1,9 +1,8 @@
 //! The kinds of states, and what lines need of each.
 
-ghost use Rattle.std.specs.Prelude.{IfOk};
-ghost use Rattle.polars_arrays_nested.specs.GoodParts.{IsGood};
-
 use crate::numbers::{RecordedNumber, rows_in};
+use polars_arrays_bits::bitmap::Bitmap;
+use polars_arrays_flat::array::Array;
 use polars_arrays_flat::boolean::BooleanArray;
 use polars_arrays_flat::primitive::PrimitiveArray;
 use polars_arrays_nested::any_array::AnyArray;
@@ -14,8 +13,10 @@ use polars_compute_unique::boolean::BooleanUniqueKernelState;
 use polars_compute_unique::dictionary::DictionaryRangedUniqueState;
 use polars_compute_unique::kernel::RangedUniqueKernel;
 use polars_compute_unique::primitive::PrimitiveRangedUniqueState;
+use recorded_text::bits_text::is_null;
 use recorded_text::fault::Fault;
 use std::alloc::Global;
+use std::fmt::Display;
 
 /// A state, the arrays of which lines name.
 pub trait RecordedState: RangedUniqueKernel<Array: Drop> + Drop {
@@ -25,13 +26,20 @@ pub trait RecordedState: RangedUniqueKernel<Array: Drop> + Drop {
     /// A copy of an array.
     fn copy_rows(alloc: Global, rows: &Self::Array) -> Result<Self::Array, Fault>;
 
-    /// An array whose rows are written for these: themselves, or the keys of a dictionary.
-    fn written_rows(alloc: Global, rows: Self::Array) -> Result<AnyArray, Fault>
-        ensures { IfOk result (λ written. IsGood written) };
+    /// How many rows an array has.
+    fn count_rows(rows: &Self::Array) -> usize;
 
-    /// An array whose rows are what these store, under a null too: their own values, or the keys of a dictionary.
-    fn stored_rows(alloc: Global, rows: Self::Array) -> Result<AnyArray, Fault>
-        ensures { IfOk result (λ stored. IsGood stored) };
+    /// Adds row `i` of an array to a text, which of a dictionary is the key.
+    fn push_row(text: &mut String, rows: &Self::Array, shown: Shown, i: usize) -> Result<(), Fault>;
+}
+
+/// What is written of a row.
+#[derive(Clone, Copy)]
+pub enum Shown {
+    /// The row, which may be null.
+    Row,
+    /// What is stored for it, under a null too.
+    Stored,
 }
 
 /// A state that says how many rows it reads.
@@ -57,15 +65,20 @@ impl<T: RecordedNumber> RecordedState for PrimitiveRangedUniqueState<T> {
     }
 
     fn copy_rows(alloc: Global, rows: &PrimitiveArray<T>) -> Result<PrimitiveArray<T>, Fault> {
-        Ok(rows.clone_array(alloc)?)
+        rows.clone_array(alloc).map_err(Fault::from)
     }
 
-    fn written_rows(_alloc: Global, rows: PrimitiveArray<T>) -> Result<AnyArray, Fault> {
-        Ok(T::any_of(rows))
+    fn count_rows(rows: &PrimitiveArray<T>) -> usize {
+        rows.values().len()
     }
 
-    fn stored_rows(_alloc: Global, rows: PrimitiveArray<T>) -> Result<AnyArray, Fault> {
-        Ok(T::any_of(rows.with_validity(None)))
+    fn push_row(
+        text: &mut String,
+        rows: &PrimitiveArray<T>,
+        shown: Shown,
+        i: usize,
+    ) -> Result<(), Fault> {
+        push_number(text, rows, shown, i)
     }
 }
 
@@ -75,17 +88,21 @@ impl RecordedState for BooleanUniqueKernelState {
     }
 
     fn copy_rows(alloc: Global, rows: &BooleanArray) -> Result<BooleanArray, Fault> {
-        Ok(rows.clone_array(alloc)?)
+        rows.clone_array(alloc).map_err(Fault::from)
     }
 
-    fn written_rows(_alloc: Global, rows: BooleanArray) -> Result<AnyArray, Fault> {
-        Ok(AnyArray::Boolean(rows))
+    fn count_rows(rows: &BooleanArray) -> usize {
+        rows.values().len()
     }
 
-    fn stored_rows(alloc: Global, rows: BooleanArray) -> Result<AnyArray, Fault> {
-        let values = copy_stored_truths(alloc, &rows);
-        drop(rows);
-        values
+    fn push_row(
+        text: &mut String,
+        rows: &BooleanArray,
+        shown: Shown,
+        i: usize,
+    ) -> Result<(), Fault> {
+        let null = is_shown_null(shown, rows.validity(), i);
+        push_value(text, null, rows.values().get(i))
     }
 }
 
@@ -95,48 +112,55 @@ impl RecordedState for DictionaryRangedUniqueState {
     }
 
     fn copy_rows(alloc: Global, rows: &DictionaryArray) -> Result<DictionaryArray, Fault> {
-        Ok(rows.clone_array(alloc)?)
+        rows.clone_array(alloc).map_err(Fault::from)
     }
 
-    fn written_rows(alloc: Global, rows: DictionaryArray) -> Result<AnyArray, Fault> {
-        let keys = copy_keys(alloc, rows.keys());
-        drop(rows);
-        keys
+    fn count_rows(rows: &DictionaryArray) -> usize {
+        rows.keys().len()
     }
 
-    fn stored_rows(alloc: Global, rows: DictionaryArray) -> Result<AnyArray, Fault> {
-        let keys = copy_stored_keys(alloc, rows.keys());
-        drop(rows);
-        keys
-    }
-}
-
-// The stored truth values of an array, as rows.
-fn copy_stored_truths(alloc: Global, rows: &BooleanArray) -> Result<AnyArray, Fault>
-    ensures { IfOk result (λ copy. IsGood copy) }
-{
-    let values = rows.values().clone_bitmap(alloc)?;
-    Ok(AnyArray::Boolean(BooleanArray::try_new(values, None)?))
-}
-
-// The keys of a state's array, which are of type `u32`, as rows.
-fn copy_keys(alloc: Global, keys: &DictKeys) -> Result<AnyArray, Fault>
-    ensures { IfOk result (λ rows. IsGood rows) }
-{
-    match keys {
-        DictKeys::UInt32(keys) => Ok(AnyArray::UInt32(keys.clone_array(alloc)?)),
-        _ => Err(Fault::Case),
+    // The keys of a state's array are of type `u32`.
+    fn push_row(
+        text: &mut String,
+        rows: &DictionaryArray,
+        shown: Shown,
+        i: usize,
+    ) -> Result<(), Fault> {
+        match rows.keys() {
+            DictKeys::UInt32(keys) => push_number(text, keys, shown, i),
+            _ => Err(Fault::Case),
+        }
     }
 }
 
-// The stored keys of a state's array, which are of type `u32`, as rows.
-fn copy_stored_keys(alloc: Global, keys: &DictKeys) -> Result<AnyArray, Fault>
-    ensures { IfOk result (λ rows. IsGood rows) }
-{
-    match keys {
-        DictKeys::UInt32(keys) => Ok(AnyArray::UInt32(
-            keys.clone_array(alloc)?.with_validity(None),
-        )),
-        _ => Err(Fault::Case),
+// Adds row `i` of an array of numbers.
+fn push_number<T: RecordedNumber>(
+    text: &mut String,
+    rows: &PrimitiveArray<T>,
+    shown: Shown,
+    i: usize,
+) -> Result<(), Fault> {
+    let null = is_shown_null(shown, rows.validity(), i);
+    push_value(text, null, rows.values().get(i).copied())
+}
+
+// Whether null is written of row `i`.
+fn is_shown_null(shown: Shown, validity: Option<&Bitmap>, i: usize) -> bool {
+    match shown {
+        Shown::Row => is_null(validity, i),
+        Shown::Stored => false,
+    }
+}
+
+// Adds that a row is null, or the value that is stored for it.
+fn push_value<V: Copy + Display>(
+    text: &mut String,
+    null: bool,
+    value: Option<V>,
+) -> Result<(), Fault> {
+    match value {
+        Some(_) if null => text.push_str("null").map_err(Fault::from),
+        Some(value) => write!(text, "{value}").map_err(Fault::from),
+        None => Err(Fault::Case),
     }
 }

@@ -97,20 +97,12 @@ fn read_tree<N: NewStates>(
     requires { HasGoodArrays store.now }
 {
     let mut trees = Vec::new(alloc);
-    read_only_tree(alloc, &mut trees, leaves, store, words)
+    read_trees(alloc, &mut trees, leaves, store, words)?;
+    take_only(&mut trees)
 }
 
-// The one tree that words write.
-fn read_only_tree<N: NewStates>(
-    alloc: Global,
-    trees: &mut Vec<MergeTree<N::State>>,
-    leaves: &Leaves<N>,
-    store: &Store,
-    words: &[&str],
-) -> Result<MergeTree<N::State>, Fault>
-    requires { HasGoodArrays store.now }
-{
-    read_trees(alloc, trees, leaves, store, words)?;
+// The only tree.
+fn take_only<S: RecordedState>(trees: &mut Vec<MergeTree<S>>) -> Result<MergeTree<S>, Fault> {
     if trees.len() > 1 {
         return Err(Fault::Word);
     }

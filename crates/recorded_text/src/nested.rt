@@ -180,7 +180,10 @@ pub(crate) fn boxed(alloc: Global, array: Result<AnyArray, Fault>) -> Result<Box
     requires { IfOk array (λ a. IsGood a) }
     ensures { IfOk result (λ a. IsGood a.value) }
 {
-    Ok(Box::new(alloc, array?)?)
+    match array {
+        Ok(array) => Ok(Box::new(alloc, array)?),
+        Err(fault) => Err(fault),
+    }
 }
 
 // The offsets of lists.
@@ -234,7 +237,7 @@ fn read_struct(
     let len = words.read_number()?;
     let count = words.read_number()?;
     let validity = read_validity(alloc, kept, words)?;
-    struct_of(
+    of_columns(
         alloc,
         len,
         read_columns(alloc, kept, words, depth, count),
@@ -263,7 +266,7 @@ fn read_columns<'a>(
 }
 
 // Structs of these columns.
-fn struct_of(
+fn of_columns(
     alloc: Global,
     len: usize,
     columns: Result<Columns, Fault>,
@@ -273,7 +276,21 @@ fn struct_of(
     ensures { IfOk result (λ a. IsGood a) }
 {
     let Columns { names, values } = columns?;
-    let fields = fields_of(alloc, &names, &values)?;
+    struct_of(alloc, &names, len, values, validity)
+}
+
+/// Structs of columns of these names.
+pub(crate) fn struct_of(
+    alloc: Global,
+    names: &[&str],
+    len: usize,
+    values: Vec<AnyArray>,
+    validity: Option<Bitmap>,
+) -> Result<AnyArray, Fault>
+    requires { All IsGood values.items }
+    ensures { IfOk result (λ a. IsGood a) }
+{
+    let fields = fields_of(alloc, names, &values)?;
     Ok(AnyArray::Struct(StructArray::try_new(fields, len, values, validity)?))
 }
 

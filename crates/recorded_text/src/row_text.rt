@@ -33,13 +33,12 @@ fn push_truth(text: &mut String, array: &BooleanArray, i: usize) -> Result<(), F
 }
 
 fn push_number<T: NativeType + Display>(
-    alloc: Global,
     text: &mut String,
     array: &PrimitiveArray<T>,
     i: usize,
 ) -> Result<(), Fault> {
     match array.values().get(i) {
-        Some(value) => text.push_str(&value.to_string(alloc)?)?,
+        Some(value) => write!(text, "{value}")?,
         None => return Err(Fault::Case),
     }
     Ok(())
@@ -53,19 +52,19 @@ fn push_string<A: ByteRows>(text: &mut String, array: &A, i: usize) -> Result<()
 }
 
 // The stored value at place `i` of an array of one level.
-fn push_stored(alloc: Global, text: &mut String, array: &AnyArray, i: usize) -> Result<(), Fault> {
+fn push_stored(text: &mut String, array: &AnyArray, i: usize) -> Result<(), Fault> {
     match array {
         AnyArray::Boolean(array) => push_truth(text, array, i),
-        AnyArray::Int8(array) => push_number(alloc, text, array, i),
-        AnyArray::Int16(array) => push_number(alloc, text, array, i),
-        AnyArray::Int32(array) => push_number(alloc, text, array, i),
-        AnyArray::Int64(array) => push_number(alloc, text, array, i),
-        AnyArray::Int128(array) => push_number(alloc, text, array, i),
-        AnyArray::UInt8(array) => push_number(alloc, text, array, i),
-        AnyArray::UInt16(array) => push_number(alloc, text, array, i),
-        AnyArray::UInt32(array) => push_number(alloc, text, array, i),
-        AnyArray::UInt64(array) => push_number(alloc, text, array, i),
-        AnyArray::UInt128(array) => push_number(alloc, text, array, i),
+        AnyArray::Int8(array) => push_number(text, array, i),
+        AnyArray::Int16(array) => push_number(text, array, i),
+        AnyArray::Int32(array) => push_number(text, array, i),
+        AnyArray::Int64(array) => push_number(text, array, i),
+        AnyArray::Int128(array) => push_number(text, array, i),
+        AnyArray::UInt8(array) => push_number(text, array, i),
+        AnyArray::UInt16(array) => push_number(text, array, i),
+        AnyArray::UInt32(array) => push_number(text, array, i),
+        AnyArray::UInt64(array) => push_number(text, array, i),
+        AnyArray::UInt128(array) => push_number(text, array, i),
         AnyArray::Binary(array) => push_string(text, array, i),
         AnyArray::LargeBinary(array) => push_string(text, array, i),
         AnyArray::Utf8(array) => push_string(text, array, i),
@@ -106,7 +105,7 @@ pub fn push_row(alloc: Global, text: &mut String, array: &AnyArray, i: usize) ->
         AnyArray::FixedSizeList(array) => push_fixed_list(alloc, text, array, i),
         AnyArray::Struct(array) => push_struct(alloc, text, array, i),
         AnyArray::Dictionary(array) => push_entry(alloc, text, array, i),
-        _ => push_stored(alloc, text, array, i),
+        _ => push_stored(text, array, i),
     }
 }
 

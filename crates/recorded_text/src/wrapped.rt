@@ -4,13 +4,13 @@
 //! width 1, a struct whose only field `f` has that row, or a key that names it.
 
 ghost use Rattle.std.specs.Prelude.{IfOk};
+ghost use Rattle.std.specs.List.{All};
 ghost use Rattle.polars_arrays_nested.specs.GoodParts.{IsGood};
 
 use crate::fault::Fault;
-use crate::nested::{boxed, field_of, read_any};
+use crate::nested::{boxed, read_any, struct_of};
 use crate::words::Words;
 use polars_arrays_bits::buffer::Buffer;
-use polars_arrays_flat::data_type::Field;
 use polars_arrays_flat::primitive::PrimitiveArray;
 use polars_arrays_nested::any_array::AnyArray;
 use polars_arrays_nested::dict_keys::DictKeys;
@@ -18,7 +18,6 @@ use polars_arrays_nested::dictionary::DictionaryArray;
 use polars_arrays_nested::fixed_size_list::FixedSizeListArray;
 use polars_arrays_nested::list::ListArray;
 use polars_arrays_nested::list_offsets::ListOffsets;
-use polars_arrays_nested::struct_array::StructArray;
 use std::alloc::Global;
 
 /// How many levels a line may ask for where the stack is the usual one of 8 MiB.
@@ -33,12 +32,23 @@ pub const FAR_LEVELS: usize = 100_000;
 pub fn read_wrapped(alloc: Global, words: &mut Words, most: usize) -> Result<AnyArray, Fault>
     ensures { IfOk result (λ a. IsGood a) }
 {
+    let levels = read_levels(words, most)?;
+    let kinds = read_kinds(alloc, words)?;
+    wrap_all(alloc, levels, &kinds, read_any(alloc, words))
+}
+
+// How many levels the next word asks for, at the most so many.
+fn read_levels(words: &mut Words, most: usize) -> Result<usize, Fault> {
     let levels: usize = words.read_number()?;
     if levels > most {
         return Err(Fault::Depth(most));
     }
-    let kinds: Vec<&str> = words.read()?.split(',').collect(alloc)?;
-    wrap_all(alloc, levels, &kinds, read_any(alloc, words)?)
+    Ok(levels)
+}
+
+// The kinds that the next word names, parted by commas.
+fn read_kinds<'a>(alloc: Global, words: &mut Words<'a>) -> Result<Vec<&'a str>, Fault> {
+    Ok(words.read()?.split(',').collect(alloc)?)
 }
 
 // An array in so many levels of these kinds.
@@ -46,14 +56,14 @@ fn wrap_all(
     alloc: Global,
     levels: usize,
     kinds: &[&str],
-    array: AnyArray,
+    array: Result<AnyArray, Fault>,
 ) -> Result<AnyArray, Fault>
-    requires { IsGood array }
+    requires { IfOk array (λ a. IsGood a) }
     ensures { IfOk result (λ a. IsGood a) }
 {
-    let mut wrapped = Box::new(alloc, array)?;
+    let mut wrapped = boxed(alloc, array)?;
     for level in (0..levels).rev() {
-        wrapped = wrap(alloc, kind_at(kinds, level), wrapped)?;
+        wrapped = boxed(alloc, wrap(alloc, kind_at(kinds, level), wrapped))?;
     }
     Ok(Box::into_inner(wrapped))
 }
@@ -67,15 +77,15 @@ fn kind_at<'a>(kinds: &[&'a str], level: usize) -> &'a str {
 }
 
 // An array in one level of that kind.
-fn wrap(alloc: Global, kind: &str, array: Box<AnyArray>) -> Result<Box<AnyArray>, Fault>
+fn wrap(alloc: Global, kind: &str, array: Box<AnyArray>) -> Result<AnyArray, Fault>
     requires { IsGood array.value }
-    ensures { IfOk result (λ a. IsGood a.value) }
+    ensures { IfOk result (λ a. IsGood a) }
 {
     match kind {
-        "list" => boxed(alloc, in_lists(alloc, array)),
-        "fixedlist" => boxed(alloc, in_fixed_lists(array)),
-        "struct" => boxed(alloc, in_structs(alloc, array)),
-        "dict" => boxed(alloc, in_dictionary(alloc, array)),
+        "list" => in_lists(alloc, array),
+        "fixedlist" => in_fixed_lists(array),
+        "struct" => in_structs(alloc, array),
+        "dict" => in_dictionary(alloc, array),
         _ => Err(Fault::Word),
     }
 }
@@ -104,11 +114,18 @@ fn in_structs(alloc: Global, column: Box<AnyArray>) -> Result<AnyArray, Fault>
     ensures { IfOk result (λ a. IsGood a) }
 {
     let len = column.len();
-    let mut fields: Vec<Field> = Vec::new(alloc);
-    fields.push(field_of(alloc, "f", &column)?)?;
+    let columns = only_column(alloc, Box::into_inner(column))?;
+    struct_of(alloc, &["f"], len, columns, None)
+}
+
+// One column.
+fn only_column(alloc: Global, column: AnyArray) -> Result<Vec<AnyArray>, Fault>
+    requires { IsGood column }
+    ensures { IfOk result (λ columns. All IsGood columns.items) }
+{
     let mut columns = Vec::new(alloc);
-    columns.push(Box::into_inner(column))?;
-    Ok(AnyArray::Struct(StructArray::try_new(fields, len, columns, None)?))
+    columns.push(column)?;
+    Ok(columns)
 }
 
 // A dictionary array whose keys name each entry once.
@@ -116,8 +133,14 @@ fn in_dictionary(alloc: Global, entries: Box<AnyArray>) -> Result<AnyArray, Faul
     requires { IsGood entries.value }
     ensures { IfOk result (λ a. IsGood a) }
 {
-    let keys = PrimitiveArray::try_new(places(alloc, entries.len())?, None)?;
-    Ok(AnyArray::Dictionary(DictionaryArray::try_new(DictKeys::Int32(keys), entries)?))
+    let keys = place_keys(alloc, entries.len())?;
+    Ok(AnyArray::Dictionary(DictionaryArray::try_new(keys, entries)?))
+}
+
+// Keys that name the first `count` places.
+fn place_keys(alloc: Global, count: usize) -> Result<DictKeys, Fault> {
+    let places = places(alloc, count)?;
+    Ok(DictKeys::Int32(PrimitiveArray::try_new(places, None)?))
 }
 
 // The first `count` numbers, from 0 on.
