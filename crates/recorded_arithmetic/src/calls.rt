@@ -1,6 +1,7 @@
 //! The calls by their names, and what they ask.
 
 use crate::operations::{Function, Operation};
+use recorded_text::names::find;
 
 /// What is asked.
 #[derive(Clone, Copy)]
@@ -36,12 +37,7 @@ pub enum Call {
 impl Call {
     /// The call of that name, or None where it is another subject's.
     pub fn named(name: &str) -> Option<Call> {
-        for (each, call) in &CALLS {
-            if *each == name {
-                return Some(*call);
-            }
-        }
-        None
+        find(&CALLS, name)
     }
 }
 

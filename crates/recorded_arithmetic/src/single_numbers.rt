@@ -11,6 +11,7 @@ use crate::operations::{Function, Operation};
 use polars_compute_arithmetic::arithmetic::pl_num::PlNumArithmetic;
 use polars_compute_bits::sum::WrappingAdd;
 use recorded_text::fault::Fault;
+use recorded_text::names::find_word;
 use recorded_text::words::Words;
 use std::alloc::Global;
 use std::fmt::Display;
@@ -22,18 +23,6 @@ enum Asked {
     Apply(Function),
     Operate(Operation),
     Add,
-}
-
-impl Asked {
-    // The function or the operation of that name.
-    fn named(name: &str) -> Result<Asked, Fault> {
-        for (each, asked) in &CALCULATIONS {
-            if *each == name {
-                return Ok(*asked);
-            }
-        }
-        Err(Fault::Word)
-    }
 }
 
 // The functions and the operations by their names.
@@ -51,7 +40,7 @@ const CALCULATIONS: [(&str, Asked); 9] = [
 
 /// What the function or the operation answers that the next word names.
 pub fn calculate(alloc: Global, words: &mut Words) -> Result<String, Fault> {
-    let asked = Asked::named(words.read()?)?;
+    let asked = find_word(&CALCULATIONS, words.read()?)?;
     ask(alloc, asked, words.read()?, words)
 }
 

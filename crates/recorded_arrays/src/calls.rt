@@ -4,6 +4,7 @@ use crate::types::{NamedComparison, Strings};
 use crate::{
     arrays, byte_strings, lent, null_rows, number_arrays, number_types, string_arrays, views,
 };
+use recorded_text::names::find;
 
 /// What is asked.
 #[derive(Clone, Copy)]
@@ -52,16 +53,6 @@ impl Call {
     pub fn named(name: &str) -> Option<Call> {
         find(&CALLS, name)
     }
-}
-
-/// What a table has for a name, or None where it does not have the name.
-pub fn find<T: Copy>(table: &[(&str, T)], name: &str) -> Option<T> {
-    for (each, found) in table {
-        if *each == name {
-            return Some(*found);
-        }
-    }
-    None
 }
 
 // The calls by their names.

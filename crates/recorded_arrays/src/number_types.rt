@@ -1,6 +1,5 @@
 //! What is made of a type of numbers that a word names: arrays of them, and the type of these.
 
-use crate::calls::find;
 use crate::number_arrays::{write_made, write_owned};
 use crate::types::write_made_type;
 use num_traits::Zero;
@@ -8,6 +7,7 @@ use polars_arrays_flat::arrow_type::ArrowType;
 use polars_arrays_flat::primitive::PrimitiveArray;
 use polars_arrays_numbers::native_type::NativeType;
 use recorded_text::fault::Fault;
+use recorded_text::names::find_word;
 use recorded_text::parts::read_number_list;
 use recorded_text::words::Words;
 use std::alloc::Global;
@@ -53,10 +53,7 @@ const NUMBER_TYPES: [(&str, NumberType); 10] = [
 
 /// What the type of numbers answers that the next word names.
 pub fn ask(alloc: Global, asked: Asked, words: &mut Words) -> Result<String, Fault> {
-    let Some(number_type) = find(&NUMBER_TYPES, words.read()?) else {
-        return Err(Fault::Word);
-    };
-    match number_type {
+    match find_word(&NUMBER_TYPES, words.read()?)? {
         NumberType::Int8 => ask_type::<i8>(alloc, asked, words),
         NumberType::Int16 => ask_type::<i16>(alloc, asked, words),
         NumberType::Int32 => ask_type::<i32>(alloc, asked, words),

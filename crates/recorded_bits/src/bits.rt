@@ -21,7 +21,7 @@
 ghost use Rattle.std.specs.Prelude.{◌↔◌, ◌+◌, ◌≤◌, IsTrue};
 
 use crate::answer_text::{write_found, write_value};
-use crate::names::{Merge, Operator};
+use crate::operators::{Merge, Operator};
 use crate::truth_values::{CostlyBits, SingleBits};
 use polars_arrays_bits::bitmap::Bitmap;
 use polars_arrays_bits::error::ComputeError;

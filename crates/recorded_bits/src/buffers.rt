@@ -17,10 +17,10 @@
 
 use crate::answer_text::{Told, write_numbers};
 use crate::bits::{is_within, read_pair};
-use crate::names::find_word;
 use polars_arrays_bits::buffer::Buffer;
 use polars_arrays_numbers::native_type::NativeType;
 use recorded_text::fault::Fault;
+use recorded_text::names::find_word;
 use recorded_text::parts::read_numbers;
 use recorded_text::words::Words;
 use std::alloc::Global;

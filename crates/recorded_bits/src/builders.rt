@@ -15,11 +15,11 @@
 
 use crate::answer_text::{Told, write_told};
 use crate::bits::{read_bitmap, read_truth};
-use crate::names::find_word;
 use crate::truth_values::SingleBits;
 use polars_arrays_bits::bitmap::Bitmap;
 use polars_arrays_bits::builder::BitmapBuilder;
 use recorded_text::fault::Fault;
+use recorded_text::names::find_word;
 use recorded_text::words::Words;
 use std::alloc::Global;
 

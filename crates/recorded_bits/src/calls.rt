@@ -1,8 +1,8 @@
 //! The calls by their names, and what they ask.
 
 use crate::comparisons::Compared;
-use crate::names::{Merge, Operator};
 use crate::numbers::{OfOffset, OfType};
+use crate::operators::{Merge, Operator};
 use crate::{bits, masks};
 
 /// What is asked.

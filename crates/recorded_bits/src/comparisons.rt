@@ -11,7 +11,6 @@
 
 use crate::answer_text::write_value;
 use crate::bits::{is_within, read_pair};
-use crate::names::find_word;
 use crate::number_types::{Asked, ask_next};
 use polars_arrays_bits::buffer::Buffer;
 use polars_arrays_bits::slices::{compare_constant, compare_pairs, compare_windows};
@@ -21,6 +20,7 @@ use polars_arrays_numbers::comparison::{
 use polars_arrays_numbers::native_type::NativeType;
 use recorded_text::bits_text::write_made;
 use recorded_text::fault::Fault;
+use recorded_text::names::find_word;
 use recorded_text::parts::read_numbers;
 use recorded_text::words::Words;
 use std::alloc::Global;

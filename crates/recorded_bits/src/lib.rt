@@ -11,17 +11,17 @@ mod comparisons;
 mod errors;
 mod masks;
 mod mutable_bits;
-mod names;
 mod number_types;
 mod numbers;
+mod operators;
 mod sweeps;
 mod truth_values;
 
 use crate::calls::{CALLS, Call};
-use crate::names::find;
 use crate::number_types::{Asked, ask_next};
 use polars_arrays_numbers::steps::Steps;
 use recorded_text::fault::Fault;
+use recorded_text::names::find;
 use recorded_text::words::Words;
 use std::alloc::Global;
 

@@ -18,7 +18,7 @@ ghost use Rattle.std.specs.Prelude.{◌≡◌, ◌+◌, ◌≤◌, length, IfOk}
 
 use crate::answer_text::write_value;
 use crate::bits::{is_within, read_bitmap, read_pair, write_read};
-use crate::names::{Merge, Operator};
+use crate::operators::{Merge, Operator};
 use polars_arrays_bits::bit_mask::BitMask;
 use polars_arrays_bits::bitmap::Bitmap;
 use recorded_text::bits_text::write_made;

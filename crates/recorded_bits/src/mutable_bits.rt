@@ -18,12 +18,13 @@
 
 use crate::answer_text::{Told, write_told, write_value};
 use crate::bits::{read_bitmap, read_bitmaps, read_truth};
-use crate::names::{Merge, find_word};
+use crate::operators::Merge;
 use crate::truth_values::SingleBits;
 use polars_arrays_bits::bit_mask::BitMask;
 use polars_arrays_bits::bitmap::Bitmap;
 use polars_arrays_bits::mutable_bitmap::MutableBitmap;
 use recorded_text::fault::Fault;
+use recorded_text::names::find_word;
 use recorded_text::words::Words;
 use std::alloc::Global;
 

@@ -2,10 +2,10 @@
 
 use crate::buffers;
 use crate::comparisons::{Compared, Test, by_test};
-use crate::names::find_word;
 use crate::numbers::{OfType, ask_type};
 use polars_arrays_numbers::native_type::NativeType;
 use recorded_text::fault::Fault;
+use recorded_text::names::find_word;
 use recorded_text::words::Words;
 use std::alloc::Global;
 use std::fmt::Display;

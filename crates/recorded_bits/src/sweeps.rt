@@ -12,13 +12,14 @@
 
 use crate::bits::read_pair;
 use crate::builders::{fill, push, push_all};
-use crate::names::{Merge, Operator, find_word};
+use crate::operators::{Merge, Operator};
 use crate::{bits, masks};
 use polars_arrays_bits::bit_mask::BitMask;
 use polars_arrays_bits::bitmap::Bitmap;
 use polars_arrays_bits::builder::BitmapBuilder;
 use polars_arrays_bits::error::ComputeError;
 use recorded_text::fault::Fault;
+use recorded_text::names::find_word;
 use recorded_text::words::Words;
 use std::alloc::Global;
 

@@ -1,6 +1,6 @@
-//! Names of calls and operations, and what they stand for.
+//! Names in tables, and what they stand for.
 
-use recorded_text::fault::Fault;
+use crate::fault::Fault;
 
 /// What a table has for a name, or None where it does not have the name.
 pub fn find<T: Copy>(table: &[(&str, T)], name: &str) -> Option<T> {
@@ -15,22 +15,4 @@ pub fn find<T: Copy>(table: &[(&str, T)], name: &str) -> Option<T> {
 /// What a table has for a word. The error is `Word`, where it does not have the word.
 pub fn find_word<T: Copy>(table: &[(&str, T)], word: &str) -> Result<T, Fault> {
     find(table, word).ok_or(Fault::Word)
-}
-
-/// The operators on the bits of two operands.
-#[derive(Clone, Copy)]
-pub enum Operator {
-    And,
-    Or,
-    Xor,
-    Xnor,
-    AndNot,
-    OrNot,
-}
-
-/// The merges of three operands.
-#[derive(Clone, Copy)]
-pub enum Merge {
-    Eq,
-    Ne,
 }
