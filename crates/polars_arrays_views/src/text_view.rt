@@ -1,6 +1,7 @@
 //! Arrays of texts, each described by a view.
 
 ghost use Rattle.std.specs.Prelude.{◌≡◌, ◌↔◌, ◌<◌, ◌≤◌, ◌+◌, [], length, slice_index_or, IfOk, IfErr, IsTrue, MatchOption, IsOk, MatchResult, ⊤, refl};
+ghost use Rattle.std.specs.List.{All};
 ghost use Rattle.std.specs.Result.{OkIff};
 ghost use Rattle.std.specs.Str.{IsUtf8};
 ghost use Rattle.polars_arrays_bits.specs.Errors.{IsMemory};
@@ -11,6 +12,7 @@ ghost use Rattle.polars_arrays_flat.specs.StoredRows.{rows_under, byte_slots};
 ghost use Rattle.polars_arrays_flat.specs.Validity.{masked_count, validity_window, window};
 ghost use Rattle.polars_arrays_views.specs.Parts.{contents, strings_of, view_rows, view_strings, GoodParts};
 ghost use Rattle.polars_arrays_views.specs.Texts.{AllText, IsFirstNotText, IsFirstTextFault};
+ghost use Rattle.polars_arrays_views.specs.Views.{GoodView};
 
 use crate::binary_view::BinaryViewArray;
 use crate::view::View;
@@ -69,6 +71,14 @@ impl Utf8ViewArray {
         ensures text { AllText self.now }
     {
         &self.binary
+    }
+
+    /// Returns the views, also of masked rows.
+    pub fn views(&self) -> &[View]
+        ensures value { result.now ≡ self.now.views }
+        ensures good { All (GoodView self.now.buffers) self.now.views }
+    {
+        self.binary.views()
     }
 
     /// The text of row `i`, masked or not.

@@ -12,6 +12,7 @@ use polars_arrays_nested::dictionary::DictionaryArray;
 use polars_arrays_nested::list::ListArray;
 use polars_arrays_nested::struct_array::StructArray;
 use polars_arrays_views::binary_view::BinaryViewArray;
+use polars_arrays_views::view::View;
 use recorded_text::bits_text::write_bits;
 use recorded_text::bytes_text::{push_bytes, write_bytes};
 use recorded_text::fault::Fault;
@@ -148,16 +149,16 @@ fn list_offsets(alloc: Global, array: &ListArray) -> Result<String, Fault>
 // The views of byte strings or of texts.
 fn views(alloc: Global, array: &AnyArray) -> Result<String, Fault> {
     match array {
-        AnyArray::BinaryView(array) => write_views(alloc, array),
-        AnyArray::Utf8View(array) => write_views(alloc, array.as_binview()),
+        AnyArray::BinaryView(array) => write_views(alloc, array.views()),
+        AnyArray::Utf8View(array) => write_views(alloc, array.views()),
         _ => Err(Fault::Case),
     }
 }
 
 // The sixteen bytes of each view.
-fn write_views(alloc: Global, array: &BinaryViewArray) -> Result<String, Fault> {
+fn write_views(alloc: Global, views: &[View]) -> Result<String, Fault> {
     let mut text = String::new(alloc);
-    for (i, view) in array.views().iter().enumerate() {
+    for (i, view) in views.iter().enumerate() {
         if i > 0 {
             text.push(' ')?;
         }

@@ -80,7 +80,7 @@ fn text_at<O: Offset>(alloc: Global, array: &Utf8Array<O>, i: usize) -> Result<S
 
 // The text of row `i`, kept by a view.
 fn viewed_text(alloc: Global, array: &Utf8ViewArray, i: usize) -> Result<String, Fault> {
-    if i >= array.as_binview().views().len() {
+    if i >= array.views().len() {
         return Err(Fault::Case);
     }
     write_value(alloc, array.value(i))
