@@ -1,7 +1,9 @@
-//! The null combination: raw bits, joined with two masks.
+//! The null combination: raw truth values, joined with two masks.
 
-ghost use Rattle.std.specs.Prelude.{◌≡◌, length, MatchResult};
+ghost use Rattle.std.specs.Prelude.{◌≡◌, Bool, List, length, MatchResult};
+ghost use Rattle.polars_arrays_bits.specs.Bits.{zip3};
 ghost use Rattle.polars_arrays_bits.specs.Errors.{IsMemory};
+ghost use Rattle.polars_arrays_bits.specs.Logic.{merged_eq, merged_ne};
 ghost use Rattle.polars_arrays_flat.specs.Validity.{HasBits};
 ghost use Rattle.polars_compare_leaves.specs.Joining.{Joined, told};
 
@@ -19,18 +21,120 @@ pub enum Relation {
     Unequal,
 }
 
-// Raw bits joined with the mask of one side, where all rows of the other side are present. They are
-// changed in their own words where they own them.
-fn join_one(
+/// The raw truth values of a comparison: bits that are there, or values that are packed as they are
+/// asked for. A source combines lists of bits; what null is equal to, `join_masks` says for all.
+pub trait RawValues {
+    // The truth values, the first one first.
+    ghost values: { Self → List Bool };
+
+    /// Returns the truth values as a bitmap. The error is `Memory`.
+    fn into_bitmap(self, alloc: Global) -> Result<Bitmap, ComputeError>
+        ensures { MatchResult result (λ bits. bits ≡ values self) IsMemory };
+
+    /// Returns `(q & l & r) | !(l | r)` of each truth value `q` and the bits `l` and `r` at its
+    /// place. The error is `Memory`.
+    fn merge_eq(
+        self,
+        alloc: Global,
+        left: &BitMask<'_>,
+        right: &BitMask<'_>,
+    ) -> Result<Bitmap, ComputeError>
+        requires left { length left.now ≡ length (values self) }
+        requires right { length right.now ≡ length (values self) }
+        ensures { MatchResult result
+            (λ bits. bits ≡ zip3 merged_eq (values self) left.now right.now) IsMemory };
+
+    /// Returns `(q & l & r) | (l ^ r)` of each truth value `q` and the bits `l` and `r` at its
+    /// place. The error is `Memory`.
+    fn merge_ne(
+        self,
+        alloc: Global,
+        left: &BitMask<'_>,
+        right: &BitMask<'_>,
+    ) -> Result<Bitmap, ComputeError>
+        requires left { length left.now ≡ length (values self) }
+        requires right { length right.now ≡ length (values self) }
+        ensures { MatchResult result
+            (λ bits. bits ≡ zip3 merged_ne (values self) left.now right.now) IsMemory };
+}
+
+// The bits of a bitmap are changed in its own words, where it owns them.
+impl RawValues for Bitmap {
+    ghost values = { λ bits. bits };
+
+    #[inline(always)]
+    fn into_bitmap(self, _alloc: Global) -> Result<Bitmap, ComputeError> {
+        Ok(self)
+    }
+
+    fn merge_eq(
+        self,
+        alloc: Global,
+        left: &BitMask<'_>,
+        right: &BitMask<'_>,
+    ) -> Result<Bitmap, ComputeError> {
+        let mut bits = self.into_mut(alloc)?;
+        bits.merge_eq_assign(left, right);
+        Ok(bits.freeze())
+    }
+
+    fn merge_ne(
+        self,
+        alloc: Global,
+        left: &BitMask<'_>,
+        right: &BitMask<'_>,
+    ) -> Result<Bitmap, ComputeError> {
+        let mut bits = self.into_mut(alloc)?;
+        bits.merge_ne_assign(left, right);
+        Ok(bits.freeze())
+    }
+}
+
+// Truth values that are asked for one by one are merged with two masks a word at a time, as they
+// are packed: no raw bits are made.
+impl<V: TruthValues> RawValues for &V {
+    ghost values = { λ raw. V.values raw.now };
+
+    #[inline(always)]
+    fn into_bitmap(self, alloc: Global) -> Result<Bitmap, ComputeError> {
+        Bitmap::from_values(alloc, self)
+    }
+
+    #[inline(always)]
+    fn merge_eq(
+        self,
+        alloc: Global,
+        left: &BitMask<'_>,
+        right: &BitMask<'_>,
+    ) -> Result<Bitmap, ComputeError> {
+        BitMask::merge_eq_values(alloc, self, left, right)
+    }
+
+    #[inline(always)]
+    fn merge_ne(
+        self,
+        alloc: Global,
+        left: &BitMask<'_>,
+        right: &BitMask<'_>,
+    ) -> Result<Bitmap, ComputeError> {
+        BitMask::merge_ne_values(alloc, self, left, right)
+    }
+}
+
+// Joins raw truth values with the mask of one side, where all rows of the other side are present.
+fn join_one<R: RawValues>(
     alloc: Global,
     relation: Relation,
-    raw: Bitmap,
+    raw: R,
     mask: &BitMask<'_>,
 ) -> Result<Bitmap, ComputeError>
-    requires { length mask.now ≡ length raw }
-    ensures left { MatchResult result (Joined (told relation) (Some mask.now) None raw) IsMemory }
-    ensures right { MatchResult result (Joined (told relation) None (Some mask.now) raw) IsMemory }
+    requires { length mask.now ≡ length (R.values raw) }
+    ensures left { MatchResult result
+        (Joined (told relation) (Some mask.now) None (R.values raw)) IsMemory }
+    ensures right { MatchResult result
+        (Joined (told relation) None (Some mask.now) (R.values raw)) IsMemory }
 {
+    let raw = raw.into_bitmap(alloc)?;
     let mut bits = raw.into_mut(alloc)?;
     match relation {
         Relation::Equal => bits.and_assign_mask(mask),
@@ -39,101 +143,63 @@ fn join_one(
     Ok(bits.freeze())
 }
 
-// Raw bits joined with the masks of both sides, in their own words where they own them.
-fn join_both(
+// Joins raw truth values with the masks of both sides.
+#[inline(always)]
+fn join_both<R: RawValues>(
     alloc: Global,
     relation: Relation,
-    raw: Bitmap,
+    raw: R,
     left: &BitMask<'_>,
     right: &BitMask<'_>,
 ) -> Result<Bitmap, ComputeError>
-    requires left { length left.now ≡ length raw }
-    requires right { length right.now ≡ length raw }
-    ensures { MatchResult result (Joined (told relation) (Some left.now) (Some right.now) raw) IsMemory }
+    requires left { length left.now ≡ length (R.values raw) }
+    requires right { length right.now ≡ length (R.values raw) }
+    ensures { MatchResult result
+        (Joined (told relation) (Some left.now) (Some right.now) (R.values raw)) IsMemory }
 {
-    let mut bits = raw.into_mut(alloc)?;
     match relation {
-        Relation::Equal => bits.merge_eq_assign(left, right),
-        Relation::Unequal => bits.merge_ne_assign(left, right),
+        Relation::Equal => raw.merge_eq(alloc, left, right),
+        Relation::Unequal => raw.merge_ne(alloc, left, right),
     }
-    Ok(bits.freeze())
 }
 
-/// Raw bits of a comparison joined with the masks of both sides, where there are any, of which windows
-/// are lent: a row that is present on both keeps its bit, of the others those are equal that are null on both.
-/// The error is `Memory`.
+/// Joins the raw truth values of a comparison with the masks of both sides, where there are any, of
+/// which windows are lent: a row that is present on both keeps its bit, and of the others those are
+/// equal that are null on both. The error is `Memory`.
 #[inline(always)]
-pub fn join_masks(
+pub fn join_masks<R: RawValues>(
     alloc: Global,
     relation: Relation,
-    raw: Bitmap,
+    raw: R,
     left: Option<BitMask<'_>>,
     right: Option<BitMask<'_>>,
 ) -> Result<Bitmap, ComputeError>
-    requires left { HasBits (length raw) left }
-    requires right { HasBits (length raw) right }
-    ensures { MatchResult result (Joined (told relation) left.entry right.entry raw) IsMemory }
+    requires left { HasBits (length (R.values raw)) left }
+    requires right { HasBits (length (R.values raw)) right }
+    ensures { MatchResult result
+        (Joined (told relation) left.entry right.entry (R.values raw)) IsMemory }
 {
     match (left, right) {
-        (None, None) => Ok(raw),
+        (None, None) => raw.into_bitmap(alloc),
         (Some(mask), None) => join_one(alloc, relation, raw, &mask),
         (None, Some(mask)) => join_one(alloc, relation, raw, &mask),
         (Some(left), Some(right)) => join_both(alloc, relation, raw, &left, &right),
     }
 }
 
-/// The same for the masks of whole arrays or windows. The error is `Memory`.
+/// Joins raw truth values with the masks of whole arrays or windows. The error is `Memory`.
 #[inline(always)]
-pub fn join_nulls(
+pub fn join_nulls<R: RawValues>(
     alloc: Global,
     relation: Relation,
-    raw: Bitmap,
+    raw: R,
     left: &Mask<'_>,
     right: &Mask<'_>,
 ) -> Result<Bitmap, ComputeError>
-    requires left { HasBits (length raw) left.now }
-    requires right { HasBits (length raw) right.now }
-    ensures { MatchResult result (Joined (told relation) left.now right.now raw) IsMemory }
+    requires left { HasBits (length (R.values raw)) left.now }
+    requires right { HasBits (length (R.values raw)) right.now }
+    ensures { MatchResult result
+        (Joined (told relation) left.now right.now (R.values raw)) IsMemory }
 {
     join_masks(alloc, relation, raw, left.bits(), right.bits())
-}
-
-// Truth values of a comparison joined with the masks of both sides, as they are packed into words.
-#[inline(always)]
-fn join_both_values<V: TruthValues>(
-    alloc: Global,
-    relation: Relation,
-    raw: &V,
-    left: &BitMask<'_>,
-    right: &BitMask<'_>,
-) -> Result<Bitmap, ComputeError>
-    requires left { length left.now ≡ length (V.values raw.now) }
-    requires right { length right.now ≡ length (V.values raw.now) }
-    ensures { MatchResult result (Joined (told relation) (Some left.now) (Some right.now) (V.values raw.now)) IsMemory }
-{
-    match relation {
-        Relation::Equal => BitMask::merge_eq_values(alloc, raw, left, right),
-        Relation::Unequal => BitMask::merge_ne_values(alloc, raw, left, right),
-    }
-}
-
-/// The same of truth values that are asked for one by one. Where both sides have bits, the masks are joined
-/// with each word of truth values as it is packed, and no raw bits are made. The error is `Memory`.
-#[inline(always)]
-pub fn join_values<V: TruthValues>(
-    alloc: Global,
-    relation: Relation,
-    raw: &V,
-    left: &Mask<'_>,
-    right: &Mask<'_>,
-) -> Result<Bitmap, ComputeError>
-    requires left { HasBits (length (V.values raw.now)) left.now }
-    requires right { HasBits (length (V.values raw.now)) right.now }
-    ensures { MatchResult result (Joined (told relation) left.now right.now (V.values raw.now)) IsMemory }
-{
-    if let (Some(left), Some(right)) = (left.bits(), right.bits()) {
-        return join_both_values(alloc, relation, raw, &left, &right);
-    }
-    let raw = Bitmap::from_values(alloc, raw)?;
-    join_nulls(alloc, relation, raw, left, right)
 }

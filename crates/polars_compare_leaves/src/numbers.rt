@@ -9,7 +9,7 @@ ghost use Rattle.polars_arrays_flat.specs.StoredRows.{number_slots};
 ghost use Rattle.polars_arrays_flat.specs.Validity.{HasBits, window};
 ghost use Rattle.polars_compare_leaves.specs.Joining.{Joined, told};
 
-use crate::joining::{Relation, join_values};
+use crate::joining::{Relation, join_nulls};
 use crate::row_comparison::RowComparison;
 use polars_arrays_bits::bitmap::Bitmap;
 use polars_arrays_bits::error::ComputeError;
@@ -109,7 +109,7 @@ pub fn join_numbers<T: NativeType, E: RowComparison<T>>(
         left: left.values(),
         right: right.values(),
     };
-    join_values(alloc, relation, &pairs, left_mask, right_mask)
+    join_nulls(alloc, relation, &pairs, left_mask, right_mask)
 }
 
 /// Of which stored rows and one number a comparison holds. The error is `Memory`.

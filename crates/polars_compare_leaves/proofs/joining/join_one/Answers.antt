@@ -6,27 +6,27 @@ use Rattle.polars_compare_leaves.proofs.joining.join_one.Goals as goal
 use Rattle.polars_compare_leaves.proofs.joining.join_one.Goals.{in-Equal, in-Unequal}
 
 pub returns-clause-left : goal.returns-clause-left
-returns-clause-left c =
+returns-clause-left g c =
     elim c.match-relation.branch [
       | in-Equal w ↦
           rw w.in-Equal.is
-          (joined-left true c.args.raw ◌&&◌ and-left c.args.mask.now c.freeze.result c.requires
-          (c.freeze.ensures ∙ w.bits-is ∙ w.and_assign_mask.ensures ∙ ap (λ (xs : List Bool). zip2 ◌&&◌ xs c.args.mask.now) c.in_ok-bits.ensures))
+          (joined-left true (g.R.RawValues.values c.args.raw) ◌&&◌ and-left c.args.mask.now c.freeze.result c.requires
+          (c.freeze.ensures ∙ w.bits-is ∙ w.and_assign_mask.ensures ∙ ap (λ (xs : List Bool). zip2 ◌&&◌ xs c.args.mask.now) (c.in_ok-bits.ensures ∙ c.in_ok-raw.ensures)))
       | in-Unequal w ↦
           rw w.in-Unequal.is
-          (joined-left false c.args.raw or_not or_not-left c.args.mask.now c.freeze.result c.requires
-          (c.freeze.ensures ∙ w.bits-is ∙ w.or_not_assign_mask.ensures ∙ ap (λ (xs : List Bool). zip2 or_not xs c.args.mask.now) c.in_ok-bits.ensures))
+          (joined-left false (g.R.RawValues.values c.args.raw) or_not or_not-left c.args.mask.now c.freeze.result c.requires
+          (c.freeze.ensures ∙ w.bits-is ∙ w.or_not_assign_mask.ensures ∙ ap (λ (xs : List Bool). zip2 or_not xs c.args.mask.now) (c.in_ok-bits.ensures ∙ c.in_ok-raw.ensures)))
     ]
 
 pub returns-clause-right : goal.returns-clause-right
-returns-clause-right c =
+returns-clause-right g c =
     elim c.match-relation.branch [
       | in-Equal w ↦
           rw w.in-Equal.is
-          (joined-right true c.args.raw ◌&&◌ and-right c.args.mask.now c.freeze.result c.requires
-          (c.freeze.ensures ∙ w.bits-is ∙ w.and_assign_mask.ensures ∙ ap (λ (xs : List Bool). zip2 ◌&&◌ xs c.args.mask.now) c.in_ok-bits.ensures))
+          (joined-right true (g.R.RawValues.values c.args.raw) ◌&&◌ and-right c.args.mask.now c.freeze.result c.requires
+          (c.freeze.ensures ∙ w.bits-is ∙ w.and_assign_mask.ensures ∙ ap (λ (xs : List Bool). zip2 ◌&&◌ xs c.args.mask.now) (c.in_ok-bits.ensures ∙ c.in_ok-raw.ensures)))
       | in-Unequal w ↦
           rw w.in-Unequal.is
-          (joined-right false c.args.raw or_not or_not-right c.args.mask.now c.freeze.result c.requires
-          (c.freeze.ensures ∙ w.bits-is ∙ w.or_not_assign_mask.ensures ∙ ap (λ (xs : List Bool). zip2 or_not xs c.args.mask.now) c.in_ok-bits.ensures))
+          (joined-right false (g.R.RawValues.values c.args.raw) or_not or_not-right c.args.mask.now c.freeze.result c.requires
+          (c.freeze.ensures ∙ w.bits-is ∙ w.or_not_assign_mask.ensures ∙ ap (λ (xs : List Bool). zip2 or_not xs c.args.mask.now) (c.in_ok-bits.ensures ∙ c.in_ok-raw.ensures)))
     ]

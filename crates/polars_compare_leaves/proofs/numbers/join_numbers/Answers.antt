@@ -8,14 +8,14 @@ use Rattle.polars_compare_leaves.proofs.JoinedBits.{length-zip2}
 use Rattle.polars_compare_leaves.proofs.Slots.{zip2-put}
 use Rattle.polars_compare_leaves.proofs.numbers.join_numbers.Goals as goal
 
-pub join_values-requires-clause-left : goal.join_values-requires-clause-left
-join_values-requires-clause-left g c =
+pub join_nulls-requires-clause-left : goal.join_nulls-requires-clause-left
+join_nulls-requires-clause-left g c =
     let long = ap₂ (λ xs ys. length (zip2 (g.E.Comparison.holds c.args.comparison.now) xs ys)) c.values.ensures c.values-2.ensures
     ∙ length-zip2 (g.E.Comparison.holds c.args.comparison.now) c.args.left.now.values c.args.right.now.values c.requires.one_length in
     subst (λ (n : ℕ). HasBits n c.args.left_mask.now) (sym long) c.requires.left_bits
 
-pub join_values-requires-clause-right : goal.join_values-requires-clause-right
-join_values-requires-clause-right g c =
+pub join_nulls-requires-clause-right : goal.join_nulls-requires-clause-right
+join_nulls-requires-clause-right g c =
     let long = ap₂ (λ xs ys. length (zip2 (g.E.Comparison.holds c.args.comparison.now) xs ys)) c.values.ensures c.values-2.ensures
     ∙ length-zip2 (g.E.Comparison.holds c.args.comparison.now) c.args.left.now.values c.args.right.now.values c.requires.one_length in
     subst (λ (n : ℕ). HasBits n c.args.right_mask.now) (sym long) c.requires.right_bits
@@ -24,4 +24,4 @@ pub returns : goal.returns
 returns g c =
     let raw = ap₂ (zip2 (g.E.Comparison.holds c.args.comparison.now)) c.values.ensures c.values-2.ensures
     ∙ zip2-put (λ x. Int (g.T.Number.value x)) (g.E.Comparison.holds c.args.comparison.now) g.E.RowComparison.rows (g.met.E.RowComparison.rows_law c.args.comparison.now) c.args.left.now.values c.args.right.now.values in
-    subst (λ (xs : List Bool). MatchResult c.join_values.result (Joined (told c.args.relation) c.args.left_mask.now c.args.right_mask.now xs) IsMemory) raw c.join_values.ensures
+    subst (λ (xs : List Bool). MatchResult c.join_nulls.result (Joined (told c.args.relation) c.args.left_mask.now c.args.right_mask.now xs) IsMemory) raw c.join_nulls.ensures
