@@ -67,10 +67,13 @@ pub trait RangedUniqueKernel {
 
     /// The set, ascending, and a null last, if there was one. The error is `KeyOutOfRange`, with the least key that was seen and has no
     /// entry in the dictionary and the number of entries, or else `Memory`.
+    ///
+    /// The array is of a type that states take: a dictionary has keys of type `u32`.
     fn finalize_unique(self, alloc: Global) -> Result<Self::Array, ComputeError>
         ensures rows { MatchResult result (λ array. fed array ≡ finalised value_row (read self)) (IsFinalFault (dictionary self) (state self)) }
         ensures entries { IfOk result (λ array. HasEntries (dictionary self) (state self)) }
         ensures dictionary { IfOk result (λ array. array_dictionary array ≡ dictionary self) }
+        ensures taken { IfOk result (λ array. IsTrue (is_taken array)) }
         ensures good { IfOk result (λ array. Self.Array.good array) };
 
     /// How many rows `finalize_unique` gives, or would give.
