@@ -111,17 +111,26 @@ pub trait GenericUniqueKernel: Sized {
 pub trait SortedUniqueKernel: Sized + Array {
     /// Each distinct row once, in the order of its first place, where the rows of `fst` and then those of `others` are taken as one
     /// list. A null is a row. The error is `Memory`.
+    ///
+    /// The array is of the type of `fst`, which `others` have too.
     fn unique_fold(alloc: Global, fst: &Self, others: &[&Self]) -> Result<Self, ComputeError>
         requires good { Self.good fst.now }
         requires all_good { All (λ array. Self.good array.now) others.now }
+        requires one_type { All (λ array. Self.same_type fst.now array.now) others.now }
         requires adjacent { AreAdjacent (rows_under (Self.mask fst.now) (Self.slots fst.now) ++ rows_of_all (λ array. rows_under (Self.mask array) (Self.slots array)) others.now) }
-        ensures { MatchResult result (λ unique. AreDistinct (rows_under (Self.mask fst.now) (Self.slots fst.now) ++ rows_of_all (λ array. rows_under (Self.mask array) (Self.slots array)) others.now) (rows_under (Self.mask unique) (Self.slots unique))) IsMemory };
+        ensures rows { MatchResult result (λ unique. AreDistinct (rows_under (Self.mask fst.now) (Self.slots fst.now) ++ rows_of_all (λ array. rows_under (Self.mask array) (Self.slots array)) others.now) (rows_under (Self.mask unique) (Self.slots unique))) IsMemory }
+        ensures good { IfOk result (λ unique. Self.good unique) }
+        ensures one_type { IfOk result (λ unique. Self.same_type fst.now unique) };
 
     /// Each distinct row once, in the order of its first place. A null is a row. The error is `Memory`.
+    ///
+    /// The array is of the same type.
     fn unique(&self, alloc: Global) -> Result<Self, ComputeError>
         requires good { Self.good self.now }
         requires adjacent { AreAdjacent (rows_under (Self.mask self.now) (Self.slots self.now)) }
-        ensures { MatchResult result (λ unique. AreDistinct (rows_under (Self.mask self.now) (Self.slots self.now)) (rows_under (Self.mask unique) (Self.slots unique))) IsMemory };
+        ensures rows { MatchResult result (λ unique. AreDistinct (rows_under (Self.mask self.now) (Self.slots self.now)) (rows_under (Self.mask unique) (Self.slots unique))) IsMemory }
+        ensures good { IfOk result (λ unique. Self.good unique) }
+        ensures one_type { IfOk result (λ unique. Self.same_type self.now unique) };
 
     /// How many distinct rows there are, null among them.
     fn n_unique(&self) -> usize
