@@ -3,6 +3,7 @@ pub mod Joined
 pub mod Quotient
 pub mod Moved
 pub mod Rounding
+pub mod Owned
 pub mod Places
 pub mod Nonzero
 pub mod Units

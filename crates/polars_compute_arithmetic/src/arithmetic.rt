@@ -1,10 +1,11 @@
 //! Arithmetic on arrays of numbers.
 
-ghost use Rattle.std.specs.Prelude.{◌≡◌, ℕ, ℤ, Bool, IsOk, IsTrue, MatchResult, length};
+ghost use Rattle.std.specs.Prelude.{◌≡◌, ◌||◌, ℕ, ℤ, Bool, IfOk, IsOk, IsTrue, MatchResult, length};
 ghost use Rattle.num_traits.specs.Laws.{bit_len};
 ghost use Rattle.polars_arrays_bits.specs.Errors.{IsMemory};
 ghost use Rattle.polars_arrays_flat.specs.StoredRows.{rows_under};
 ghost use Rattle.polars_compute_arithmetic.specs.Operations.{answer_rows, difference_of, floor_division, magnitude_of, modulo, negation_of, product_of, result_rows, sum_of, truncated_division};
+ghost use Rattle.polars_compute_arithmetic.specs.Zeros.{is_nonzero};
 
 mod applied;
 pub mod divisor;
@@ -29,6 +30,8 @@ impl<T: NativeType + PrimitiveArithmeticKernelImpl> HasPrimitiveArithmeticKernel
 
 /// Arithmetic on the rows of arrays, wrapped to their type. A row is null where an operand is null or a divisor is 0. A scalar
 /// stands for as many present rows. All calls consume their arrays, and write over what an array owns. The error is `Memory`.
+/// Answers own their values, but for a division by the number 0: it keeps the values of the array
+/// as they are, owned or shared.
 pub trait ArithmeticKernel: Sized + Array {
     /// A number that stands for as many rows.
     type Scalar;
@@ -47,51 +50,61 @@ pub trait ArithmeticKernel: Sized + Array {
     /// How far the numbers are from 0.
     fn wrapping_abs(self, alloc: Global) -> Result<Self, ComputeError>
         ensures answers { MatchResult result (λ a. rows_under (Self.mask a) (Self.slots a) ≡ answer_rows least width magnitude_of (rows_under (Self.mask self) (Self.slots self))) IsMemory }
+        ensures owned { IfOk result (λ a. IsTrue (owns a)) }
         ensures in_place { IsTrue (owns self) → IsOk result };
 
     /// The numbers negated.
     fn wrapping_neg(self, alloc: Global) -> Result<Self, ComputeError>
         ensures answers { MatchResult result (λ a. rows_under (Self.mask a) (Self.slots a) ≡ answer_rows least width negation_of (rows_under (Self.mask self) (Self.slots self))) IsMemory }
+        ensures owned { IfOk result (λ a. IsTrue (owns a)) }
         ensures in_place { IsTrue (owns self) → IsOk result };
 
     /// The sums.
     fn wrapping_add(self, alloc: Global, rhs: Self) -> Result<Self, ComputeError>
         requires { length (Self.slots self) ≡ length (Self.slots rhs) }
-        ensures { MatchResult result (λ a. rows_under (Self.mask a) (Self.slots a) ≡ result_rows least width sum_of (rows_under (Self.mask self) (Self.slots self)) (rows_under (Self.mask rhs) (Self.slots rhs))) IsMemory };
+        ensures answers { MatchResult result (λ a. rows_under (Self.mask a) (Self.slots a) ≡ result_rows least width sum_of (rows_under (Self.mask self) (Self.slots self)) (rows_under (Self.mask rhs) (Self.slots rhs))) IsMemory }
+        ensures owned { IfOk result (λ a. IsTrue (owns a)) };
 
     /// The differences.
     fn wrapping_sub(self, alloc: Global, rhs: Self) -> Result<Self, ComputeError>
         requires { length (Self.slots self) ≡ length (Self.slots rhs) }
-        ensures { MatchResult result (λ a. rows_under (Self.mask a) (Self.slots a) ≡ result_rows least width difference_of (rows_under (Self.mask self) (Self.slots self)) (rows_under (Self.mask rhs) (Self.slots rhs))) IsMemory };
+        ensures answers { MatchResult result (λ a. rows_under (Self.mask a) (Self.slots a) ≡ result_rows least width difference_of (rows_under (Self.mask self) (Self.slots self)) (rows_under (Self.mask rhs) (Self.slots rhs))) IsMemory }
+        ensures owned { IfOk result (λ a. IsTrue (owns a)) };
 
     /// The products.
     fn wrapping_mul(self, alloc: Global, rhs: Self) -> Result<Self, ComputeError>
         requires { length (Self.slots self) ≡ length (Self.slots rhs) }
-        ensures { MatchResult result (λ a. rows_under (Self.mask a) (Self.slots a) ≡ result_rows least width product_of (rows_under (Self.mask self) (Self.slots self)) (rows_under (Self.mask rhs) (Self.slots rhs))) IsMemory };
+        ensures answers { MatchResult result (λ a. rows_under (Self.mask a) (Self.slots a) ≡ result_rows least width product_of (rows_under (Self.mask self) (Self.slots self)) (rows_under (Self.mask rhs) (Self.slots rhs))) IsMemory }
+        ensures owned { IfOk result (λ a. IsTrue (owns a)) };
 
     /// The quotients, rounded down.
     fn wrapping_floor_div(self, alloc: Global, rhs: Self) -> Result<Self, ComputeError>
         requires { length (Self.slots self) ≡ length (Self.slots rhs) }
-        ensures { MatchResult result (λ a. rows_under (Self.mask a) (Self.slots a) ≡ result_rows least width floor_division (rows_under (Self.mask self) (Self.slots self)) (rows_under (Self.mask rhs) (Self.slots rhs))) IsMemory };
+        ensures answers { MatchResult result (λ a. rows_under (Self.mask a) (Self.slots a) ≡ result_rows least width floor_division (rows_under (Self.mask self) (Self.slots self)) (rows_under (Self.mask rhs) (Self.slots rhs))) IsMemory }
+        ensures owned { IfOk result (λ a. IsTrue (owns a)) };
 
     /// The quotients, rounded toward 0.
     fn wrapping_trunc_div(self, alloc: Global, rhs: Self) -> Result<Self, ComputeError>
         requires { length (Self.slots self) ≡ length (Self.slots rhs) }
-        ensures { MatchResult result (λ a. rows_under (Self.mask a) (Self.slots a) ≡ result_rows least width truncated_division (rows_under (Self.mask self) (Self.slots self)) (rows_under (Self.mask rhs) (Self.slots rhs))) IsMemory };
+        ensures answers { MatchResult result (λ a. rows_under (Self.mask a) (Self.slots a) ≡ result_rows least width truncated_division (rows_under (Self.mask self) (Self.slots self)) (rows_under (Self.mask rhs) (Self.slots rhs))) IsMemory }
+        ensures owned { IfOk result (λ a. IsTrue (owns a)) };
 
     /// What the quotients that are rounded down leave.
     fn wrapping_mod(self, alloc: Global, rhs: Self) -> Result<Self, ComputeError>
         requires { length (Self.slots self) ≡ length (Self.slots rhs) }
-        ensures { MatchResult result (λ a. rows_under (Self.mask a) (Self.slots a) ≡ result_rows least width modulo (rows_under (Self.mask self) (Self.slots self)) (rows_under (Self.mask rhs) (Self.slots rhs))) IsMemory };
+        ensures answers { MatchResult result (λ a. rows_under (Self.mask a) (Self.slots a) ≡ result_rows least width modulo (rows_under (Self.mask self) (Self.slots self)) (rows_under (Self.mask rhs) (Self.slots rhs))) IsMemory }
+        ensures owned { IfOk result (λ a. IsTrue (owns a)) };
 
     /// The sums with a number.
     fn wrapping_add_scalar(self, alloc: Global, rhs: Self::Scalar) -> Result<Self, ComputeError>
         ensures answers { MatchResult result (λ a. rows_under (Self.mask a) (Self.slots a) ≡ answer_rows least width (λ n. sum_of n (number rhs)) (rows_under (Self.mask self) (Self.slots self))) IsMemory }
+        ensures owned { IfOk result (λ a. IsTrue (owns a)) }
         ensures in_place { IsTrue (owns self) → IsOk result };
 
     /// The differences, a number taken away.
     fn wrapping_sub_scalar(self, alloc: Global, rhs: Self::Scalar) -> Result<Self, ComputeError>
         ensures answers { MatchResult result (λ a. rows_under (Self.mask a) (Self.slots a) ≡ answer_rows least width (λ n. difference_of n (number rhs)) (rows_under (Self.mask self) (Self.slots self))) IsMemory }
+        ensures owned { IfOk result (λ a. IsTrue (owns a)) }
         ensures in_place { IsTrue (owns self) → IsOk result };
 
     /// The differences, taken away from a number.
@@ -101,11 +114,13 @@ pub trait ArithmeticKernel: Sized + Array {
         rhs: Self,
     ) -> Result<Self, ComputeError>
         ensures answers { MatchResult result (λ a. rows_under (Self.mask a) (Self.slots a) ≡ answer_rows least width (difference_of (number lhs)) (rows_under (Self.mask rhs) (Self.slots rhs))) IsMemory }
+        ensures owned { IfOk result (λ a. IsTrue (owns a)) }
         ensures in_place { IsTrue (owns rhs) → IsOk result };
 
     /// The products with a number.
     fn wrapping_mul_scalar(self, alloc: Global, rhs: Self::Scalar) -> Result<Self, ComputeError>
         ensures answers { MatchResult result (λ a. rows_under (Self.mask a) (Self.slots a) ≡ answer_rows least width (λ n. product_of n (number rhs)) (rows_under (Self.mask self) (Self.slots self))) IsMemory }
+        ensures owned { IfOk result (λ a. IsTrue (owns a)) }
         ensures in_place { IsTrue (owns self) → IsOk result };
 
     /// The quotients by a number, rounded down.
@@ -114,7 +129,8 @@ pub trait ArithmeticKernel: Sized + Array {
         alloc: Global,
         rhs: Self::Scalar,
     ) -> Result<Self, ComputeError>
-        ensures { MatchResult result (λ a. rows_under (Self.mask a) (Self.slots a) ≡ answer_rows least width (λ n. floor_division n (number rhs)) (rows_under (Self.mask self) (Self.slots self))) IsMemory };
+        ensures answers { MatchResult result (λ a. rows_under (Self.mask a) (Self.slots a) ≡ answer_rows least width (λ n. floor_division n (number rhs)) (rows_under (Self.mask self) (Self.slots self))) IsMemory }
+        ensures owned { IfOk result (λ a. owns a ≡ (owns self || is_nonzero (number rhs))) };
 
     /// The quotients of a number, rounded down.
     fn wrapping_floor_div_scalar_lhs(
@@ -122,7 +138,8 @@ pub trait ArithmeticKernel: Sized + Array {
         lhs: Self::Scalar,
         rhs: Self,
     ) -> Result<Self, ComputeError>
-        ensures { MatchResult result (λ a. rows_under (Self.mask a) (Self.slots a) ≡ answer_rows least width (floor_division (number lhs)) (rows_under (Self.mask rhs) (Self.slots rhs))) IsMemory };
+        ensures answers { MatchResult result (λ a. rows_under (Self.mask a) (Self.slots a) ≡ answer_rows least width (floor_division (number lhs)) (rows_under (Self.mask rhs) (Self.slots rhs))) IsMemory }
+        ensures owned { IfOk result (λ a. IsTrue (owns a)) };
 
     /// The quotients by a number, rounded toward 0.
     fn wrapping_trunc_div_scalar(
@@ -130,7 +147,8 @@ pub trait ArithmeticKernel: Sized + Array {
         alloc: Global,
         rhs: Self::Scalar,
     ) -> Result<Self, ComputeError>
-        ensures { MatchResult result (λ a. rows_under (Self.mask a) (Self.slots a) ≡ answer_rows least width (λ n. truncated_division n (number rhs)) (rows_under (Self.mask self) (Self.slots self))) IsMemory };
+        ensures answers { MatchResult result (λ a. rows_under (Self.mask a) (Self.slots a) ≡ answer_rows least width (λ n. truncated_division n (number rhs)) (rows_under (Self.mask self) (Self.slots self))) IsMemory }
+        ensures owned { IfOk result (λ a. owns a ≡ (owns self || is_nonzero (number rhs))) };
 
     /// The quotients of a number, rounded toward 0.
     fn wrapping_trunc_div_scalar_lhs(
@@ -138,11 +156,13 @@ pub trait ArithmeticKernel: Sized + Array {
         lhs: Self::Scalar,
         rhs: Self,
     ) -> Result<Self, ComputeError>
-        ensures { MatchResult result (λ a. rows_under (Self.mask a) (Self.slots a) ≡ answer_rows least width (truncated_division (number lhs)) (rows_under (Self.mask rhs) (Self.slots rhs))) IsMemory };
+        ensures answers { MatchResult result (λ a. rows_under (Self.mask a) (Self.slots a) ≡ answer_rows least width (truncated_division (number lhs)) (rows_under (Self.mask rhs) (Self.slots rhs))) IsMemory }
+        ensures owned { IfOk result (λ a. IsTrue (owns a)) };
 
     /// What the quotients by a number, rounded down, leave.
     fn wrapping_mod_scalar(self, alloc: Global, rhs: Self::Scalar) -> Result<Self, ComputeError>
-        ensures { MatchResult result (λ a. rows_under (Self.mask a) (Self.slots a) ≡ answer_rows least width (λ n. modulo n (number rhs)) (rows_under (Self.mask self) (Self.slots self))) IsMemory };
+        ensures answers { MatchResult result (λ a. rows_under (Self.mask a) (Self.slots a) ≡ answer_rows least width (λ n. modulo n (number rhs)) (rows_under (Self.mask self) (Self.slots self))) IsMemory }
+        ensures owned { IfOk result (λ a. owns a ≡ (owns self || is_nonzero (number rhs))) };
 
     /// What the quotients of a number, rounded down, leave.
     fn wrapping_mod_scalar_lhs(
@@ -150,19 +170,22 @@ pub trait ArithmeticKernel: Sized + Array {
         lhs: Self::Scalar,
         rhs: Self,
     ) -> Result<Self, ComputeError>
-        ensures { MatchResult result (λ a. rows_under (Self.mask a) (Self.slots a) ≡ answer_rows least width (modulo (number lhs)) (rows_under (Self.mask rhs) (Self.slots rhs))) IsMemory };
+        ensures answers { MatchResult result (λ a. rows_under (Self.mask a) (Self.slots a) ≡ answer_rows least width (modulo (number lhs)) (rows_under (Self.mask rhs) (Self.slots rhs))) IsMemory }
+        ensures owned { IfOk result (λ a. IsTrue (owns a)) };
 
     /// The quotients, rounded down: another name of `wrapping_floor_div`.
     final fn legacy_div(self, alloc: Global, rhs: Self) -> Result<Self, ComputeError>
         requires { length (Self.slots self) ≡ length (Self.slots rhs) }
-        ensures { MatchResult result (λ a. rows_under (Self.mask a) (Self.slots a) ≡ result_rows least width floor_division (rows_under (Self.mask self) (Self.slots self)) (rows_under (Self.mask rhs) (Self.slots rhs))) IsMemory }
+        ensures answers { MatchResult result (λ a. rows_under (Self.mask a) (Self.slots a) ≡ result_rows least width floor_division (rows_under (Self.mask self) (Self.slots self)) (rows_under (Self.mask rhs) (Self.slots rhs))) IsMemory }
+        ensures owned { IfOk result (λ a. IsTrue (owns a)) }
     {
         self.wrapping_floor_div(alloc, rhs)
     }
 
     /// The quotients by a number, rounded down: another name of `wrapping_floor_div_scalar`.
     final fn legacy_div_scalar(self, alloc: Global, rhs: Self::Scalar) -> Result<Self, ComputeError>
-        ensures { MatchResult result (λ a. rows_under (Self.mask a) (Self.slots a) ≡ answer_rows least width (λ n. floor_division n (number rhs)) (rows_under (Self.mask self) (Self.slots self))) IsMemory }
+        ensures answers { MatchResult result (λ a. rows_under (Self.mask a) (Self.slots a) ≡ answer_rows least width (λ n. floor_division n (number rhs)) (rows_under (Self.mask self) (Self.slots self))) IsMemory }
+        ensures owned { IfOk result (λ a. owns a ≡ (owns self || is_nonzero (number rhs))) }
     {
         self.wrapping_floor_div_scalar(alloc, rhs)
     }
@@ -173,7 +196,8 @@ pub trait ArithmeticKernel: Sized + Array {
         lhs: Self::Scalar,
         rhs: Self,
     ) -> Result<Self, ComputeError>
-        ensures { MatchResult result (λ a. rows_under (Self.mask a) (Self.slots a) ≡ answer_rows least width (floor_division (number lhs)) (rows_under (Self.mask rhs) (Self.slots rhs))) IsMemory }
+        ensures answers { MatchResult result (λ a. rows_under (Self.mask a) (Self.slots a) ≡ answer_rows least width (floor_division (number lhs)) (rows_under (Self.mask rhs) (Self.slots rhs))) IsMemory }
+        ensures owned { IfOk result (λ a. IsTrue (owns a)) }
     {
         Self::wrapping_floor_div_scalar_lhs(alloc, lhs, rhs)
     }

@@ -37,7 +37,8 @@ fn map_in_place<T: Copy, F: Fn(T) -> T>(values: &mut [T], op: F)
     }
 }
 
-/// The array of what `op` answers at each stored value. Nulls are kept. The error is `Memory`.
+/// Returns the array of what `op` answers at each stored value. The answer owns its values. Nulls
+/// are kept. The error is `Memory`.
 pub fn prim_unary_values<I: NativeType, O: NativeType, F: Fn(I) -> O>(
     alloc: Global,
     arr: PrimitiveArray<I>,
@@ -45,6 +46,7 @@ pub fn prim_unary_values<I: NativeType, O: NativeType, F: Fn(I) -> O>(
 ) -> Result<PrimitiveArray<O>, ComputeError>
     requires callable { All (F.pre op) arr.values }
     ensures mapped { MatchResult result (MapsEach (F.post op) arr) IsMemory }
+    ensures owned { IfOk result (λ answer. IsTrue answer.owned) }
 {
     let mut arr = arr;
     let answers = new_values(alloc, &mut arr, op);
@@ -59,7 +61,8 @@ fn new_values<I: NativeType, O: NativeType, F: Fn(I) -> O>(
     op: F,
 ) -> Result<PrimitiveArray<O>, ComputeError>
     requires callable { All (F.pre op) arr.old.values }
-    ensures { MatchResult result (MapsEach (F.post op) arr.old) IsMemory }
+    ensures mapped { MatchResult result (MapsEach (F.post op) arr.old) IsMemory }
+    ensures owned { IfOk result (λ answer. IsTrue answer.owned) }
 {
     let values = map_values(alloc, arr.values(), op)?;
     Ok(PrimitiveArray::from_vec(values).with_validity(arr.take_validity()))
@@ -67,6 +70,7 @@ fn new_values<I: NativeType, O: NativeType, F: Fn(I) -> O>(
 
 /// The same array with what `op` answers written over each stored value, where the array owns them: then
 /// it takes no memory. Shared values stay as they are, and new ones are made; the error is then `Memory`.
+/// Either way the answer owns its values, so that a second such call takes no memory.
 pub fn prim_unary_in_place<T: NativeType, F: Fn(T) -> T>(
     alloc: Global,
     arr: PrimitiveArray<T>,
@@ -74,6 +78,7 @@ pub fn prim_unary_in_place<T: NativeType, F: Fn(T) -> T>(
 ) -> Result<PrimitiveArray<T>, ComputeError>
     requires callable { All (F.pre op) arr.values }
     ensures mapped { MatchResult result (MapsEach (F.post op) arr) IsMemory }
+    ensures owned { IfOk result (λ answer. IsTrue answer.owned) }
     ensures in_place { IsTrue arr.owned → IsOk result }
 {
     let mut arr = arr;
@@ -145,8 +150,8 @@ pub(crate) fn join_validities(
     }
 }
 
-/// The array of what `op` answers at each pair of stored values. A row is null where one of the two is. The
-/// error is `Memory`.
+/// Returns the array of what `op` answers at each pair of stored values. The answer owns its
+/// values. A row is null where one of the two is. The error is `Memory`.
 pub fn prim_binary_values<L: NativeType, R: NativeType, O: NativeType, F: Fn(L, R) -> O>(
     alloc: Global,
     lhs: PrimitiveArray<L>,
@@ -155,7 +160,8 @@ pub fn prim_binary_values<L: NativeType, R: NativeType, O: NativeType, F: Fn(L, 
 ) -> Result<PrimitiveArray<O>, ComputeError>
     requires same_length { length lhs.values ≡ length rhs.values }
     requires callable { TakesPairs (F.pre op) lhs.values rhs.values }
-    ensures { MatchResult result (MapsPairs (F.post op) lhs rhs) IsMemory }
+    ensures mapped { MatchResult result (MapsPairs (F.post op) lhs rhs) IsMemory }
+    ensures owned { IfOk result (λ answer. IsTrue answer.owned) }
 {
     let (mut lhs, mut rhs) = (lhs, rhs);
     let answers = new_pairs(alloc, &mut lhs, &mut rhs, op);
@@ -173,7 +179,8 @@ fn new_pairs<L: NativeType, R: NativeType, O: NativeType, F: Fn(L, R) -> O>(
 ) -> Result<PrimitiveArray<O>, ComputeError>
     requires same_length { length lhs.old.values ≡ length rhs.old.values }
     requires callable { TakesPairs (F.pre op) lhs.old.values rhs.old.values }
-    ensures { MatchResult result (MapsPairs (F.post op) lhs.old rhs.old) IsMemory }
+    ensures mapped { MatchResult result (MapsPairs (F.post op) lhs.old rhs.old) IsMemory }
+    ensures owned { IfOk result (λ answer. IsTrue answer.owned) }
 {
     let values = map_pairs(alloc, lhs.values(), rhs.values(), op)?;
     let validity = join_validities(alloc, lhs.take_validity(), rhs.take_validity())?;
@@ -181,8 +188,8 @@ fn new_pairs<L: NativeType, R: NativeType, O: NativeType, F: Fn(L, R) -> O>(
 }
 
 /// The left or the right array with what `op` answers at each pair of stored values written over its own,
-/// where it owns them; else shared values stay as they are, and new ones are made. A row is null where one of
-/// the two is. The error is `Memory`.
+/// where it owns them; else shared values stay as they are, and new ones are made. The answer owns
+/// its values. A row is null where one of the two is. The error is `Memory`.
 pub fn prim_binary_in_place<T: NativeType, F: Fn(T, T) -> T>(
     alloc: Global,
     lhs: PrimitiveArray<T>,
@@ -191,7 +198,8 @@ pub fn prim_binary_in_place<T: NativeType, F: Fn(T, T) -> T>(
 ) -> Result<PrimitiveArray<T>, ComputeError>
     requires same_length { length lhs.values ≡ length rhs.values }
     requires callable { TakesPairs (F.pre op) lhs.values rhs.values }
-    ensures { MatchResult result (MapsPairs (F.post op) lhs rhs) IsMemory }
+    ensures mapped { MatchResult result (MapsPairs (F.post op) lhs rhs) IsMemory }
+    ensures owned { IfOk result (λ answer. IsTrue answer.owned) }
 {
     let (mut lhs, mut rhs) = (lhs, rhs);
     if !lhs.is_owned() && !rhs.is_owned() {
@@ -216,7 +224,8 @@ fn written_pairs<T: NativeType, F: Fn(T, T) -> T>(
     requires owned { IsFalse lhs.owned → IsTrue rhs.owned }
     requires same_length { length lhs.values ≡ length rhs.values }
     requires callable { TakesPairs (F.pre op) lhs.values rhs.values }
-    ensures { AllPairs (F.post op) lhs.values rhs.values result.values }
+    ensures mapped { AllPairs (F.post op) lhs.values rhs.values result.values }
+    ensures owned { IsTrue result.owned }
 {
     let (mut lhs, mut rhs) = (lhs, rhs);
     if lhs.is_owned() {

@@ -1,11 +1,11 @@
 //! Operations on two numbers applied to arrays.
 
-ghost use Rattle.std.specs.Prelude.{◌≡◌, IsOk, IsTrue, MatchResult, length};
+ghost use Rattle.std.specs.Prelude.{◌≡◌, ◌||◌, IfOk, IsOk, IsTrue, MatchResult, length};
 ghost use Rattle.num_traits.specs.Laws.{bit_len};
 ghost use Rattle.polars_arrays_bits.specs.Errors.{IsMemory};
 ghost use Rattle.polars_compute_arithmetic.specs.Maps.{MapsEach, MapsPairs};
 ghost use Rattle.polars_compute_arithmetic.specs.Results.{Gives, IsAnswer};
-ghost use Rattle.polars_compute_arithmetic.specs.Zeros.{DividesEach, DividesPairs};
+ghost use Rattle.polars_compute_arithmetic.specs.Zeros.{DividesEach, DividesPairs, is_nonzero};
 
 use crate::arithmetic::divisor::DivisorNumber;
 use crate::arithmetic::operations::{NumberDivision, NumberOperation};
@@ -24,7 +24,8 @@ pub(crate) fn apply_pairs<T: NativeType, O: NumberOperation<T>>(
     rhs: PrimitiveArray<T>,
 ) -> Result<PrimitiveArray<T>, ComputeError>
     requires { length lhs.values ≡ length rhs.values }
-    ensures { MatchResult result (MapsPairs (Gives T.value T.low (bit_len T.width) O.meaning) lhs rhs) IsMemory }
+    ensures answers { MatchResult result (MapsPairs (Gives T.value T.low (bit_len T.width) O.meaning) lhs rhs) IsMemory }
+    ensures owned { IfOk result (λ answer. IsTrue answer.owned) }
 {
     prim_binary_in_place(alloc, lhs, rhs, |x, y| O::apply(x, y))
 }
@@ -36,6 +37,7 @@ pub(crate) fn apply_right<T: NativeType, O: NumberOperation<T>>(
     rhs: T,
 ) -> Result<PrimitiveArray<T>, ComputeError>
     ensures answers { MatchResult result (MapsEach (λ x z. Gives T.value T.low (bit_len T.width) O.meaning x rhs z) lhs) IsMemory }
+    ensures owned { IfOk result (λ answer. IsTrue answer.owned) }
     ensures in_place { IsTrue lhs.owned → IsOk result }
 {
     prim_unary_in_place(alloc, lhs, |x| O::apply(x, rhs))
@@ -48,6 +50,7 @@ pub(crate) fn apply_left<T: NativeType, O: NumberOperation<T>>(
     rhs: PrimitiveArray<T>,
 ) -> Result<PrimitiveArray<T>, ComputeError>
     ensures answers { MatchResult result (MapsEach (λ y z. Gives T.value T.low (bit_len T.width) O.meaning lhs y z) rhs) IsMemory }
+    ensures owned { IfOk result (λ answer. IsTrue answer.owned) }
     ensures in_place { IsTrue rhs.owned → IsOk result }
 {
     prim_unary_in_place(alloc, rhs, |y| O::apply(lhs, y))
@@ -61,7 +64,8 @@ pub(crate) fn divide_pairs<T: NativeType + Zero, O: NumberOperation<T>>(
     rhs: PrimitiveArray<T>,
 ) -> Result<PrimitiveArray<T>, ComputeError>
     requires { length lhs.values ≡ length rhs.values }
-    ensures { MatchResult result (DividesPairs T.value (Gives T.value T.low (bit_len T.width) O.meaning) lhs rhs) IsMemory }
+    ensures answers { MatchResult result (DividesPairs T.value (Gives T.value T.low (bit_len T.width) O.meaning) lhs rhs) IsMemory }
+    ensures owned { IfOk result (λ answer. IsTrue answer.owned) }
 {
     match mask_zeros(alloc, rhs) {
         Ok(rhs) => apply_pairs::<T, O>(alloc, lhs, rhs),
@@ -78,19 +82,22 @@ pub(crate) fn divide_each<T: NativeType + Zero, O: NumberOperation<T>>(
     lhs: T,
     rhs: PrimitiveArray<T>,
 ) -> Result<PrimitiveArray<T>, ComputeError>
-    ensures { MatchResult result (DividesEach T.value (λ y z. Gives T.value T.low (bit_len T.width) O.meaning lhs y z) rhs) IsMemory }
+    ensures answers { MatchResult result (DividesEach T.value (λ y z. Gives T.value T.low (bit_len T.width) O.meaning lhs y z) rhs) IsMemory }
+    ensures owned { IfOk result (λ answer. IsTrue answer.owned) }
 {
     let rhs = mask_zeros(alloc, rhs)?;
     apply_left::<T, O>(alloc, lhs, rhs)
 }
 
-// The answers at each stored value and a divisor. Nulls are kept, and by 0 each row is null. The error is `Memory`.
+// Divides each stored value by a number. Nulls are kept, and by 0 each row is null, over the values
+// of the array as they are. The error is `Memory`.
 pub(crate) fn divide_by<T: DivisorNumber + Zero, O: NumberDivision<T>>(
     alloc: Global,
     lhs: PrimitiveArray<T>,
     rhs: T,
 ) -> Result<PrimitiveArray<T>, ComputeError>
-    ensures { MatchResult result (IsAnswer T.value T.low (bit_len T.width) (λ a. O.meaning a (T.value rhs)) lhs) IsMemory }
+    ensures answers { MatchResult result (IsAnswer T.value T.low (bit_len T.width) (λ a. O.meaning a (T.value rhs)) lhs) IsMemory }
+    ensures owned { IfOk result (λ answer. answer.owned ≡ (lhs.owned || is_nonzero (T.value rhs))) }
 {
     if rhs.is_zero() {
         return mask_all(alloc, lhs);

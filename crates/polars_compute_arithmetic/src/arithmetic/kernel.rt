@@ -1,10 +1,11 @@
 //! Arithmetic on arrays of numbers, one body for each operation, generic over the number. All calls consume their arrays.
 
-ghost use Rattle.std.specs.Prelude.{◌≡◌, IsOk, IsTrue, MatchResult, length};
+ghost use Rattle.std.specs.Prelude.{◌≡◌, ◌||◌, IfOk, IsOk, IsTrue, MatchResult, length};
 ghost use Rattle.num_traits.specs.Laws.{bit_len};
 ghost use Rattle.polars_arrays_bits.specs.Errors.{IsMemory};
 ghost use Rattle.polars_compute_arithmetic.specs.Operations.{difference_of, floor_division, magnitude_of, modulo, negation_of, product_of, sum_of, truncated_division};
 ghost use Rattle.polars_compute_arithmetic.specs.Results.{IsAnswer, IsResult};
+ghost use Rattle.polars_compute_arithmetic.specs.Zeros.{is_nonzero};
 
 use crate::arithmetic::applied::{
     apply_left, apply_pairs, apply_right, divide_by, divide_each, divide_pairs,
@@ -20,6 +21,8 @@ use std::alloc::Global;
 
 /// Arithmetic on arrays of one type of numbers, wrapped to the type. A row is null where an operand is null or a divisor is
 /// 0. A scalar stands for as many present rows. What the array owns is written in place. The error is `Memory`.
+/// Answers own their values, but for a division by the number 0: it keeps the values of the array
+/// as they are, owned or shared.
 pub trait PrimitiveArithmeticKernelImpl: PlNumArithmetic {
     /// How far the numbers are from 0.
     final fn prim_wrapping_abs(
@@ -27,6 +30,7 @@ pub trait PrimitiveArithmeticKernelImpl: PlNumArithmetic {
         lhs: PrimitiveArray<Self>,
     ) -> Result<PrimitiveArray<Self>, ComputeError>
         ensures answers { MatchResult result (IsAnswer Self.value Self.low (bit_len Self.width) magnitude_of lhs) IsMemory }
+        ensures owned { IfOk result (λ answer. IsTrue answer.owned) }
         ensures in_place { IsTrue lhs.owned → IsOk result }
     {
         prim_unary_in_place(alloc, lhs, |x| PlNumArithmetic::wrapping_abs(x))
@@ -38,6 +42,7 @@ pub trait PrimitiveArithmeticKernelImpl: PlNumArithmetic {
         lhs: PrimitiveArray<Self>,
     ) -> Result<PrimitiveArray<Self>, ComputeError>
         ensures answers { MatchResult result (IsAnswer Self.value Self.low (bit_len Self.width) negation_of lhs) IsMemory }
+        ensures owned { IfOk result (λ answer. IsTrue answer.owned) }
         ensures in_place { IsTrue lhs.owned → IsOk result }
     {
         prim_unary_in_place(alloc, lhs, |x| PlNumArithmetic::wrapping_neg(x))
@@ -50,7 +55,8 @@ pub trait PrimitiveArithmeticKernelImpl: PlNumArithmetic {
         rhs: PrimitiveArray<Self>,
     ) -> Result<PrimitiveArray<Self>, ComputeError>
         requires { length lhs.values ≡ length rhs.values }
-        ensures { MatchResult result (IsResult Self.value Self.low (bit_len Self.width) sum_of lhs rhs) IsMemory }
+        ensures answers { MatchResult result (IsResult Self.value Self.low (bit_len Self.width) sum_of lhs rhs) IsMemory }
+        ensures owned { IfOk result (λ answer. IsTrue answer.owned) }
     {
         apply_pairs::<Self, Sum>(alloc, lhs, rhs)
     }
@@ -62,7 +68,8 @@ pub trait PrimitiveArithmeticKernelImpl: PlNumArithmetic {
         rhs: PrimitiveArray<Self>,
     ) -> Result<PrimitiveArray<Self>, ComputeError>
         requires { length lhs.values ≡ length rhs.values }
-        ensures { MatchResult result (IsResult Self.value Self.low (bit_len Self.width) difference_of lhs rhs) IsMemory }
+        ensures answers { MatchResult result (IsResult Self.value Self.low (bit_len Self.width) difference_of lhs rhs) IsMemory }
+        ensures owned { IfOk result (λ answer. IsTrue answer.owned) }
     {
         apply_pairs::<Self, Difference>(alloc, lhs, rhs)
     }
@@ -74,7 +81,8 @@ pub trait PrimitiveArithmeticKernelImpl: PlNumArithmetic {
         rhs: PrimitiveArray<Self>,
     ) -> Result<PrimitiveArray<Self>, ComputeError>
         requires { length lhs.values ≡ length rhs.values }
-        ensures { MatchResult result (IsResult Self.value Self.low (bit_len Self.width) product_of lhs rhs) IsMemory }
+        ensures answers { MatchResult result (IsResult Self.value Self.low (bit_len Self.width) product_of lhs rhs) IsMemory }
+        ensures owned { IfOk result (λ answer. IsTrue answer.owned) }
     {
         apply_pairs::<Self, Product>(alloc, lhs, rhs)
     }
@@ -86,7 +94,8 @@ pub trait PrimitiveArithmeticKernelImpl: PlNumArithmetic {
         rhs: PrimitiveArray<Self>,
     ) -> Result<PrimitiveArray<Self>, ComputeError>
         requires { length lhs.values ≡ length rhs.values }
-        ensures { MatchResult result (IsResult Self.value Self.low (bit_len Self.width) floor_division lhs rhs) IsMemory }
+        ensures answers { MatchResult result (IsResult Self.value Self.low (bit_len Self.width) floor_division lhs rhs) IsMemory }
+        ensures owned { IfOk result (λ answer. IsTrue answer.owned) }
     {
         divide_pairs::<Self, FloorQuotient>(alloc, lhs, rhs)
     }
@@ -98,7 +107,8 @@ pub trait PrimitiveArithmeticKernelImpl: PlNumArithmetic {
         rhs: PrimitiveArray<Self>,
     ) -> Result<PrimitiveArray<Self>, ComputeError>
         requires { length lhs.values ≡ length rhs.values }
-        ensures { MatchResult result (IsResult Self.value Self.low (bit_len Self.width) truncated_division lhs rhs) IsMemory }
+        ensures answers { MatchResult result (IsResult Self.value Self.low (bit_len Self.width) truncated_division lhs rhs) IsMemory }
+        ensures owned { IfOk result (λ answer. IsTrue answer.owned) }
     {
         divide_pairs::<Self, TruncatedQuotient>(alloc, lhs, rhs)
     }
@@ -110,7 +120,8 @@ pub trait PrimitiveArithmeticKernelImpl: PlNumArithmetic {
         rhs: PrimitiveArray<Self>,
     ) -> Result<PrimitiveArray<Self>, ComputeError>
         requires { length lhs.values ≡ length rhs.values }
-        ensures { MatchResult result (IsResult Self.value Self.low (bit_len Self.width) modulo lhs rhs) IsMemory }
+        ensures answers { MatchResult result (IsResult Self.value Self.low (bit_len Self.width) modulo lhs rhs) IsMemory }
+        ensures owned { IfOk result (λ answer. IsTrue answer.owned) }
     {
         divide_pairs::<Self, Modulus>(alloc, lhs, rhs)
     }
@@ -122,6 +133,7 @@ pub trait PrimitiveArithmeticKernelImpl: PlNumArithmetic {
         rhs: Self,
     ) -> Result<PrimitiveArray<Self>, ComputeError>
         ensures answers { MatchResult result (IsAnswer Self.value Self.low (bit_len Self.width) (λ a. sum_of a (Self.value rhs)) lhs) IsMemory }
+        ensures owned { IfOk result (λ answer. IsTrue answer.owned) }
         ensures in_place { IsTrue lhs.owned → IsOk result }
     {
         apply_right::<Self, Sum>(alloc, lhs, rhs)
@@ -134,6 +146,7 @@ pub trait PrimitiveArithmeticKernelImpl: PlNumArithmetic {
         rhs: Self,
     ) -> Result<PrimitiveArray<Self>, ComputeError>
         ensures answers { MatchResult result (IsAnswer Self.value Self.low (bit_len Self.width) (λ a. difference_of a (Self.value rhs)) lhs) IsMemory }
+        ensures owned { IfOk result (λ answer. IsTrue answer.owned) }
         ensures in_place { IsTrue lhs.owned → IsOk result }
     {
         apply_right::<Self, Difference>(alloc, lhs, rhs)
@@ -146,6 +159,7 @@ pub trait PrimitiveArithmeticKernelImpl: PlNumArithmetic {
         rhs: PrimitiveArray<Self>,
     ) -> Result<PrimitiveArray<Self>, ComputeError>
         ensures answers { MatchResult result (IsAnswer Self.value Self.low (bit_len Self.width) (difference_of (Self.value lhs)) rhs) IsMemory }
+        ensures owned { IfOk result (λ answer. IsTrue answer.owned) }
         ensures in_place { IsTrue rhs.owned → IsOk result }
     {
         apply_left::<Self, Difference>(alloc, lhs, rhs)
@@ -158,6 +172,7 @@ pub trait PrimitiveArithmeticKernelImpl: PlNumArithmetic {
         rhs: Self,
     ) -> Result<PrimitiveArray<Self>, ComputeError>
         ensures answers { MatchResult result (IsAnswer Self.value Self.low (bit_len Self.width) (λ a. product_of a (Self.value rhs)) lhs) IsMemory }
+        ensures owned { IfOk result (λ answer. IsTrue answer.owned) }
         ensures in_place { IsTrue lhs.owned → IsOk result }
     {
         apply_right::<Self, Product>(alloc, lhs, rhs)
@@ -169,7 +184,8 @@ pub trait PrimitiveArithmeticKernelImpl: PlNumArithmetic {
         lhs: PrimitiveArray<Self>,
         rhs: Self,
     ) -> Result<PrimitiveArray<Self>, ComputeError>
-        ensures { MatchResult result (IsAnswer Self.value Self.low (bit_len Self.width) (λ a. floor_division a (Self.value rhs)) lhs) IsMemory }
+        ensures answers { MatchResult result (IsAnswer Self.value Self.low (bit_len Self.width) (λ a. floor_division a (Self.value rhs)) lhs) IsMemory }
+        ensures owned { IfOk result (λ answer. answer.owned ≡ (lhs.owned || is_nonzero (Self.value rhs))) }
     {
         divide_by::<Self, FloorQuotient>(alloc, lhs, rhs)
     }
@@ -180,7 +196,8 @@ pub trait PrimitiveArithmeticKernelImpl: PlNumArithmetic {
         lhs: Self,
         rhs: PrimitiveArray<Self>,
     ) -> Result<PrimitiveArray<Self>, ComputeError>
-        ensures { MatchResult result (IsAnswer Self.value Self.low (bit_len Self.width) (floor_division (Self.value lhs)) rhs) IsMemory }
+        ensures answers { MatchResult result (IsAnswer Self.value Self.low (bit_len Self.width) (floor_division (Self.value lhs)) rhs) IsMemory }
+        ensures owned { IfOk result (λ answer. IsTrue answer.owned) }
     {
         divide_each::<Self, FloorQuotient>(alloc, lhs, rhs)
     }
@@ -191,7 +208,8 @@ pub trait PrimitiveArithmeticKernelImpl: PlNumArithmetic {
         lhs: PrimitiveArray<Self>,
         rhs: Self,
     ) -> Result<PrimitiveArray<Self>, ComputeError>
-        ensures { MatchResult result (IsAnswer Self.value Self.low (bit_len Self.width) (λ a. truncated_division a (Self.value rhs)) lhs) IsMemory }
+        ensures answers { MatchResult result (IsAnswer Self.value Self.low (bit_len Self.width) (λ a. truncated_division a (Self.value rhs)) lhs) IsMemory }
+        ensures owned { IfOk result (λ answer. answer.owned ≡ (lhs.owned || is_nonzero (Self.value rhs))) }
     {
         divide_by::<Self, TruncatedQuotient>(alloc, lhs, rhs)
     }
@@ -202,7 +220,8 @@ pub trait PrimitiveArithmeticKernelImpl: PlNumArithmetic {
         lhs: Self,
         rhs: PrimitiveArray<Self>,
     ) -> Result<PrimitiveArray<Self>, ComputeError>
-        ensures { MatchResult result (IsAnswer Self.value Self.low (bit_len Self.width) (truncated_division (Self.value lhs)) rhs) IsMemory }
+        ensures answers { MatchResult result (IsAnswer Self.value Self.low (bit_len Self.width) (truncated_division (Self.value lhs)) rhs) IsMemory }
+        ensures owned { IfOk result (λ answer. IsTrue answer.owned) }
     {
         divide_each::<Self, TruncatedQuotient>(alloc, lhs, rhs)
     }
@@ -213,7 +232,8 @@ pub trait PrimitiveArithmeticKernelImpl: PlNumArithmetic {
         lhs: PrimitiveArray<Self>,
         rhs: Self,
     ) -> Result<PrimitiveArray<Self>, ComputeError>
-        ensures { MatchResult result (IsAnswer Self.value Self.low (bit_len Self.width) (λ a. modulo a (Self.value rhs)) lhs) IsMemory }
+        ensures answers { MatchResult result (IsAnswer Self.value Self.low (bit_len Self.width) (λ a. modulo a (Self.value rhs)) lhs) IsMemory }
+        ensures owned { IfOk result (λ answer. answer.owned ≡ (lhs.owned || is_nonzero (Self.value rhs))) }
     {
         divide_by::<Self, Modulus>(alloc, lhs, rhs)
     }
@@ -224,7 +244,8 @@ pub trait PrimitiveArithmeticKernelImpl: PlNumArithmetic {
         lhs: Self,
         rhs: PrimitiveArray<Self>,
     ) -> Result<PrimitiveArray<Self>, ComputeError>
-        ensures { MatchResult result (IsAnswer Self.value Self.low (bit_len Self.width) (modulo (Self.value lhs)) rhs) IsMemory }
+        ensures answers { MatchResult result (IsAnswer Self.value Self.low (bit_len Self.width) (modulo (Self.value lhs)) rhs) IsMemory }
+        ensures owned { IfOk result (λ answer. IsTrue answer.owned) }
     {
         divide_each::<Self, Modulus>(alloc, lhs, rhs)
     }

@@ -10,12 +10,12 @@ wrapping_mul-requires g c = (c.type_bounds.static-T, number_slots-as_long g.T.Nu
 pub returns-in-Add : goal.returns-in-Add
 returns-in-Add g c =
     let law = g.met.T.RowNumber in
-    rw (c.in-Add.is, law.least_law, law.width_law) c.wrapping_add.ensures
+    rw (c.in-Add.is, law.least_law, law.width_law) c.wrapping_add.ensures.answers
 
 pub returns-in-Multiply : goal.returns-in-Multiply
 returns-in-Multiply g c =
     let law = g.met.T.RowNumber in
-    rw (c.in-Multiply.is, law.least_law, law.width_law) c.wrapping_mul.ensures
+    rw (c.in-Multiply.is, law.least_law, law.width_law) c.wrapping_mul.ensures.answers
 
 pub returns-in-Ordered : goal.returns-in-Ordered
 returns-in-Ordered g c = rw c.in-Ordered.is c.calculate_in_order.ensures

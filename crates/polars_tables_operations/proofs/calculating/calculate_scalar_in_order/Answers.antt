@@ -8,19 +8,19 @@ returns-in-Subtract g c =
 pub returns-in-FloorDivide : goal.returns-in-FloorDivide
 returns-in-FloorDivide g c =
     let law = g.met.T.RowNumber in
-    rw (c.in-FloorDivide.is, law.least_law, law.width_law) c.wrapping_floor_div_scalar.ensures
+    rw (c.in-FloorDivide.is, law.least_law, law.width_law) c.wrapping_floor_div_scalar.ensures.answers
 
 pub returns-in-TruncatedDivide : goal.returns-in-TruncatedDivide
 returns-in-TruncatedDivide g c =
     let law = g.met.T.RowNumber in
-    rw (c.in-TruncatedDivide.is, law.least_law, law.width_law) c.wrapping_trunc_div_scalar.ensures
+    rw (c.in-TruncatedDivide.is, law.least_law, law.width_law) c.wrapping_trunc_div_scalar.ensures.answers
 
 pub returns-in-Modulo : goal.returns-in-Modulo
 returns-in-Modulo g c =
     let law = g.met.T.RowNumber in
-    rw (c.in-Modulo.is, law.least_law, law.width_law) c.wrapping_mod_scalar.ensures
+    rw (c.in-Modulo.is, law.least_law, law.width_law) c.wrapping_mod_scalar.ensures.answers
 
 pub returns-in-LegacyDivide : goal.returns-in-LegacyDivide
 returns-in-LegacyDivide g c =
     let law = g.met.T.RowNumber in
-    rw (c.in-LegacyDivide.is, law.least_law, law.width_law) c.legacy_div_scalar.ensures
+    rw (c.in-LegacyDivide.is, law.least_law, law.width_law) c.legacy_div_scalar.ensures.answers

@@ -5,8 +5,8 @@ use Rattle.polars_compute_arithmetic.specs.Operations.{floor_division}
 use Rattle.polars_compute_arithmetic.specs.Quotients.{floor_quotient}
 use Rattle.polars_compute_arithmetic.proofs.arithmetic.kernel.PrimitiveArithmeticKernelImpl.prim_wrapping_floor_div.Goals as goal
 
-pub returns : goal.returns
-returns g c =
-    MatchResult-weaker c.divide_pairs.result c.divide_pairs.ensures
+pub returns-clause-answers : goal.returns-clause-answers
+returns-clause-answers g c =
+    MatchResult-weaker c.divide_pairs.result c.divide_pairs.ensures.answers
     (λ a h. results-nonzero g.Self.Number.value g.Self.Bounded.low (bit_len g.Self.FixedWidth.width) floor_division _ (λ x y z p. p) c.args.lhs c.args.rhs h.between a (has_answer-nonzero floor_quotient) c.requires h.masks h.maps)
     (λ y m. m)
