@@ -9,6 +9,7 @@ pub use Rattle.polars_compute_unique.specs.Dictionaries
 pub use Rattle.polars_compute_unique.specs.Sorted
 pub use Rattle.polars_compute_unique.specs.Trees
 pub mod ArithmeticLaws
+pub mod QuotientLaws
 pub mod ReductionLaws
 pub mod StateLaws
 pub mod SumLaw

@@ -4,6 +4,7 @@
 ghost use Rattle.num_traits.specs.Laws.{bit_len};
 ghost use Rattle.polars_arrays_flat.specs.Row.{Bytes, Int, Truth};
 ghost use Rattle.polars_compute.specs.ArithmeticLaws.{AnswersByRows, DividesBack, NumberOnLeft, NumberOnRight, ResultsByRows};
+ghost use Rattle.polars_compute.specs.QuotientLaws.{FloorIsGreatest, FloorLeavesModulus, ModulusIsRest, TruncatedIsNearest};
 ghost use Rattle.polars_compute.specs.ReductionLaws.{AnyBothByRows, AnyExtremesByRows, BothByRows, CountsByRows, ExtremesByRows, ReductionsByRows, SumsByRows};
 ghost use Rattle.polars_compute.specs.StateLaws.{MergesAsAppended, MergesEitherWay, MergesInGroups, MergesWithItself, ReadStaysWhenAppended, ReadStaysWhenMerged, ReadsByRows, StatesByRows, StaysWhenAppended, StaysWhenMerged};
 ghost use Rattle.polars_compute.specs.SumLaw.{SumsJoin};
@@ -34,6 +35,17 @@ pub fn law_3<T: PlNumArithmetic>()
 /// the number.
 pub fn law_4<T: PlNumArithmetic>()
     ensures { DividesBack T.low T.high (bit_len T.width) }
+{}
+
+/// States what the quotients by a divisor other than 0 are. The floor quotient is the greatest
+/// whole number that is not above the fraction. The truncated quotient is the whole number nearest
+/// to it of those from 0 to it. The modulus is what the floor quotient leaves: it is 0 or has the
+/// divisor's sign, and has a smaller magnitude. No other numbers are so.
+pub fn law_quotients()
+    ensures floor { FloorIsGreatest }
+    ensures truncated { TruncatedIsNearest }
+    ensures modulus { ModulusIsRest }
+    ensures divided { FloorLeavesModulus }
 {}
 
 /// An operation on a column and a number answers as the operation on the column and one that repeats the number does.

@@ -1,0 +1,56 @@
+-- What quotients and moduli of whole numbers are, said by products and order alone. The divisor b is
+-- not 0: so q lies from 0 to a / b exactly where q times b lies from 0 to a.
+use Rattle.std.specs.Prelude.{◌≡◌, ◌≢◌, ◌<◌, ◌≤◌, ◌≤ℤ◌, ◌↔◌, ◌+ℤ◌, ◌-ℤ◌, ◌*ℤ◌, ℕ, ℤ, pos, negsuc, unsigned_abs}
+use Rattle.polars_compute_arithmetic.specs.Quotients.{floor_quotient, modulus, truncated_quotient}
+
+-- q is not above a / b
+abbrev pub IsNotAbove : ℤ → ℤ → ℤ → Type 0
+IsNotAbove q a (pos n) = (q *ℤ pos n) ≤ℤ a
+IsNotAbove q a (negsuc n) = a ≤ℤ (q *ℤ negsuc n)
+
+-- q is the greatest whole number that is not above a / b
+pub record IsGreatestNotAbove (q a b : ℤ) : Type 0 where
+  pub not_above : IsNotAbove q a b
+  pub greatest : (r : ℤ) → IsNotAbove r a b → r ≤ℤ q
+
+-- x is 0, a, or a number between them
+abbrev pub IsFromZeroTo : ℤ → ℤ → Type 0
+IsFromZeroTo (pos n) x = (pos 0 ≤ℤ x) × (x ≤ℤ pos n)
+IsFromZeroTo (negsuc n) x = (negsuc n ≤ℤ x) × (x ≤ℤ pos 0)
+
+-- how far q is from a / b, times the magnitude of b
+abbrev pub distance : ℤ → ℤ → ℤ → ℕ
+distance q a b = unsigned_abs (a -ℤ q *ℤ b)
+
+-- q is the whole number nearest to a / b of those from 0 to a / b
+pub record IsNearestTowardZero (q a b : ℤ) : Type 0 where
+  pub from_zero : IsFromZeroTo a (q *ℤ b)
+  pub nearest : (r : ℤ) → IsFromZeroTo a (r *ℤ b) → distance q a b ≤ distance r a b
+
+-- m is 0 or has the sign of b
+abbrev pub HasSignOf : ℤ → ℤ → Type 0
+HasSignOf (pos n) m = pos 0 ≤ℤ m
+HasSignOf (negsuc n) m = m ≤ℤ pos 0
+
+-- m is what a multiple of b leaves of a, is 0 or has the sign of b, and has a smaller magnitude
+pub record IsRest (m a b : ℤ) : Type 0 where
+  pub left : (k : ℤ) × (k *ℤ b +ℤ m ≡ a)
+  pub sign : HasSignOf b m
+  pub smaller : unsigned_abs m < unsigned_abs b
+
+-- the floor quotient is the greatest whole number that is not above a / b, and no other is
+abbrev pub FloorIsGreatest : Type 0
+FloorIsGreatest = (a b q : ℤ) → b ≢ pos 0 → (q ≡ floor_quotient a b) ↔ IsGreatestNotAbove q a b
+
+-- the truncated quotient is the nearest to a / b of the whole numbers from 0 to it, and no other is
+abbrev pub TruncatedIsNearest : Type 0
+TruncatedIsNearest =
+    (a b q : ℤ) → b ≢ pos 0 → (q ≡ truncated_quotient a b) ↔ IsNearestTowardZero q a b
+
+-- the modulus is the rest that is 0 or has the divisor's sign, and no other number is
+abbrev pub ModulusIsRest : Type 0
+ModulusIsRest = (a b m : ℤ) → b ≢ pos 0 → (m ≡ modulus a b) ↔ IsRest m a b
+
+-- the floor quotient times the divisor, plus the modulus, is the dividend
+abbrev pub FloorLeavesModulus : Type 0
+FloorLeavesModulus = (a b : ℤ) → b ≢ pos 0 → floor_quotient a b *ℤ b +ℤ modulus a b ≡ a
