@@ -1,0 +1,199 @@
+//! Rows as a list, and an array of them at bit offsets.
+
+use crate::draw::{CHANCES, Draw};
+use polars_arrays_bits::bitmap::Bitmap;
+use polars_arrays_flat::array::Array;
+use polars_arrays_flat::boolean::BooleanArray;
+use recorded_text::fault::Fault;
+use std::alloc::{AllocError, Global};
+
+/// How many bits stand behind the rows.
+const BEHIND: usize = 66;
+
+/// How much room is made for truth values: for those before the rows, the rows, and those behind.
+const ROOM: usize = 264;
+
+/// What rows are drawn.
+#[derive(Clone, Copy)]
+pub struct Sort {
+    /// Whether there is a validity.
+    pub has_validity: bool,
+    /// In how many of 32 chances a row is null.
+    pub nulls: u64,
+    /// In how many of 32 chances a present row is true. Any other bit is true in the other chances.
+    pub trues: u64,
+}
+
+/// Where an array begins.
+#[derive(Clone, Copy)]
+pub struct Place {
+    /// The first bit of the values.
+    pub values: usize,
+    /// The first bit of the validity.
+    pub validity: usize,
+}
+
+impl Place {
+    // Returns how many rows are cut off by slicing the array. The bitmaps are sliced to begin where these do.
+    fn rows_ahead(self) -> usize {
+        if self.values % 2 == self.validity % 2 {
+            0
+        } else {
+            self.values.min(self.validity)
+        }
+    }
+}
+
+/// Rows, and an array that has them.
+#[derive(Drop)]
+pub struct Column {
+    rows: Vec<Option<bool>>,
+    array: BooleanArray,
+}
+
+impl Column {
+    /// Draws `len` rows, and makes their array.
+    pub fn draw(
+        alloc: Global,
+        sort: Sort,
+        len: usize,
+        place: Place,
+        draw: &mut Draw,
+    ) -> Result<Column, Fault> {
+        let rows = draw_rows(alloc, sort, len, draw)?;
+        Column::of_rows(alloc, sort, rows, place, draw)
+    }
+
+    /// Makes the array of rows.
+    pub fn of_rows(
+        alloc: Global,
+        sort: Sort,
+        rows: Vec<Option<bool>>,
+        place: Place,
+        draw: &mut Draw,
+    ) -> Result<Column, Fault> {
+        let array = store_rows(alloc, sort, &rows, place, draw)?;
+        Ok(Column { rows, array })
+    }
+
+    /// Returns the rows that the array is said to have.
+    pub fn rows(&self) -> &[Option<bool>] {
+        &self.rows
+    }
+
+    /// Returns the array.
+    pub fn array(&self) -> &BooleanArray {
+        &self.array
+    }
+
+    /// Says of a present row that it is the other truth value. The array stays.
+    pub fn turn_row(&mut self, i: usize) {
+        if let Some(row) = self.rows.get_mut(i) {
+            *row = row.map(|truth| !truth);
+        }
+    }
+}
+
+// Draws rows.
+fn draw_rows(
+    alloc: Global,
+    sort: Sort,
+    len: usize,
+    draw: &mut Draw,
+) -> Result<Vec<Option<bool>>, AllocError> {
+    let mut rows = Vec::with_capacity(alloc, len)?;
+    for _ in 0..len {
+        let truth = draw.truth(sort.trues);
+        let is_null = draw.truth(sort.nulls);
+        rows.push(if is_null { None } else { Some(truth) })?;
+    }
+    Ok(rows)
+}
+
+// Makes an array of rows.
+fn store_rows(
+    alloc: Global,
+    sort: Sort,
+    rows: &[Option<bool>],
+    place: Place,
+    draw: &mut Draw,
+) -> Result<BooleanArray, Fault> {
+    let values = store_values(alloc, sort, rows, place, draw)?;
+    let validity = store_validity(alloc, sort, rows, place, draw)?;
+    let array = BooleanArray::try_new(values, validity)?;
+    cut_rows(array, place.rows_ahead(), rows.len())
+}
+
+// Makes the values of rows. Under a null stands any value.
+fn store_values(
+    alloc: Global,
+    sort: Sort,
+    rows: &[Option<bool>],
+    place: Place,
+    draw: &mut Draw,
+) -> Result<Bitmap, Fault> {
+    let others = CHANCES.saturating_sub(sort.trues);
+    let mut truths = Vec::with_capacity(alloc, ROOM)?;
+    push_others(&mut truths, place.values, others, draw)?;
+    for row in rows {
+        truths.push(row.unwrap_or(draw.truth(others)))?;
+    }
+    push_others(&mut truths, BEHIND, others, draw)?;
+    cut_bits(alloc, &truths, place.values, place.rows_ahead())
+}
+
+// Makes the validity of rows, if there is to be one.
+fn store_validity(
+    alloc: Global,
+    sort: Sort,
+    rows: &[Option<bool>],
+    place: Place,
+    draw: &mut Draw,
+) -> Result<Option<Bitmap>, Fault> {
+    if !sort.has_validity {
+        return Ok(None);
+    }
+    let mut truths = Vec::with_capacity(alloc, ROOM)?;
+    push_others(&mut truths, place.validity, sort.nulls, draw)?;
+    for row in rows {
+        truths.push(row.is_some())?;
+    }
+    push_others(&mut truths, BEHIND, sort.nulls, draw)?;
+    cut_bits(alloc, &truths, place.validity, place.rows_ahead()).map(Some)
+}
+
+// Pushes truth values that are no rows.
+fn push_others(
+    truths: &mut Vec<bool>,
+    n: usize,
+    chances: u64,
+    draw: &mut Draw,
+) -> Result<(), AllocError> {
+    for _ in 0..n {
+        truths.push(draw.truth(chances))?;
+    }
+    Ok(())
+}
+
+// Packs truth values, and keeps the rows, which begin at bit `at`, and `ahead` bits before and behind them.
+fn cut_bits(alloc: Global, truths: &[bool], at: usize, ahead: usize) -> Result<Bitmap, Fault> {
+    let mut bits = Bitmap::from_bools(alloc, truths)?;
+    let from = at.saturating_sub(ahead);
+    let cut = from.saturating_add(BEHIND - ahead.min(BEHIND));
+    if cut > bits.len() {
+        return Err(Fault::Case);
+    }
+    let n = bits.len() - cut;
+    bits.slice(from, n);
+    Ok(bits)
+}
+
+// Keeps `n` rows from row `at` on.
+fn cut_rows(array: BooleanArray, at: usize, n: usize) -> Result<BooleanArray, Fault> {
+    let mut array = array;
+    if at > array.len() || n > array.len() - at {
+        return Err(Fault::Case);
+    }
+    array.slice(at, n);
+    Ok(array)
+}

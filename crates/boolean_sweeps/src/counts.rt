@@ -1,0 +1,84 @@
+//! Counts of the bits of each row: a truth value is one bit.
+
+use crate::column::Column;
+use crate::tally::{Counts, Tally};
+use polars_arrays_flat::array::Array;
+use polars_arrays_flat::boolean::BooleanArray;
+use polars_arrays_flat::primitive::PrimitiveArray;
+use polars_compute_bits::bitwise::BitwiseKernel;
+use recorded_text::fault::Fault;
+use std::alloc::Global;
+
+/// A count.
+#[derive(Clone, Copy)]
+pub enum Count {
+    Ones,
+    Zeros,
+    LeadingOnes,
+    LeadingZeros,
+    TrailingOnes,
+    TrailingZeros,
+}
+
+/// The counts by their names.
+pub const COUNTS: [(&str, Count); 6] = [
+    ("count_ones", Count::Ones),
+    ("count_zeros", Count::Zeros),
+    ("leading_ones", Count::LeadingOnes),
+    ("leading_zeros", Count::LeadingZeros),
+    ("trailing_ones", Count::TrailingOnes),
+    ("trailing_zeros", Count::TrailingZeros),
+];
+
+impl Count {
+    // Returns the count of a present row.
+    fn of(self, row: bool) -> u32 {
+        match self {
+            Count::Ones | Count::LeadingOnes | Count::TrailingOnes => u32::from(row),
+            Count::Zeros | Count::LeadingZeros | Count::TrailingZeros => u32::from(!row),
+        }
+    }
+
+    // Calls it.
+    fn call(self, alloc: Global, array: &BooleanArray) -> Result<PrimitiveArray<u32>, Fault> {
+        let counted = match self {
+            Count::Ones => array.count_ones(alloc),
+            Count::Zeros => array.count_zeros(alloc),
+            Count::LeadingOnes => array.leading_ones(alloc),
+            Count::LeadingZeros => array.leading_zeros(alloc),
+            Count::TrailingOnes => array.trailing_ones(alloc),
+            Count::TrailingZeros => array.trailing_zeros(alloc),
+        };
+        Ok(counted?)
+    }
+}
+
+/// Makes the calls on an array.
+pub fn ask(alloc: Global, tallies: &mut Vec<Tally<Count>>, column: &Column) -> Result<(), Fault> {
+    for tally in tallies.iter_mut() {
+        let counted = tally.call.call(alloc, column.array())?;
+        compare_rows(&mut tally.counts, tally.call, column, &counted);
+    }
+    Ok(())
+}
+
+// Compares the counts with those of the rows.
+fn compare_rows(counts: &mut Counts, count: Count, column: &Column, counted: &PrimitiveArray<u32>) {
+    counts.begin_call(counted.len() == column.rows().len());
+    for (i, row) in column.rows().iter().enumerate() {
+        counts.compare(row_of(counted, i) == row.map(|truth| count.of(truth)));
+    }
+}
+
+// Returns row `i` of an array, or None where it is null.
+fn row_of(array: &PrimitiveArray<u32>, i: usize) -> Option<u32> {
+    let is_present = match array.validity() {
+        Some(validity) => validity.get(i) == Some(true),
+        None => true,
+    };
+    if is_present {
+        array.values().get(i).copied()
+    } else {
+        None
+    }
+}

@@ -1,0 +1,124 @@
+//! Distinct truth values, of an array and by states.
+
+use crate::column::Column;
+use crate::tally::Tally;
+use polars_arrays_flat::array::Array;
+use polars_arrays_flat::boolean::BooleanArray;
+use polars_compute_unique::boolean::BooleanUniqueKernelState;
+use polars_compute_unique::kernel::{GenericUniqueKernel, RangedUniqueKernel};
+use recorded_text::fault::Fault;
+use std::alloc::{AllocError, Global};
+
+/// What is asked of the distinct rows.
+#[derive(Clone, Copy)]
+pub enum Distinct {
+    Unique,
+    NUnique,
+    NUniqueNonNull,
+    HasSeenAll,
+    FinalizeUnique,
+    FinalizeNUnique,
+    FinalizeNUniqueNonNull,
+}
+
+/// The calls by their names.
+pub const DISTINCT: [(&str, Distinct); 7] = [
+    ("unique", Distinct::Unique),
+    ("n_unique", Distinct::NUnique),
+    ("n_unique_non_null", Distinct::NUniqueNonNull),
+    ("has_seen_all", Distinct::HasSeenAll),
+    ("finalize_unique", Distinct::FinalizeUnique),
+    ("finalize_n_unique", Distinct::FinalizeNUnique),
+    (
+        "finalize_n_unique_non_null",
+        Distinct::FinalizeNUniqueNonNull,
+    ),
+];
+
+/// Makes the calls on an array.
+pub fn ask(
+    alloc: Global,
+    tallies: &mut Vec<Tally<Distinct>>,
+    column: &Column,
+) -> Result<(), Fault> {
+    let expected = distinct_rows(alloc, column.rows())?;
+    for tally in tallies.iter_mut() {
+        let agrees = agrees(alloc, tally.call, column.array(), &expected)?;
+        tally.counts.begin_call(true);
+        tally.counts.compare(agrees);
+    }
+    Ok(())
+}
+
+// Returns the distinct rows: false, true and null, where they are rows.
+fn distinct_rows(alloc: Global, rows: &[Option<bool>]) -> Result<Vec<Option<bool>>, AllocError> {
+    let mut distinct = Vec::new(alloc);
+    for row in [Some(false), Some(true), None] {
+        if rows.contains(&row) {
+            distinct.push(row)?;
+        }
+    }
+    Ok(distinct)
+}
+
+// Returns whether a call answers as the distinct rows say.
+fn agrees(
+    alloc: Global,
+    call: Distinct,
+    array: &BooleanArray,
+    expected: &[Option<bool>],
+) -> Result<bool, Fault> {
+    let state = state_of(array);
+    let agrees = match call {
+        Distinct::Unique => has_rows(&array.unique(alloc)?, expected),
+        Distinct::NUnique => array.n_unique() == expected.len(),
+        Distinct::NUniqueNonNull => array.n_unique_non_null() == present_rows(expected),
+        Distinct::HasSeenAll => state.has_seen_all() == (expected.len() == 3),
+        Distinct::FinalizeUnique => has_rows(&state.finalize_unique(alloc)?, expected),
+        Distinct::FinalizeNUnique => state.finalize_n_unique() == expected.len(),
+        Distinct::FinalizeNUniqueNonNull => {
+            state.finalize_n_unique_non_null() == present_rows(expected)
+        }
+    };
+    Ok(agrees)
+}
+
+// Returns the state that an array is appended to, by way of another one.
+fn state_of(array: &BooleanArray) -> BooleanUniqueKernelState {
+    let mut state = BooleanUniqueKernelState::new();
+    let mut other = BooleanUniqueKernelState::new();
+    if other.accepts(array) {
+        other.append(array);
+    }
+    if state.same_range(&other) {
+        state.append_state(&other);
+    }
+    state
+}
+
+// Returns how many rows are not null.
+fn present_rows(rows: &[Option<bool>]) -> usize {
+    rows.iter().flatten().count()
+}
+
+// Returns whether an array has these rows.
+fn has_rows(array: &BooleanArray, rows: &[Option<bool>]) -> bool {
+    let mut agrees = array.len() == rows.len();
+    for (i, row) in rows.iter().enumerate() {
+        agrees &= row_of(array, i) == *row;
+    }
+    agrees
+}
+
+// Returns row `i` of an array, or None where it is null.
+fn row_of(array: &BooleanArray, i: usize) -> Option<bool> {
+    let is_present = match array.validity() {
+        Some(validity) => validity.get(i) == Some(true),
+        None => true,
+    };
+    if is_present {
+        array.values().get(i)
+    } else {
+        None
+    }
+}

@@ -1,0 +1,38 @@
+//! Truth values that look drawn by chance, and are the same in each run.
+
+// The numbers of a linear congruential generator of 64 bits.
+const FACTOR: u64 = 6_364_136_223_846_793_005;
+
+const TERM: u64 = 1_442_695_040_888_963_407;
+
+/// How many chances there are: a truth value is true in none to all of them.
+pub const CHANCES: u64 = 32;
+
+/// A generator of truth values.
+#[derive(Drop)]
+pub struct Draw {
+    state: u64,
+}
+
+impl Draw {
+    /// Returns the generator of a place, which numbers tell.
+    pub fn new(place: &[usize]) -> Draw {
+        let mut draw = Draw { state: 0 };
+        for number in place {
+            draw.state = draw.state.wrapping_add(*number as u64);
+            draw.step();
+        }
+        draw
+    }
+
+    // Goes to the next number.
+    fn step(&mut self) {
+        self.state = self.state.wrapping_mul(FACTOR).wrapping_add(TERM);
+    }
+
+    /// Returns true in about `chances` of 32 calls.
+    pub fn truth(&mut self, chances: u64) -> bool {
+        self.step();
+        self.state >> 59 < chances
+    }
+}

@@ -1,0 +1,40 @@
+//! The kernels of `BooleanArray` at all pairs of bit offsets, set against rows that are kept as a list.
+//!
+//! Each array is made of a list of rows, and each answer is worked out from that list, row by row, without bitmaps and
+//! kernels. The values of an array begin at any of 66 bits, and its validity at another one; the bits before and behind them, and
+//! under nulls, are drawn by chance, or are the opposite of the rows.
+//!
+//! For each call there is a line: how often it was called, how many answers it gave (a bit or a count for each row, or one for
+//! an array), how many of these are promised and were compared, and how many differ. At the end the same is done for rows of which one is
+//! told wrong, and there answers have to differ. `outside/sweeps.py` prints the same lines by its own account.
+#![tactic(auto)]
+
+use recorded_text::fault::Fault;
+use std::process::ExitCode;
+
+mod column;
+mod columns;
+mod counts;
+mod distinct;
+mod draw;
+mod kernel;
+mod pairs;
+mod reductions;
+mod scalars;
+mod singles;
+mod tally;
+mod turned;
+
+// Makes all calls, and prints what was compared.
+fn sweep_all(rt: &(impl Print + AllocGlobal)) -> Result<(), Fault> {
+    pairs::sweep(rt)?;
+    singles::sweep(rt)?;
+    turned::sweep(rt)
+}
+
+fn main(rt: HostRuntime) -> ExitCode {
+    match sweep_all(&rt) {
+        Ok(()) => ExitCode::from(0),
+        Err(_) => ExitCode::from(1),
+    }
+}

@@ -1,0 +1,177 @@
+//! Kernels of two arrays, at each pair of bit offsets.
+
+use crate::column::{Column, Place, Sort};
+use crate::columns::{ALL_TRUE, FEW_FALSE, HALF_NULL, LENGTHS, OFFSETS, PLAIN, validity_offset};
+use crate::draw::Draw;
+use crate::kernel::Kernel;
+use crate::tally::{Counts, Tally, begin, print};
+use polars_arrays_bits::bitmap::Bitmap;
+use polars_arrays_bits::error::ComputeError;
+use polars_arrays_flat::array::Array;
+use polars_arrays_flat::boolean::BooleanArray;
+use polars_compare_equality::kernel::TotalEqKernel;
+use polars_compare_order::kernel::TotalOrdKernel;
+use recorded_text::fault::Fault;
+use std::alloc::Global;
+
+/// The kernels by their names.
+const KERNELS: [(&str, Kernel); 8] = [
+    ("tot_eq_kernel", Kernel::Equal),
+    ("tot_ne_kernel", Kernel::Unequal),
+    ("tot_eq_missing_kernel", Kernel::EqualMissing),
+    ("tot_ne_missing_kernel", Kernel::UnequalMissing),
+    ("tot_lt_kernel", Kernel::Less),
+    ("tot_le_kernel", Kernel::LessOrEqual),
+    ("tot_gt_kernel", Kernel::Greater),
+    ("tot_ge_kernel", Kernel::GreaterOrEqual),
+];
+
+/// The rows of the left and the right arrays, by rounds.
+const ROUNDS: [(Sort, Sort); 5] = [
+    (PLAIN, PLAIN),
+    (HALF_NULL, HALF_NULL),
+    (ALL_TRUE, FEW_FALSE),
+    (HALF_NULL, PLAIN),
+    (PLAIN, FEW_FALSE),
+];
+
+/// Makes the calls at all pairs of offsets, and prints what was compared.
+pub fn sweep(rt: &(impl Print + AllocGlobal)) -> Result<(), Fault> {
+    let alloc = rt.alloc();
+    let mut tallies = begin(alloc, &KERNELS)?;
+    for (round, (left, right)) in ROUNDS.iter().enumerate() {
+        sweep_round(alloc, &mut tallies, round, *left, *right)?;
+    }
+    print(rt, &tallies)
+}
+
+// Makes the calls on arrays of each length.
+fn sweep_round(
+    alloc: Global,
+    tallies: &mut Vec<Tally<Kernel>>,
+    round: usize,
+    left: Sort,
+    right: Sort,
+) -> Result<(), Fault> {
+    for len in LENGTHS {
+        let lefts = columns(alloc, left, len, [round, 0])?;
+        let rights = columns(alloc, right, len, [round, 1])?;
+        ask_pairs(alloc, tallies, &lefts, &rights)?;
+    }
+    Ok(())
+}
+
+// Makes an array for each offset.
+fn columns(
+    alloc: Global,
+    sort: Sort,
+    len: usize,
+    round_side: [usize; 2],
+) -> Result<Vec<Column>, Fault> {
+    let mut columns = Vec::with_capacity(alloc, OFFSETS)?;
+    for values in 0..OFFSETS {
+        push_column(alloc, &mut columns, sort, len, round_side, values)?;
+    }
+    Ok(columns)
+}
+
+// Makes the array of an offset.
+fn push_column(
+    alloc: Global,
+    columns: &mut Vec<Column>,
+    sort: Sort,
+    len: usize,
+    round_side: [usize; 2],
+    values: usize,
+) -> Result<(), Fault> {
+    let [round, side] = round_side;
+    let validity = validity_offset(values);
+    let place = Place { values, validity };
+    let mut draw = Draw::new(&[round, side, len, values]);
+    let column = Column::draw(alloc, sort, len, place, &mut draw)?;
+    Ok(columns.push(column)?)
+}
+
+// Makes the calls on each left array and each right one.
+fn ask_pairs(
+    alloc: Global,
+    tallies: &mut Vec<Tally<Kernel>>,
+    lefts: &[Column],
+    rights: &[Column],
+) -> Result<(), Fault> {
+    for left in lefts {
+        for right in rights {
+            ask_all(alloc, tallies, left, right)?;
+        }
+    }
+    Ok(())
+}
+
+// Makes the calls on two arrays.
+fn ask_all(
+    alloc: Global,
+    tallies: &mut Vec<Tally<Kernel>>,
+    left: &Column,
+    right: &Column,
+) -> Result<(), Fault> {
+    for tally in tallies.iter_mut() {
+        let bits = call(alloc, tally.call, left.array(), right.array())?;
+        compare_bits(&mut tally.counts, tally.call, left, right, &bits);
+    }
+    Ok(())
+}
+
+// Calls a kernel. The error is `Case` where the lengths differ.
+fn call(
+    alloc: Global,
+    kernel: Kernel,
+    left: &BooleanArray,
+    right: &BooleanArray,
+) -> Result<Bitmap, Fault> {
+    if !left.can_compare(right) || left.len() != right.len() {
+        return Err(Fault::Case);
+    }
+    let bits = match kernel {
+        Kernel::Equal => left.tot_eq_kernel(alloc, right),
+        Kernel::Unequal => left.tot_ne_kernel(alloc, right),
+        Kernel::EqualMissing => left.tot_eq_missing_kernel(alloc, right),
+        Kernel::UnequalMissing => left.tot_ne_missing_kernel(alloc, right),
+        Kernel::Less => left.tot_lt_kernel(alloc, right),
+        Kernel::LessOrEqual => left.tot_le_kernel(alloc, right),
+        Kernel::Greater => left.tot_gt_kernel(alloc, right),
+        Kernel::GreaterOrEqual => left.tot_ge_kernel(alloc, right),
+    };
+    Ok(bits?)
+}
+
+// Compares the bits of a kernel with those of the rows.
+fn compare_bits(counts: &mut Counts, kernel: Kernel, left: &Column, right: &Column, bits: &Bitmap) {
+    let rows = left.rows().iter().zip(right.rows());
+    counts.begin_call(bits.len() == left.rows().len());
+    for (i, (left, right)) in rows.enumerate() {
+        counts.compare_bit(kernel.bit(*left, *right), bits, i);
+    }
+}
+
+/// Makes the calls on two pairs of arrays of true rows, where row 100 of the right one and then of the left one is told as false.
+pub fn sweep_turned(rt: &(impl Print + AllocGlobal)) -> Result<(), Fault> {
+    let alloc = rt.alloc();
+    let mut tallies = begin(alloc, &KERNELS)?;
+    let mut left = all_true(alloc, 0)?;
+    let mut right = all_true(alloc, 1)?;
+    right.turn_row(100);
+    ask_all(alloc, &mut tallies, &left, &right)?;
+    right.turn_row(100);
+    left.turn_row(100);
+    ask_all(alloc, &mut tallies, &left, &right)?;
+    print(rt, &tallies)
+}
+
+// Makes an array of 129 rows that are true.
+fn all_true(alloc: Global, side: usize) -> Result<Column, Fault> {
+    let place = Place {
+        values: 3,
+        validity: 64,
+    };
+    Column::draw(alloc, ALL_TRUE, 129, place, &mut Draw::new(&[side]))
+}

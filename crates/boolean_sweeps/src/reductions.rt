@@ -1,0 +1,99 @@
+//! The present rows of an array reduced to one truth value, and their extremes.
+
+use crate::column::Column;
+use crate::tally::Tally;
+use polars_arrays_flat::boolean::BooleanArray;
+use polars_compare_extremes::kernel::MinMaxKernel;
+use polars_compute_bits::bitwise::BitwiseKernel;
+
+/// What is asked of the present rows.
+#[derive(Clone, Copy)]
+pub enum Reduction {
+    And,
+    Or,
+    Xor,
+    Min,
+    Max,
+    MinMax,
+    MinPropagate,
+    MaxPropagate,
+    MinMaxPropagate,
+}
+
+/// The calls by their names.
+pub const REDUCTIONS: [(&str, Reduction); 9] = [
+    ("reduce_and", Reduction::And),
+    ("reduce_or", Reduction::Or),
+    ("reduce_xor", Reduction::Xor),
+    ("min_ignore_nan_kernel", Reduction::Min),
+    ("max_ignore_nan_kernel", Reduction::Max),
+    ("min_max_ignore_nan_kernel", Reduction::MinMax),
+    ("min_propagate_nan_kernel", Reduction::MinPropagate),
+    ("max_propagate_nan_kernel", Reduction::MaxPropagate),
+    ("min_max_propagate_nan_kernel", Reduction::MinMaxPropagate),
+];
+
+/// What stands for one truth value where a call answers one.
+type Pair = Option<(bool, bool)>;
+
+impl Reduction {
+    // Calls it. One truth value stands for two of it.
+    fn call(self, array: &BooleanArray) -> Pair {
+        match self {
+            Reduction::And => twice(array.reduce_and()),
+            Reduction::Or => twice(array.reduce_or()),
+            Reduction::Xor => twice(array.reduce_xor()),
+            Reduction::Min => twice(array.min_ignore_nan_kernel()),
+            Reduction::Max => twice(array.max_ignore_nan_kernel()),
+            Reduction::MinMax => array.min_max_ignore_nan_kernel(),
+            Reduction::MinPropagate => twice(array.min_propagate_nan_kernel()),
+            Reduction::MaxPropagate => twice(array.max_propagate_nan_kernel()),
+            Reduction::MinMaxPropagate => array.min_max_propagate_nan_kernel(),
+        }
+    }
+
+    // Returns what it is of two pairs of reduced rows.
+    fn join(self, left: (bool, bool), right: (bool, bool)) -> (bool, bool) {
+        match self {
+            Reduction::And | Reduction::Min | Reduction::MinPropagate => {
+                (left.0 && right.0, left.1 && right.1)
+            }
+            Reduction::Or | Reduction::Max | Reduction::MaxPropagate => {
+                (left.0 || right.0, left.1 || right.1)
+            }
+            Reduction::Xor => (left.0 != right.0, left.1 != right.1),
+            Reduction::MinMax | Reduction::MinMaxPropagate => {
+                (left.0 && right.0, left.1 || right.1)
+            }
+        }
+    }
+
+    // Returns what it is of rows.
+    fn of(self, rows: &[Option<bool>]) -> Pair {
+        let mut reduced = None;
+        for row in rows {
+            reduced = match (reduced, twice(*row)) {
+                (Some(left), Some(right)) => Some(self.join(left, right)),
+                (left, None) => left,
+                (None, right) => right,
+            };
+        }
+        reduced
+    }
+}
+
+// Returns a truth value twice.
+fn twice(truth: Option<bool>) -> Pair {
+    truth.map(|truth| (truth, truth))
+}
+
+/// Makes the calls on an array.
+pub fn ask(tallies: &mut Vec<Tally<Reduction>>, column: &Column) {
+    for tally in tallies.iter_mut() {
+        let expected = tally.call.of(column.rows());
+        tally.counts.begin_call(true);
+        tally
+            .counts
+            .compare(tally.call.call(column.array()) == expected);
+    }
+}

@@ -1,0 +1,62 @@
+//! Kernels of an array and a truth value.
+
+use crate::column::Column;
+use crate::kernel::Kernel;
+use crate::tally::{Counts, Tally};
+use polars_arrays_bits::bitmap::Bitmap;
+use polars_arrays_flat::boolean::BooleanArray;
+use polars_compare_equality::kernel::TotalEqKernel;
+use polars_compare_order::kernel::TotalOrdKernel;
+use recorded_text::fault::Fault;
+use std::alloc::Global;
+
+/// The kernels by their names.
+pub const KERNELS: [(&str, Kernel); 8] = [
+    ("tot_eq_kernel_broadcast", Kernel::Equal),
+    ("tot_ne_kernel_broadcast", Kernel::Unequal),
+    ("tot_eq_missing_kernel_broadcast", Kernel::EqualMissing),
+    ("tot_ne_missing_kernel_broadcast", Kernel::UnequalMissing),
+    ("tot_lt_kernel_broadcast", Kernel::Less),
+    ("tot_le_kernel_broadcast", Kernel::LessOrEqual),
+    ("tot_gt_kernel_broadcast", Kernel::Greater),
+    ("tot_ge_kernel_broadcast", Kernel::GreaterOrEqual),
+];
+
+/// Makes the calls on an array and each of the two truth values.
+pub fn ask(alloc: Global, tallies: &mut Vec<Tally<Kernel>>, column: &Column) -> Result<(), Fault> {
+    for scalar in [false, true] {
+        for tally in tallies.iter_mut() {
+            let bits = call(alloc, tally.call, column.array(), scalar)?;
+            compare_bits(&mut tally.counts, tally.call, column, scalar, &bits);
+        }
+    }
+    Ok(())
+}
+
+// Calls a kernel.
+fn call(
+    alloc: Global,
+    kernel: Kernel,
+    array: &BooleanArray,
+    scalar: bool,
+) -> Result<Bitmap, Fault> {
+    let bits = match kernel {
+        Kernel::Equal => array.tot_eq_kernel_broadcast(alloc, &scalar),
+        Kernel::Unequal => array.tot_ne_kernel_broadcast(alloc, &scalar),
+        Kernel::EqualMissing => array.tot_eq_missing_kernel_broadcast(alloc, &scalar),
+        Kernel::UnequalMissing => array.tot_ne_missing_kernel_broadcast(alloc, &scalar),
+        Kernel::Less => array.tot_lt_kernel_broadcast(alloc, &scalar),
+        Kernel::LessOrEqual => array.tot_le_kernel_broadcast(alloc, &scalar),
+        Kernel::Greater => array.tot_gt_kernel_broadcast(alloc, &scalar),
+        Kernel::GreaterOrEqual => array.tot_ge_kernel_broadcast(alloc, &scalar),
+    };
+    Ok(bits?)
+}
+
+// Compares the bits of a kernel with those of the rows.
+fn compare_bits(counts: &mut Counts, kernel: Kernel, column: &Column, scalar: bool, bits: &Bitmap) {
+    counts.begin_call(bits.len() == column.rows().len());
+    for (i, row) in column.rows().iter().enumerate() {
+        counts.compare_bit(kernel.bit(*row, Some(scalar)), bits, i);
+    }
+}

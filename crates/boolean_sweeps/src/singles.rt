@@ -1,0 +1,108 @@
+//! Calls of one array, at each bit offset of its values and each of its validity.
+
+use crate::column::{Column, Place, Sort};
+use crate::columns::{
+    ALL_NULL, ALL_TRUE, FEW_FALSE, HALF_NULL, LENGTHS, NULL_OR_TRUE, OFFSETS, PLAIN,
+};
+use crate::counts::{self, Count};
+use crate::distinct::{self, Distinct};
+use crate::draw::Draw;
+use crate::kernel::Kernel;
+use crate::reductions::{self, Reduction};
+use crate::scalars;
+use crate::tally::{Tally, begin, print};
+use recorded_text::fault::Fault;
+use std::alloc::Global;
+
+/// The rows of the arrays, by rounds.
+const ROUNDS: [Sort; 6] = [
+    PLAIN,
+    ALL_TRUE,
+    HALF_NULL,
+    NULL_OR_TRUE,
+    FEW_FALSE,
+    ALL_NULL,
+];
+
+/// What was compared of each call.
+#[derive(Drop)]
+pub struct Singles {
+    broadcasts: Vec<Tally<Kernel>>,
+    counts: Vec<Tally<Count>>,
+    reductions: Vec<Tally<Reduction>>,
+    distinct: Vec<Tally<Distinct>>,
+}
+
+impl Singles {
+    /// Begins before the first call.
+    pub fn new(alloc: Global) -> Result<Singles, Fault> {
+        let broadcasts = begin(alloc, &scalars::KERNELS)?;
+        let counts = begin(alloc, &counts::COUNTS)?;
+        let reductions = begin(alloc, &reductions::REDUCTIONS)?;
+        let distinct = begin(alloc, &distinct::DISTINCT)?;
+        Ok(Singles {
+            broadcasts,
+            counts,
+            reductions,
+            distinct,
+        })
+    }
+
+    /// Makes the calls on an array.
+    pub fn ask(&mut self, alloc: Global, column: &Column) -> Result<(), Fault> {
+        scalars::ask(alloc, &mut self.broadcasts, column)?;
+        counts::ask(alloc, &mut self.counts, column)?;
+        reductions::ask(&mut self.reductions, column);
+        distinct::ask(alloc, &mut self.distinct, column)
+    }
+
+    /// Prints what was compared.
+    pub fn print(&self, rt: &impl Print) -> Result<(), Fault> {
+        print(rt, &self.broadcasts)?;
+        print(rt, &self.counts)?;
+        print(rt, &self.reductions)?;
+        print(rt, &self.distinct)
+    }
+}
+
+/// Makes the calls at all pairs of offsets, and prints what was compared.
+pub fn sweep(rt: &(impl Print + AllocGlobal)) -> Result<(), Fault> {
+    let mut singles = Singles::new(rt.alloc())?;
+    for (round, sort) in ROUNDS.iter().enumerate() {
+        sweep_round(rt.alloc(), &mut singles, round, *sort)?;
+    }
+    singles.print(rt)
+}
+
+// Makes the calls on arrays of each length.
+fn sweep_round(
+    alloc: Global,
+    singles: &mut Singles,
+    round: usize,
+    sort: Sort,
+) -> Result<(), Fault> {
+    for len in LENGTHS {
+        for values in 0..OFFSETS {
+            sweep_offset(alloc, singles, round, sort, len, values)?;
+        }
+    }
+    Ok(())
+}
+
+// Makes the calls on arrays whose values begin at one bit, and their validities at each.
+fn sweep_offset(
+    alloc: Global,
+    singles: &mut Singles,
+    round: usize,
+    sort: Sort,
+    len: usize,
+    values: usize,
+) -> Result<(), Fault> {
+    for validity in 0..OFFSETS {
+        let mut draw = Draw::new(&[round, len, values, validity]);
+        let place = Place { values, validity };
+        let column = Column::draw(alloc, sort, len, place, &mut draw)?;
+        singles.ask(alloc, &column)?;
+    }
+    Ok(())
+}

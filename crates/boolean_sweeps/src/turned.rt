@@ -1,0 +1,33 @@
+//! Rows of which one is told wrong, so that answers have to differ.
+
+use crate::column::{Column, Place};
+use crate::columns::HALF_NULL;
+use crate::draw::Draw;
+use crate::pairs;
+use crate::singles::Singles;
+use recorded_text::fault::Fault;
+use std::alloc::Global;
+
+/// Makes all calls on such rows, and prints what was compared.
+pub fn sweep(rt: &(impl Print + AllocGlobal)) -> Result<(), Fault> {
+    println!(rt; "Row 100 told wrong, of the right array and then of the left:")?;
+    pairs::sweep_turned(rt)?;
+    println!(rt; "The first row told wrong:")?;
+    let mut singles = Singles::new(rt.alloc())?;
+    ask(rt.alloc(), &mut singles, &[Some(true)])?;
+    ask(rt.alloc(), &mut singles, &[Some(true); 129])?;
+    ask(rt.alloc(), &mut singles, &[Some(true), Some(false), None])?;
+    singles.print(rt)
+}
+
+// Makes the calls on an array of rows, the first of which is told wrong.
+fn ask(alloc: Global, singles: &mut Singles, rows: &[Option<bool>]) -> Result<(), Fault> {
+    let place = Place {
+        values: 62,
+        validity: 5,
+    };
+    let rows = Vec::from_slice(alloc, rows)?;
+    let mut column = Column::of_rows(alloc, HALF_NULL, rows, place, &mut Draw::new(&[]))?;
+    column.turn_row(0);
+    singles.ask(alloc, &column)
+}
