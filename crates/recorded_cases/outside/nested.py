@@ -19,8 +19,9 @@ from slices_arrays import Entry, Fields, FixedLists, Keyed, Leaves, Lists, Nulls
 # those whose answer is no matter of rows, or that answer bits at null rows too
 OTHERS = ("dtype", "clone_type", "has_type", "is_struct_of", "same_field", "same_fields", "same_kind", "same_type", "type_eq",
           "field_eq", "can_broadcast", "can_compare", "keys", "keys_fit", "list_broadcast", "fixed_size_list_broadcast")
-STATES = ("accepts_keys", "append_all_keys", "key_state", "key_state_accepts", "merge_tree_keys", "one_range_keys",
-          "same_range_keys", "state_keys", "state_keys_rows", "stored_keys")
+STATES = ("accepts_keys", "append_all_keys", "ended_keys", "key_state", "key_state_accepts",
+          "merge_tree_keys", "one_range_keys", "same_range_keys", "state_keys", "state_keys_rows",
+          "stored_keys")
 
 # what is made by a loop, or has more entries than a list holds: `deep.py` answers these
 ELSEWHERE = ("deep_mixed.txt",)

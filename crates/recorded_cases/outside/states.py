@@ -38,6 +38,8 @@ def entry_text(row):
 class Nulls:
     """A null array, of any length."""
 
+    kind = "null"
+
     def __init__(self, n):
         self.n = n
 
@@ -82,6 +84,14 @@ class Keyed(Rows):
 
     def keys(self):
         return super().rows()
+
+
+def type_text(array):
+    """The type of an array as text."""
+    if isinstance(array, Keyed):
+        return f"dict({array.kind} {type_text(array.entries)})"
+    assert array.kind not in ("list", "fixedbinary", "dict")
+    return array.kind
 
 
 class State:
@@ -348,6 +358,12 @@ def append_all_keys(case):
     return state.read_by(entries).shown()
 
 
+def ended(state):
+    """The stored values of the array that a state ends in, and which of them are present."""
+    values, null = state.values(), state.has_null
+    return values + null * [0], len(values) * [True] + null * [False]
+
+
 def stored(state, under_null):
     """The stored values of the array that a state ends in, where one stands under a null."""
     return " ".join(map(row_text, state.values() + state.has_null * [under_null]))
@@ -361,6 +377,14 @@ def stored_numbers(case):
 def stored_keys(case):
     state, entries = keyed(case)
     return stored(state.read_by(entries), 0)
+
+
+def ended_keys(case):
+    """The type of the array that a state of keys ends in, and another state that has seen it."""
+    state, entries = keyed(case)
+    array = Keyed("u32", *ended(state.read_by(entries)), entries)
+    again = State(key_span(entries)).fed(array.keys())
+    return f"{type_text(array)} | {again.read_by(entries).shown()}"
 
 
 def merge_tree(case, leaf):
@@ -419,6 +443,7 @@ CALLS = {
     "stored_numbers": stored_numbers,
     "stored_truths": lambda case: stored(all_fed(State(TRUTHS), case.lists("bool")), False),
     "stored_keys": stored_keys,
+    "ended_keys": ended_keys,
     "merge_tree_numbers": merge_tree_numbers,
     "merge_tree_truths": lambda case: merge_tree(case, lambda: State(TRUTHS).fed(case.rows("bool"))),
     "merge_tree_keys": merge_tree_keys,

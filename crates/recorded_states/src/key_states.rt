@@ -4,18 +4,21 @@
 //! |---|---|
 //! | `key_state V MIN MAX A..` | the state over the entries V, as `seen` says, in which one of the numbers from MIN to MAX was put in the place of that of its keys, and to which the arrays of type `u32` were then appended |
 //! | `key_state_accepts V MIN MAX A` | whether that state accepts the dictionary array A |
+//! | `ended_keys V A..` | the type of the array in which a state over V ends once the arrays were appended; behind ` \| ` another state over V, as `seen` says, to which that array was appended |
 
 ghost use Rattle.polars_arrays_nested.specs.GoodParts.{IsGood};
 ghost use Rattle.polars_arrays_nested.specs.declared.any_array.AnyArray.{Dictionary};
 ghost use Rattle.recorded_text.specs.Cases.{HasGoodArrays};
 
-use crate::columns::{append_named, if_done, rows_named};
+use crate::columns::{append, append_named, gathered, if_done, rows_named};
 use crate::new_states::{Entries, NewStates, NumberRange, new_state_over};
 use crate::pairs::{either_way, read_joined};
 use crate::questions::{Question, answer_question, write_truth};
-use crate::seen::write_seen;
+use crate::seen::{add_seen, write_seen};
 use crate::state_kinds::RecordedState;
 use crate::trees::merge_leaves;
+use polars_arrays_bits::error::ComputeError;
+use polars_arrays_flat::data_type::ArrowDataType;
 use polars_arrays_nested::any_array::AnyArray;
 use polars_arrays_nested::dictionary::DictionaryArray;
 use polars_compute_unique::dictionary::DictionaryRangedUniqueState;
@@ -24,6 +27,7 @@ use polars_compute_unique::primitive::PrimitiveRangedUniqueState;
 use recorded_text::fault::Fault;
 use recorded_text::row_text::write_made;
 use recorded_text::store::Store;
+use recorded_text::type_text::write_type;
 use recorded_text::words::Words;
 use std::alloc::Global;
 
@@ -58,6 +62,7 @@ pub fn answer(
         "state_keys" => either_way::<Entries>(alloc, store, words),
         "state_keys_rows" => write_joined(alloc, store, words),
         "merge_tree_keys" => merge_leaves::<Entries>(alloc, store, words),
+        "ended_keys" => write_ended(alloc, store, words),
         _ => return Ok(None),
     };
     answer.map(Some)
@@ -145,4 +150,49 @@ fn write_entries(alloc: Global, array: DictionaryArray) -> Result<String, Fault>
     requires { IsGood (Dictionary array) }
 {
     write_made(alloc, AnyArray::Dictionary(array))
+}
+
+// Writes the type of the array that a state ends in, and another state to which it was appended.
+fn write_ended(alloc: Global, store: &Store, words: &mut Words) -> Result<String, Fault>
+    requires { HasGoodArrays store.now }
+{
+    let range = Entries::read(alloc, store, words)?;
+    let array = end(alloc, &range, store, words.rest())?;
+    let text = write_made_type(alloc, array.dtype(alloc));
+    add_seen(alloc, text, state_of(alloc, &range, &array))
+}
+
+// Returns the array that a state ends in to which arrays were appended.
+fn end(
+    alloc: Global,
+    range: &Entries,
+    store: &Store,
+    names: &[&str],
+) -> Result<DictionaryArray, Fault>
+    requires { HasGoodArrays store.now }
+{
+    let array = gathered(alloc, range, store, names)?.finalize_unique(alloc)?;
+    Ok(array)
+}
+
+// Returns a new state to which one array was appended.
+fn state_of(
+    alloc: Global,
+    range: &Entries,
+    array: &DictionaryArray,
+) -> Result<DictionaryRangedUniqueState, Fault> {
+    let mut state = range.new_state(alloc)?;
+    let appended = append(&mut state, array);
+    if_done(state, appended)
+}
+
+// Returns the text of a type that was made to be written.
+fn write_made_type(
+    alloc: Global,
+    made: Result<ArrowDataType, ComputeError>,
+) -> Result<String, Fault> {
+    let dtype = made?;
+    let text = write_type(alloc, &dtype);
+    drop(dtype);
+    text
 }
