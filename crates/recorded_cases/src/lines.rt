@@ -115,14 +115,13 @@ fn push_repeated(bytes: &mut Vec<u8>, times: u32, piece: &[u8]) -> Result<(), Al
     Ok(())
 }
 
-/// What a run over the bytes of the next word reports and writes. Bytes can always be read, and writing them
-/// takes nothing but memory.
+/// What a run over the bytes of the next word reports and writes.
 fn answer_run(alloc: Global, words: &mut Words) -> Result<String, Fault> {
     let input = read_bytes(alloc, words.read()?)?;
     let mut written = Vec::new(alloc);
     match run(alloc, &mut input.as_slice(), &mut written) {
         Ok(report) => write_run(alloc, report, &written),
-        Err(_) => Err(Fault::Memory),
+        Err(fault) => Err(fault_of(fault, &written)),
     }
 }
 
@@ -139,7 +138,17 @@ fn answer_demo(alloc: Global) -> Result<String, Fault> {
     let mut written = Vec::new(alloc);
     match demo(alloc, &mut written) {
         Ok(()) => write_bytes(alloc, &written),
-        Err(_) => Err(Fault::Memory),
+        Err(fault) => Err(fault_of(fault, &written)),
+    }
+}
+
+/// Returns the fault of a line whose run stopped: `Memory` where memory was refused to the run,
+/// which then wrote nothing, or to the vector that it writes to, and else `Case`.
+fn fault_of(fault: RunError, written: &[u8]) -> Fault {
+    match fault {
+        RunError::Memory if written.is_empty() => Fault::Memory,
+        RunError::Write => Fault::Memory,
+        _ => Fault::Case,
     }
 }
 

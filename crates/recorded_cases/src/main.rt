@@ -14,8 +14,12 @@
 //! first `<at>` are cut off, and bytes `x<hexadecimal digits>`. Answers are rows, bits with `x` where nothing
 //! is promised, numbers, `none`, or `refused: WHY`.
 //!
-//! A line that can't be answered ends the run with status 1 and is named on standard error.
+//! A line that can't be answered ends the run with status 1 and is named on standard error. One to
+//! which memory is refused is named there too, and is answered once more: a refused growth leaves
+//! all arrays as they were.
 #![tactic(auto)]
+
+ghost use Rattle.recorded_text.specs.Cases.{HasGoodArrays};
 
 use crate::question::answer_line;
 use recorded_text::fault::Fault;
@@ -32,9 +36,27 @@ fn answer_text(rt: &(impl Print + Eprint + AllocGlobal), text: &str) -> Result<(
     let alloc = rt.alloc();
     let mut store = Store::new(alloc);
     for line in text.lines() {
-        print_answer(rt, line, answer_line(alloc, &mut store, line))?;
+        print_answer(rt, line, ask(rt, &mut store, line))?;
     }
     Ok(())
+}
+
+/// Answers a line, and where a growth was refused says so and answers it once more.
+fn ask(
+    rt: &(impl Eprint + AllocGlobal),
+    store: &mut Store,
+    line: &str,
+) -> Result<Option<String>, Fault>
+    requires { HasGoodArrays store.old }
+    ensures { HasGoodArrays store.new }
+{
+    match answer_line(rt.alloc(), store, line) {
+        Err(Fault::Memory) => {
+            eprintln!(rt; "{}: {line}", Fault::Memory)?;
+            answer_line(rt.alloc(), store, line)
+        }
+        answer => answer,
+    }
 }
 
 /// Prints the answer to a line, where it has one, or else the line that can't be answered.

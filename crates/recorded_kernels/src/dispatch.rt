@@ -16,7 +16,8 @@ ghost use Rattle.polars_arrays_nested.specs.Lengths.{len_of};
 ghost use Rattle.polars_arrays_nested.specs.Types.{type_of};
 ghost use Rattle.recorded_text.specs.Cases.{HasGoodArrays};
 
-use crate::leaf_kernels::{Always, Never, SeenKernel, write_seen};
+use crate::counters::{COMPARISONS, add_count, lent_counter};
+use crate::leaf_kernels::{Always, Never, SeenKernel};
 use crate::operands::{read_alike, read_two};
 use polars_arrays_nested::any_array::AnyArray;
 use polars_arrays_numbers::steps::Steps;
@@ -135,7 +136,7 @@ fn counted_by<K: SeenKernel + Drop>(
         Relation::Equal => array_tot_eq_missing_kernel_counted(alloc, left, right, &mut kernel),
         Relation::Unequal => array_tot_ne_missing_kernel_counted(alloc, left, right, &mut kernel),
     };
-    write_seen(write_made(alloc, bits), kernel.seen())
+    add_count(write_made(alloc, bits), kernel.seen(), COMPARISONS)
 }
 
 // The same by the call that takes a counter.
@@ -143,9 +144,9 @@ fn with_steps(alloc: Global, store: &Store, words: &mut Words) -> Result<String,
     requires { HasGoodArrays store.now }
 {
     let (left, right) = read_alike(store, words)?;
-    let mut steps = Steps::new();
+    let mut steps = lent_counter();
     let bits = array_tot_eq_missing_kernel_with_steps(alloc, left, right, &mut steps);
-    write_seen(write_made(alloc, bits), steps.seen())
+    add_count(write_made(alloc, bits), steps.seen(), COMPARISONS)
 }
 
 // Where lists have for items all rows of an array, in order.

@@ -2,25 +2,25 @@
 
 ghost use Rattle.std.specs.Prelude.{◌≡◌, true, false};
 
+use crate::counters::lent_counter;
 use polars_arrays_bits::bitmap::Bitmap;
 use polars_arrays_bits::error::ComputeError;
 use polars_arrays_nested::any_array::AnyArray;
 use polars_arrays_numbers::steps::Steps;
 use polars_compare_nested::leaf_kernel::LeafKernel;
-use recorded_text::fault::Fault;
 use std::alloc::Global;
 
-/// A kernel of leaves that begins with nothing counted.
+/// A kernel of leaves that begins with a counter of `lent_counter`.
 pub trait SeenKernel: LeafKernel {
     fn new() -> Self;
 
-    /// How many comparisons it counted.
+    /// What its counter shows.
     fn seen(&self) -> u64;
 }
 
 impl SeenKernel for Steps {
     fn new() -> Steps {
-        Steps::new()
+        lent_counter()
     }
 
     fn seen(&self) -> u64 {
@@ -57,7 +57,7 @@ impl LeafKernel for Always {
 impl SeenKernel for Always {
     fn new() -> Always {
         Always {
-            steps: Steps::new(),
+            steps: lent_counter(),
         }
     }
 
@@ -95,18 +95,11 @@ impl LeafKernel for Never {
 impl SeenKernel for Never {
     fn new() -> Never {
         Never {
-            steps: Steps::new(),
+            steps: lent_counter(),
         }
     }
 
     fn seen(&self) -> u64 {
         self.steps.seen()
     }
-}
-
-/// A text, and how many comparisons were counted for it.
-pub fn write_seen(text: Result<String, Fault>, seen: u64) -> Result<String, Fault> {
-    let mut text = text?;
-    write!(text, " in {seen} comparisons")?;
-    Ok(text)
 }

@@ -5,6 +5,7 @@
 ghost use Rattle.recorded_text.specs.Cases.{HasGoodArrays};
 
 mod borrowed;
+mod counters;
 mod dispatch;
 mod joining;
 mod kernel_names;

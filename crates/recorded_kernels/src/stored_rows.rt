@@ -13,6 +13,7 @@ ghost use Rattle.std.specs.Prelude.{◌+◌, ◌≤◌, length};
 ghost use Rattle.recorded_text.specs.Cases.{HasGoodArrays};
 ghost use Rattle.recorded_kernels.specs.Windows.{AreWindows};
 
+use crate::counters::lent_counter;
 use crate::named_comparisons::{NamedComparison, with_comparison};
 use crate::named_kinds::{of_kind, of_one_kind};
 use crate::operands::read_next_bytes;
@@ -269,7 +270,7 @@ fn view_windows(
     if !is_within(a, n, left.len()) || !is_within(b, n, right.len()) {
         return Err(Fault::Case);
     }
-    let mut steps = Steps::new();
+    let mut steps = lent_counter();
     let bits = view_bits(alloc, comparison, left, a, right, b, n, &mut steps);
     write_followed(alloc, bits, &steps)
 }

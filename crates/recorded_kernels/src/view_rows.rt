@@ -12,6 +12,7 @@
 ghost use Rattle.std.specs.Prelude.{◌≡◌, ◌<◌, length, IfOk};
 ghost use Rattle.recorded_text.specs.Cases.{HasGoodArrays};
 
+use crate::counters::{add_count, lent_counter};
 use crate::named_comparisons::{NamedComparison, with_comparison};
 use crate::named_kinds::of_one_kind;
 use crate::operands::{read_next_bytes, read_two};
@@ -97,9 +98,7 @@ pub fn write_followed(
     bits: Result<Bitmap, ComputeError>,
     steps: &Steps,
 ) -> Result<String, Fault> {
-    let mut text = write_made(alloc, bits)?;
-    write!(text, " in {}", steps.seen())?;
-    Ok(text)
+    add_count(write_made(alloc, bits), steps.seen(), "")
 }
 
 // Whether two rows are equal, or the first is less, by a call.
@@ -226,7 +225,7 @@ fn rows_followed<A: FollowedKernel>(
     if left.count() != right.count() {
         return Err(Fault::Case);
     }
-    let mut steps = Steps::new();
+    let mut steps = lent_counter();
     let bits = match asked {
         Followed::Equal => left.tot_eq_kernel_followed(alloc, right, &mut steps),
         Followed::Less => left.tot_lt_kernel_followed(alloc, right, &mut steps),

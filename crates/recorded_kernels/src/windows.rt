@@ -15,7 +15,8 @@ ghost use Rattle.polars_compare_nested.specs.Leaf.{is_leaf};
 ghost use Rattle.recorded_text.specs.Cases.{HasGoodArrays};
 ghost use Rattle.recorded_kernels.specs.Windows.{AreWindows};
 
-use crate::leaf_kernels::{Always, Never, SeenKernel, write_seen};
+use crate::counters::{COMPARISONS, add_count};
+use crate::leaf_kernels::{Always, Never, SeenKernel};
 use crate::raw_bits::write_raw;
 use polars_arrays_bits::bitmap::Bitmap;
 use polars_arrays_bits::error::ComputeError;
@@ -159,7 +160,7 @@ fn compare<K: SeenKernel + Drop>(
 {
     let mut kernel = K::new();
     let text = compare_by(alloc, call, windows, &mut kernel);
-    write_seen(text, kernel.seen())
+    add_count(text, kernel.seen(), COMPARISONS)
 }
 
 // What a call says of two windows by a kernel of leaves.
