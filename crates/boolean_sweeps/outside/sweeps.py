@@ -1,9 +1,10 @@
 """Prints what the program has to print, worked out from the rows alone.
 
-    python3 outside/sweeps.py > stdout     # about a minute
+    python3 outside/sweeps.py > stdout     # about ten seconds
 
-The numbers of calls and answers are products of rounds, lengths and offsets. How many bits are promised depends on which rows are
-null, so the rows are drawn here again, by the same generator. Nothing differs but where a row is told wrong.
+The numbers of calls and answers are products of rounds, lengths and offsets. How many bits are
+promised depends on which rows are null, so the rows are drawn here again, by the same generator.
+Nothing differs but where a row is told wrong.
 """
 
 LENGTHS = [0, 1, 63, 64, 65, 127, 128, 129]
@@ -30,9 +31,11 @@ SINGLES = [PLAIN, ALL_TRUE, HALF_NULL, NULL_OR_TRUE, FEW_FALSE, ALL_NULL]
 MISSING = ["tot_eq_missing_kernel", "tot_ne_missing_kernel"]
 KERNELS = ["tot_eq_kernel", "tot_ne_kernel"] + MISSING + [
     "tot_lt_kernel", "tot_le_kernel", "tot_gt_kernel", "tot_ge_kernel"]
-COUNTS = ["count_ones", "count_zeros", "leading_ones", "leading_zeros", "trailing_ones", "trailing_zeros"]
+COUNTS = ["count_ones", "count_zeros", "leading_ones", "leading_zeros",
+          "trailing_ones", "trailing_zeros"]
 REDUCTIONS = ["reduce_and", "reduce_or", "reduce_xor"] + [
-    f"{which}_{how}_nan_kernel" for how in ("ignore", "propagate") for which in ("min", "max", "min_max")]
+    f"{which}_{how}_nan_kernel"
+    for how in ("ignore", "propagate") for which in ("min", "max", "min_max")]
 DISTINCT = ["unique", "n_unique", "n_unique_non_null", "has_seen_all",
             "finalize_unique", "finalize_n_unique", "finalize_n_unique_non_null"]
 
@@ -50,7 +53,7 @@ def present_bits(sort, length, place):
         state = step((state + number) & WORD)
     bits = 0
     for row in range(length):
-        state = step(step(state))  # the first draw is the truth value, the second whether the row is null
+        state = step(step(state))  # drawn are the truth value and whether it is null
         if state >> 59 >= sort[0]:
             bits |= 1 << row
     return bits
@@ -90,7 +93,8 @@ def sweeps():
     calls, rows = len(SINGLES) * PLACES * len(LENGTHS), len(SINGLES) * PLACES * sum(LENGTHS)
     promised = present()
     for name in KERNELS:  # each with two scalars
-        line(f"{name}_broadcast", 2 * calls, 2 * rows, 2 * rows if name in MISSING else 2 * promised, 0)
+        compared = rows if name in MISSING else promised
+        line(f"{name}_broadcast", 2 * calls, 2 * rows, 2 * compared, 0)
     for name in COUNTS:
         line(name, calls, rows, rows, 0)
     for name in REDUCTIONS + DISTINCT:
@@ -100,11 +104,13 @@ def sweeps():
 def told_wrong():
     """What differs where one row is told wrong, by hand.
 
-    Pairs: 129 true rows on both sides, of which row 100 of the right array is told false, and then that of the left. Equality is told
-    wrong both times, each order once: 1 < 0 is as false as 1 < 1, and 0 < 1 is not.
+    Pairs: 129 true rows on both sides, of which row 100 of the right array is told false, and then
+    that of the left. Equality is told wrong both times, each order once: 1 < 0 is as false as
+    1 < 1, and 0 < 1 is not.
 
-    Singles: 1, told as 0; 129 times 1, the first told as 0; 1 0 null, told as 0 0 null. Equality to a scalar is told wrong for both
-    scalars, each order for one of them. WRONG says of how many arrays the other answers are told wrong.
+    Singles: 1, told as 0; 129 times 1, the first told as 0; 1 0 null, told as 0 0 null. Equality to
+    a scalar is told wrong for both scalars, each order for one of them. WRONG says of how many
+    arrays the other answers are told wrong.
     """
     print("Row 100 told wrong, of the right array and then of the left:")
     for name in KERNELS:

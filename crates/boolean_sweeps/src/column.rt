@@ -34,9 +34,10 @@ pub struct Place {
 }
 
 impl Place {
-    // Returns how many rows are cut off by slicing the array. The bitmaps are sliced to begin where these do.
+    // Returns how many rows in front are cut off by slicing the array. The bitmaps are sliced to
+    // begin with these.
     fn rows_ahead(self) -> usize {
-        if self.values % 2 == self.validity % 2 {
+        if self.values % 2 == 0 {
             0
         } else {
             self.values.min(self.validity)
@@ -88,8 +89,8 @@ impl Column {
 
     /// Says of a present row that it is the other truth value. The array stays.
     pub fn turn_row(&mut self, i: usize) {
-        if let Some(row) = self.rows.get_mut(i) {
-            *row = row.map(|truth| !truth);
+        if let Some(Some(truth)) = self.rows.get_mut(i) {
+            *truth = !*truth;
         }
     }
 }
@@ -118,10 +119,21 @@ fn store_rows(
     place: Place,
     draw: &mut Draw,
 ) -> Result<BooleanArray, Fault> {
+    let array = store_wide(alloc, sort, rows, place, draw)?;
+    cut_rows(array, place.rows_ahead(), rows.len())
+}
+
+// Makes the same array with the rows before and behind that slicing cuts off.
+fn store_wide(
+    alloc: Global,
+    sort: Sort,
+    rows: &[Option<bool>],
+    place: Place,
+    draw: &mut Draw,
+) -> Result<BooleanArray, Fault> {
     let values = store_values(alloc, sort, rows, place, draw)?;
     let validity = store_validity(alloc, sort, rows, place, draw)?;
-    let array = BooleanArray::try_new(values, validity)?;
-    cut_rows(array, place.rows_ahead(), rows.len())
+    Ok(BooleanArray::try_new(values, validity)?)
 }
 
 // Makes the values of rows. Under a null stands any value.
@@ -132,14 +144,25 @@ fn store_values(
     place: Place,
     draw: &mut Draw,
 ) -> Result<Bitmap, Fault> {
-    let others = CHANCES.saturating_sub(sort.trues);
     let mut truths = Vec::with_capacity(alloc, ROOM)?;
-    push_others(&mut truths, place.values, others, draw)?;
+    push_values(&mut truths, sort, rows, place, draw)?;
+    cut_bits(alloc, &truths, place.values, place.rows_ahead())
+}
+
+// Pushes the values of rows, and those before and behind them.
+fn push_values(
+    truths: &mut Vec<bool>,
+    sort: Sort,
+    rows: &[Option<bool>],
+    place: Place,
+    draw: &mut Draw,
+) -> Result<(), AllocError> {
+    let others = CHANCES.saturating_sub(sort.trues);
+    push_others(truths, place.values, others, draw)?;
     for row in rows {
         truths.push(row.unwrap_or(draw.truth(others)))?;
     }
-    push_others(&mut truths, BEHIND, others, draw)?;
-    cut_bits(alloc, &truths, place.values, place.rows_ahead())
+    push_others(truths, BEHIND, others, draw)
 }
 
 // Makes the validity of rows, if there is to be one.
@@ -150,16 +173,39 @@ fn store_validity(
     place: Place,
     draw: &mut Draw,
 ) -> Result<Option<Bitmap>, Fault> {
-    if !sort.has_validity {
-        return Ok(None);
+    if sort.has_validity {
+        Ok(Some(store_present(alloc, sort, rows, place, draw)?))
+    } else {
+        Ok(None)
     }
+}
+
+// Makes the validity of rows.
+fn store_present(
+    alloc: Global,
+    sort: Sort,
+    rows: &[Option<bool>],
+    place: Place,
+    draw: &mut Draw,
+) -> Result<Bitmap, Fault> {
     let mut truths = Vec::with_capacity(alloc, ROOM)?;
-    push_others(&mut truths, place.validity, sort.nulls, draw)?;
+    push_present(&mut truths, sort, rows, place, draw)?;
+    cut_bits(alloc, &truths, place.validity, place.rows_ahead())
+}
+
+// Pushes whether rows are present, and bits before and behind them.
+fn push_present(
+    truths: &mut Vec<bool>,
+    sort: Sort,
+    rows: &[Option<bool>],
+    place: Place,
+    draw: &mut Draw,
+) -> Result<(), AllocError> {
+    push_others(truths, place.validity, sort.nulls, draw)?;
     for row in rows {
         truths.push(row.is_some())?;
     }
-    push_others(&mut truths, BEHIND, sort.nulls, draw)?;
-    cut_bits(alloc, &truths, place.validity, place.rows_ahead()).map(Some)
+    push_others(truths, BEHIND, sort.nulls, draw)
 }
 
 // Pushes truth values that are no rows.
@@ -175,7 +221,8 @@ fn push_others(
     Ok(())
 }
 
-// Packs truth values, and keeps the rows, which begin at bit `at`, and `ahead` bits before and behind them.
+// Packs truth values, and keeps the rows, which begin at bit `at`, and `ahead` bits before and
+// behind them.
 fn cut_bits(alloc: Global, truths: &[bool], at: usize, ahead: usize) -> Result<Bitmap, Fault> {
     let mut bits = Bitmap::from_bools(alloc, truths)?;
     let from = at.saturating_sub(ahead);

@@ -50,7 +50,8 @@ pub const ALL_NULL: Sort = Sort {
     trues: 16,
 };
 
-/// Returns where the validity begins of an array that is one of a pair: at each of 0 to 65 for one of the offsets.
+/// Returns at which bit the validity begins of an array that is one of a pair: another one for each
+/// bit that its values begin at.
 pub fn validity_offset(values: usize) -> usize {
     values.saturating_mul(7).saturating_add(3) % OFFSETS
 }

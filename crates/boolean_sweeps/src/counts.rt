@@ -1,6 +1,7 @@
 //! Counts of the bits of each row: a truth value is one bit.
 
 use crate::column::Column;
+use crate::mask::masked;
 use crate::tally::{Counts, Tally};
 use polars_arrays_flat::array::Array;
 use polars_arrays_flat::boolean::BooleanArray;
@@ -31,12 +32,14 @@ pub const COUNTS: [(&str, Count); 6] = [
 ];
 
 impl Count {
-    // Returns the count of a present row.
-    fn of(self, row: bool) -> u32 {
-        match self {
-            Count::Ones | Count::LeadingOnes | Count::TrailingOnes => u32::from(row),
-            Count::Zeros | Count::LeadingZeros | Count::TrailingZeros => u32::from(!row),
-        }
+    // Returns the count of a row, or None where it is null.
+    fn of(self, row: Option<bool>) -> Option<u32> {
+        let truth = row?;
+        let counted = match self {
+            Count::Ones | Count::LeadingOnes | Count::TrailingOnes => truth,
+            Count::Zeros | Count::LeadingZeros | Count::TrailingZeros => !truth,
+        };
+        Some(u32::from(counted))
     }
 
     // Calls it.
@@ -66,19 +69,7 @@ pub fn ask(alloc: Global, tallies: &mut Vec<Tally<Count>>, column: &Column) -> R
 fn compare_rows(counts: &mut Counts, count: Count, column: &Column, counted: &PrimitiveArray<u32>) {
     counts.begin_call(counted.len() == column.rows().len());
     for (i, row) in column.rows().iter().enumerate() {
-        counts.compare(row_of(counted, i) == row.map(|truth| count.of(truth)));
-    }
-}
-
-// Returns row `i` of an array, or None where it is null.
-fn row_of(array: &PrimitiveArray<u32>, i: usize) -> Option<u32> {
-    let is_present = match array.validity() {
-        Some(validity) => validity.get(i) == Some(true),
-        None => true,
-    };
-    if is_present {
-        array.values().get(i).copied()
-    } else {
-        None
+        let value = counted.values().get(i).copied();
+        counts.compare(masked(value, counted.validity(), i) == count.of(*row));
     }
 }

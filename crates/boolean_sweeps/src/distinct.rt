@@ -1,6 +1,7 @@
 //! Distinct truth values, of an array and by states.
 
 use crate::column::Column;
+use crate::mask::masked;
 use crate::tally::Tally;
 use polars_arrays_flat::array::Array;
 use polars_arrays_flat::boolean::BooleanArray;
@@ -96,29 +97,18 @@ fn state_of(array: &BooleanArray) -> BooleanUniqueKernelState {
     state
 }
 
-// Returns how many rows are not null.
-fn present_rows(rows: &[Option<bool>]) -> usize {
-    rows.iter().flatten().count()
+// Returns how many of distinct rows are not null.
+fn present_rows(distinct: &[Option<bool>]) -> usize {
+    distinct
+        .len()
+        .saturating_sub(usize::from(distinct.contains(&None)))
 }
 
 // Returns whether an array has these rows.
 fn has_rows(array: &BooleanArray, rows: &[Option<bool>]) -> bool {
     let mut agrees = array.len() == rows.len();
     for (i, row) in rows.iter().enumerate() {
-        agrees &= row_of(array, i) == *row;
+        agrees &= masked(array.values().get(i), array.validity(), i) == *row;
     }
     agrees
-}
-
-// Returns row `i` of an array, or None where it is null.
-fn row_of(array: &BooleanArray, i: usize) -> Option<bool> {
-    let is_present = match array.validity() {
-        Some(validity) => validity.get(i) == Some(true),
-        None => true,
-    };
-    if is_present {
-        array.values().get(i)
-    } else {
-        None
-    }
 }

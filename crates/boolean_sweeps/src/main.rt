@@ -1,12 +1,15 @@
-//! The kernels of `BooleanArray` at all pairs of bit offsets, set against rows that are kept as a list.
+//! The kernels of `BooleanArray` at all pairs of bit offsets, set against rows that are kept as a
+//! list.
 //!
-//! Each array is made of a list of rows, and each answer is worked out from that list, row by row, without bitmaps and
-//! kernels. The values of an array begin at any of 66 bits, and its validity at another one; the bits before and behind them, and
-//! under nulls, are drawn by chance, or are the opposite of the rows.
+//! Each array is made of a list of rows, and what each call has to answer is worked out from that
+//! list, row by row, without bitmaps or kernels. The values of an array begin at one of 66 bits,
+//! and its validity at another. The bits before and behind them, and the values under nulls, are
+//! drawn by chance, or are the opposite of the rows.
 //!
-//! For each call there is a line: how often it was called, how many answers it gave (a bit or a count for each row, or one for
-//! an array), how many of these are promised and were compared, and how many differ. At the end the same is done for rows of which one is
-//! told wrong, and there answers have to differ. `outside/sweeps.py` prints the same lines by its own account.
+//! A line for each call says how often it was called, how many answers it gave (one for each row,
+//! or one for an array), how many of these are promised and were compared, and how many differ. The
+//! last lines are of rows of which one is told wrong, so that answers have to differ.
+//! `outside/sweeps.py` prints the same lines by an account of its own.
 #![tactic(auto)]
 
 use recorded_text::fault::Fault;
@@ -18,6 +21,7 @@ mod counts;
 mod distinct;
 mod draw;
 mod kernel;
+mod mask;
 mod pairs;
 mod reductions;
 mod scalars;

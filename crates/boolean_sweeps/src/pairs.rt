@@ -153,7 +153,8 @@ fn compare_bits(counts: &mut Counts, kernel: Kernel, left: &Column, right: &Colu
     }
 }
 
-/// Makes the calls on two pairs of arrays of true rows, where row 100 of the right one and then of the left one is told as false.
+/// Makes the calls twice on two arrays of true rows. Row 100 is told as false, once of the right
+/// array and once of the left one.
 pub fn sweep_turned(rt: &(impl Print + AllocGlobal)) -> Result<(), Fault> {
     let alloc = rt.alloc();
     let mut tallies = begin(alloc, &KERNELS)?;
@@ -173,5 +174,6 @@ fn all_true(alloc: Global, side: usize) -> Result<Column, Fault> {
         values: 3,
         validity: 64,
     };
-    Column::draw(alloc, ALL_TRUE, 129, place, &mut Draw::new(&[side]))
+    let mut draw = Draw::new(&[side]);
+    Column::draw(alloc, ALL_TRUE, 129, place, &mut draw)
 }

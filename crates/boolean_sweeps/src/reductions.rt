@@ -84,7 +84,8 @@ impl Reduction {
 
 // Returns a truth value twice.
 fn twice(truth: Option<bool>) -> Pair {
-    truth.map(|truth| (truth, truth))
+    let truth = truth?;
+    Some((truth, truth))
 }
 
 /// Makes the calls on an array.

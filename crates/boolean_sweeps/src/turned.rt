@@ -27,7 +27,8 @@ fn ask(alloc: Global, singles: &mut Singles, rows: &[Option<bool>]) -> Result<()
         validity: 5,
     };
     let rows = Vec::from_slice(alloc, rows)?;
-    let mut column = Column::of_rows(alloc, HALF_NULL, rows, place, &mut Draw::new(&[]))?;
+    let mut draw = Draw::new(&[]);
+    let mut column = Column::of_rows(alloc, HALF_NULL, rows, place, &mut draw)?;
     column.turn_row(0);
     singles.ask(alloc, &column)
 }
