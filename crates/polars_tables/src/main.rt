@@ -1,7 +1,7 @@
 //! Reads lines such as `eq_missing i32 1 null | 1 null`, and answers each with a line.
 #![tactic(auto)]
 
-use polars_tables_lines::arguments::command;
+use polars_tables_lines::arguments::asked;
 use polars_tables_lines::demo::demo;
 use polars_tables_lines::program::{Command, exit_status, fault_text};
 use polars_tables_lines::running::{Report, RunError, run};
@@ -36,19 +36,16 @@ fn print_demo(rt: &(impl Print + AllocGlobal)) -> Result<Report, RunError> {
 }
 
 fn main(rt: HostRuntime) -> ExitCode {
-    let Ok(words) = read_arguments(&rt) else {
-        let _ = eprintln!(rt; "{}", fault_text(&RunError::Memory));
-        return ExitCode::from(1);
-    };
-    match command(&words) {
-        Command::Lines => {
+    match asked(&read_arguments(&rt)) {
+        Ok(Command::Lines) => {
             let outcome = run(rt.alloc(), &mut rt.reader(), &mut io::writer(&rt));
             ExitCode::from(end(&rt, outcome))
         }
-        Command::Demo => ExitCode::from(end(&rt, print_demo(&rt))),
-        Command::Usage => {
+        Ok(Command::Demo) => ExitCode::from(end(&rt, print_demo(&rt))),
+        Ok(Command::Usage) => {
             let _ = eprintln!(rt; "usage: polars_tables [demo]");
             ExitCode::from(2)
         }
+        Err(fault) => ExitCode::from(end(&rt, Err(fault))),
     }
 }

@@ -1,9 +1,11 @@
 -- Worked examples of the definitions: the check computes both sides of each.
 use Rattle.std.proofs.Common.{◌≡◌, [], ◌∷◌, ◌++◌, Ok, Err, refl, codes}
 use Rattle.std.specs.Fmt.{digits}
+use Rattle.std.specs.declared.io.ErrorKind.TheVariants.{InvalidData, OutOfMemory}
 use Rattle.polars_tables_rows.specs.declared.fault.LineError.TheVariants.{Op, TypeName, Row as RowError, Length, Range}
 use Rattle.polars_tables_lines.specs.declared.program.Command.TheVariants.{Lines, Demo, Usage}
-use Rattle.polars_tables_lines.specs.Command.{command_of}
+use Rattle.polars_tables_lines.specs.declared.running.RunError.TheVariants.{Memory}
+use Rattle.polars_tables_lines.specs.Command.{command_of, unread_of}
 use Rattle.polars_tables_lines.specs.Line.{line_meaning}
 use Rattle.polars_tables_lines.specs.Output.{lines_of, printed, fault_word}
 
@@ -57,6 +59,12 @@ command-demo = refl
 
 command-words : command_of (codes "demo" ∷ codes "demo" ∷ []) ≡ Usage
 command-words = refl
+
+unread-word : unread_of InvalidData ≡ Ok Usage
+unread-word = refl
+
+unread-memory : unread_of OutOfMemory ≡ Err Memory
+unread-memory = refl
 
 fault-type : fault_word TypeName ≡ codes "type"
 fault-type = refl

@@ -1,6 +1,8 @@
 -- What the program is asked to do, and how it ends.
 use Rattle.std.specs.Prelude.{ℕ, ◌==◌, cond, if◌then◌else◌, List, [], ◌∷◌, codes, Result, Ok, Err}
 use Rattle.std.specs.Str.{bytes_eq}
+use Rattle.std.specs.declared.io.ErrorKind.{ErrorKind}
+use Rattle.std.specs.declared.io.ErrorKind.TheVariants.{OutOfMemory}
 use Rattle.polars_tables_lines.specs.declared.program.Command.{Command}
 use Rattle.polars_tables_lines.specs.declared.program.Command.TheVariants.{Lines, Demo, Usage}
 use Rattle.polars_tables_lines.specs.declared.running.Report.{Report}
@@ -12,6 +14,11 @@ abbrev pub command_of : List (List ℕ) → Command
 command_of [] = Lines
 command_of (word ∷ []) = cond (bytes_eq word (codes "demo")) Demo Usage
 command_of (word ∷ other ∷ more) = Usage
+
+-- where the arguments can't be read: a refused growth is a fault, and for anything else, as an argument that is no UTF-8, the usage line is printed
+abbrev pub unread_of : ErrorKind → Result Command RunError
+unread_of OutOfMemory = Err Memory
+unread_of kind = Ok Usage
 
 -- a run ends well where no line was refused
 abbrev pub exit_status_of : Result Report RunError → ℕ

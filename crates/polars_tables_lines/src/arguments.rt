@@ -1,10 +1,14 @@
 //! What the arguments ask for.
 
-ghost use Rattle.std.specs.Prelude.{◌≡◌, map};
+ghost use Rattle.std.specs.Prelude.{◌≡◌, map, MatchResult, Ok};
+ghost use Rattle.std.specs.IoError.{error_kind};
 ghost use Rattle.std.specs.String.{string_bytes};
-ghost use Rattle.polars_tables_lines.specs.Command.{command_of};
+ghost use Rattle.polars_tables_lines.specs.Command.{command_of, unread_of};
 
 use crate::program::Command;
+use crate::running::RunError;
+use std::io;
+use std::io::ErrorKind;
 
 /// What the words after the program's name ask for: without words the lines of standard input, with the one word `demo` the demo, and
 /// with any others the usage line.
@@ -15,5 +19,19 @@ pub fn command(arguments: &[String]) -> Command
         [] => Command::Lines,
         [word] if word.as_str() == "demo" => Command::Demo,
         _ => Command::Usage,
+    }
+}
+
+/// Returns what the program is asked to do, from the words after its name as they were read. Where
+/// one of them is no UTF-8, that is the usage line. A refused growth is the one fault.
+pub fn asked(arguments: &io::Result<Vec<String>>) -> Result<Command, RunError>
+    ensures { MatchResult arguments.now
+        (λ words. result ≡ Ok (command_of (map string_bytes words.items)))
+        (λ error. result ≡ unread_of (error_kind error)) }
+{
+    match arguments {
+        Ok(words) => Ok(command(words)),
+        Err(error) if error.kind() == ErrorKind::OutOfMemory => Err(RunError::Memory),
+        Err(_) => Ok(Command::Usage),
     }
 }
