@@ -3,3 +3,4 @@ pub mod Cuts
 pub mod Examples
 pub mod Known
 pub mod Texts
+pub mod TooMany

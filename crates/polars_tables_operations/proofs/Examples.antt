@@ -20,7 +20,7 @@ use Rattle.polars_tables_operations.specs.Answers.{general_answer, numeric_answe
 use Rattle.polars_tables_operations.specs.Bits.{bits_row, bits_value, count_of, lowest_bit}
 use Rattle.polars_tables_operations.specs.Comparing.{answer_validity, compared_rows}
 use Rattle.polars_tables_operations.specs.Distinct.{are_ends}
-use Rattle.polars_tables_operations.specs.Operations.{operation_of, takes}
+use Rattle.polars_tables_operations.specs.Operations.{lists_taken, operation_of, takes}
 use Rattle.polars_tables_operations.specs.Reducing.{best_row, reduced_row, reduction_of}
 
 -- null is the same as null, and a row is at most itself
@@ -103,3 +103,9 @@ range-all = refl
 truths-present : truths_answer PresentCounted ((Truth true ∷ Null ∷ []) ∷ []) ≡ Ok (codes "1")
 unfolding digits
 truths-present = refl
+
+lists-one : lists_taken (General Extremes) ≡ 1
+lists-one = refl
+
+lists-two : lists_taken (Numeric HasAllOfRange) ≡ 2
+lists-two = refl

@@ -86,3 +86,12 @@ abbrev pub takes : Operation → RowType → Bool
 takes (General operation) type = true
 takes (Numeric operation) type = not (is_boolean type)
 takes (DistinctTruths asked) type = is_boolean type
+
+-- how many lists of rows an operation takes
+abbrev pub lists_taken : Operation → ℕ
+lists_taken (General (Compare comparison operand)) = 2
+lists_taken (General operation) = 1
+lists_taken (Numeric (Change change)) = 1
+lists_taken (Numeric Sum) = 1
+lists_taken (Numeric operation) = 2
+lists_taken (DistinctTruths asked) = 1

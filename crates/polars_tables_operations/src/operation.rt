@@ -1,7 +1,7 @@
 //! The operations of the line language.
 
 ghost use Rattle.std.specs.Prelude.{◌≡◌};
-ghost use Rattle.polars_tables_operations.specs.Operations.{operation_of};
+ghost use Rattle.polars_tables_operations.specs.Operations.{lists_taken, operation_of};
 
 use polars_tables_rows::tables::find;
 
@@ -284,5 +284,18 @@ impl Operation {
         ensures { result ≡ operation_of name.now }
     {
         find(&OPERATIONS, name)
+    }
+
+    /// Returns how many lists of rows the operation takes.
+    pub fn lists_taken(self) -> usize
+        ensures { result ≡ lists_taken self }
+    {
+        match self {
+            Operation::General(GeneralOperation::Compare(..)) => 2,
+            Operation::General(_) => 1,
+            Operation::Numeric(NumericOperation::Change(_) | NumericOperation::Sum) => 1,
+            Operation::Numeric(_) => 2,
+            Operation::DistinctTruths(_) => 1,
+        }
     }
 }

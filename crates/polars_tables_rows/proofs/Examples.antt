@@ -8,7 +8,7 @@ use Rattle.polars_tables_rows.specs.declared.row_type.RowType.TheVariants.{I8, I
 use Rattle.polars_tables_rows.specs.Faults.{of_ends, of_number_scalar, of_scalar, of_two, or_fault}
 use Rattle.polars_tables_rows.specs.Tables.{find}
 use Rattle.polars_tables_rows.specs.Types.{is_boolean, least_in, row_type_of, width_of}
-use Rattle.polars_tables_rows.specs.Word.{words_of, signed_number, unsigned_number, truth_of, row_of, lists_of}
+use Rattle.polars_tables_rows.specs.Word.{words_of, signed_number, unsigned_number, truth_of, row_of, lists_behind, lists_of}
 use Rattle.polars_tables_rows.specs.Written.{row_word, row_words, truth_word}
 
 find-first : find {A = ℕ} ((codes "a", 1) ∷ (codes "b", 2) ∷ (codes "a", 3) ∷ []) (codes "a") ≡ Some 1
@@ -49,6 +49,12 @@ truth-named = refl
 
 row-null : row_of Boolean (codes "null") ≡ Some Null
 row-null = refl
+
+behind-none : lists_behind I32 None ≡ Some []
+behind-none = refl
+
+behind-bar : lists_behind I32 (Some []) ≡ Some ([] ∷ [])
+behind-bar = refl
 
 lists-apart : lists_of I32 (codes "1" ∷ codes "|" ∷ []) ≡ Some ((Int (pos 1) ∷ []) ∷ [] ∷ [])
 lists-apart = refl

@@ -3,3 +3,4 @@ pub mod Joins
 pub mod Options
 pub mod RowLists
 pub mod Refused
+pub mod FirstWords

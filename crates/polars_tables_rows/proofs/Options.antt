@@ -3,7 +3,8 @@ use Rattle.std.proofs.Common.{◌≡◌, ◌++◌, List, [], ◌∷◌, Option, 
 use Rattle.std.specs.Prelude.{option_map}
 use Rattle.polars_tables_rows.specs.Word.{all_some}
 
-onto : {A : Type 0} (before : List A) (x : A) (rest : Option (List A)) → option_map (λ more. before ++ more) (option_map (λ xs. x ∷ xs) rest) ≡ option_map (λ more. (before ++ x ∷ []) ++ more) rest
+-- a value more in front of the rest
+pub onto : {A : Type 0} (before : List A) (x : A) (rest : Option (List A)) → option_map (λ more. before ++ more) (option_map (λ xs. x ∷ xs) rest) ≡ option_map (λ more. (before ++ x ∷ []) ++ more) rest
 onto before x None = refl
 onto before x (Some xs) = ap Some (sym (append_assoc before (x ∷ []) xs))
 

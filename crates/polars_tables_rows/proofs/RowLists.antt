@@ -1,91 +1,79 @@
--- The rows that words stand for, a word at a time, and their lists.
-use Rattle.std.proofs.Common.{◌≡◌, ◌<◌, ◌≤◌, ◌+◌, ◌++◌, ◌∙◌, ℕ, suc, Bool, true, false, cond, List, [], ◌∷◌, Option, Some, None, Bor, length, map, drop, get_or, refl, sym, ap, arith}
-use Rattle.std.specs.Prelude.{option_map, is_some, IfSome}
-use Rattle.std.proofs.lemmas.List.{at_drop_more, drop_all}
+-- The lists of rows that words stand for, a word at a time.
+use Rattle.std.proofs.Common.{◌≡◌, ◌<◌, ◌++◌, ◌∙◌, ℕ, suc, Bool, true, false, List, [], ◌∷◌, Option, Some, None, length, map, refl, sym, ap, arith, append_assoc, length-append}
+use Rattle.std.specs.Prelude.{option_map, is_some, IfSome, MatchOption}
 use Rattle.std.specs.List.{slice_split, onto_first}
+use Rattle.std.proofs.lemmas.List.Splits.{length-slice_split, slice_split-cons_no}
 use Rattle.polars_arrays_flat.specs.Row.{Row}
 use Rattle.polars_arrays_flat.specs.StoredRows.{kept, masked}
 use Rattle.polars_tables_rows.specs.declared.row_type.RowType.{RowType}
-use Rattle.polars_tables_rows.specs.Word.{all_some, row_from, row_of, rows_of, is_bar, lists_of}
-use Rattle.polars_tables_rows.proofs.Options.{all_some-more, all_some-none, all_some-end}
+use Rattle.polars_tables_rows.specs.Word.{all_some, is_bar, lists_of, row_from, row_of, rows_of}
 
-module _ {X Y : Type 0} (f : X → Option Y) (items : List X) (i : ℕ) (d : X) (before : List Y) (h : i < length items) where
-  -- an item that has a value
-  pub values-more : (y : Y) → f (get_or items i d) ≡ Some y → option_map (λ more. before ++ more) (all_some (map f (drop i items))) ≡ option_map (λ more. (before ++ y ∷ []) ++ more) (all_some (map f (drop (i + 1) items)))
-  values-more y e =
-      at_drop_more (λ (xs : List X). option_map (λ more. before ++ more) (all_some (map f xs))) items i d h
-      ∙ all_some-more before _ y (map f (drop (i + 1) items)) e
+abbrev onto_list : List Row → List (List Row) → List (List Row)
+onto_list made [] = []
+onto_list made (rows ∷ more) = (made ++ rows) ∷ more
 
-  -- an item that has none
-  pub values-none : f (get_or items i d) ≡ None → option_map (λ more. before ++ more) (all_some (map f (drop i items))) ≡ None
-  values-none e =
-      at_drop_more (λ (xs : List X). option_map (λ more. before ++ more) (all_some (map f xs))) items i d h
-      ∙ all_some-none before _ (map f (drop (i + 1) items)) e
+-- the lists with rows more in front of the first one
+abbrev pub in_front : List Row → Option (List (List Row)) → Option (List (List Row))
+in_front made lists = option_map (onto_list made) lists
 
--- before the first item nothing is made
-pub values-start : {Y : Type 0} (o : Option (List Y)) (before : List Y) → before ≡ [] → o ≡ option_map (λ more. before ++ more) o
-values-start None before e = refl
-values-start (Some xs) before e = rw e refl
+in_front-twice : (made : List Row) (x : Row) (lists : Option (List (List Row))) → in_front made (in_front (x ∷ []) lists) ≡ in_front (made ++ x ∷ []) lists
+in_front-twice made x None = refl
+in_front-twice made x (Some []) = refl
+in_front-twice made x (Some (rows ∷ more)) = ap (λ r. Some (r ∷ more)) (sym (append_assoc made (x ∷ []) rows))
 
--- past the last item
-pub values-end : {X Y : Type 0} (f : X → Option Y) (items : List X) (i : ℕ) (before : List Y) → length items ≤ i → option_map (λ more. before ++ more) (all_some (map f (drop i items))) ≡ Some before
-values-end f items i before h =
-    ap (λ xs. option_map (λ more. before ++ more) (all_some (map f xs))) (drop_all i items h) ∙ all_some-end before
+some_parts : (words : List (List ℕ)) → 0 < length (slice_split is_bar words)
+some_parts words = omega (arith, length-slice_split is_bar words)
 
-map-map : {X Y Z : Type 0} (f : Y → Z) (g : X → Y) (xs : List X) → map f (map g xs) ≡ map (λ x. f (g x)) xs
-map-map f g [] = refl
-map-map f g (x ∷ xs) = ap (λ ys. f (g x) ∷ ys) (map-map f g xs)
+module _ (type : RowType) (w : List ℕ) where
+  row-first : (x : Row) (rows : Option (List Row)) (rest : List (Option (List Row))) → all_some (option_map (λ xs. x ∷ xs) rows ∷ rest) ≡ in_front (x ∷ []) (all_some (rows ∷ rest))
+  row-first x None rest = refl
+  row-first x (Some rows) rest = mapped (all_some rest) where
+    mapped : (more : Option (List (List Row))) → option_map (λ ls. (x ∷ rows) ∷ ls) more ≡ in_front (x ∷ []) (option_map (λ ls. rows ∷ ls) more)
+    mapped None = refl
+    mapped (Some more) = refl
 
--- the rows of words that are lent
-pub rows_of-lent : (type : RowType) (words : List (Bor (List ℕ))) → rows_of type (map (λ w. w.now) words) ≡ all_some (map (λ w. row_of type w.now) words)
-rows_of-lent type words = ap all_some (map-map (row_of type) (λ w. w.now) words)
+  parts-row : (x : Row) (parts : List (List (List ℕ))) → 0 < length parts → row_of type w ≡ Some x → all_some (map (rows_of type) (onto_first w parts)) ≡ in_front (x ∷ []) (all_some (map (rows_of type) parts))
+  parts-row x [] h e = absurd (omega arith)
+  parts-row x (part ∷ parts) h e =
+      ap (λ (o : Option Row). all_some (all_some (o ∷ map (row_of type) part) ∷ map (rows_of type) parts)) e
+      ∙ row-first x (rows_of type part) (map (rows_of type) parts)
 
--- the parts between the bars, of words that are lent
-abbrev pub parts_of : List (Bor (List ℕ)) → List (List (Bor (List ℕ)))
-parts_of words = slice_split (λ w. is_bar w.now) words
+  of_parts : (words : List (List ℕ)) → is_bar w ≡ false → lists_of type (w ∷ words) ≡ all_some (map (rows_of type) (onto_first w (slice_split is_bar words)))
+  of_parts words b = ap (λ (parts : List (List (List ℕ))). all_some (map (rows_of type) parts)) (slice_split-cons_no is_bar w words b)
 
-onto_first-map : (w : Bor (List ℕ)) (parts : List (List (Bor (List ℕ)))) → onto_first w.now (map (λ (ws : List (Bor (List ℕ))). map (λ (v : Bor (List ℕ)). v.now) ws) parts) ≡ map (λ (ws : List (Bor (List ℕ))). map (λ (v : Bor (List ℕ)). v.now) ws) (onto_first w parts)
-onto_first-map w [] = refl
-onto_first-map w (part ∷ parts) = refl
+  lists_of-row : (words : List (List ℕ)) (x : Row) → is_bar w ≡ false → row_of type w ≡ Some x → lists_of type (w ∷ words) ≡ in_front (x ∷ []) (lists_of type words)
+  lists_of-row words x b e = of_parts words b ∙ parts-row x (slice_split is_bar words) (some_parts words) e
 
-split_step : (b : Bool) (w : Bor (List ℕ)) (xs : List (List (List ℕ))) (ys : List (List (Bor (List ℕ)))) → xs ≡ map (λ (ws : List (Bor (List ℕ))). map (λ (v : Bor (List ℕ)). v.now) ws) ys → cond b ([] ∷ xs) (onto_first w.now xs) ≡ map (λ (ws : List (Bor (List ℕ))). map (λ (v : Bor (List ℕ)). v.now) ws) (cond b ([] ∷ ys) (onto_first w ys))
-split_step true w xs ys e = ap (λ (ps : List (List (List ℕ))). [] ∷ ps) e
-split_step false w xs ys e = rw e (onto_first-map w ys)
+  module _ (all : Option (List (List Row))) (made : List Row) (words more : List (List ℕ)) (before : all ≡ in_front made (lists_of type words)) (next : words ≡ w ∷ more) where
+    here : all ≡ in_front made (lists_of type (w ∷ more))
+    here = before ∙ ap (λ (ws : List (List ℕ)). in_front made (lists_of type ws)) next
 
-split-map : (words : List (Bor (List ℕ))) → slice_split is_bar (map (λ (v : Bor (List ℕ)). v.now) words) ≡ map (λ (ws : List (Bor (List ℕ))). map (λ (v : Bor (List ℕ)). v.now) ws) (parts_of words)
-split-map [] = refl
-split-map (w ∷ words) = split_step (is_bar w.now) w _ (parts_of words) (split-map words)
+    -- a word that is a row
+    pub read-row : (x : Row) (made' : List Row) → is_bar w ≡ false → row_of type w ≡ Some x → made' ≡ made ++ x ∷ [] → all ≡ in_front made' (lists_of type more)
+    read-row x made' b e m =
+        here ∙ ap (in_front made) (lists_of-row more x b e) ∙ in_front-twice made x (lists_of type more)
+        ∙ ap (λ (rows : List Row). in_front rows (lists_of type more)) (sym m)
 
--- the lists of words that are lent
-pub lists_of-lent : (type : RowType) (words : List (Bor (List ℕ))) (parts : List (Bor (List (Bor (List ℕ))))) → map (λ p. p.now) parts ≡ parts_of words
-    → lists_of type (map (λ w. w.now) words) ≡ all_some (map (λ p. rows_of type (map (λ w. w.now) p.now)) parts)
-lists_of-lent type words parts e =
-    ap (λ (ps : List (List (List ℕ))). all_some (map (rows_of type) ps)) (split-map words)
-    ∙ ap all_some (map-map (rows_of type) (λ (ws : List (Bor (List ℕ))). map (λ (v : Bor (List ℕ)). v.now) ws) (parts_of words))
-    ∙ ap (λ (ps : List (List (Bor (List ℕ)))). all_some (map (λ (ws : List (Bor (List ℕ))). rows_of type (map (λ w. w.now) ws)) ps)) (sym e)
-    ∙ ap all_some (map-map (λ (ws : List (Bor (List ℕ))). rows_of type (map (λ w. w.now) ws)) (λ (p : Bor (List (Bor (List ℕ)))). p.now) parts)
+all_some-as_long : {A : Type 0} (values : List (Option A)) → IfSome (all_some values) (λ xs. length xs ≡ length values)
+all_some-as_long {A = A} [] = refl
+all_some-as_long {A = A} (None ∷ values) = tt
+all_some-as_long {A = A} (Some x ∷ values) = one_more (all_some values) (all_some-as_long values) where
+  one_more : (rest : Option (List A)) → IfSome rest (λ xs. length xs ≡ length values) → IfSome (option_map (λ xs. x ∷ xs) rest) (λ xs. length xs ≡ suc (length values))
+  one_more None h = tt
+  one_more (Some xs) h = ap suc h
 
--- a row more at the end of stored values and their bits
+-- the rows of an array that was made a row at a time
 masked-push : (bits : List Bool) (rows : List Row) (b : Bool) (x : Row) → length bits ≡ length rows → masked (bits ++ b ∷ []) (rows ++ x ∷ []) ≡ masked bits rows ++ kept b x ∷ []
 masked-push [] [] b x e = refl
 masked-push [] (y ∷ rows) b x e = absurd (omega arith)
 masked-push (c ∷ bits) [] b x e = absurd (omega arith)
 masked-push (c ∷ bits) (y ∷ rows) b x e = ap (λ rs. kept c y ∷ rs) (masked-push bits rows b x (omega arith))
 
-map-push : {A B : Type 0} (f : A → B) (xs : List A) (x : A) → map f (xs ++ x ∷ []) ≡ map f xs ++ f x ∷ []
+pub map-push : {A B : Type 0} (f : A → B) (xs : List A) (x : A) → map f (xs ++ x ∷ []) ≡ map f xs ++ f x ∷ []
 map-push f [] x = refl
 map-push f (y ∷ xs) x = ap (λ ys. f y ∷ ys) (map-push f xs x)
 
--- an item more whose value is made, at the end of what is made
-pub values-pushed : {X Y Z : Type 0} (f : X → Option Y) (items : List X) (i : ℕ) (d : X) (g : Z → Y) (made : List Z) (z : Z) (made' : List Z) → i < length items
-    → all_some (map f items) ≡ option_map (λ more. map g made ++ more) (all_some (map f (drop i items))) → f (get_or items i d) ≡ Some (g z) → made' ≡ made ++ z ∷ []
-    → all_some (map f items) ≡ option_map (λ more. map g made' ++ more) (all_some (map f (drop (i + 1) items)))
-values-pushed f items i d g made z made' h before e more =
-    before
-    ∙ values-more f items i d (map g made) h (g z) e
-    ∙ ap (λ ys. option_map (λ rest. ys ++ rest) (all_some (map f (drop (i + 1) items)))) (sym (ap (map g) more ∙ map-push g made z))
-
-length-mapped : {A B : Type 0} (f : A → B) (xs : List A) → length (map f xs) ≡ length xs
+pub length-mapped : {A B : Type 0} (f : A → B) (xs : List A) → length (map f xs) ≡ length xs
 length-mapped f [] = refl
 length-mapped f (x ∷ xs) = ap suc (length-mapped f xs)
 
@@ -98,3 +86,21 @@ pub rows-pushed : {A : Type 0} (f : A → Row) (bits bits' : List Bool) (values 
 rows-pushed f bits bits' values values' row b v e be bs ve h =
     rw (be, ve, bs, map-push f values v) (masked-push bits (map f values) (is_some row) (f v) (e ∙ sym (length-mapped f values))
     ∙ ap (λ (r : Row). masked bits (map f values) ++ r ∷ []) (kept-from f row v h))
+
+lists-there : (type : RowType) (words : List (List ℕ)) → IfSome (lists_of type words) (λ lists. 0 < length lists)
+lists-there type words = there (lists_of type words) (all_some-as_long (map (rows_of type) (slice_split is_bar words))) where
+  there : (o : Option (List (List Row))) → IfSome o (λ xs. length xs ≡ length (map (rows_of type) (slice_split is_bar words))) → IfSome o (λ lists. 0 < length lists)
+  there None h = tt
+  there (Some xs) h = omega (arith, h, length-mapped (rows_of type) (slice_split is_bar words), some_parts words)
+
+-- lists that were read with others behind them are more than those
+pub too-many : (P Q : Type 0) (type : RowType) (words : List (List ℕ)) (all : Option (List (List Row))) (before : List (List Row)) (most : ℕ) → all ≡ option_map (λ more. before ++ more) (lists_of type words) → is_some (lists_of type words) ≡ true → length before ≡ most → Q
+    → MatchOption all P (λ lists. Q × (most < length lists))
+too-many P Q type words all before most e some n q = rw e (there (lists_of type words) (lists-there type words) some) where
+  there : (o : Option (List (List Row))) → IfSome o (λ lists. 0 < length lists) → is_some o ≡ true → MatchOption (option_map (λ more. before ++ more) o) P (λ lists. Q × (most < length lists))
+  there None h f = absurd (cc)
+  there (Some lists) h f = (q, omega (arith, length-append before lists, h, n))
+
+-- values and their flags, one more of each
+pub long-pushed : {A : Type 0} (bits bits' : List Bool) (values values' : List A) (b : Bool) (v : A) → length bits ≡ length values → bits' ≡ bits ++ b ∷ [] → values' ≡ values ++ v ∷ [] → length bits' ≡ length values'
+long-pushed bits bits' values values' b v e be ve = rw (be, ve) (omega (arith, length-append bits (b ∷ []), length-append values (v ∷ []), e))

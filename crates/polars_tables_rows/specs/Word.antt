@@ -73,3 +73,8 @@ rows_of type words = all_some (map (row_of type) words)
 -- the lists of rows that words stand for, parted at the bars, if each other word is a row of the type
 abbrev pub lists_of : RowType → List (List ℕ) → Option (List (List Row))
 lists_of type words = all_some (map (rows_of type) (slice_split is_bar words))
+
+-- the lists behind a bar, if there is one
+abbrev pub lists_behind : RowType → Option (List ℕ) → Option (List (List Row))
+lists_behind type None = Some []
+lists_behind type (Some text) = lists_of type (words_of text)

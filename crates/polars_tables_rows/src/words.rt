@@ -1,23 +1,33 @@
 //! The words of a line, and the arrays of the rows that they stand for.
 
-ghost use Rattle.std.specs.Prelude.{◌≡◌, map, Some, None, option_map, IfOk, IfErr, IfSome};
-ghost use Rattle.std.specs.List.{slice_split};
-ghost use Rattle.polars_arrays_flat.specs.StoredRows.{rows_under};
+ghost use Rattle.std.specs.Prelude.{◌≡◌, ◌∷◌, ◌<◌, ◌≤◌, [], Some, None, length, map, vec_len, option_map, is_some, IfOk, IfErr, IfSome, MatchOption};
+ghost use Rattle.polars_arrays_flat.specs.StoredRows.{masked, rows_under};
 ghost use Rattle.polars_tables_rows.specs.Faults.{UnlessMemory};
-ghost use Rattle.polars_tables_rows.specs.Word.{words_of, is_bar, value_of, row_from, row_of, rows_of, lists_of};
+ghost use Rattle.polars_tables_rows.specs.Word.{words_of, is_bar, value_of, row_from, row_of, lists_of, lists_behind};
+ghost use Rattle.polars_tables_rows.specs.declared.fault.LineError.TheVariants.{Memory};
 
 use crate::fault::{LineError, or_memory};
 use crate::row_array::RowArray;
-use polars_arrays_bits::builder::BitmapBuilder;
-use std::alloc::{AllocError, Global};
+use polars_arrays_bits::bitmap::Bitmap;
+use std::alloc::Global;
 
-/// The words of a line: its parts between spaces, less the empty ones.
-pub fn split_words(alloc: Global, line: &str) -> Result<Vec<&str>, AllocError>
-    ensures { IfOk result (λ words. map (λ w. w.now) words.items ≡ words_of line.now) }
+/// Returns the first word of a text and what follows it, or `None` where the text has no word.
+/// Words stand between spaces.
+pub fn next_word(text: &str) -> Option<(&str, &str)>
+    ensures word { MatchOption result (words_of text.now ≡ []) (λ pair. words_of text.now ≡ pair.0.now ∷ words_of pair.1.now) }
+    ensures shorter { IfSome result (λ pair. length pair.1.now < length text.now) }
 {
-    line.split(' ')
-        .filter(|part| !part.is_empty())
-        .collect(alloc)
+    let mut rest = text;
+    'parts: while let Some((part, more)) = rest.split_once(' ') {
+        if !part.is_empty() {
+            return Some((part, more));
+        }
+        rest = more;
+    }
+    if rest.is_empty() {
+        return None;
+    }
+    Some((rest, ""))
 }
 
 /// Whether the word parts two lists of rows.
@@ -54,45 +64,87 @@ fn stored_value<V: Copy + Default>(row: Option<V>) -> V
     }
 }
 
-/// The array of the rows that words stand for.
-fn parse_rows<A: RowArray>(alloc: Global, words: &[&str]) -> Result<A, LineError>
-    ensures rows { IfOk result (λ array. rows_of A.kind (map (λ w. w.now) words.now)
-        ≡ Some (rows_under (A.mask array) (A.slots array))) }
-    ensures fault { IfErr result (λ e. UnlessMemory e
-        ((e ≡ LineError.Row) × (rows_of A.kind (map (λ w. w.now) words.now) ≡ None))) }
+/// Returns the array of rows that were read, each of them null where its flag is not set.
+fn make_array<A: RowArray>(
+    alloc: Global,
+    values: Vec<A::Value>,
+    present: &[bool],
+) -> Result<A, LineError>
+    requires { length present.now ≡ vec_len values }
+    ensures rows { IfOk result (λ array. rows_under (A.mask array) (A.slots array) ≡ masked present.now (map A.value_row values.items)) }
+    ensures fault { IfErr result (λ e. e ≡ Memory) }
 {
-    let mut values = Vec::with_capacity(alloc, words.len())?;
-    let mut present = or_memory(BitmapBuilder::with_capacity(alloc, words.len()))?;
-    for word in words {
+    let bits = or_memory(Bitmap::from_bools(alloc, present))?;
+    or_memory(A::from_values(alloc, values, bits))
+}
+
+/// Returns the array of the first list of a text, and what follows the bar behind the list, if
+/// there is one.
+fn parse_list<'a, A: RowArray>(
+    alloc: Global,
+    text: &'a str,
+) -> Result<(A, Option<&'a str>), LineError>
+    ensures rows { IfOk result (λ list. lists_of A.kind (words_of text.now)
+        ≡ option_map (λ more. rows_under (A.mask list.0) (A.slots list.0) ∷ more) (lists_behind A.kind (option_map (λ t. t.now) list.1))) }
+    ensures fault { IfErr result (λ e. UnlessMemory e
+        ((e ≡ LineError.Row) × (lists_of A.kind (words_of text.now) ≡ None))) }
+{
+    let mut values = Vec::new(alloc);
+    let mut present = Vec::new(alloc);
+    let mut rest = text;
+    'words: while let Some((word, more)) = next_word(rest) {
+        if is_bar(word) {
+            let array = make_array(alloc, values, &present)?;
+            return Ok((array, Some(more)));
+        }
         let Some(row) = parse_row::<A>(word) else {
             return Err(LineError::Row);
         };
-        present.push_reserved(row.is_some());
-        values.push_reserved(stored_value(row));
+        present.push(row.is_some())?;
+        values.push(stored_value(row))?;
+        rest = more;
     }
-    let array = or_memory(A::from_values(alloc, values, present.freeze()))?;
-    Ok(array)
+    let array = make_array(alloc, values, &present)?;
+    Ok((array, None))
 }
 
-/// The parts of words between the bars.
-fn split_lists<'a>(alloc: Global, words: &'a [&'a str]) -> Result<Vec<&'a [&'a str]>, AllocError>
-    ensures { IfOk result (λ parts. map (λ p. p.now) parts.items ≡ slice_split (λ w. is_bar w.now) words.now) }
+/// Tests whether every word of a text is a bar or a row of the type.
+fn are_rows<A: RowArray>(text: &str) -> bool
+    ensures { result ≡ is_some (lists_of A.kind (words_of text.now)) }
 {
-    words.split(|word| is_bar(word)).collect(alloc)
+    let mut rest = text;
+    'words: while let Some((word, more)) = next_word(rest) {
+        if !is_bar(word) && parse_row::<A>(word).is_none() {
+            return false;
+        }
+        rest = more;
+    }
+    true
 }
 
-/// The arrays of the lists of rows that words stand for, parted at the bars.
-pub fn parse_lists<A: RowArray>(alloc: Global, words: &[&str]) -> Result<Vec<A>, LineError>
-    ensures lists { IfOk result (λ lists. lists_of A.kind (map (λ w. w.now) words.now)
+/// Returns the arrays of the lists of rows that a text has, parted at the bars. Where there are
+/// more than `most`, none is kept and the fault is `Length`, once every further word was found to
+/// be a bar or a row.
+pub fn parse_lists<A: RowArray>(alloc: Global, most: usize, text: &str) -> Result<Vec<A>, LineError>
+    ensures lists { IfOk result (λ lists. lists_of A.kind (words_of text.now)
         ≡ Some (map (λ a. rows_under (A.mask a) (A.slots a)) lists.items)) }
-    ensures fault { IfErr result (λ e. UnlessMemory e
-        ((e ≡ LineError.Row) × (lists_of A.kind (map (λ w. w.now) words.now) ≡ None))) }
+    ensures kept { IfOk result (λ lists. vec_len lists ≤ most) }
+    ensures fault { IfErr result (λ e. UnlessMemory e (MatchOption (lists_of A.kind (words_of text.now))
+        (e ≡ LineError.Row) (λ lists. (e ≡ LineError.Length) × (most < length lists)))) }
 {
-    let parts = split_lists(alloc, words)?;
-    let mut lists = Vec::with_capacity(alloc, parts.len())?;
-    for part in &parts {
-        let array = parse_rows::<A>(alloc, part)?;
+    let mut lists = Vec::new(alloc);
+    let mut rest = text;
+    for _ in 0..most {
+        let (array, more) = parse_list::<A>(alloc, rest)?;
         lists.push(array)?;
+        match more {
+            Some(text) => rest = text,
+            None => return Ok(lists),
+        }
     }
-    Ok(lists)
+    if are_rows::<A>(rest) {
+        Err(LineError::Length)
+    } else {
+        Err(LineError::Row)
+    }
 }
