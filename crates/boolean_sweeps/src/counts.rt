@@ -57,7 +57,7 @@ impl Count {
 }
 
 /// Makes the calls on an array.
-pub fn ask(alloc: Global, tallies: &mut Vec<Tally<Count>>, column: &Column) -> Result<(), Fault> {
+pub fn ask(alloc: Global, tallies: &mut [Tally<Count>], column: &Column) -> Result<(), Fault> {
     for tally in tallies.iter_mut() {
         let counted = tally.call.call(alloc, column.array())?;
         compare_rows(&mut tally.counts, tally.call, column, &counted);

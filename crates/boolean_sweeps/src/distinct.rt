@@ -37,11 +37,7 @@ pub const DISTINCT: [(&str, Distinct); 7] = [
 ];
 
 /// Makes the calls on an array.
-pub fn ask(
-    alloc: Global,
-    tallies: &mut Vec<Tally<Distinct>>,
-    column: &Column,
-) -> Result<(), Fault> {
+pub fn ask(alloc: Global, tallies: &mut [Tally<Distinct>], column: &Column) -> Result<(), Fault> {
     let expected = distinct_rows(alloc, column.rows())?;
     for tally in tallies.iter_mut() {
         let agrees = agrees(alloc, tally.call, column.array(), &expected)?;

@@ -48,7 +48,7 @@ pub fn sweep(rt: &(impl Print + AllocGlobal)) -> Result<(), Fault> {
 // Makes the calls on arrays of each length.
 fn sweep_round(
     alloc: Global,
-    tallies: &mut Vec<Tally<Kernel>>,
+    tallies: &mut [Tally<Kernel>],
     round: usize,
     left: Sort,
     right: Sort,
@@ -95,7 +95,7 @@ fn push_column(
 // Makes the calls on each left array and each right one.
 fn ask_pairs(
     alloc: Global,
-    tallies: &mut Vec<Tally<Kernel>>,
+    tallies: &mut [Tally<Kernel>],
     lefts: &[Column],
     rights: &[Column],
 ) -> Result<(), Fault> {
@@ -110,7 +110,7 @@ fn ask_pairs(
 // Makes the calls on two arrays.
 fn ask_all(
     alloc: Global,
-    tallies: &mut Vec<Tally<Kernel>>,
+    tallies: &mut [Tally<Kernel>],
     left: &Column,
     right: &Column,
 ) -> Result<(), Fault> {

@@ -89,7 +89,7 @@ fn twice(truth: Option<bool>) -> Pair {
 }
 
 /// Makes the calls on an array.
-pub fn ask(tallies: &mut Vec<Tally<Reduction>>, column: &Column) {
+pub fn ask(tallies: &mut [Tally<Reduction>], column: &Column) {
     for tally in tallies.iter_mut() {
         let expected = tally.call.of(column.rows());
         tally.counts.begin_call(true);

@@ -23,7 +23,7 @@ pub const KERNELS: [(&str, Kernel); 8] = [
 ];
 
 /// Makes the calls on an array and each of the two truth values.
-pub fn ask(alloc: Global, tallies: &mut Vec<Tally<Kernel>>, column: &Column) -> Result<(), Fault> {
+pub fn ask(alloc: Global, tallies: &mut [Tally<Kernel>], column: &Column) -> Result<(), Fault> {
     for scalar in [false, true] {
         for tally in tallies.iter_mut() {
             let bits = call(alloc, tally.call, column.array(), scalar)?;
