@@ -1,5 +1,5 @@
 -- More lists than an operation takes are refused for their number, whatever rows they have.
-use Rattle.std.proofs.Common.{◌≡◌, ◌<◌, ◌∙◌, ◌⊎◌, ℕ, true, List, [], ◌∷◌, Option, Some, None, Result, Err, length, refl, ap, inl, inr, arith}
+use Rattle.std.proofs.Common.{◌≡◌, ◌<◌, ℕ, true, List, [], ◌∷◌, Option, Some, None, Result, Err, length, refl, inl, inr, arith}
 use Rattle.std.specs.Prelude.{MatchOption}
 use Rattle.polars_arrays_flat.specs.Row.{Row}
 use Rattle.polars_tables_lines.specs.Line.{rows_meaning}
