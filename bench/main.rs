@@ -3,7 +3,7 @@
 //! ratio, and what is asked for. Arguments: words of the names of the kernels to run. The variable ROUNDS says in how
 //! many rounds all but arithmetic are timed, if not in four.
 //!
-//! To add a kernel: its entry and its arm in `crates/polars_bench`, the same entry of the enum here, its peer
+//! To add a kernel: its entry and its arm in `crates/bench_kernels`, the same entry of the enum here, its peer
 //! in the file `plain*.rs` of its shape, and a line where its group hands out its kernels.
 
 mod arithmetic;

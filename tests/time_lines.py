@@ -13,8 +13,8 @@ import subprocess
 import sys
 import tempfile
 
-HERE = pathlib.Path(__file__).parent
-sys.path.insert(0, str(HERE.parent / "crates/recorded_cases/outside"))
+TESTS = pathlib.Path(__file__).resolve().parent
+sys.path.insert(0, str(TESTS / "outside"))
 
 from lines import ANSWERS, Chance, TYPES  # noqa: E402
 
@@ -71,7 +71,7 @@ def main(program):
     with tempfile.TemporaryDirectory() as folder:
         folder = pathlib.Path(folder)
         plain = folder / "plain"
-        subprocess.run(["rustc", "--edition", "2024", "-O", "-C", "target-cpu=x86-64-v2", HERE / "plain_lines.rs", "-o", plain], check=True)
+        subprocess.run(["rustc", "--edition", "2024", "-O", "-C", "target-cpu=x86-64-v2", TESTS.parent / "bench" / "plain_lines.rs", "-o", plain], check=True)
         lines, chance = sample(), random.Random(1)
         text = "".join(line + "\n" for line in chance.choices(lines, k=LINES))
         (folder / "in").write_text(text, encoding="utf-8")
