@@ -220,7 +220,7 @@ def deep_run(depth, kind, leaf):
 
 def deep_faults(program, depth, kind, leaf):
     given, right = deep_run(depth, kind, leaf)
-    ran = runs.run(program, given.encode())
+    ran = runs.run([program, "--print"], given.encode())
     told = ran.printed.decode(errors="replace").splitlines()
     wrong = [line[:200] for line in told if line not in right and not line.startswith("a = refused: ")]
     if runs.is_ended(ran) and not wrong:
@@ -253,7 +253,7 @@ def wrong_answers(cases, printed):
 
 def case_faults(program, cases):
     """What a run over these cases did wrong, each with an input that shows it."""
-    ran = runs.run(program, input_of(cases))
+    ran = runs.run([program, "--print"], input_of(cases))
     printed = ran.printed.split(b"\n")
     lines = sum(len(case.printed) for case in cases)
     if ran.status == 0 and not ran.said and printed.pop() == b"" and len(printed) == lines:
@@ -267,7 +267,7 @@ def case_faults(program, cases):
 
 def broken_faults(program, given, printed, named):
     """What a run over an input did wrong that may not be readable. `named` is the line that it ends at."""
-    ran = runs.run(program, given)
+    ran = runs.run([program, "--print"], given)
     told = ran.printed.split(b"\n")[:-1]
     status = 0 if printed[-1:] == [b"# behind"] else 1
     is_named = ran.said.endswith(b": " + named + b"\n") if named is not None else not ran.said

@@ -7,7 +7,7 @@ numbers, bars, signs, spaces, operation and type. Some are bytes alone. So about
 to the program some thousands a run. Of each run is asked:
 
 - it ends, with status 1 where a line is refused and 0 where none is, and says nothing on standard error;
-- it prints a line for each line, which is the answer of `crates/recorded_cases/outside/lines.py`, or
+- it prints a line for each line, which is the answer of `tests/outside/lines.py`, or
   `line N: refused: WORD` with the number of the line and the word that the model refuses it by.
 
 Lines that fail are kept as `run BYTES`, as recorded cases ask them. The status is 1 where any failed.
@@ -20,9 +20,9 @@ import sys
 
 import runs
 
-CASES = runs.ROOT / "crates/recorded_cases"
-sys.path.insert(0, str(CASES / "outside"))
+sys.path.insert(0, str(runs.ROOT / "tests/outside"))
 
+import recorded as cases  # noqa: E402
 from bits import highest, lowest  # noqa: E402
 from lines import ANSWERS, Chance, MOST_VALUES, Refused, TYPES, is_scalar, line_answer, takes_one  # noqa: E402
 
@@ -58,12 +58,12 @@ def recorded():
     """The lines of the recorded cases."""
     lines = []
     for name in FILES:
-        for line in (CASES / "data" / name).read_bytes().split(b"\n"):
-            call, _, text = line.partition(b" ")
-            if call == b"line":
-                lines.append(text)
-            elif call in (b"line_bytes", b"run"):
-                lines.extend(bytes.fromhex(text[1:].decode()).split(b"\n"))
+        for line in cases.lines_of(cases.DATA / name):
+            call, _, text = cases.question_of(line).partition(" ")
+            if call == "line":
+                lines.append(text.encode())
+            elif call in ("line_bytes", "run"):
+                lines.extend(bytes.fromhex(text[1:]).split(b"\n"))
     return lines
 
 
@@ -267,7 +267,7 @@ def kept(lines):
 def faults(program, lines, printed):
     """What a run over these lines did wrong, each with the input that shows it."""
     given = b"\n".join(lines)
-    ran = runs.run(program, given + (b"\n" if len(given) % 2 == 0 or not lines[-1] else b""))
+    ran = runs.run([program], given + (b"\n" if len(given) % 2 == 0 or not lines[-1] else b""))
     if not runs.is_ended(ran):
         return faults_alone(program, lines) or [(runs.ending(ran), kept(lines))]
     found = []
@@ -291,7 +291,7 @@ def is_refusal(wanted):
 
 def faults_alone(program, lines):
     """The lines over which a run has no end of its own, each in a run of its own."""
-    ended = ((line, runs.run(program, line + b"\n")) for line in lines)
+    ended = ((line, runs.run([program], line + b"\n")) for line in lines)
     return [(f"{line[:300]!r}: {runs.ending(ran)}", kept([line])) for line, ran in ended if not runs.is_ended(ran)]
 
 

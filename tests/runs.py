@@ -30,10 +30,10 @@ def options(doc, name):
     return chosen
 
 
-def run(program, given):
-    """What a program does with an input. The status is negative after a signal, and None where the run didn't end."""
+def run(command, given):
+    """What a command does with an input. The status is negative after a signal, and None where the run didn't end."""
     try:
-        ran = subprocess.run([program], input=given, capture_output=True, timeout=SECONDS, check=False)
+        ran = subprocess.run(command, input=given, capture_output=True, timeout=SECONDS, check=False)
     except subprocess.TimeoutExpired:
         return Ran(None, b"", b"")
     return Ran(ran.returncode, ran.stdout, ran.stderr)

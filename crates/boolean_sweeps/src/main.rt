@@ -9,7 +9,7 @@
 //! A line for each call says how often it was called, how many answers it gave (one for each row,
 //! or one for an array), how many of these are promised and were compared, and how many differ. The
 //! last lines are of rows of which one is told wrong, so that answers have to differ.
-//! `outside/sweeps.py` prints the same lines by an account of its own.
+//! `tests/outside/boolean_sweeps.py` prints the same lines by an account of its own.
 #![tactic(auto)]
 
 use recorded_text::fault::Fault;

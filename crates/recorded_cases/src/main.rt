@@ -1,107 +1,124 @@
-//! Answers recorded cases: what each public call says of the operands that a line gives it.
+//! Compares what each public call returns with the answer that stands beside its question.
 //!
-//! `recorded_cases FILE..` answers each file in turn, and without files standard input. A line of a file
+//! `recorded_cases [--wrong] FILE..` checks each file in turn, or standard input where none is
+//! named. These are the lines of a file:
 //!
-//! | Line | does | and prints |
-//! |---|---|---|
-//! | empty | nothing | nothing |
-//! | `# TEXT` | begins a case: the names of the case before are forgotten | the line |
-//! | `NAME = [shared] ARRAY` | names an array, in parts that are shared or owned | nothing, or `NAME = refused: WHY` |
-//! | `NAME = copy OTHER` | names a clone of an array | nothing |
-//! | `CALL OPERAND..` | asks a call | the line, ` -> `, and the answer |
+//! | Line | Meaning |
+//! |---|---|
+//! | empty | nothing |
+//! | `# TEXT` | begins a case: the names of the case before are forgotten |
+//! | `NAME = [shared] ARRAY` | names an array, in parts that are shared or owned |
+//! | `NAME = [shared] ARRAY -> refused: WHY` | these parts make no array |
+//! | `NAME = copy OTHER` | names a clone of an array |
+//! | `CALL OPERAND.. -> ANSWER` | the call returns this answer |
 //!
-//! Operands are names of arrays, numbers, truth values, names of types, bits `b<at>:<0 and 1..>`, of which the
-//! first `<at>` are cut off, and bytes `x<hexadecimal digits>`. Answers are rows, bits with `x` where nothing
-//! is promised, numbers, `none`, or `refused: WHY`.
+//! Operands are names of arrays, numbers, truth values, names of types, bits
+//! `b<at>:<0 and 1..>`, whose first `<at>` digits are cut off, and bytes `x<hexadecimal digits>`.
+//! Answers are rows, bits with `x` where nothing is promised, numbers, `none`, or `refused: WHY`.
 //!
-//! A line that can't be answered ends the run with status 1 and is named on standard error. One to
-//! which memory is refused is named there too, and is answered once more: a refused growth leaves
-//! all arrays as they were.
+//! The program prints each line whose answer differs, with its file, its number and both answers,
+//! and the counts of each file. Every answer of the file behind `--wrong` has to differ. The status
+//! is 0 where all is so, else 1. A line that can't be read ends the run with status 1 and is named
+//! on standard error.
+//!
+//! `recorded_cases --print FILE..` prints what the calls return in place of comparing it. Its lines
+//! need no answers.
 #![tactic(auto)]
 
-ghost use Rattle.recorded_text.specs.Cases.{HasGoodArrays};
-
-use crate::question::answer_line;
+use crate::checking::{Mode, Tally, check_text};
 use recorded_text::fault::Fault;
-use recorded_text::store::Store;
 use std::process::ExitCode;
 use std::rt::{Env, Files};
 use std::{env, fs, io};
 
+mod checking;
 mod lines;
 mod question;
 
-/// Answers each line of a text on standard output.
-fn answer_text(rt: &(impl Print + Eprint + AllocGlobal), text: &str) -> Result<(), Fault> {
-    let alloc = rt.alloc();
-    let mut store = Store::new(alloc);
-    for line in text.lines() {
-        print_answer(rt, line, ask(rt, &mut store, line))?;
+/// Prints the counts of a file, and returns whether they are as they have to be.
+fn report(rt: &impl Print, name: &str, tally: Tally, is_wrong: bool) -> Result<bool, Fault> {
+    let Tally { same, differing } = tally;
+    match (is_wrong, same, differing) {
+        (false, _, 0) => println!(rt; "{name}: {same} as recorded")?,
+        (true, 0, _) => println!(rt; "{name}: {differing} differ, as they have to")?,
+        _ => println!(rt; "{name}: {same} as recorded, {differing} differ")?,
     }
-    Ok(())
+    Ok(if is_wrong {
+        same == 0 && differing > 0
+    } else {
+        differing == 0
+    })
 }
 
-/// Answers a line, and where a growth was refused says so and answers it once more.
-fn ask(
-    rt: &(impl Eprint + AllocGlobal),
-    store: &mut Store,
-    line: &str,
-) -> Result<Option<String>, Fault>
-    requires { HasGoodArrays store.old }
-    ensures { HasGoodArrays store.new }
-{
-    match answer_line(rt.alloc(), store, line) {
-        Err(Fault::Memory) => {
-            eprintln!(rt; "{}: {line}", Fault::Memory)?;
-            answer_line(rt.alloc(), store, line)
-        }
-        answer => answer,
-    }
-}
-
-/// Prints the answer to a line, where it has one, or else the line that can't be answered.
-fn print_answer(
-    rt: &(impl Print + Eprint),
-    line: &str,
-    answer: Result<Option<String>, Fault>,
-) -> Result<(), Fault> {
-    match answer {
-        Ok(Some(answer)) => println!(rt; "{answer}").map_err(Fault::from),
-        Ok(None) => Ok(()),
-        Err(fault) => {
-            eprintln!(rt; "{fault}: {line}")?;
-            Err(fault)
-        }
-    }
-}
-
-/// Answers a file.
-fn answer_file(rt: &(impl Files + Print + Eprint + AllocGlobal), name: &str) -> Result<(), Fault> {
+/// Goes over a file, and returns whether its counts are as they have to be.
+fn check_file<R: Files + Print + Eprint + AllocGlobal>(
+    rt: &R,
+    name: &str,
+    mode: Mode,
+) -> Result<bool, Fault> {
     let text = fs::read_to_string(rt, name)?;
-    answer_text(rt, &text)
+    let tally = check_text(rt, name, &text, mode)?;
+    match mode {
+        Mode::Print => Ok(true),
+        Mode::Compare => report(rt, name, tally, false),
+        Mode::CompareWrong => report(rt, name, tally, true),
+    }
 }
 
-/// Answers standard input.
-fn answer_input(rt: &(impl Input + Print + Eprint + AllocGlobal)) -> Result<(), Fault> {
+/// Goes over standard input, and returns whether its counts are as they have to be.
+fn check_input<R: Input + Print + Eprint + AllocGlobal>(rt: &R, mode: Mode) -> Result<bool, Fault> {
+    let name = "standard input";
     let text = io::read_to_string(rt.alloc(), rt.reader())?;
-    answer_text(rt, &text)
+    let tally = check_text(rt, name, &text, mode)?;
+    match mode {
+        Mode::Print => Ok(true),
+        _ => report(rt, name, tally, false),
+    }
 }
 
-/// Answers each file that the arguments name, or standard input where they name none.
-fn answer_all<R: Env + Files + Input + Print + Eprint + AllocGlobal>(rt: &R) -> Result<(), Fault> {
-    let names: Vec<String> = env::args(rt)?.skip(1).collect(rt.alloc())?;
-    if names.is_empty() {
-        return answer_input(rt);
+/// Goes over each file, and returns whether all counts are as they have to be.
+fn check_files<R: Files + Print + Eprint + AllocGlobal>(
+    rt: &R,
+    words: &[String],
+    mode: Mode,
+) -> Result<bool, Fault> {
+    let mut is_well = true;
+    let mut of_file = mode;
+    for word in words {
+        if word.as_str() == "--wrong" {
+            of_file = Mode::CompareWrong;
+        } else {
+            is_well &= check_file(rt, word.as_str(), of_file)?;
+            of_file = mode;
+        }
     }
-    for name in &names {
-        answer_file(rt, name.as_str())?;
+    Ok(is_well)
+}
+
+/// Goes over each file that the words name, or over standard input where they name none.
+fn check_all<R>(rt: &R, words: &[String], mode: Mode) -> Result<bool, Fault>
+where
+    R: Files + Input + Print + Eprint + AllocGlobal,
+{
+    if words.is_empty() {
+        check_input(rt, mode)
+    } else {
+        check_files(rt, words, mode)
     }
-    Ok(())
+}
+
+/// Does what the arguments ask for, and returns whether all counts are as they have to be.
+fn run<R: Env + Files + Input + Print + Eprint + AllocGlobal>(rt: &R) -> Result<bool, Fault> {
+    let words: Vec<String> = env::args(rt)?.skip(1).collect(rt.alloc())?;
+    match words.split_first() {
+        Some((first, files)) if first.as_str() == "--print" => check_all(rt, files, Mode::Print),
+        _ => check_all(rt, &words, Mode::Compare),
+    }
 }
 
 fn main(rt: HostRuntime) -> ExitCode {
-    match answer_all(&rt) {
-        Ok(()) => ExitCode::from(0),
-        Err(_) => ExitCode::from(1),
+    match run(&rt) {
+        Ok(true) => ExitCode::from(0),
+        _ => ExitCode::from(1),
     }
 }

@@ -14,30 +14,52 @@ use recorded_text::wrapped::{FAR_LEVELS, LEVELS, read_wrapped};
 use std::alloc::Global;
 use std::fmt::Display;
 
-/// The answer to a line, where it has one.
-pub fn answer_line(alloc: Global, store: &mut Store, line: &str) -> Result<Option<String>, Fault>
+/// What a line without its recorded answer is answered.
+#[derive(Debug, Drop)]
+pub enum Answer {
+    /// Nothing: it is empty, a heading, or names an array that is made.
+    Nothing,
+    /// The name of an array that its parts do not make, and `refused: WHY`.
+    Refused(String, String),
+    /// What a call returns.
+    Returned(String),
+}
+
+impl Answer {
+    /// Returns the text that is compared with the recorded answer, where there is one.
+    pub fn text(&self) -> Option<&str> {
+        match self {
+            Answer::Nothing => None,
+            Answer::Refused(_, why) => Some(why.as_str()),
+            Answer::Returned(text) => Some(text.as_str()),
+        }
+    }
+}
+
+/// Answers a line that has no recorded answer behind it.
+pub fn answer_line(alloc: Global, store: &mut Store, line: &str) -> Result<Answer, Fault>
     requires { HasGoodArrays store.old }
     ensures { HasGoodArrays store.new }
 {
     if line.is_empty() {
-        return Ok(None);
+        return Ok(Answer::Nothing);
     }
     if line.starts_with('#') {
         store.clear();
-        return line.to_string(alloc).map(Some).map_err(Fault::from);
+        return Ok(Answer::Nothing);
     }
     let words: Vec<&str> = line.split(' ').collect(alloc)?;
     let mut words = Words::new(&words);
     answer_words(alloc, store, line, &mut words)
 }
 
-// The answer to a line of these words.
+// Answers the line of these words.
 fn answer_words(
     alloc: Global,
     store: &mut Store,
     line: &str,
     words: &mut Words,
-) -> Result<Option<String>, Fault>
+) -> Result<Answer, Fault>
     requires { HasGoodArrays store.old }
     ensures { HasGoodArrays store.new }
 {
@@ -46,22 +68,7 @@ fn answer_words(
         let made = read_array(alloc, store, words);
         return add_made(alloc, store, first, words, made);
     }
-    write_answer(
-        alloc,
-        line,
-        answer_question(alloc, store, line, first, words),
-    )
-}
-
-// A question and its answer.
-fn write_answer(
-    alloc: Global,
-    line: &str,
-    answer: Result<String, Fault>,
-) -> Result<Option<String>, Fault> {
-    let answer = answer?;
-    let text = format!(in alloc; "{line} -> {answer}");
-    text.map(Some).map_err(Fault::from)
+    answer_question(alloc, store, line, first, words).map(Answer::Returned)
 }
 
 // The answer to a question, behind whose operands nothing stands.
@@ -132,7 +139,7 @@ fn add_made(
     name: &str,
     words: &Words,
     made: Result<AnyArray, Fault>,
-) -> Result<Option<String>, Fault>
+) -> Result<Answer, Fault>
     requires arrays { HasGoodArrays store.old }
     requires array { IfOk made (λ array. IsGood array) }
     ensures { HasGoodArrays store.new }
@@ -150,7 +157,7 @@ fn add(
     name: &str,
     words: &Words,
     array: AnyArray,
-) -> Result<Option<String>, Fault>
+) -> Result<Answer, Fault>
     requires arrays { HasGoodArrays store.old }
     requires array { IsGood array }
     ensures { HasGoodArrays store.new }
@@ -160,22 +167,23 @@ fn add(
         return Err(Fault::Word);
     }
     store.add(alloc, name, array)?;
-    Ok(None)
+    Ok(Answer::Nothing)
 }
 
 // Says why parts make no array, or that it would be too deep. Another fault is one of the line.
-fn refuse(alloc: Global, name: &str, fault: Fault) -> Result<Option<String>, Fault> {
+fn refuse(alloc: Global, name: &str, fault: Fault) -> Result<Answer, Fault> {
     match fault {
-        Fault::Parts(error) => write_refusal(alloc, name, &error),
-        Fault::Depth(_) => write_refusal(alloc, name, &fault),
+        Fault::Parts(error) => refusal(alloc, name, &error),
+        Fault::Depth(_) => refusal(alloc, name, &fault),
         fault => Err(fault),
     }
 }
 
-// A name, and why there is no array of that name.
-fn write_refusal(alloc: Global, name: &str, why: &impl Display) -> Result<Option<String>, Fault> {
-    let text = format!(in alloc; "{name} = refused: {why}");
-    text.map(Some).map_err(Fault::from)
+// Returns a name, and why there is no array of that name.
+fn refusal(alloc: Global, name: &str, why: &impl Display) -> Result<Answer, Fault> {
+    let why = format!(in alloc; "refused: {why}")?;
+    let name = name.to_string(alloc)?;
+    Ok(Answer::Refused(name, why))
 }
 
 // Returns the first answer that there is.

@@ -1,8 +1,7 @@
 """Slices of arrays with junk under their nulls, beside arrays that are built afresh from the same rows.
 
-usage: slices.py --part              prints the questions of data/slices.txt
-       slices.py --answers           prints what the program must print for them
-       slices.py --all PROGRAM..     asks a built program of all slices; status 1 where an answer is another one
+usage: slices.py --part              prints the file data/slices.txt: questions, and their answers
+       slices.py --all PROGRAM       asks a built program of all slices; status 1 where an answer is another one
 
 Of each kind there is an array of 70 rows, of which every third is null (of null arrays each), over stored values that
 are no row of it. It is sliced at each place from 0 to 70, with the lengths 0, 1, 63, 64, 65 and all that are left, where
@@ -17,6 +16,7 @@ All is drawn at random and the same in each run: each seed is the name of the ki
 import subprocess
 import sys
 
+import recorded
 from arithmetic import BINARY_IN_PLACE, FROM_NUMBERS, KINDS, OPERATIONS, UNARY_IN_PLACE, wrapped
 from bits import TYPES
 from reductions import COUNTS, JOINS, NAMES, NOT_DISPATCHED, VIEWS, shown
@@ -46,13 +46,14 @@ class Case:
         self.arrays[name] = array
         self.lines[name] = f"{name} = {kept}{array.text()}"
 
-    def questions(self):
+    def answers(self):
+        """The questions, with their answers."""
+        return [f"{question} -> {answer(self.arrays, question)}" for question in self.asked]
+
+    def text(self):
         """The lines of the case, without arrays that nothing is asked of."""
         used = {word for question in self.asked for word in question.split(" ")}
-        return [f"# {self.heading}", *(line for name, line in self.lines.items() if name in used), *self.asked]
-
-    def answers(self):
-        return [f"# {self.heading}", *(f"{question} -> {answer(self.arrays, question)}" for question in self.asked)]
+        return [f"# {self.heading}", *(line for name, line in self.lines.items() if name in used), *self.answers()]
 
 
 class Subject:
@@ -283,39 +284,37 @@ def subjects():
 
 
 def compare(subject, program):
-    """Asks a program of all slices of a kind, and returns how many lines were compared, and those that differ."""
-    cases = list(all_cases(subject))
-    questions = "".join(line + "\n" for case in cases for line in case.questions())
-    wanted = [line for case in cases for line in case.answers()]
-    ran = subprocess.run(program, input=questions, capture_output=True, text=True, check=False)
-    printed = ran.stdout.splitlines()
-    printed += (len(wanted) - len(printed)) * ["(nothing)"]
-    wrong = [f"{told}\n    for {line}" for line, told in zip(wanted, printed) if line != told]
-    if ran.returncode != 0 or len(printed) > len(wanted):
-        wrong.append(f"status {ran.returncode}, {len(printed)} lines for {len(wanted)}: {ran.stderr.strip()[:2000]}")
-    return len(wanted), wrong
+    """Asks a program of all slices of a kind, and returns how many answers it compared, and its complaints."""
+    texts = [case.text() for case in all_cases(subject)]
+    asked = sum(recorded.ARROW in line for text in texts for line in text)
+    given = "".join(line + "\n" for text in texts for line in text)
+    ran = subprocess.run([program], input=given, capture_output=True, text=True, check=False)
+    *wrong, counts = ran.stdout.splitlines() or ["(nothing)"]
+    if counts != f"standard input: {asked} as recorded" or ran.returncode != 0:
+        wrong.append(f"status {ran.returncode}, {counts} of {asked}: {ran.stderr.strip()[:2000]}")
+    return asked, wrong
 
 
 def check_all(program):
-    """Asks a program of all slices of all kinds, and says how many lines it printed otherwise."""
+    """Asks a program of all slices of all kinds, and prints how many answers differ."""
     lines = slices = differing = 0
     for subject in subjects():
         compared, wrong = compare(subject, program)
         lines, slices, differing = lines + compared, slices + subject.slices, differing + len(wrong)
         for line in wrong[:5]:
             print(f"{subject.kind.name}: {line}")
-    print(f"{slices} slices of {len(ALL_KINDS)} arrays: {lines} lines compared, {differing} differ")
+    print(f"{slices} slices of {len(ALL_KINDS)} arrays: {lines} answers compared, {differing} differ")
     return 1 if differing else 0
 
 
 def main(arguments):
-    if arguments[:1] == ["--all"] and len(arguments) > 1:
-        return check_all(arguments[1:])
-    if arguments not in (["--part"], ["--answers"]):
+    if arguments[:1] == ["--all"] and len(arguments) == 2:
+        return check_all(arguments[1])
+    if arguments != ["--part"]:
         return __doc__
     for subject in subjects():
         for case in part_cases(subject):
-            print("\n".join(case.questions() if arguments == ["--part"] else case.answers()))
+            print("\n".join(case.text()))
     return 0
 
 

@@ -1,6 +1,6 @@
 """Prints what the program has to print, worked out from the rows alone.
 
-    python3 outside/sweeps.py > stdout     # about ten seconds
+    python3 tests/outside/boolean_sweeps.py > crates/boolean_sweeps/stdout     # about ten seconds
 
 The numbers of calls and answers are products of rounds, lengths and offsets. How many bits are
 promised depends on which rows are null, so the rows are drawn here again, by the same generator.

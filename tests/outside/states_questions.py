@@ -1,6 +1,6 @@
 """Questions on states of distinct values, at random, the same in each run.
 
-usage: states_questions.py    prints the questions of data/states_sweeps.txt
+usage: states_questions.py    prints the file data/states_sweeps.txt: questions, and the answers of `states.py`
 
 A state has a slot for each value of its range and one for null; up to 128 stand in one word, and more in a bitmap. In a
 chunk without nulls it is asked before each 512 rows whether all values were seen. So many ranges have about 127 values,
@@ -12,6 +12,7 @@ import itertools
 from arithmetic import KINDS
 from bits import TYPES, highest, lowest
 from reductions import Columns
+from states import answered
 
 SMALL = (0, 1, 2, 5, 9, 33, 65)
 SIZES = (1, 2, 3, 126, 127, 128, 129, 200)
@@ -283,4 +284,4 @@ def cases():
 
 
 if __name__ == "__main__":
-    print("\n".join(cases()))
+    print("\n".join(answered(cases())))

@@ -1,14 +1,14 @@
 """The answers to questions of arithmetic, found from rows that are whole numbers or null.
 
-usage: arithmetic.py             prints the questions of data/arithmetic_sweeps.txt
-       arithmetic.py FILE..      prints each line of the files that makes no array, with ` -> ` and its answer behind a question
+usage: arithmetic.py             prints the file data/arithmetic_sweeps.txt: questions, and their answers
+       arithmetic.py FILE..      prints the files, with the answers that are found here
 
 A row is null where an operand is null or a divisor is 0. Else it is the exact answer in whole numbers, and of those
 that are congruent to it the one that the type has. Of single numbers a quotient by 0, and what it leaves, is 0.
 """
 import random
-import sys
 
+import recorded
 from bits import TYPES, Words, highest, lowest
 
 KINDS = ("i8", "i16", "i32", "i64", "u8", "u16", "u32", "u64")
@@ -237,21 +237,21 @@ for called in FROM_NUMBERS:
 
 
 def answered(lines):
-    """The lines that a program prints."""
+    """The lines, with the answers that are found here."""
     arrays = {}
-    for line in lines:
+    for line in map(recorded.question_of, lines):
         words = line.split(" ")
         if line.startswith("#"):
             arrays = {}
-            yield line
         elif words[1:2] == ["="]:
             case = Case(words[2:], arrays)
             arrays[words[0]] = case.defined()
             assert not case.words, line
         elif line:
             case = Case(words[1:], arrays)
-            yield f"{line} -> {CALLS[words[0]](case)}"
+            line = f"{line} -> {CALLS[words[0]](case)}"
             assert not case.words, line
+        yield line
 
 
 def ends(kind):
@@ -441,8 +441,4 @@ def cases():
 
 
 if __name__ == "__main__":
-    if len(sys.argv) == 1:
-        print("\n".join(cases()))
-    for path in sys.argv[1:]:
-        with open(path, encoding="utf-8") as questions:
-            print("\n".join(answered(questions.read().splitlines())))
+    recorded.main(__doc__, answered, cases)

@@ -1,6 +1,6 @@
 """The answers to questions on states of distinct values, found from sets.
 
-usage: states.py FILE..      prints each line of the files that makes no array, with ` -> ` and its answer behind a question
+usage: states.py FILE..      prints the files, with the answers that are found here
 
 A state is a range, a set of values of it, and whether there was a null. An array adds its present rows to the set, and a
 state adds its set; the rows of a state are its set in order, and a null behind it. The values of a dictionary's rows are
@@ -8,8 +8,8 @@ the keys, whatever they name; what was seen is told by the dictionary of the sta
 is null: it is no value of the range, and where it was seen there was a null. A key without an entry is a value.
 """
 import itertools
-import sys
 
+import recorded
 import reductions
 from bits import highest, lowest, text
 from reductions import Array
@@ -456,13 +456,12 @@ CALLS = {
 
 
 def answered(lines):
-    """The lines that a program prints."""
+    """The lines, with the answers that are found here."""
     arrays = {}
-    for line in lines:
+    for line in map(recorded.question_of, lines):
         words = line.split(" ")
         if line.startswith("#"):
             arrays = {}
-            yield line
         elif words[1:2] == ["="]:
             case = Case(words[2:], arrays)
             assert words[0] not in arrays, line
@@ -470,11 +469,10 @@ def answered(lines):
             assert not case.words, line
         elif line:
             case = Case(words[1:], arrays)
-            yield f"{line} -> {CALLS[words[0]](case)}"
+            line = f"{line} -> {CALLS[words[0]](case)}"
             assert not case.words, line
+        yield line
 
 
 if __name__ == "__main__":
-    for path in sys.argv[1:]:
-        with open(path, encoding="utf-8") as questions:
-            print("\n".join(answered(questions.read().splitlines())))
+    recorded.main(__doc__, answered)

@@ -1,15 +1,15 @@
 """The answers to lines of the program, found from lists of rows.
 
-usage: lines.py             prints the questions of data/lines_sweeps.txt
-       lines.py FILE..      prints each line of the files, with ` -> ` and its answer behind a question
+usage: lines.py             prints the file data/lines_sweeps.txt: questions, and their answers
+       lines.py FILE..      prints the files, with the answers that are found here
 
 A line is an operation, a type and lists of rows, which bars part. It is refused for the first of these reasons: the
 operation, the type, a row, the length of a list or how many there are, a scalar or a range. A row is a whole number, a
 truth value or null.
 """
 import random
-import sys
 
+import recorded
 from arithmetic import KINDS, OPERATIONS, QUOTIENTS, row_operation, wrapped
 from bits import highest, lowest
 from reductions import COUNTS, JOINS, bits_of, reduced
@@ -296,26 +296,27 @@ def status(words):
     return "0" if words[0] == "lines" and words[2:] == ["refused", "0"] else "1"
 
 
+COMMANDS = {(): "lines", ("demo",): "demo", ("--help",): "help", ("--version",): "version"}
+
 CALLS = {
     "line": told,
     "line_bytes": lambda text: told(bytes_of(text).decode("utf-8")),
     "line_repeated": lambda text: told(repeated(*text.split(" "))),
     "run": lambda text: output_of(bytes_of(text)),
     "demo": lambda text: "x" + DEMO.encode().hex(),
-    "command": lambda text: {(): "lines", ("demo",): "demo"}.get(tuple(text.split()), "usage"),
+    "command": lambda text: COMMANDS.get(tuple(text.split()), "usage"),
     "exit_status": lambda text: status(text.split(" ")),
     "fault_text": {"read": "read failed", "write": "write failed", "memory": "out of memory"}.get,
 }
 
 
 def answered(lines):
-    """The lines that a program prints."""
-    for line in lines:
+    """The lines, with the answers that are found here."""
+    for line in map(recorded.question_of, lines):
         call, _, text = line.partition(" ")
-        if line.startswith("#"):
-            yield line
-        elif line:
-            yield f"{line} -> {CALLS[call](text)}"
+        if line and not line.startswith("#"):
+            line = f"{line} -> {CALLS[call](text)}"
+        yield line
 
 
 # ---- questions
@@ -450,8 +451,4 @@ def questions():
 
 
 if __name__ == "__main__":
-    if len(sys.argv) == 1:
-        print("\n".join(questions()))
-    for path in sys.argv[1:]:
-        with open(path, encoding="utf-8") as lines:
-            print("\n".join(answered(lines.read().split("\n"))))
+    recorded.main(__doc__, answered, questions)

@@ -1,6 +1,6 @@
 """The sums over the answers to calls at all places of words, found from lists of truth values.
 
-usage: sweeps.py    prints each sweep, with ` -> ` and its answer behind the question
+usage: sweeps.py    prints the file data/sweeps.txt: questions, and their answers
 """
 from bits import MERGES, OPERATORS
 

@@ -1,7 +1,6 @@
 """Arrays that hold arrays many levels deep, and wide ones: questions, and their answers from what the rows are.
 
-usage: deep.py                  prints the questions of data/deep_mixed.txt
-       deep.py --answers        prints the lines of stdout for it
+usage: deep.py                  prints the file data/deep_mixed.txt: questions, and their answers
        deep.py --all PROGRAM    asks a built program those questions, and those that are too large for the gate: 5,000
                                 levels, structs of 10,000 fields, and 10,000,000 items. Prints the time of each case, and
                                 ends with status 1 where an answer differs
@@ -14,6 +13,8 @@ import resource
 import subprocess
 import sys
 import time
+
+import recorded
 
 MIXED = ("list", "struct", "dict")
 SHAPES = (MIXED, ("list",), ("fixedlist",), ("struct",), ("dict",))
@@ -157,9 +158,9 @@ def pair_answers(left, right, other):
 
 
 def asked(heading, names, pairs):
-    """A case: its lines, and what is printed for them."""
-    lines = [f"# {heading}", *(f"{name} = {words}" for name, words in names.items()), *(call for call, _ in pairs), ""]
-    return lines, [f"# {heading}", *(f"{call} -> {answer}" for call, answer in pairs)]
+    """The lines of a case: its arrays, and its questions with their answers."""
+    arrays = (f"{name} = {words}" for name, words in names.items())
+    return [f"# {heading}", *arrays, *(f"{call} -> {answer}" for call, answer in pairs), ""]
 
 
 def deep_case(levels, kinds):
@@ -194,9 +195,11 @@ def refused_case():
         "far": Deep(FAR_DEPTH + 1, ("dict",), [1]).wrapped(),
     }
     depths = {"words": READ_DEPTH, "mixed": READ_DEPTH, "wrapped": WRAPPED_DEPTH, "most": WRAPPED_DEPTH, "far": FAR_DEPTH}
-    lines = [f"# {heading}", *(f"{name} = {words}" for name, words in arrays.items()), ""]
-    said = [f"{name} = refused: arrays hold arrays more than {depth} levels deep" for name, depth in depths.items()]
-    return lines, [f"# {heading}", *said]
+    refusals = (
+        f"{name} = {words} -> refused: arrays hold arrays more than {depths[name]} levels deep"
+        for name, words in arrays.items()
+    )
+    return [f"# {heading}", *refusals, ""]
 
 
 def entries_case():
@@ -206,14 +209,12 @@ def entries_case():
         names[name] = f"0 {count} null {count}"
         names[f"l_{name}"] = f"0 3 dict u64 3 0 {count - 1} 5 b0:110 {names[name]}"
         names[f"r_{name}"] = f"0 3 dict u64 3 1 {count - 2} {2**64 - 1} b0:110 {names[name]}"
-        names[f"beyond_{name}"] = f"0 3 dict u64 3 0 {count} 5 b0:110 {names[name]}"
+        names[f"beyond_{name}"] = f"0 3 dict u64 3 0 {count} 5 b0:110 {names[name]} -> refused: key 1 is out of range"
         pairs.append((f"keys_fit {name}", true_word(count <= 2**32)))
         pairs.append((f"rows l_{name}", "null null null"))
         pairs.append((f"copy r_{name}", "null null null"))
         pairs.append((f"array_tot_eq_missing_kernel_counted l_{name} r_{name}", "b0:111 in 0 comparisons"))
-    lines, said = asked("dictionaries of 2^32 nulls and of one more", names, pairs)
-    refused = [f"beyond_{name} = refused: key 1 is out of range" for name in ("most", "more")]
-    return lines, [said[0], *refused, *said[1:]]
+    return asked("dictionaries of 2^32 nulls and of one more", names, pairs)
 
 
 def wide_case(width):
@@ -352,24 +353,25 @@ def wrapped_case(levels, kinds):
     return asked(f"{levels} levels of {', '.join(kinds)}", names, list(pair_answers(left, right, other)))
 
 
-def run(program, lines, stack=LARGE_STACK):
-    """Runs the program on lines with so large a stack, and returns its status, what it printed, and its time."""
+def run(command, lines, stack=LARGE_STACK):
+    """Runs a command on lines with so large a stack, and returns its status, what it printed, and its time."""
     def limit():
         resource.setrlimit(resource.RLIMIT_STACK, (stack, resource.getrlimit(resource.RLIMIT_STACK)[1]))
         resource.setrlimit(resource.RLIMIT_CORE, (0, 0))
 
     begun = time.monotonic()
     text = "\n".join([*lines, ""]).encode()
-    ran = subprocess.run([program], input=text, capture_output=True, preexec_fn=limit, check=False)
+    ran = subprocess.run(command, input=text, capture_output=True, preexec_fn=limit, check=False)
     return ran.returncode, ran.stdout.decode(), time.monotonic() - begun
 
 
 def run_all(program):
     """Asks the program all cases, each in a run of its own, and says whether every answer is the expected one."""
     well = True
-    for lines, wanted in all_cases():
-        status, printed, seconds = run(program, lines)
-        is_well = status == 0 and printed == "\n".join([*wanted, ""])
+    for lines in all_cases():
+        status, printed, seconds = run([program], lines)
+        asked = sum(recorded.ARROW in line for line in lines)
+        is_well = status == 0 and printed == f"standard input: {asked} as recorded\n"
         well = well and is_well
         print(f"{lines[0]}: {'as expected' if is_well else f'NOT as expected, status {status}'}, {seconds:.2f} s", flush=True)
     return well
@@ -378,10 +380,10 @@ def run_all(program):
 def main(arguments):
     if arguments[:1] == ["--all"] and len(arguments) == 2:
         return 0 if run_all(arguments[1]) else 1
-    if arguments not in ([], ["--answers"]):
+    if arguments:
         return __doc__
-    for lines, said in gate_cases():
-        print("\n".join(said if arguments else lines))
+    for lines in gate_cases():
+        print("\n".join(lines))
     return 0
 
 

@@ -1,15 +1,15 @@
 """The answers to questions on counts of bits, reductions, sums and extremes, found from lists of rows.
 
-usage: reductions.py             prints the questions of data/reductions_sweeps.txt
-       reductions.py FILE..      prints each line of the files that makes no array, with ` -> ` and its answer behind a question
+usage: reductions.py             prints the file data/reductions_sweeps.txt: questions, and their answers
+       reductions.py FILE..      prints the files, with the answers that are found here
 
 A row is a whole number, a truth value, a byte string or null. The bits of a number are those of the number modulo 2 to
 its width, the lowest first; a truth value is one bit. A reduction takes each place of the present rows by itself. The least
 row is the present one that no present row is less than; texts are compared by their bytes.
 """
 import itertools
-import sys
 
+import recorded
 from arithmetic import KINDS, Chance, array_line, sum_of_masked, sum_of_rows, sum_of_two, sum_of_values, wrapped, written
 from bits import TYPES, Words, highest, lowest, text
 
@@ -232,21 +232,21 @@ for called in NAMES:
 
 
 def answered(lines):
-    """The lines that a program prints."""
+    """The lines, with the answers that are found here."""
     arrays = {}
-    for line in lines:
+    for line in map(recorded.question_of, lines):
         words = line.split(" ")
         if line.startswith("#"):
             arrays = {}
-            yield line
         elif words[1:2] == ["="]:
             case = Case(words[2:], arrays)
             arrays[words[0]] = case.defined()
             assert not case.words, line
         elif line:
             case = Case(words[1:], arrays)
-            yield f"{line} -> {CALLS[words[0]](case)}"
+            line = f"{line} -> {CALLS[words[0]](case)}"
             assert not case.words, line
+        yield line
 
 
 LENGTHS = {"no null": (0, 1, 64, 130), "nulls": (1, 63, 64, 65, 130), "nulls alone": (1, 65)}
@@ -414,8 +414,4 @@ def cases():
 
 
 if __name__ == "__main__":
-    if len(sys.argv) == 1:
-        print("\n".join(cases()))
-    for path in sys.argv[1:]:
-        with open(path, encoding="utf-8") as questions:
-            print("\n".join(answered(questions.read().splitlines())))
+    recorded.main(__doc__, answered, cases)

@@ -1,8 +1,8 @@
 """The answers to questions on numbers, bits and buffers, found from lists of truth values and numbers.
 
-usage: bits.py FILE..    prints each line of the files, with ` -> ` and its answer behind a question
+usage: bits.py FILE..    prints the files, with the answers that are found here
 """
-import sys
+import recorded
 
 TYPES = {sign + str(width): (sign == "i", width) for sign in "iu" for width in (8, 16, 32, 64, 128)}
 GREATEST_COUNT = 2**64 - 1
@@ -318,18 +318,15 @@ for name, function in MERGES.items():
     CALLS["mask_" + name] = lambda w, f=function: each(f, w.mask(), w.mask(), w.mask())
 
 
-def answered(line):
-    if not line or line.startswith("#"):
-        return line
-    words = Words(line.split(" "))
-    answer = CALLS[words.word()](words)
-    assert not words.words, line
-    return f"{line} -> {text(answer)}"
+def answered(lines):
+    """The lines, with the answers that are found here."""
+    for line in map(recorded.question_of, lines):
+        if line and not line.startswith("#"):
+            words = Words(line.split(" "))
+            line = f"{line} -> {text(CALLS[words.word()](words))}"
+            assert not words.words, line
+        yield line
 
 
 if __name__ == "__main__":
-    for path in sys.argv[1:]:
-        for line in open(path):
-            line = line.rstrip("\n")
-            if line:
-                print(answered(line))
+    recorded.main(__doc__, answered)

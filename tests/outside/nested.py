@@ -1,8 +1,8 @@
 """The answers to questions on dictionaries, and on other arrays that recorded cases write, found from their rows.
 
-usage: nested.py FILE..    prints each line of the files that makes no array, with ` -> ` and its answer behind a question
+usage: nested.py FILE..    prints the files, with the answers that are found here
        nested.py --check   finds the answers anew to all questions of data/ on arrays in which a dictionary lies, and on
-                           states of keys, and compares them with those of stdout; status 1 where one differs
+                           states of keys, and compares them with those that stand there; status 1 where one differs
 
 What the calls mean, and which rows are null, is said by `slices_arrays.py`, `slices_answers.py` and `states.py`; here are
 the arrays that words make, and the calls that no slice is asked. Arrays that lie `wrapped` in many levels are those of
@@ -10,6 +10,7 @@ the arrays that words make, and the calls that no slice is asked. Arrays that li
 """
 import sys
 
+import recorded
 import reductions
 import slices_answers
 import states
@@ -231,56 +232,31 @@ class Named(dict):
 
 
 def answered(lines):
-    """The lines that a program prints."""
+    """The lines, with the answers that are found here."""
     arrays = Named()
-    for line in lines:
+    for line in map(recorded.question_of, lines):
         words = line.split(" ")
         if line.startswith("#"):
             arrays = Named()
-            yield line
         elif words[1:2] == ["="]:
             arrays.add(words[0], words[2:])
         elif line:
-            yield f"{line} -> {CALLS[words[0]](arrays, *words[1:])}"
+            line = f"{line} -> {CALLS[words[0]](arrays, *words[1:])}"
+        yield line
 
 
-# ---- what stdout has
-
-def lines_of(path):
-    with open(path, encoding="utf-8") as file:
-        return file.read().split("\n")[:-1]
-
-
-def asked(printed):
-    """Each question of the files that `args` names, with the arrays of its case and the answer that stdout has."""
-    for path in lines_of("args"):
-        arrays = Named()
-        for line in lines_of(f"data/{path}"):
-            words = line.split(" ")
-            if line.startswith("#"):
-                arrays = Named()
-                assert next(printed) == line
-            elif words[1:2] == ["="]:
-                if printed.next_is_refusal(words[0]):
-                    next(printed)
-                else:
-                    arrays.add(words[0], words[2:])
-            elif line:
-                yield path, arrays, words, next(printed)
-
-
-class Printed:
-    """The lines of stdout, one after the other."""
-
-    def __init__(self):
-        self.lines, self.at = lines_of("stdout"), 0
-
-    def __next__(self):
-        self.at += 1
-        return self.lines[self.at - 1]
-
-    def next_is_refusal(self, name):
-        return self.at < len(self.lines) and self.lines[self.at].startswith(f"{name} = refused: ")
+def asked(path):
+    """Each question of a data file, with the arrays of its case and its line."""
+    arrays = Named()
+    for line in recorded.lines_of(path):
+        words = recorded.question_of(line).split(" ")
+        if line.startswith("#"):
+            arrays = Named()
+        elif recorded.is_array(line):
+            if not recorded.is_refused(line):
+                arrays.add(words[0], words[2:])
+        elif line:
+            yield arrays, words, line
 
 
 def has_keys(arrays, words):
@@ -292,19 +268,29 @@ def is_asked_here(call):
     return call not in OTHERS and not call.startswith("dyn_array")
 
 
-def check():
-    """Whether stdout has the answers to all questions on dictionaries."""
-    compared, differing = {}, 0
-    for path, arrays, words, line in asked(Printed()):
-        if path in ELSEWHERE or not has_keys(arrays, words) or not is_asked_here(words[0]):
+def check_file(path):
+    """Finds the answers anew to a file's questions on dictionaries. Returns how many were compared, and how many differ."""
+    compared = differing = 0
+    for arrays, words, line in asked(path):
+        if not has_keys(arrays, words) or not is_asked_here(words[0]):
             continue
         answer = CALLS[words[0]](arrays, *words[1:])
-        compared[path] = compared.get(path, 0) + 1
-        if answer is not None and line != f"{' '.join(words)} -> {answer}":
+        compared += 1
+        if answer is not None and recorded.answer_of(line) != answer:
             differing += 1
-            print(f"{path}: {line[:300]}\n    and not {answer[:300]}")
-    print(f"{sum(compared.values())} answers compared, {differing} differ: {compared}")
-    return 1 if differing else 0
+            print(f"{path.name}: {line[:300]}\n    and not {answer[:300]}")
+    return compared, differing
+
+
+def check():
+    """Finds the answers anew to all questions on dictionaries, and returns the status."""
+    compared = differing = 0
+    for path in sorted(recorded.DATA.glob("*.txt")):
+        if path.name not in ELSEWHERE:
+            counts = check_file(path)
+            compared, differing = compared + counts[0], differing + counts[1]
+    print(f"{compared} answers on dictionaries compared, {differing} differ")
+    return 1 if differing or not compared else 0
 
 
 def main(arguments):
@@ -312,7 +298,7 @@ def main(arguments):
     if arguments == ["--check"]:
         return check()
     for path in arguments:
-        print("\n".join(answered(lines_of(path))))
+        print("\n".join(answered(recorded.lines_of(path))))
     return 0
 
 

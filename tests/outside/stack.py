@@ -40,7 +40,7 @@ def lines_of(levels, kinds, question, is_read):
 
 def ends_well(program, lines, stack):
     """Whether the run ends with status 0; a signal is the end of the stack."""
-    status, printed, _ = run(program, lines, stack)
+    status, printed, _ = run([program, "--print"], lines, stack)
     if status > 0 or (status == 0 and "refused" in printed):
         raise RuntimeError(f"status {status}: {printed[-200:]}")
     return status == 0

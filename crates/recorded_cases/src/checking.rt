@@ -1,0 +1,158 @@
+//! Answers that are recorded beside their questions.
+
+ghost use Rattle.recorded_text.specs.Cases.{HasGoodArrays};
+
+use crate::question::{Answer, answer_line};
+use recorded_text::fault::Fault;
+use recorded_text::store::Store;
+
+/// What is done with the answers to a file's questions.
+#[derive(Clone, Copy, Debug, PartialEq, Eq)]
+pub enum Mode {
+    /// They are compared with the recorded ones.
+    Compare,
+    /// They are compared with recorded ones that are all wrong.
+    CompareWrong,
+    /// They are printed.
+    Print,
+}
+
+/// How many answers are as recorded, and how many differ.
+#[derive(Clone, Copy, Debug, Default, PartialEq, Eq)]
+pub struct Tally {
+    pub same: u64,
+    pub differing: u64,
+}
+
+impl Tally {
+    /// Counts a line, of which `None` says that it asks nothing.
+    fn count(&mut self, agrees: Option<bool>) {
+        match agrees {
+            Some(true) => self.same = self.same.saturating_add(1),
+            Some(false) => self.differing = self.differing.saturating_add(1),
+            None => (),
+        }
+    }
+}
+
+/// A line of a file, without the answer that is recorded on it.
+#[derive(Clone, Copy)]
+struct Asked<'a> {
+    file: &'a str,
+    number: usize,
+    question: &'a str,
+}
+
+/// Returns a line's question, and the answer that is recorded behind it. A heading has none.
+fn split_answer(line: &str) -> (&str, Option<&str>) {
+    if line.starts_with('#') {
+        return (line, None);
+    }
+    match line.split_once(" -> ") {
+        Some((question, answer)) => (question, Some(answer)),
+        None => (line, None),
+    }
+}
+
+/// Asks the questions of a text, and compares the answers with the recorded ones or prints them.
+pub fn check_text<R: Print + Eprint + AllocGlobal>(
+    rt: &R,
+    file: &str,
+    text: &str,
+    mode: Mode,
+) -> Result<Tally, Fault> {
+    let alloc = rt.alloc();
+    let mut store = Store::new(alloc);
+    let mut tally = Tally::default();
+    let mut number = 0_usize;
+    for line in text.lines() {
+        number = number.saturating_add(1);
+        let (question, recorded) = split_answer(line);
+        let asked = Asked {
+            file,
+            number,
+            question,
+        };
+        let answer = ask(rt, &mut store, asked);
+        tally.count(check_answer(rt, asked, recorded, answer, mode)?);
+    }
+    Ok(tally)
+}
+
+/// Answers a line. Where an allocation fails, says so and answers the line once more: the arrays of
+/// the case have to be as they were.
+fn ask<R: Eprint + AllocGlobal>(rt: &R, store: &mut Store, asked: Asked) -> Result<Answer, Fault>
+    requires { HasGoodArrays store.old }
+    ensures { HasGoodArrays store.new }
+{
+    match answer_line(rt.alloc(), store, asked.question) {
+        Err(Fault::Memory) => {
+            tell(rt, asked, &Fault::Memory)?;
+            answer_line(rt.alloc(), store, asked.question)
+        }
+        answer => answer,
+    }
+}
+
+/// Prints a line that has no answer, and why, on standard error.
+fn tell(rt: &impl Eprint, asked: Asked, fault: &Fault) -> Result<(), Fault> {
+    let Asked {
+        file,
+        number,
+        question,
+    } = asked;
+    eprintln!(rt; "{file}:{number}: {fault}: {question}").map_err(Fault::from)
+}
+
+/// Compares an answer with the recorded one, or prints it. Names a line that has none.
+fn check_answer<R: Print + Eprint>(
+    rt: &R,
+    asked: Asked,
+    recorded: Option<&str>,
+    answer: Result<Answer, Fault>,
+    mode: Mode,
+) -> Result<Option<bool>, Fault> {
+    match answer {
+        Ok(answer) => match mode {
+            Mode::Print => print_answer(rt, asked.question, &answer),
+            _ => compare(rt, asked, recorded, &answer),
+        },
+        Err(fault) => {
+            tell(rt, asked, &fault)?;
+            Err(fault)
+        }
+    }
+}
+
+/// Prints a heading, or what a question is answered.
+fn print_answer(rt: &impl Print, question: &str, answer: &Answer) -> Result<Option<bool>, Fault> {
+    match answer {
+        Answer::Nothing if question.starts_with('#') => println!(rt; "{question}")?,
+        Answer::Nothing => (),
+        Answer::Refused(name, why) => println!(rt; "{name} = {why}")?,
+        Answer::Returned(text) => println!(rt; "{question} -> {text}")?,
+    }
+    Ok(None)
+}
+
+/// Compares an answer with the recorded one, and prints both where they differ. Returns `None`
+/// where there is neither.
+fn compare(
+    rt: &impl Print,
+    asked: Asked,
+    recorded: Option<&str>,
+    answer: &Answer,
+) -> Result<Option<bool>, Fault> {
+    let answer = answer.text();
+    if answer == recorded {
+        return Ok(answer.map(|_| true));
+    }
+    let Asked {
+        file,
+        number,
+        question,
+    } = asked;
+    let (answer, recorded) = (answer.unwrap_or("nothing"), recorded.unwrap_or("nothing"));
+    println!(rt; "{file}:{number}: {question} -> {answer}, recorded is {recorded}")?;
+    Ok(Some(false))
+}
