@@ -3,11 +3,29 @@
 
 use polars_tables_lines::arguments::asked;
 use polars_tables_lines::demo::demo;
-use polars_tables_lines::program::{Command, exit_status, fault_text};
+use polars_tables_lines::program::{Command, VERSION, exit_status, fault_text};
 use polars_tables_lines::running::{Report, RunError, run};
 use std::process::ExitCode;
 use std::rt::Env;
 use std::{env, io};
+
+/// What `--help` prints.
+const HELP: &str = "\
+Reads one command a line from standard input and prints one result a line.
+
+usage: polars_tables [demo | --help | --version]
+
+    demo         compares small nested arrays
+    --help       prints this text
+    --version    prints the version
+
+A command is an operation, a type, and rows, with a bar between two lists of rows:
+
+    add i8 127 null | 1 2       -128 null
+    eq_missing i32 1 null | 1 null       true true
+
+docs/LANGUAGE.md has all operations. A line that can't be answered prints
+`line N: refused: WORD`, and the status is then 1.";
 
 /// The words after the program's name.
 fn read_arguments<R: Env + AllocGlobal>(rt: &R) -> io::Result<Vec<String>> {
@@ -26,13 +44,32 @@ fn end(rt: &impl Eprint, outcome: Result<Report, RunError>) -> u8 {
     exit_status(&outcome)
 }
 
+/// The report of what answers no lines.
+const NO_LINES: Report = Report {
+    lines: 0,
+    refused: 0,
+};
+
 /// Prints the demo, which counts as a run of no lines.
 fn print_demo(rt: &(impl Print + AllocGlobal)) -> Result<Report, RunError> {
     demo(rt.alloc(), &mut io::writer(rt))?;
-    Ok(Report {
-        lines: 0,
-        refused: 0,
-    })
+    Ok(NO_LINES)
+}
+
+/// Prints a text, which counts as a run of no lines.
+fn print_text(rt: &impl Print, text: &str) -> Result<Report, RunError> {
+    match println!(rt; "{text}") {
+        Ok(()) => Ok(NO_LINES),
+        Err(_) => Err(RunError::Write),
+    }
+}
+
+/// Prints the name of the program and its version.
+fn print_version(rt: &impl Print) -> Result<Report, RunError> {
+    match println!(rt; "polars_tables {VERSION}") {
+        Ok(()) => Ok(NO_LINES),
+        Err(_) => Err(RunError::Write),
+    }
 }
 
 fn main(rt: HostRuntime) -> ExitCode {
@@ -42,8 +79,10 @@ fn main(rt: HostRuntime) -> ExitCode {
             ExitCode::from(end(&rt, outcome))
         }
         Ok(Command::Demo) => ExitCode::from(end(&rt, print_demo(&rt))),
+        Ok(Command::Help) => ExitCode::from(end(&rt, print_text(&rt, HELP))),
+        Ok(Command::Version) => ExitCode::from(end(&rt, print_version(&rt))),
         Ok(Command::Usage) => {
-            let _ = eprintln!(rt; "usage: polars_tables [demo]");
+            let _ = eprintln!(rt; "usage: polars_tables [demo | --help | --version]");
             ExitCode::from(2)
         }
         Err(fault) => ExitCode::from(end(&rt, Err(fault))),

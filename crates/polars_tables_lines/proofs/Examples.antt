@@ -3,7 +3,7 @@ use Rattle.std.proofs.Common.{◌≡◌, [], ◌∷◌, ◌++◌, Ok, Err, refl,
 use Rattle.std.specs.Fmt.{digits}
 use Rattle.std.specs.declared.io.ErrorKind.TheVariants.{InvalidData, OutOfMemory}
 use Rattle.polars_tables_rows.specs.declared.fault.LineError.TheVariants.{Op, TypeName, Row as RowError, Length, Range}
-use Rattle.polars_tables_lines.specs.declared.program.Command.TheVariants.{Lines, Demo, Usage}
+use Rattle.polars_tables_lines.specs.declared.program.Command.TheVariants.{Lines, Demo, Help, Version, Usage}
 use Rattle.polars_tables_lines.specs.declared.running.RunError.TheVariants.{Memory}
 use Rattle.polars_tables_lines.specs.Command.{command_of, unread_of}
 use Rattle.polars_tables_lines.specs.Line.{line_meaning}
@@ -56,6 +56,15 @@ command-none = refl
 
 command-demo : command_of (codes "demo" ∷ []) ≡ Demo
 command-demo = refl
+
+command-help : command_of (codes "--help" ∷ []) ≡ Help
+command-help = refl
+
+command-version : command_of (codes "--version" ∷ []) ≡ Version
+command-version = refl
+
+command-other : command_of (codes "--demo" ∷ []) ≡ Usage
+command-other = refl
 
 command-words : command_of (codes "demo" ∷ codes "demo" ∷ []) ≡ Usage
 command-words = refl

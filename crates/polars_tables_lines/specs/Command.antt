@@ -1,18 +1,25 @@
 -- What the program is asked to do, and how it ends.
-use Rattle.std.specs.Prelude.{ℕ, ◌==◌, cond, if◌then◌else◌, List, [], ◌∷◌, codes, Result, Ok, Err}
+use Rattle.std.specs.Prelude.{ℕ, ◌==◌, if◌then◌else◌, List, [], ◌∷◌, codes, Result, Ok, Err}
 use Rattle.std.specs.Str.{bytes_eq}
 use Rattle.std.specs.declared.io.ErrorKind.{ErrorKind}
 use Rattle.std.specs.declared.io.ErrorKind.TheVariants.{OutOfMemory}
 use Rattle.polars_tables_lines.specs.declared.program.Command.{Command}
-use Rattle.polars_tables_lines.specs.declared.program.Command.TheVariants.{Lines, Demo, Usage}
+use Rattle.polars_tables_lines.specs.declared.program.Command.TheVariants.{Lines, Demo, Help, Version, Usage}
 use Rattle.polars_tables_lines.specs.declared.running.Report.{Report}
 use Rattle.polars_tables_lines.specs.declared.running.RunError.{RunError}
 use Rattle.polars_tables_lines.specs.declared.running.RunError.TheVariants.{Read, Write, Memory}
 
--- without words the lines of standard input are answered, with the one word `demo` the demo is printed, and with any others the usage line
+-- what one word asks for
+abbrev pub named_command : List ℕ → Command
+named_command word =
+    if bytes_eq word (codes "demo") then Demo
+    else (if bytes_eq word (codes "--help") then Help
+    else (if bytes_eq word (codes "--version") then Version else Usage))
+
+-- without words the lines of standard input are answered, one word is a name, and with more the usage line is printed
 abbrev pub command_of : List (List ℕ) → Command
 command_of [] = Lines
-command_of (word ∷ []) = cond (bytes_eq word (codes "demo")) Demo Usage
+command_of (word ∷ []) = named_command word
 command_of (word ∷ other ∷ more) = Usage
 
 -- where the arguments can't be read: a refused growth is a fault, and for anything else, as an argument that is no UTF-8, the usage line is printed

@@ -10,14 +10,17 @@ use crate::running::RunError;
 use std::io;
 use std::io::ErrorKind;
 
-/// What the words after the program's name ask for: without words the lines of standard input, with the one word `demo` the demo, and
-/// with any others the usage line.
+/// Returns what the words after the program's name ask for: without words the lines of standard
+/// input, with one of the words `demo`, `--help` and `--version` what it names, and with any others
+/// the usage line.
 pub fn command(arguments: &[String]) -> Command
     ensures { result ≡ command_of (map string_bytes arguments.now) }
 {
     match arguments {
         [] => Command::Lines,
         [word] if word.as_str() == "demo" => Command::Demo,
+        [word] if word.as_str() == "--help" => Command::Help,
+        [word] if word.as_str() == "--version" => Command::Version,
         _ => Command::Usage,
     }
 }

@@ -5,6 +5,10 @@ ghost use Rattle.polars_tables_lines.specs.Command.{exit_status_of, fault_text_o
 
 use crate::running::{Report, RunError};
 
+/// The version of the program and of the libraries that it stands on. `CHANGELOG.md` says what each
+/// version brought.
+pub const VERSION: &str = "0.1.0";
+
 /// What the program is asked to do.
 #[derive(Clone, Copy, Debug, PartialEq, Eq)]
 pub enum Command {
@@ -12,7 +16,11 @@ pub enum Command {
     Lines,
     /// Print the demo.
     Demo,
-    /// Print how the program is called.
+    /// Print on standard output how the program is called.
+    Help,
+    /// Print the version.
+    Version,
+    /// Print on standard error how the program is called, since the arguments are wrong.
     Usage,
 }
 

@@ -168,6 +168,8 @@ fn command_name(command: Command) -> &'static str {
     match command {
         Command::Lines => "lines",
         Command::Demo => "demo",
+        Command::Help => "help",
+        Command::Version => "version",
         Command::Usage => "usage",
     }
 }
