@@ -1,4 +1,4 @@
-//! First steps: two columns of orders are made from parts and compared row by row.
+//! First steps: two columns of numbers, and two of orders, are made from parts and compared row by row.
 //!
 //! An order is a struct. Its items are a list of numbers, and its city is an entry of a dictionary. The second column keeps the
 //! same orders in another way: other numbers lie under the null list, and its dictionary has the cities in another order.
@@ -21,6 +21,7 @@ use polars_arrays_nested::list::ListArray;
 use polars_arrays_nested::list_offsets::ListOffsets;
 use polars_arrays_nested::struct_array::StructArray;
 use polars_arrays_numbers::steps::Steps;
+use polars_compare_equality::kernel::TotalEqKernel;
 use polars_compare_nested::kernels::array_tot_eq_missing_kernel_with_steps;
 use std::alloc::Global;
 use std::process::ExitCode;
@@ -151,6 +152,28 @@ fn print_rows(rt: &impl Print, same: &Bitmap, comparisons: u64) -> Result<(), Fa
     Ok(())
 }
 
+/// Returns a column of numbers. Where `present` is false a row is null.
+fn numbers(alloc: Global, values: &[i32], present: &[bool]) -> Result<PrimitiveArray<i32>, Fault> {
+    let values = Buffer::from_vec(Vec::from_slice(alloc, values)?);
+    let validity = Bitmap::from_bools(alloc, present)?;
+    Ok(PrimitiveArray::try_new(values, Some(validity))?)
+}
+
+/// Compares two columns of numbers row by row, null equal to null.
+fn compare_numbers(rt: &(impl Print + AllocGlobal)) -> Result<(), Fault> {
+    let alloc = rt.alloc();
+    let left = numbers(alloc, &[1, 2, 3], &[true, true, false])?;
+    let right = numbers(alloc, &[1, 5, 9], &[true, true, false])?;
+    if !left.can_compare(&right) {
+        return Err(Fault::Columns);
+    }
+    let same = left.tot_eq_missing_kernel(alloc, &right)?;
+    for row in 0..same.len() {
+        println!(rt; "{row}: {}", same.get_bit(row))?;
+    }
+    Ok(())
+}
+
 /// Three orders, of which the second has no list of items.
 const FIRST: Parts<'static> = Parts {
     offsets: &[0, 2, 2, 3],
@@ -179,7 +202,7 @@ fn compare_orders(rt: &(impl Print + AllocGlobal)) -> Result<(), Fault> {
 }
 
 fn main(rt: HostRuntime) -> ExitCode {
-    if let Err(fault) = compare_orders(&rt) {
+    if let Err(fault) = compare_numbers(&rt).and_then(|_| compare_orders(&rt)) {
         let _ = eprintln!(rt; "{fault}");
         return ExitCode::from(1);
     }
