@@ -1,15 +1,14 @@
-//! Kernels of an array and a byte string or a text that is borrowed, by their names behind `bytes_` and
-//! `text_`.
+//! Kernels of an array and a byte string or a text that is borrowed, by their names behind `bytes_`
+//! and `text_`.
 //!
 //! | Call | Answer |
 //! |---|---|
 //! | `bytes_tot_eq_kernel_broadcast ARRAY BYTES` and so on | the bits, with `x` where the row is masked |
 //! | `text_tot_eq_kernel_broadcast ARRAY BYTES` and so on | the same of a text, which is written by its bytes |
 
-ghost use Rattle.polars_arrays_nested.specs.GoodParts.{IsGood};
 ghost use Rattle.recorded_text.specs.Cases.{HasGoodArrays};
 
-use crate::kernel_names::{Equality, Kernel, Order};
+use crate::kernel_names::{Equality, Order, Question};
 use crate::named_kinds::of_kind;
 use crate::operands::read_next_bytes;
 use polars_arrays_flat::array::Array;
@@ -23,61 +22,46 @@ use recorded_text::words::Words;
 use std::alloc::Global;
 use std::str::from_utf8;
 
-/// The answer to a call of this subject, or None for another one's.
-pub fn answer(
+/// Returns what the array of byte strings that words name answers beside the one that they write.
+pub fn ask_bytes(
     alloc: Global,
-    call: &str,
+    question: Question,
     store: &Store,
     words: &mut Words,
-) -> Option<Result<String, Fault>>
-    requires { HasGoodArrays store.now }
-{
-    let call = call.strip_suffix("_broadcast")?;
-    if let Some(name) = call.strip_prefix("bytes_") {
-        let kernel = Kernel::named(name)?;
-        Some(beside_bytes(alloc, store, words, kernel))
-    } else {
-        let kernel = Kernel::named(call.strip_prefix("text_")?)?;
-        Some(beside_text(alloc, store, words, kernel))
-    }
-}
-
-// What a kernel says of the rows of an array and of the byte string that words write.
-fn beside_bytes(
-    alloc: Global,
-    store: &Store,
-    words: &mut Words,
-    kernel: Kernel,
 ) -> Result<String, Fault>
     requires { HasGoodArrays store.now }
 {
     let array = store.read(words)?;
     let bytes = read_next_bytes(alloc, words)?;
-    match kernel {
-        Kernel::Equality(kernel) => bytes_equal_to(alloc, array, &bytes, kernel),
-        Kernel::Order(kernel) => bytes_beside(alloc, array, &bytes, kernel),
+    ask_strings(alloc, question, array, &bytes)
+}
+
+// Returns what an array of byte strings answers beside one.
+fn ask_strings(
+    alloc: Global,
+    question: Question,
+    array: &AnyArray,
+    bytes: &[u8],
+) -> Result<String, Fault> {
+    match question {
+        Question::Can => Err(Fault::Case),
+        Question::Equality(kernel) => {
+            of_kind!(array, rows => equal_to_bytes(alloc, kernel, rows, bytes),
+                Binary LargeBinary BinaryView FixedSizeBinary)
+        }
+        Question::Order(order) => {
+            of_kind!(array, rows => beside_bytes(alloc, order, rows, bytes),
+                Binary LargeBinary BinaryView)
+        }
     }
 }
 
-// Where the rows of an array of byte strings are equal to one.
-fn bytes_equal_to(
-    alloc: Global,
-    array: &AnyArray,
-    bytes: &[u8],
-    kernel: Equality,
-) -> Result<String, Fault>
-    requires { IsGood array.now }
-{
-    of_kind!(array, rows => equal_to_bytes(alloc, rows, bytes, kernel),
-        Binary LargeBinary BinaryView FixedSizeBinary)
-}
-
-// Where rows are equal to a byte string. A raw bit is shown where the row is present.
+// Returns where rows are equal to a byte string. A raw bit is shown where the row is present.
 fn equal_to_bytes<A: BytesEqKernel>(
     alloc: Global,
+    kernel: Equality,
     rows: &A,
     bytes: &[u8],
-    kernel: Equality,
 ) -> Result<String, Fault>
     requires { A.good rows.now }
 {
@@ -87,32 +71,19 @@ fn equal_to_bytes<A: BytesEqKernel>(
         Equality::EqualMissing => rows.tot_eq_missing_kernel_broadcast(alloc, bytes),
         Equality::UnequalMissing => rows.tot_ne_missing_kernel_broadcast(alloc, bytes),
     };
-    kernel.write(alloc, bits, rows.validity(), None)
+    kernel.write(alloc, bits, rows.validity())
 }
 
-// How the rows of an array of byte strings stand to one.
-fn bytes_beside(
+// Returns how rows stand to a byte string. A bit is shown where the row is present.
+fn beside_bytes<A: BytesOrdKernel>(
     alloc: Global,
-    array: &AnyArray,
-    bytes: &[u8],
-    kernel: Order,
-) -> Result<String, Fault>
-    requires { IsGood array.now }
-{
-    of_kind!(array, rows => ordered_beside_bytes(alloc, rows, bytes, kernel),
-        Binary LargeBinary BinaryView)
-}
-
-// How rows stand to a byte string. A bit is shown where the row is present.
-fn ordered_beside_bytes<A: BytesOrdKernel>(
-    alloc: Global,
+    order: Order,
     rows: &A,
     bytes: &[u8],
-    kernel: Order,
 ) -> Result<String, Fault>
     requires { A.good rows.now }
 {
-    let bits = match kernel {
+    let bits = match order {
         Order::Less => rows.tot_lt_kernel_broadcast(alloc, bytes),
         Order::LessOrEqual => rows.tot_le_kernel_broadcast(alloc, bytes),
         Order::Greater => rows.tot_gt_kernel_broadcast(alloc, bytes),
@@ -121,56 +92,56 @@ fn ordered_beside_bytes<A: BytesOrdKernel>(
     write_made_present(alloc, bits, rows.validity(), None)
 }
 
-// What a kernel says of the rows of an array and of the text that words write.
-fn beside_text(
+/// Returns what the array of texts that words name answers beside the one that they write by its
+/// bytes.
+pub fn ask_text(
     alloc: Global,
+    question: Question,
     store: &Store,
     words: &mut Words,
-    kernel: Kernel,
 ) -> Result<String, Fault>
     requires { HasGoodArrays store.now }
 {
     let array = store.read(words)?;
     let bytes = read_next_bytes(alloc, words)?;
-    beside_text_of(alloc, array, &bytes, kernel)
-}
-
-// What a kernel says of the rows of an array and of the text of bytes.
-fn beside_text_of(
-    alloc: Global,
-    array: &AnyArray,
-    bytes: &[u8],
-    kernel: Kernel,
-) -> Result<String, Fault>
-    requires { IsGood array.now }
-{
-    let Ok(text) = from_utf8(bytes) else {
-        return Err(Fault::Word);
-    };
-    match kernel {
-        Kernel::Equality(kernel) => texts_equal_to(alloc, array, text, kernel),
-        Kernel::Order(kernel) => texts_beside(alloc, array, text, kernel),
+    match from_utf8(&bytes) {
+        Ok(text) => ask_texts(alloc, question, array, text),
+        Err(_) => Err(Fault::Word),
     }
 }
 
-// Where the rows of an array of texts are equal to one.
-fn texts_equal_to(
+// Returns what an array of texts answers beside one.
+fn ask_texts(
     alloc: Global,
+    question: Question,
     array: &AnyArray,
     text: &str,
-    kernel: Equality,
-) -> Result<String, Fault>
-    requires { IsGood array.now }
-{
-    of_kind!(array, rows => equal_to_text(alloc, rows, text, kernel), Utf8 LargeUtf8 Utf8View)
+) -> Result<String, Fault> {
+    of_kind!(array, rows => ask_text_rows(alloc, question, rows, text), Utf8 LargeUtf8 Utf8View)
 }
 
-// Where rows are equal to a text. A raw bit is shown where the row is present.
-fn equal_to_text<A: TextEqKernel>(
+// Returns what texts answer beside one.
+fn ask_text_rows<A: TextEqKernel + TextOrdKernel>(
     alloc: Global,
+    question: Question,
     rows: &A,
     text: &str,
+) -> Result<String, Fault>
+    requires { A.Array.good rows.now }
+{
+    match question {
+        Question::Can => Err(Fault::Case),
+        Question::Equality(kernel) => equal_to_text(alloc, kernel, rows, text),
+        Question::Order(order) => beside_text(alloc, order, rows, text),
+    }
+}
+
+// Returns where rows are equal to a text. A raw bit is shown where the row is present.
+fn equal_to_text<A: TextEqKernel>(
+    alloc: Global,
     kernel: Equality,
+    rows: &A,
+    text: &str,
 ) -> Result<String, Fault>
     requires { A.good rows.now }
 {
@@ -180,26 +151,19 @@ fn equal_to_text<A: TextEqKernel>(
         Equality::EqualMissing => rows.tot_eq_missing_kernel_broadcast(alloc, text),
         Equality::UnequalMissing => rows.tot_ne_missing_kernel_broadcast(alloc, text),
     };
-    kernel.write(alloc, bits, rows.validity(), None)
+    kernel.write(alloc, bits, rows.validity())
 }
 
-// How the rows of an array of texts stand to one.
-fn texts_beside(alloc: Global, array: &AnyArray, text: &str, kernel: Order) -> Result<String, Fault>
-    requires { IsGood array.now }
-{
-    of_kind!(array, rows => ordered_beside_text(alloc, rows, text, kernel), Utf8 LargeUtf8 Utf8View)
-}
-
-// How rows stand to a text. A bit is shown where the row is present.
-fn ordered_beside_text<A: TextOrdKernel>(
+// Returns how rows stand to a text. A bit is shown where the row is present.
+fn beside_text<A: TextOrdKernel>(
     alloc: Global,
+    order: Order,
     rows: &A,
     text: &str,
-    kernel: Order,
 ) -> Result<String, Fault>
     requires { A.good rows.now }
 {
-    let bits = match kernel {
+    let bits = match order {
         Order::Less => rows.tot_lt_kernel_broadcast(alloc, text),
         Order::LessOrEqual => rows.tot_le_kernel_broadcast(alloc, text),
         Order::Greater => rows.tot_gt_kernel_broadcast(alloc, text),

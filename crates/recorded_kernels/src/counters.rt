@@ -3,10 +3,10 @@
 use polars_arrays_numbers::steps::Steps;
 use recorded_text::fault::Fault;
 
-/// What a counter shows before it is lent.
+/// The count that a counter shows before it is lent.
 const BEFORE: usize = 1_000;
 
-/// What kernels of leaves count.
+/// The name of what kernels of leaves count.
 pub const COMPARISONS: &str = " comparisons";
 
 /// Returns a counter that has counted before, so that it could be seen to fall.

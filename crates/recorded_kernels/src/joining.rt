@@ -18,15 +18,14 @@ use recorded_text::parts::{Kept, read_bits, read_validity};
 use recorded_text::words::Words;
 use std::alloc::Global;
 
-/// The answer to a call of this subject, or None for another one's.
-pub fn answer(alloc: Global, call: &str, words: &mut Words) -> Option<Result<String, Fault>> {
-    match call {
-        "join_nulls" | "join_masks" => Some(join(alloc, call, words)),
-        _ => None,
-    }
+/// The calls of the null combination.
+#[derive(Clone, Copy)]
+pub enum Join {
+    Nulls,
+    Masks,
 }
 
-// What the next word says that bits tell.
+// Returns what the next word says that bits tell.
 fn read_relation(words: &mut Words) -> Result<Relation, Fault> {
     match words.read()? {
         "equal" => Ok(Relation::Equal),
@@ -35,49 +34,31 @@ fn read_relation(words: &mut Words) -> Result<Relation, Fault> {
     }
 }
 
-// A validity, lent.
-fn lent(validity: &Option<Bitmap>) -> Option<BitMask<'_>>
-    ensures { result ≡ validity.now }
-{
-    match validity {
-        Some(bits) => Some(BitMask::from_bitmap(bits)),
-        None => None,
-    }
-}
-
-// Raw bits joined with two validities.
-fn join(alloc: Global, call: &str, words: &mut Words) -> Result<String, Fault> {
+/// Returns the raw bits that words write, joined with the two validities behind them.
+pub fn ask(alloc: Global, join: Join, words: &mut Words) -> Result<String, Fault> {
     let relation = read_relation(words)?;
     let raw = read_bits(alloc, words.read()?)?;
-    let validities = read_validities(alloc, words)?;
-    join_read(
-        alloc,
-        call,
-        relation,
-        raw,
-        &validities.left,
-        &validities.right,
-    )
-}
-
-// The validities of two arrays.
-#[derive(Drop)]
-struct Validities {
-    left: Option<Bitmap>,
-    right: Option<Bitmap>,
-}
-
-// Two validities, the left one first.
-fn read_validities(alloc: Global, words: &mut Words) -> Result<Validities, Fault> {
     let left = read_validity(alloc, Kept::Owned, words)?;
-    let right = read_validity(alloc, Kept::Owned, words)?;
-    Ok(Validities { left, right })
+    join_left(alloc, join, relation, raw, &left, words)
 }
 
-// Raw bits joined with two validities of as many bits, by a call.
+// Returns raw bits joined with a left validity and the right one that words write.
+fn join_left(
+    alloc: Global,
+    join: Join,
+    relation: Relation,
+    raw: Bitmap,
+    left: &Option<Bitmap>,
+    words: &mut Words,
+) -> Result<String, Fault> {
+    let right = read_validity(alloc, Kept::Owned, words)?;
+    join_read(alloc, join, relation, raw, left, &right)
+}
+
+// Returns raw bits joined with two validities of as many bits, by a call.
 fn join_read(
     alloc: Global,
-    call: &str,
+    join: Join,
     relation: Relation,
     raw: Bitmap,
     left: &Option<Bitmap>,
@@ -86,12 +67,22 @@ fn join_read(
     if !has_bits(raw.len(), left) || !has_bits(raw.len(), right) {
         return Err(Fault::Case);
     }
-    let joined = match call {
-        "join_nulls" => {
+    let joined = match join {
+        Join::Nulls => {
             let (left, right) = (Mask::lent(left.as_ref()), Mask::lent(right.as_ref()));
             join_nulls(alloc, relation, raw, &left, &right)
         }
-        _ => join_masks(alloc, relation, raw, lent(left), lent(right)),
+        Join::Masks => join_masks(alloc, relation, raw, lent(left), lent(right)),
     };
     write_made(alloc, joined)
+}
+
+// Returns a validity, lent.
+fn lent(validity: &Option<Bitmap>) -> Option<BitMask<'_>>
+    ensures { result ≡ validity.now }
+{
+    match validity {
+        Some(bits) => Some(BitMask::from_bitmap(bits)),
+        None => None,
+    }
 }

@@ -6,24 +6,19 @@ use recorded_text::bits_text::{write_made, write_made_present};
 use recorded_text::fault::Fault;
 use std::alloc::Global;
 
-/// A kernel of rows.
+/// A question about rows.
 #[derive(Clone, Copy)]
-pub enum Kernel {
+pub enum Question {
+    /// A truth value: kernels of equality can be asked about them, or can't.
+    Can,
+    /// The bits of such a kernel.
     Equality(Equality),
+    /// The bits of a kernel of order.
     Order(Order),
 }
 
-impl Kernel {
-    /// The kernel of that name.
-    pub fn named(name: &str) -> Option<Kernel> {
-        match Equality::named(name) {
-            Some(kernel) => Some(Kernel::Equality(kernel)),
-            None => Order::named(name).map(Kernel::Order),
-        }
-    }
-}
-
-/// A kernel that says where rows are equal, or where they are not; the missing ones decide nulls too.
+/// A kernel that says where rows are equal, or where they are not; the missing ones decide nulls
+/// too.
 #[derive(Clone, Copy)]
 pub enum Equality {
     Equal,
@@ -33,27 +28,16 @@ pub enum Equality {
 }
 
 impl Equality {
-    /// The kernel of that name.
-    fn named(name: &str) -> Option<Equality> {
-        match name {
-            "tot_eq_kernel" => Some(Equality::Equal),
-            "tot_ne_kernel" => Some(Equality::Unequal),
-            "tot_eq_missing_kernel" => Some(Equality::EqualMissing),
-            "tot_ne_missing_kernel" => Some(Equality::UnequalMissing),
-            _ => None,
-        }
-    }
-
-    /// The text of its bits. A raw bit is shown where both rows are present.
+    /// Returns the text of bits that a call made of rows beside a scalar. A raw bit is shown where
+    /// the row is present.
     pub fn write(
         self,
         alloc: Global,
         bits: Result<Bitmap, ComputeError>,
-        left: Option<&Bitmap>,
-        right: Option<&Bitmap>,
+        validity: Option<&Bitmap>,
     ) -> Result<String, Fault> {
         match self {
-            Equality::Equal | Equality::Unequal => write_made_present(alloc, bits, left, right),
+            Equality::Equal | Equality::Unequal => write_made_present(alloc, bits, validity, None),
             Equality::EqualMissing | Equality::UnequalMissing => write_made(alloc, bits),
         }
     }
@@ -68,15 +52,20 @@ pub enum Order {
     GreaterOrEqual,
 }
 
-impl Order {
-    /// The kernel of that name.
-    fn named(name: &str) -> Option<Order> {
-        match name {
-            "tot_lt_kernel" => Some(Order::Less),
-            "tot_le_kernel" => Some(Order::LessOrEqual),
-            "tot_gt_kernel" => Some(Order::Greater),
-            "tot_ge_kernel" => Some(Order::GreaterOrEqual),
-            _ => None,
-        }
-    }
-}
+/// The kernels by their names.
+pub const KERNELS: [(&str, Question); 8] = [
+    ("tot_eq_kernel", Question::Equality(Equality::Equal)),
+    ("tot_ne_kernel", Question::Equality(Equality::Unequal)),
+    (
+        "tot_eq_missing_kernel",
+        Question::Equality(Equality::EqualMissing),
+    ),
+    (
+        "tot_ne_missing_kernel",
+        Question::Equality(Equality::UnequalMissing),
+    ),
+    ("tot_lt_kernel", Question::Order(Order::Less)),
+    ("tot_le_kernel", Question::Order(Order::LessOrEqual)),
+    ("tot_gt_kernel", Question::Order(Order::Greater)),
+    ("tot_ge_kernel", Question::Order(Order::GreaterOrEqual)),
+];

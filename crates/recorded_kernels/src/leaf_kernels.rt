@@ -1,6 +1,6 @@
 //! Kernels of leaves, and what they counted.
 
-ghost use Rattle.std.specs.Prelude.{◌≡◌, true, false};
+ghost use Rattle.std.specs.Prelude.{◌≡◌};
 
 use crate::counters::lent_counter;
 use polars_arrays_bits::bitmap::Bitmap;
@@ -14,7 +14,7 @@ use std::alloc::Global;
 pub trait SeenKernel: LeafKernel {
     fn new() -> Self;
 
-    /// What its counter shows.
+    /// Returns what its counter shows.
     fn seen(&self) -> u64;
 }
 
@@ -28,14 +28,14 @@ impl SeenKernel for Steps {
     }
 }
 
-/// Says of all leaves that they agree.
+/// A kernel that says of all leaves that they agree, or of none.
 #[derive(Drop)]
-pub struct Always {
+pub struct Same<const AGREE: bool> {
     steps: Steps,
 }
 
-impl LeafKernel for Always {
-    ghost agree = { λ _ _. true };
+impl<const AGREE: bool> LeafKernel for Same<AGREE> {
+    ghost agree = { λ _ _. AGREE };
 
     ghost count = { λ kernel. kernel.steps };
 
@@ -48,53 +48,15 @@ impl LeafKernel for Always {
         _b: usize,
         n: usize,
     ) -> Result<Bitmap, ComputeError> {
-        let bits = Bitmap::new_with_value(alloc, true, n)?;
+        let bits = Bitmap::new_with_value(alloc, AGREE, n)?;
         self.steps.add(n);
         Ok(bits)
     }
 }
 
-impl SeenKernel for Always {
-    fn new() -> Always {
-        Always {
-            steps: lent_counter(),
-        }
-    }
-
-    fn seen(&self) -> u64 {
-        self.steps.seen()
-    }
-}
-
-/// Says of no leaves that they agree.
-#[derive(Drop)]
-pub struct Never {
-    steps: Steps,
-}
-
-impl LeafKernel for Never {
-    ghost agree = { λ _ _. false };
-
-    ghost count = { λ kernel. kernel.steps };
-
-    fn leaf_eq(
-        &mut self,
-        alloc: Global,
-        _left: &AnyArray,
-        _a: usize,
-        _right: &AnyArray,
-        _b: usize,
-        n: usize,
-    ) -> Result<Bitmap, ComputeError> {
-        let bits = Bitmap::new_with_value(alloc, false, n)?;
-        self.steps.add(n);
-        Ok(bits)
-    }
-}
-
-impl SeenKernel for Never {
-    fn new() -> Never {
-        Never {
+impl<const AGREE: bool> SeenKernel for Same<AGREE> {
+    fn new() -> Same<AGREE> {
+        Same {
             steps: lent_counter(),
         }
     }

@@ -1,40 +1,34 @@
-//! The recorded cases of kernels: equality and order of named arrays, beside scalars, by windows, and of arrays
-//! of any kind with their counts.
+//! The recorded cases of kernels: equality and order of named arrays, beside scalars, by windows,
+//! and of arrays of any kind with their counts.
 #![tactic(auto)]
 
 ghost use Rattle.recorded_text.specs.Cases.{HasGoodArrays};
 
+mod any_kind;
 mod borrowed;
+mod calls;
 mod counters;
-mod dispatch;
 mod joining;
 mod kernel_names;
-mod kernels;
 mod leaf_kernels;
 mod named_comparisons;
 mod named_kinds;
 mod operands;
 mod raw_bits;
+mod rows;
 mod scalars;
+mod stored_numbers;
 mod stored_rows;
 mod view_rows;
 mod windows;
 
+use crate::calls::Call;
 use recorded_text::fault::Fault;
 use recorded_text::store::Store;
 use recorded_text::words::Words;
 use std::alloc::Global;
 
-// Returns the first answer that there is.
-macro_rules! first_answer {
-    ($($answer:expr),+ $(,)?) => {
-        $(if let Some(answer) = $answer {
-            return answer.map(Some);
-        })+
-    };
-}
-
-/// The answer to a call of one of these subjects, or None for another one's.
+/// Returns the answer to a call of one of these subjects, or None for another one's.
 pub fn answer(
     alloc: Global,
     call: &str,
@@ -43,16 +37,30 @@ pub fn answer(
 ) -> Result<Option<String>, Fault>
     requires { HasGoodArrays store.now }
 {
-    first_answer!(
-        dispatch::answer(alloc, call, store, words),
-        kernels::answer(alloc, call, store, words),
-        scalars::answer(alloc, call, store, words),
-        borrowed::answer(alloc, call, store, words),
-        windows::answer(alloc, call, store, words),
-        stored_rows::answer(alloc, call, store, words),
-        view_rows::answer(alloc, call, store, words),
-        named_comparisons::answer(alloc, call, words),
-        joining::answer(alloc, call, words),
-    );
-    Ok(None)
+    match Call::named(call) {
+        Some(call) => ask(alloc, call, store, words).map(Some),
+        None => Ok(None),
+    }
+}
+
+// Returns the answer to a call.
+fn ask(alloc: Global, call: Call, store: &Store, words: &mut Words) -> Result<String, Fault>
+    requires { HasGoodArrays store.now }
+{
+    match call {
+        Call::Rows(question) => rows::ask(alloc, question, store, words),
+        Call::Scalar(question) => scalars::ask(alloc, question, store, words),
+        Call::Bytes(question) => borrowed::ask_bytes(alloc, question, store, words),
+        Call::Text(question) => borrowed::ask_text(alloc, question, store, words),
+        Call::Missing(relation) => any_kind::missing(alloc, relation, store, words),
+        Call::WithSteps => any_kind::with_steps(alloc, store, words),
+        Call::Lists(kind) => any_kind::lists(alloc, kind, store, words),
+        Call::Law(law) => any_kind::call_law(alloc, law),
+        Call::Counted(counted) => windows::ask(alloc, counted, store, words),
+        Call::Numbers => stored_numbers::beside(alloc, store, words),
+        Call::NumberWindows => stored_numbers::windows(alloc, store, words),
+        Call::Compared(compared) => named_comparisons::ask(alloc, compared, store, words),
+        Call::Views(asked) => view_rows::ask(alloc, asked, store, words),
+        Call::Join(join) => joining::ask(alloc, join, words),
+    }
 }

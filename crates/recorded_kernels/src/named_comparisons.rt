@@ -1,27 +1,33 @@
-//! The six comparisons of two rows, by their names: `equal`, `unequal`, `less`, `less_or_equal`, `greater` and
-//! `greater_or_equal`.
+//! The six comparisons of two rows, by their names: `equal`, `unequal`, `less`, `less_or_equal`,
+//! `greater` and `greater_or_equal`.
 //!
 //! | Call | Answer |
 //! |---|---|
 //! | `truth_comparison COMPARISON TRUTH TRUTH` | whether two truth values pass |
 //! | `truth_comparison_masks COMPARISON BITS BITS` | which bits of two windows of one length pass |
 //! | `byte_comparison COMPARISON BYTES BYTES`, `byte_comparison_constant COMPARISON BYTES BYTES` | whether two byte strings pass |
+//!
+//! The calls of `stored_rows`, of `stored_numbers`, and some of `view_rows` take a comparison too.
 
 ghost use Rattle.std.specs.Prelude.{◌≡◌, length};
+ghost use Rattle.recorded_text.specs.Cases.{HasGoodArrays};
 
-use crate::operands::read_next_bytes;
-use crate::scalars::{read_truth, write_truth};
+use crate::operands::{read_next_bytes, read_truth, write_truth};
+use crate::stored_rows::{ask_constant, ask_windows};
+use crate::view_rows::{compare_two, compare_with_bytes};
 use polars_arrays_bits::bit_mask::BitMask;
 use polars_arrays_bits::bitmap::Bitmap;
-use polars_arrays_bits::error::ComputeError;
 use polars_arrays_numbers::comparison::{
     Equal, Greater, GreaterOrEqual, Less, LessOrEqual, Unequal,
 };
 use polars_compare_leaves::booleans::TruthComparison;
 use polars_compare_leaves::bytes::ByteComparison;
+use polars_compare_views::view_comparison::ViewComparison;
 use recorded_text::bits_text::write_made;
 use recorded_text::fault::Fault;
+use recorded_text::names::find_word;
 use recorded_text::parts::read_bits;
+use recorded_text::store::Store;
 use recorded_text::words::Words;
 use std::alloc::Global;
 
@@ -36,22 +42,24 @@ pub enum NamedComparison {
     GreaterOrEqual,
 }
 
+// The comparisons by their names.
+const COMPARISONS: [(&str, NamedComparison); 6] = [
+    ("equal", NamedComparison::Equal),
+    ("unequal", NamedComparison::Unequal),
+    ("less", NamedComparison::Less),
+    ("less_or_equal", NamedComparison::LessOrEqual),
+    ("greater", NamedComparison::Greater),
+    ("greater_or_equal", NamedComparison::GreaterOrEqual),
+];
+
 impl NamedComparison {
-    /// The comparison that the next word names.
+    /// Returns the comparison that the next word names.
     pub fn read(words: &mut Words) -> Result<NamedComparison, Fault> {
-        match words.read()? {
-            "equal" => Ok(NamedComparison::Equal),
-            "unequal" => Ok(NamedComparison::Unequal),
-            "less" => Ok(NamedComparison::Less),
-            "less_or_equal" => Ok(NamedComparison::LessOrEqual),
-            "greater" => Ok(NamedComparison::Greater),
-            "greater_or_equal" => Ok(NamedComparison::GreaterOrEqual),
-            _ => Err(Fault::Word),
-        }
+        find_word(&COMPARISONS, words.read()?)
     }
 }
 
-/// What is asked with a comparison.
+/// Asks something with the comparison of that name.
 macro_rules! with_comparison {
     ($comparison:expr, $named:ident => $each:expr) => {
         match $comparison {
@@ -85,38 +93,96 @@ macro_rules! with_comparison {
 
 pub(crate) use with_comparison;
 
-/// The answer to a call of this subject, or None for another one's.
-pub fn answer(alloc: Global, call: &str, words: &mut Words) -> Option<Result<String, Fault>> {
-    let answer = match call {
-        "truth_comparison" => truth_comparison(alloc, words),
-        "truth_comparison_masks" => truth_comparison_masks(alloc, words),
-        "byte_comparison" | "byte_comparison_constant" => byte_comparison(alloc, call, words),
-        _ => return None,
-    };
-    Some(answer)
+/// Operands that pass by a comparison, or do not.
+#[derive(Clone, Copy)]
+pub enum Compared {
+    /// Two truth values.
+    TwoTruths,
+    /// The bits of two windows.
+    Masks,
+    /// Two byte strings.
+    TwoStrings,
+    /// Two byte strings, by the form for a right one that stays.
+    StringAndConstant,
+    /// Two rows that are kept by views.
+    TwoViews,
+    /// Such a row and a byte string.
+    ViewAndString,
+    /// The stored rows of an array and a constant: truth values, byte strings, and those by views.
+    Truths,
+    Strings,
+    Views,
+    /// The stored rows of two windows.
+    TruthWindows,
+    StringWindows,
+    SizedWindows,
+    ViewWindows,
 }
 
-// Whether two truth values pass.
-fn truth_comparison(alloc: Global, words: &mut Words) -> Result<String, Fault> {
+/// Returns what passes by the comparison that the next word names.
+pub fn ask(
+    alloc: Global,
+    compared: Compared,
+    store: &Store,
+    words: &mut Words,
+) -> Result<String, Fault>
+    requires { HasGoodArrays store.now }
+{
     let comparison = NamedComparison::read(words)?;
-    let (left, right) = (read_truth(words)?, read_truth(words)?);
-    let passes =
-        with_comparison!(comparison, comparison => TruthComparison::compare(comparison, left, right));
-    write_truth(alloc, passes)
+    with_comparison!(comparison, comparison => ask_by(alloc, comparison, compared, store, words))
 }
 
-// Which bits of two windows pass.
-fn truth_comparison_masks(alloc: Global, words: &mut Words) -> Result<String, Fault> {
-    let comparison = NamedComparison::read(words)?;
+// Returns what passes by a comparison.
+fn ask_by<C: TruthComparison + ByteComparison + ViewComparison>(
+    alloc: Global,
+    comparison: &C,
+    compared: Compared,
+    store: &Store,
+    words: &mut Words,
+) -> Result<String, Fault>
+    requires { HasGoodArrays store.now }
+{
+    match compared {
+        Compared::TwoTruths => compare_truths(alloc, comparison, words),
+        Compared::Masks => compare_masks(alloc, comparison, words),
+        Compared::TwoStrings | Compared::StringAndConstant => {
+            compare_strings(alloc, comparison, compared, words)
+        }
+        Compared::TwoViews => compare_two(alloc, comparison, store, words),
+        Compared::ViewAndString => compare_with_bytes(alloc, comparison, store, words),
+        Compared::Truths | Compared::Strings | Compared::Views => {
+            ask_constant(alloc, comparison, compared, store, words)
+        }
+        _ => ask_windows(alloc, comparison, compared, store, words),
+    }
+}
+
+// Returns whether two truth values pass.
+fn compare_truths<C: TruthComparison>(
+    alloc: Global,
+    comparison: &C,
+    words: &mut Words,
+) -> Result<String, Fault> {
+    let left = read_truth(words)?;
+    let right = read_truth(words)?;
+    write_truth(alloc, comparison.compare(left, right))
+}
+
+// Returns which bits of two windows pass.
+fn compare_masks<C: TruthComparison>(
+    alloc: Global,
+    comparison: &C,
+    words: &mut Words,
+) -> Result<String, Fault> {
     let left = read_bits(alloc, words.read()?)?;
     let right = read_bits(alloc, words.read()?)?;
     write_passing(alloc, comparison, &left, &right)
 }
 
-// Which bits of two bitmaps of one length pass.
-fn write_passing(
+// Returns which bits of two bitmaps of one length pass.
+fn write_passing<C: TruthComparison>(
     alloc: Global,
-    comparison: NamedComparison,
+    comparison: &C,
     left: &Bitmap,
     right: &Bitmap,
 ) -> Result<String, Fault> {
@@ -124,39 +190,21 @@ fn write_passing(
         return Err(Fault::Case);
     }
     let (left, right) = (BitMask::from_bitmap(left), BitMask::from_bitmap(right));
-    write_made(alloc, passing_bits(alloc, comparison, &left, &right))
+    write_made(alloc, comparison.compare_masks(alloc, &left, &right))
 }
 
-// Which bits of two masks of one length pass.
-fn passing_bits(
+// Returns whether two byte strings pass, by a call of `ByteComparison`.
+fn compare_strings<C: ByteComparison>(
     alloc: Global,
-    comparison: NamedComparison,
-    left: &BitMask<'_>,
-    right: &BitMask<'_>,
-) -> Result<Bitmap, ComputeError>
-    requires { length right.now ≡ length left.now }
-{
-    with_comparison!(comparison, comparison => comparison.compare_masks(alloc, left, right))
-}
-
-// Whether two byte strings pass, by a call of `ByteComparison`.
-fn byte_comparison(alloc: Global, call: &str, words: &mut Words) -> Result<String, Fault> {
-    let comparison = NamedComparison::read(words)?;
+    comparison: &C,
+    compared: Compared,
+    words: &mut Words,
+) -> Result<String, Fault> {
     let left = read_next_bytes(alloc, words)?;
     let right = read_next_bytes(alloc, words)?;
-    let passes = match call {
-        "byte_comparison" => bytes_pass(comparison, &left, &right),
-        _ => bytes_pass_constant(comparison, &left, &right),
+    let passes = match compared {
+        Compared::TwoStrings => comparison.compare(&left, &right),
+        _ => comparison.compare_constant(&left, &right),
     };
     write_truth(alloc, passes)
-}
-
-// Whether two byte strings pass.
-fn bytes_pass(comparison: NamedComparison, left: &[u8], right: &[u8]) -> bool {
-    with_comparison!(comparison, comparison => ByteComparison::compare(comparison, left, right))
-}
-
-// Whether two byte strings pass, by the form for a right one that stays.
-fn bytes_pass_constant(comparison: NamedComparison, left: &[u8], right: &[u8]) -> bool {
-    with_comparison!(comparison, comparison => ByteComparison::compare_constant(comparison, left, right))
 }

@@ -1,9 +1,7 @@
-//! Operands that words name or write.
+//! Operands that words name or write, and truth values as text.
 
-ghost use Rattle.std.specs.Prelude.{◌≡◌, IfOk};
+ghost use Rattle.std.specs.Prelude.{IfOk};
 ghost use Rattle.polars_arrays_nested.specs.GoodParts.{IsGood};
-ghost use Rattle.polars_arrays_nested.specs.Lengths.{len_of};
-ghost use Rattle.polars_arrays_nested.specs.Types.{type_of};
 ghost use Rattle.recorded_text.specs.Cases.{HasGoodArrays};
 
 use polars_arrays_nested::any_array::AnyArray;
@@ -13,7 +11,7 @@ use recorded_text::store::Store;
 use recorded_text::words::Words;
 use std::alloc::Global;
 
-/// The two arrays that the next words name.
+/// Returns the two arrays that the next words name.
 pub fn read_two<'a>(
     store: &'a Store,
     words: &mut Words,
@@ -27,26 +25,21 @@ pub fn read_two<'a>(
     Ok((left, right))
 }
 
-/// The same of arrays of one type and length, as the kernels ask. The error is `Case`, where they are others.
-pub fn read_alike<'a>(
-    store: &'a Store,
-    words: &mut Words,
-) -> Result<(&'a AnyArray, &'a AnyArray), Fault>
-    requires { HasGoodArrays store.now }
-    ensures good_left { IfOk result (λ pair. IsGood pair.0.now) }
-    ensures good_right { IfOk result (λ pair. IsGood pair.1.now) }
-    ensures one_type { IfOk result (λ pair. type_of pair.0.now ≡ type_of pair.1.now) }
-    ensures one_length { IfOk result (λ pair. len_of pair.0.now ≡ len_of pair.1.now) }
-{
-    let (left, right) = read_two(store, words)?;
-    if left.same_type(right) && left.len() == right.len() {
-        Ok((left, right))
-    } else {
-        Err(Fault::Case)
+/// Returns the bytes that the next word writes.
+pub fn read_next_bytes(alloc: Global, words: &mut Words) -> Result<Vec<u8>, Fault> {
+    read_bytes(alloc, words.read()?)
+}
+
+/// Returns the truth value that the next word writes.
+pub fn read_truth(words: &mut Words) -> Result<bool, Fault> {
+    match words.read()? {
+        "true" => Ok(true),
+        "false" => Ok(false),
+        _ => Err(Fault::Word),
     }
 }
 
-/// The bytes that the next word writes.
-pub fn read_next_bytes(alloc: Global, words: &mut Words) -> Result<Vec<u8>, Fault> {
-    read_bytes(alloc, words.read()?)
+/// Returns the text of a truth value.
+pub fn write_truth(alloc: Global, truth: bool) -> Result<String, Fault> {
+    Ok(truth.to_string(alloc)?)
 }

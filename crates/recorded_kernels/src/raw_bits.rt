@@ -7,12 +7,13 @@ use recorded_text::bits_text::write_unmasked;
 use recorded_text::fault::Fault;
 use std::alloc::Global;
 
-/// The text of raw bits under a mask and one that a call made.
+/// Returns the text of raw bits under the masks that calls made.
 pub fn write_raw(
     alloc: Global,
     bits: &Bitmap,
-    left: &Mask<'_>,
+    left: Result<Mask<'_>, ComputeError>,
     right: Result<Mask<'_>, ComputeError>,
 ) -> Result<String, Fault> {
-    write_unmasked(alloc, bits, left, &right?)
+    let left = left?;
+    write_unmasked(alloc, bits, &left, &right?)
 }

@@ -1,4 +1,5 @@
-//! Single rows that are kept by views, and the kernels that say how many pairs they look up in buffers.
+//! Single rows that are kept by views, and the kernels that say how many pairs they look up in
+//! buffers.
 //!
 //! | Call | Answer |
 //! |---|---|
@@ -13,16 +14,11 @@ ghost use Rattle.std.specs.Prelude.{◌≡◌, ◌<◌, length, IfOk};
 ghost use Rattle.recorded_text.specs.Cases.{HasGoodArrays};
 
 use crate::counters::{add_count, lent_counter};
-use crate::named_comparisons::{NamedComparison, with_comparison};
 use crate::named_kinds::of_one_kind;
-use crate::operands::{read_next_bytes, read_two};
-use crate::scalars::write_truth;
+use crate::operands::{read_next_bytes, read_two, write_truth};
 use polars_arrays_bits::bitmap::Bitmap;
 use polars_arrays_bits::error::ComputeError;
 use polars_arrays_nested::any_array::AnyArray;
-use polars_arrays_numbers::comparison::{
-    Equal, Greater, GreaterOrEqual, Less, LessOrEqual, Unequal,
-};
 use polars_arrays_numbers::steps::Steps;
 use polars_arrays_views::binary_view::BinaryViewArray;
 use polars_arrays_views::rows::{
@@ -38,33 +34,42 @@ use recorded_text::store::Store;
 use recorded_text::words::Words;
 use std::alloc::Global;
 
-/// The answer to a call of this subject, or None for another one's.
-pub fn answer(
-    alloc: Global,
-    call: &str,
-    store: &Store,
-    words: &mut Words,
-) -> Option<Result<String, Fault>>
-    requires { HasGoodArrays store.now }
-{
-    let answer = match call {
-        "rows_equal" | "row_less" => of_rows(alloc, call, store, words),
-        "row_equals_bytes" | "row_less_bytes" => beside_bytes(alloc, call, store, words),
-        "bytes_less_row" => is_greater_than_bytes(alloc, store, words),
-        "view_comparison" => passes(alloc, store, words),
-        "view_comparison_bytes" => passes_with_bytes(alloc, store, words),
-        "tot_eq_kernel_followed" => of_stored_rows(alloc, store, words, Followed::Equal),
-        "tot_lt_kernel_followed" => of_stored_rows(alloc, store, words, Followed::Less),
-        "followed" => of_stored_rows(alloc, store, words, Followed::Counted),
-        "scalar_row_len" | "scalar_row_bytes" | "scalar_row_prefix" => of_scalar(
-            alloc, call, words,
-        ),
-        _ => return None,
-    };
-    Some(answer)
+/// A question about rows that are kept by views.
+#[derive(Clone, Copy)]
+pub enum Asked {
+    /// Two rows.
+    Equal,
+    Less,
+    /// A row and a byte string.
+    EqualsBytes,
+    LessThanBytes,
+    GreaterThanBytes,
+    /// All rows of two arrays.
+    EqualRows,
+    LessRows,
+    Followed,
+    /// A byte string made ready.
+    ScalarLen,
+    ScalarBytes,
+    ScalarPrefix,
 }
 
-/// The views of an array that keeps its rows so.
+/// Returns what the rows that words name answer.
+pub fn ask(alloc: Global, asked: Asked, store: &Store, words: &mut Words) -> Result<String, Fault>
+    requires { HasGoodArrays store.now }
+{
+    match asked {
+        Asked::Equal | Asked::Less => two_rows(alloc, asked, store, words),
+        Asked::EqualsBytes | Asked::LessThanBytes => row_and_bytes(alloc, asked, store, words),
+        Asked::GreaterThanBytes => bytes_and_row(alloc, store, words),
+        Asked::EqualRows | Asked::LessRows | Asked::Followed => all_rows(
+            alloc, asked, store, words,
+        ),
+        Asked::ScalarLen | Asked::ScalarBytes | Asked::ScalarPrefix => scalar(alloc, asked, words),
+    }
+}
+
+/// Returns the views of an array that keeps its rows so.
 pub fn as_views(array: &AnyArray) -> Result<&BinaryViewArray, Fault> {
     match array {
         AnyArray::BinaryView(views) => Ok(views),
@@ -73,7 +78,7 @@ pub fn as_views(array: &AnyArray) -> Result<&BinaryViewArray, Fault> {
     }
 }
 
-// The views of the array that words name, and the place of the row that they name.
+// Returns the views of the array that words name, and the place of the row that they name.
 fn read_row<'a>(store: &'a Store, words: &mut Words) -> Result<(&'a BinaryViewArray, usize), Fault>
     requires { HasGoodArrays store.now }
     ensures { IfOk result (λ row. row.1 < length row.0.now.views) }
@@ -87,12 +92,12 @@ fn read_row<'a>(store: &'a Store, words: &mut Words) -> Result<(&'a BinaryViewAr
     }
 }
 
-// A truth value, and how many pairs were looked up for it.
+// Returns the text of a truth value, and how many pairs were looked up for it.
 fn write_counted(alloc: Global, truth: bool, steps: &Steps) -> Result<String, Fault> {
     Ok(format!(in alloc; "{truth} in {}", steps.seen())?)
 }
 
-/// The text of bits, and how many pairs were looked up for them.
+/// Returns the text of bits, and how many pairs were looked up for them.
 pub fn write_followed(
     alloc: Global,
     bits: Result<Bitmap, ComputeError>,
@@ -101,51 +106,40 @@ pub fn write_followed(
     add_count(write_made(alloc, bits), steps.seen(), "")
 }
 
-// Whether two rows are equal, or the first is less, by a call.
-fn of_rows(alloc: Global, call: &str, store: &Store, words: &mut Words) -> Result<String, Fault>
+// Returns whether two rows are equal, or the first is less.
+fn two_rows(alloc: Global, asked: Asked, store: &Store, words: &mut Words) -> Result<String, Fault>
     requires { HasGoodArrays store.now }
 {
     let (left, i) = read_row(store, words)?;
     let (right, j) = read_row(store, words)?;
     let mut steps = Steps::new();
-    let truth = match call {
-        "rows_equal" => rows_equal(left, i, right, j, &mut steps),
+    let truth = match asked {
+        Asked::Equal => rows_equal(left, i, right, j, &mut steps),
         _ => row_less(left, i, right, j, &mut steps),
     };
     write_counted(alloc, truth, &steps)
 }
 
-// Whether a comparison holds of two rows.
-fn passes(alloc: Global, store: &Store, words: &mut Words) -> Result<String, Fault>
+/// Returns whether a comparison holds of two rows.
+pub fn compare_two<C: ViewComparison>(
+    alloc: Global,
+    comparison: &C,
+    store: &Store,
+    words: &mut Words,
+) -> Result<String, Fault>
     requires { HasGoodArrays store.now }
 {
-    let comparison = NamedComparison::read(words)?;
     let (left, i) = read_row(store, words)?;
     let (right, j) = read_row(store, words)?;
     let mut steps = Steps::new();
-    let passes = rows_pass(comparison, left, i, right, j, &mut steps);
+    let passes = comparison.compare(left, i, right, j, &mut steps);
     write_counted(alloc, passes, &steps)
 }
 
-// Whether a comparison holds of a row and another.
-fn rows_pass(
-    comparison: NamedComparison,
-    left: &BinaryViewArray,
-    i: usize,
-    right: &BinaryViewArray,
-    j: usize,
-    steps: &mut Steps,
-) -> bool
-    requires left { i < length left.now.views }
-    requires right { j < length right.now.views }
-{
-    with_comparison!(comparison, comparison => ViewComparison::compare(comparison, left, i, right, j, steps))
-}
-
-// Whether a row has these bytes, or is less than they are, by a call.
-fn beside_bytes(
+// Returns whether a row has these bytes, or is less than they are.
+fn row_and_bytes(
     alloc: Global,
-    call: &str,
+    asked: Asked,
     store: &Store,
     words: &mut Words,
 ) -> Result<String, Fault>
@@ -154,15 +148,15 @@ fn beside_bytes(
     let (views, i) = read_row(store, words)?;
     let bytes = read_next_bytes(alloc, words)?;
     let scalar = ScalarRow::new(&bytes);
-    let truth = match call {
-        "row_equals_bytes" => row_equals_bytes(views, i, &scalar),
+    let truth = match asked {
+        Asked::EqualsBytes => row_equals_bytes(views, i, &scalar),
         _ => row_less_bytes(views, i, &scalar),
     };
     write_truth(alloc, truth)
 }
 
-// Whether these bytes are less than a row.
-fn is_greater_than_bytes(alloc: Global, store: &Store, words: &mut Words) -> Result<String, Fault>
+// Returns whether these bytes are less than a row.
+fn bytes_and_row(alloc: Global, store: &Store, words: &mut Words) -> Result<String, Fault>
     requires { HasGoodArrays store.now }
 {
     let bytes = read_next_bytes(alloc, words)?;
@@ -171,116 +165,73 @@ fn is_greater_than_bytes(alloc: Global, store: &Store, words: &mut Words) -> Res
     write_truth(alloc, less)
 }
 
-// Whether a comparison holds of a row and these bytes.
-fn passes_with_bytes(alloc: Global, store: &Store, words: &mut Words) -> Result<String, Fault>
-    requires { HasGoodArrays store.now }
-{
-    let comparison = NamedComparison::read(words)?;
-    let (views, i) = read_row(store, words)?;
-    let bytes = read_next_bytes(alloc, words)?;
-    let passes = passes_beside(comparison, views, i, &ScalarRow::new(&bytes));
-    write_truth(alloc, passes)
-}
-
-// Whether a comparison holds of a row and a byte string.
-fn passes_beside(
-    comparison: NamedComparison,
-    views: &BinaryViewArray,
-    i: usize,
-    scalar: &ScalarRow<'_>,
-) -> bool
-    requires { i < length views.now.views }
-{
-    with_comparison!(comparison, comparison => ViewComparison::compare_bytes(comparison, views, i, scalar))
-}
-
-// What is asked of the stored rows of two arrays.
-#[derive(Clone, Copy)]
-enum Followed {
-    Equal,
-    Less,
-    Counted,
-}
-
-// What is asked of the stored rows of the two arrays of one kind that words name.
-fn of_stored_rows(
+/// Returns whether a comparison holds of a row and these bytes.
+pub fn compare_with_bytes<C: ViewComparison>(
     alloc: Global,
+    comparison: &C,
     store: &Store,
     words: &mut Words,
-    asked: Followed,
 ) -> Result<String, Fault>
     requires { HasGoodArrays store.now }
 {
-    let (these, those) = read_two(store, words)?;
-    of_one_kind!(these, those, left, right => rows_followed(alloc, left, right, asked), BinaryView Utf8View)
+    let (views, i) = read_row(store, words)?;
+    let bytes = read_next_bytes(alloc, words)?;
+    let passes = comparison.compare_bytes(views, i, &ScalarRow::new(&bytes));
+    write_truth(alloc, passes)
 }
 
-// Where stored rows are equal or less, and how many pairs are looked up for it, or how many are for both.
+// Returns what the stored rows of the two arrays of one kind that words name answer.
+fn all_rows(alloc: Global, asked: Asked, store: &Store, words: &mut Words) -> Result<String, Fault>
+    requires { HasGoodArrays store.now }
+{
+    let (these, those) = read_two(store, words)?;
+    of_one_kind!(these, those, left, right => rows_followed(alloc, asked, left, right),
+        BinaryView Utf8View)
+}
+
+// Returns where stored rows are equal or less, and how many pairs are looked up for it, or how many
+// are for both.
 fn rows_followed<A: FollowedKernel>(
     alloc: Global,
+    asked: Asked,
     left: &A,
     right: &A,
-    asked: Followed,
 ) -> Result<String, Fault> {
     if left.count() != right.count() {
         return Err(Fault::Case);
     }
     let mut steps = lent_counter();
     let bits = match asked {
-        Followed::Equal => left.tot_eq_kernel_followed(alloc, right, &mut steps),
-        Followed::Less => left.tot_lt_kernel_followed(alloc, right, &mut steps),
-        Followed::Counted => return pairs_followed(alloc, left, right),
+        Asked::EqualRows => left.tot_eq_kernel_followed(alloc, right, &mut steps),
+        Asked::LessRows => left.tot_lt_kernel_followed(alloc, right, &mut steps),
+        _ => return pairs_followed(alloc, left, right),
     };
     write_followed(alloc, bits, &steps)
 }
 
-// How many pairs of rows equality and order look up.
+// Returns how many pairs of rows equality and order look up.
 fn pairs_followed<A: FollowedKernel>(alloc: Global, left: &A, right: &A) -> Result<String, Fault>
     requires { length (A.strings right.now) ≡ length (A.strings left.now) }
 {
-    let equal = pairs_of_equality(alloc, left, right)?;
-    let less = pairs_of_order(alloc, left, right)?;
-    Ok(format!(in alloc; "{equal} {less}")?)
+    let mut equal = Steps::new();
+    left.tot_eq_kernel_followed(alloc, right, &mut equal)?;
+    let mut less = Steps::new();
+    left.tot_lt_kernel_followed(alloc, right, &mut less)?;
+    Ok(format!(in alloc; "{} {}", equal.seen(), less.seen())?)
 }
 
-// How many pairs of rows equality looks up.
-fn pairs_of_equality<A: FollowedKernel>(
-    alloc: Global,
-    left: &A,
-    right: &A,
-) -> Result<u64, ComputeError>
-    requires { length (A.strings right.now) ≡ length (A.strings left.now) }
-{
-    let mut steps = Steps::new();
-    left.tot_eq_kernel_followed(alloc, right, &mut steps)?;
-    Ok(steps.seen())
-}
-
-// How many pairs of rows order looks up.
-fn pairs_of_order<A: FollowedKernel>(
-    alloc: Global,
-    left: &A,
-    right: &A,
-) -> Result<u64, ComputeError>
-    requires { length (A.strings right.now) ≡ length (A.strings left.now) }
-{
-    let mut steps = Steps::new();
-    left.tot_lt_kernel_followed(alloc, right, &mut steps)?;
-    Ok(steps.seen())
-}
-
-// What a call says of the byte string that words write, made ready.
-fn of_scalar(alloc: Global, call: &str, words: &mut Words) -> Result<String, Fault> {
+// Returns what the byte string that words write answers, made ready.
+fn scalar(alloc: Global, asked: Asked, words: &mut Words) -> Result<String, Fault> {
     let bytes = read_next_bytes(alloc, words)?;
-    write_scalar(alloc, call, &ScalarRow::new(&bytes))
+    write_scalar(alloc, asked, &ScalarRow::new(&bytes))
 }
 
-// How many bytes it has, these bytes, or the first four of them, as its view has them, the first one being the
-// greatest.
-fn write_scalar(alloc: Global, call: &str, scalar: &ScalarRow<'_>) -> Result<String, Fault> {
-    match call {
-        "scalar_row_len" => Ok(scalar.len().to_string(alloc)?),
-        "scalar_row_bytes" => write_bytes(alloc, scalar.bytes()),
+// Returns how many bytes a scalar has, these bytes, or the first four of them, as its view has
+// them, the first one being the greatest.
+fn write_scalar(alloc: Global, asked: Asked, scalar: &ScalarRow<'_>) -> Result<String, Fault> {
+    match asked {
+        Asked::ScalarLen => Ok(scalar.len().to_string(alloc)?),
+        Asked::ScalarBytes => write_bytes(alloc, scalar.bytes()),
         _ => Ok(scalar.view().prefix().to_string(alloc)?),
     }
 }

@@ -1,9 +1,10 @@
-//! Windows of two arrays of any kind: `n` rows from row `a` on of the left array, and as many from row `b` on
-//! of the right one.
+//! Windows of two arrays of any kind: `n` rows from row `a` on of the left array, and as many from
+//! row `b` on of the right one.
 //!
 //! | Call | Answer |
 //! |---|---|
-//! | `equal_windows A a B b n [LEAVES]` | `BITS in N comparisons` |
+//! | `array_tot_eq_missing_kernel_counted A B [LEAVES]`, and so of `ne` | `BITS in N comparisons` |
+//! | `equal_windows A a B b n [LEAVES]` | the same |
 //! | `list_windows`, `fixed_size_list_windows`, `struct_windows`, `dictionary_windows`, `leaf_eq` | the same, with `x` where a row is masked |
 //!
 //! LEAVES is `always` or `never`, for leaves that are said to agree all, or none of them.
@@ -16,12 +17,17 @@ ghost use Rattle.recorded_text.specs.Cases.{HasGoodArrays};
 ghost use Rattle.recorded_kernels.specs.Windows.{AreWindows};
 
 use crate::counters::{COMPARISONS, add_count};
-use crate::leaf_kernels::{Always, Never, SeenKernel};
+use crate::leaf_kernels::{Same, SeenKernel};
+use crate::operands::read_two;
 use crate::raw_bits::write_raw;
 use polars_arrays_bits::bitmap::Bitmap;
 use polars_arrays_bits::error::ComputeError;
 use polars_arrays_nested::any_array::AnyArray;
 use polars_arrays_numbers::steps::Steps;
+use polars_compare_leaves::joining::Relation;
+use polars_compare_nested::kernels::{
+    array_tot_eq_missing_kernel_counted, array_tot_ne_missing_kernel_counted,
+};
 use polars_compare_nested::leaf_kernel::LeafKernel;
 use polars_compare_nested::windows::{
     dictionary_windows, equal_windows, fixed_size_list_windows, list_windows, struct_windows,
@@ -42,77 +48,43 @@ pub struct Windows<'a> {
     pub n: usize,
 }
 
-/// The calls of this subject.
+/// The calls that count the comparisons of leaves.
 #[derive(Clone, Copy)]
-enum Call {
-    Equal,
-    List,
-    FixedSizeList,
-    Struct,
-    Dictionary,
-    Leaf,
+pub enum Counted {
+    /// Where all rows of two arrays are equal or not, null to null alone.
+    Missing(Relation),
+    /// Where the rows of windows are equal, null to null alone.
+    Windows,
+    /// Where the stored rows of windows are equal, by the kind of the arrays.
+    Lists,
+    FixedSizeLists,
+    Structs,
+    Dictionaries,
+    Leaves,
 }
 
-impl Call {
-    // The call of that name.
-    fn named(name: &str) -> Option<Call> {
-        match name {
-            "equal_windows" => Some(Call::Equal),
-            "list_windows" => Some(Call::List),
-            "fixed_size_list_windows" => Some(Call::FixedSizeList),
-            "struct_windows" => Some(Call::Struct),
-            "dictionary_windows" => Some(Call::Dictionary),
-            "leaf_eq" => Some(Call::Leaf),
-            _ => None,
-        }
+/// Returns what a call says of the windows that words name, by the kernel of leaves that a last
+/// word may name.
+pub fn ask(alloc: Global, call: Counted, store: &Store, words: &mut Words) -> Result<String, Fault>
+    requires { HasGoodArrays store.now }
+{
+    let windows = match call {
+        Counted::Missing(_) => read_all_rows(store, words)?,
+        _ => read_windows(store, words)?,
+    };
+    if !windows.left.same_type(windows.right) {
+        return Err(Fault::Case);
     }
-}
-
-/// The answer to a call of this subject, or None for another one's.
-pub fn answer(
-    alloc: Global,
-    call: &str,
-    store: &Store,
-    words: &mut Words,
-) -> Option<Result<String, Fault>>
-    requires { HasGoodArrays store.now }
-{
-    let call = Call::named(call)?;
-    Some(compare_read(alloc, call, store, words))
-}
-
-// What a call says of the windows that words write, by the kernel of leaves that a last word may name.
-fn compare_read(
-    alloc: Global,
-    call: Call,
-    store: &Store,
-    words: &mut Words,
-) -> Result<String, Fault>
-    requires { HasGoodArrays store.now }
-{
-    let windows = read_windows(store, words)?;
-    compare_with(alloc, call, windows, words)
-}
-
-// What a call says of two windows by the kernel of leaves that a last word may name.
-fn compare_with(
-    alloc: Global,
-    call: Call,
-    windows: Windows,
-    words: &mut Words,
-) -> Result<String, Fault>
-    requires { AreWindows windows }
-{
     if words.take("always") {
-        compare::<Always>(alloc, call, windows)
+        compare::<Same<true>>(alloc, call, windows)
     } else if words.take("never") {
-        compare::<Never>(alloc, call, windows)
+        compare::<Same<false>>(alloc, call, windows)
     } else {
         compare::<Steps>(alloc, call, windows)
     }
 }
 
-// The array that words name, and the place in it that they write.
+// Returns the array that words name, and the place in it that they write.
 fn read_place<'a>(store: &'a Store, words: &mut Words) -> Result<(&'a AnyArray, usize), Fault>
     requires { HasGoodArrays store.now }
     ensures { IfOk result (λ place. IsGood place.0.now) }
@@ -122,7 +94,7 @@ fn read_place<'a>(store: &'a Store, words: &mut Words) -> Result<(&'a AnyArray, 
     Ok((array, at))
 }
 
-/// The windows that words write, which lie within the arrays that they name.
+/// Returns the windows that words write, which lie within the arrays that they name.
 pub fn read_windows<'a>(store: &'a Store, words: &mut Words) -> Result<Windows<'a>, Fault>
     requires { HasGoodArrays store.now }
     ensures { IfOk result (λ windows. AreWindows windows) }
@@ -143,34 +115,73 @@ pub fn read_windows<'a>(store: &'a Store, words: &mut Words) -> Result<Windows<'
     }
 }
 
-/// Whether `n` places from place `at` on are among `len`.
+// Returns all rows of the two arrays of one length that words name.
+fn read_all_rows<'a>(store: &'a Store, words: &mut Words) -> Result<Windows<'a>, Fault>
+    requires { HasGoodArrays store.now }
+    ensures { IfOk result (λ windows. AreWindows windows) }
+{
+    let (left, right) = read_two(store, words)?;
+    let n = left.len();
+    if n != right.len() {
+        return Err(Fault::Case);
+    }
+    Ok(Windows {
+        left,
+        a: 0,
+        right,
+        b: 0,
+        n,
+    })
+}
+
+/// Returns whether `n` places from place `at` on are among `len`.
 pub fn is_within(at: usize, n: usize, len: usize) -> bool
     ensures { IsTrue result → at + n ≤ len }
 {
     at <= len && n <= len - at
 }
 
-// What a call says of two windows by one kernel of leaves, and how many comparisons were counted for it.
+// Returns what a call says of two windows by one kernel of leaves, and how many comparisons were
+// counted for it.
 fn compare<K: SeenKernel + Drop>(
     alloc: Global,
-    call: Call,
+    call: Counted,
     windows: Windows,
 ) -> Result<String, Fault>
-    requires { AreWindows windows }
+    requires windows { AreWindows windows }
+    requires one_type { type_of windows.left.now ≡ type_of windows.right.now }
 {
     let mut kernel = K::new();
     let text = compare_by(alloc, call, windows, &mut kernel);
     add_count(text, kernel.seen(), COMPARISONS)
 }
 
-// What a call says of two windows by a kernel of leaves.
+// Returns what a call says of two windows by a kernel of leaves.
 fn compare_by<K: LeafKernel>(
     alloc: Global,
-    call: Call,
+    call: Counted,
     windows: Windows,
     kernel: &mut K,
 ) -> Result<String, Fault>
-    requires { AreWindows windows }
+    requires windows { AreWindows windows }
+    requires one_type { type_of windows.left.now ≡ type_of windows.right.now }
+{
+    match equal_bits(alloc, call, windows, kernel) {
+        Some(bits) => write_made(alloc, bits),
+        None => write_stored(alloc, stored_bits(alloc, call, windows, kernel), windows),
+    }
+}
+
+// Returns the bits of two windows of one type by a call whose bits mean something for each row, or
+// None for another call.
+fn equal_bits<K: LeafKernel>(
+    alloc: Global,
+    call: Counted,
+    windows: Windows,
+    kernel: &mut K,
+) -> Option<Result<Bitmap, ComputeError>>
+    requires windows { AreWindows windows }
+    requires one_type { type_of windows.left.now ≡ type_of windows.right.now }
 {
     let Windows {
         left,
@@ -179,22 +190,24 @@ fn compare_by<K: LeafKernel>(
         b,
         n,
     } = windows;
-    if !left.same_type(right) {
-        return Err(Fault::Case);
-    }
-    if let Call::Equal = call {
-        return write_made(alloc, equal_windows(alloc, left, a, right, b, n, kernel));
-    }
-    match raw_bits(alloc, call, windows, kernel) {
-        Some(bits) => write_made_raw(alloc, bits, windows),
-        None => Err(Fault::Case),
+    match call {
+        Counted::Windows => Some(equal_windows(alloc, left, a, right, b, n, kernel)),
+        Counted::Missing(_) if left.len() != right.len() => None,
+        Counted::Missing(Relation::Equal) => {
+            Some(array_tot_eq_missing_kernel_counted(alloc, left, right, kernel))
+        }
+        Counted::Missing(Relation::Unequal) => {
+            Some(array_tot_ne_missing_kernel_counted(alloc, left, right, kernel))
+        }
+        _ => None,
     }
 }
 
-// The raw bits of two windows of one type, by the call for arrays of their kind, or None where they are of another one.
-fn raw_bits<K: LeafKernel>(
+// Returns the raw bits of two windows of one type, by the call for arrays of their kind, or None
+// where they are of another one.
+fn stored_bits<K: LeafKernel>(
     alloc: Global,
-    call: Call,
+    call: Counted,
     windows: Windows,
     kernel: &mut K,
 ) -> Option<Result<Bitmap, ComputeError>>
@@ -209,40 +222,35 @@ fn raw_bits<K: LeafKernel>(
         n,
     } = windows;
     match (call, left, right) {
-        (Call::Leaf, _, _) if has_leaves(left) => {
+        (Counted::Leaves, _, _) if has_leaves(left) => {
             Some(kernel.leaf_eq(alloc, left, a, right, b, n))
         }
-        (Call::List, AnyArray::List(left), AnyArray::List(right)) => {
+        (Counted::Lists, AnyArray::List(left), AnyArray::List(right)) => {
             Some(list_windows(alloc, left, a, right, b, n, kernel))
         }
-        (Call::FixedSizeList, AnyArray::FixedSizeList(left), AnyArray::FixedSizeList(right)) => {
-            Some(fixed_size_list_windows(alloc, left, a, right, b, n, kernel))
-        }
-        (Call::Struct, AnyArray::Struct(left), AnyArray::Struct(right)) => {
+        (Counted::FixedSizeLists, AnyArray::FixedSizeList(left), AnyArray::FixedSizeList(right)) =>
+            Some(fixed_size_list_windows(alloc, left, a, right, b, n, kernel)),
+        (Counted::Structs, AnyArray::Struct(left), AnyArray::Struct(right)) => {
             Some(struct_windows(alloc, left, a, right, b, n, kernel))
         }
-        (Call::Dictionary, AnyArray::Dictionary(left), AnyArray::Dictionary(right)) => {
+        (Counted::Dictionaries, AnyArray::Dictionary(left), AnyArray::Dictionary(right)) => {
             Some(dictionary_windows(alloc, left, a, right, b, n, kernel))
         }
         _ => None,
     }
 }
 
-// The text of the raw bits that a call made of two windows.
-fn write_made_raw(
+// Returns the text of the raw bits that a call made of two windows, where there is one for them.
+fn write_stored(
     alloc: Global,
-    bits: Result<Bitmap, ComputeError>,
+    bits: Option<Result<Bitmap, ComputeError>>,
     windows: Windows,
 ) -> Result<String, Fault>
     requires { AreWindows windows }
 {
-    write_rows(alloc, &bits?, windows)
-}
-
-// The text of the raw bits of two windows.
-fn write_rows(alloc: Global, bits: &Bitmap, windows: Windows) -> Result<String, Fault>
-    requires { AreWindows windows }
-{
+    let Some(bits) = bits else {
+        return Err(Fault::Case);
+    };
     let Windows {
         left,
         a,
@@ -250,11 +258,15 @@ fn write_rows(alloc: Global, bits: &Bitmap, windows: Windows) -> Result<String, 
         b,
         n,
     } = windows;
-    let mask = left.window_mask(alloc, a, n)?;
-    write_raw(alloc, bits, &mask, right.window_mask(alloc, b, n))
+    write_raw(
+        alloc,
+        &bits?,
+        left.window_mask(alloc, a, n),
+        right.window_mask(alloc, b, n),
+    )
 }
 
-// Whether an array has leaves for rows.
+// Returns whether an array has leaves for rows.
 fn has_leaves(array: &AnyArray) -> bool
     ensures { IsTrue result → IsTrue (is_leaf (type_of array.now)) }
 {

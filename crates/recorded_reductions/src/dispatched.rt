@@ -5,10 +5,8 @@
 //! | `dyn_array_min_ignore_nan A`, and so of `max_ignore_nan`, `min_propagate_nan` and `max_propagate_nan` | the name of the array's kind and the row, `none` without a present one, and `refused: not supported` |
 //! | `dyn_array_min_max_propagate_nan A` | the least and the greatest row in the same way |
 
-ghost use Rattle.recorded_text.specs.Cases.{HasGoodArrays};
-
-use crate::call_names::Extremes;
-use crate::found_text::write_none;
+use crate::calls::Extremes;
+use crate::found_text::push_none;
 use polars_arrays_bits::error::ComputeError;
 use polars_arrays_nested::any_array::AnyArray;
 use polars_compare_extremes::dispatch::{
@@ -18,89 +16,50 @@ use polars_compare_extremes::dispatch::{
 use polars_compare_extremes::scalar::AnyScalar;
 use recorded_text::bytes_text::push_bytes;
 use recorded_text::fault::Fault;
-use recorded_text::store::Store;
-use recorded_text::words::Words;
-use std::alloc::Global;
 use std::fmt::Display;
 
-/// The answer to a call of this subject, or None for another one's.
-pub fn answer(
-    alloc: Global,
-    call: &str,
-    store: &Store,
-    words: &mut Words,
-) -> Result<Option<String>, Fault>
-    requires { HasGoodArrays store.now }
-{
-    let Some(name) = call.strip_prefix("dyn_array_") else {
-        return Ok(None);
-    };
-    let Some(extremes) = Extremes::named(name) else {
-        return Ok(None);
-    };
-    write_extremes(alloc, extremes, store.read(words)?).map(Some)
-}
-
-// The extremes of an array, as text. For both there is one name alone.
-fn write_extremes(alloc: Global, extremes: Extremes, array: &AnyArray) -> Result<String, Fault> {
-    match extremes {
-        Extremes::MinIgnore => write_answer(alloc, dyn_array_min_ignore_nan(array)),
-        Extremes::MaxIgnore => write_answer(alloc, dyn_array_max_ignore_nan(array)),
+/// Adds the extremes of an array. For both there is one name alone.
+pub fn push_answer(text: &mut String, asked: Extremes, array: &AnyArray) -> Result<(), Fault> {
+    match asked {
+        Extremes::MinIgnore => push_extreme(text, dyn_array_min_ignore_nan(array)),
+        Extremes::MaxIgnore => push_extreme(text, dyn_array_max_ignore_nan(array)),
         Extremes::MinMaxIgnore => Err(Fault::Word),
-        Extremes::MinPropagate => write_answer(alloc, dyn_array_min_propagate_nan(array)),
-        Extremes::MaxPropagate => write_answer(alloc, dyn_array_max_propagate_nan(array)),
-        Extremes::MinMaxPropagate => write_both(alloc, dyn_array_min_max_propagate_nan(array)),
+        Extremes::MinPropagate => push_extreme(text, dyn_array_min_propagate_nan(array)),
+        Extremes::MaxPropagate => push_extreme(text, dyn_array_max_propagate_nan(array)),
+        Extremes::MinMaxPropagate => push_both(text, dyn_array_min_max_propagate_nan(array)),
     }
 }
 
-// The text of an extreme, or why there is none.
-fn write_answer(
-    alloc: Global,
+// Adds an extreme, or why there is none.
+fn push_extreme(
+    text: &mut String,
     answer: Result<Option<AnyScalar<'_>>, ComputeError>,
-) -> Result<String, Fault> {
+) -> Result<(), Fault> {
     match answer {
-        Ok(Some(scalar)) => write_scalar(alloc, scalar),
-        Ok(None) => write_none(alloc),
-        Err(refused) => why_refused(alloc, refused),
+        Ok(Some(scalar)) => push_scalar(text, scalar),
+        Ok(None) => push_none(text),
+        Err(refused) => push_refusal(text, refused),
     }
 }
 
-// The text of both extremes, or why there are none.
-fn write_both(
-    alloc: Global,
+// Adds both extremes, or why there are none.
+fn push_both(
+    text: &mut String,
     answer: Result<Option<(AnyScalar<'_>, AnyScalar<'_>)>, ComputeError>,
-) -> Result<String, Fault> {
+) -> Result<(), Fault> {
     match answer {
-        Ok(Some((least, greatest))) => write_two(alloc, least, greatest),
-        Ok(None) => write_none(alloc),
-        Err(refused) => why_refused(alloc, refused),
+        Ok(Some((least, greatest))) => push_two(text, least, greatest),
+        Ok(None) => push_none(text),
+        Err(refused) => push_refusal(text, refused),
     }
 }
 
-// Why a call is refused, where it is not for memory.
-fn why_refused(alloc: Global, refused: ComputeError) -> Result<String, Fault> {
+// Adds why a call is refused, where it is not for memory.
+fn push_refusal(text: &mut String, refused: ComputeError) -> Result<(), Fault> {
     match refused {
         ComputeError::Memory(_) => Err(Fault::Memory),
-        refused => format!(in alloc; "refused: {refused}").map_err(Fault::from),
+        refused => write!(text, "refused: {refused}").map_err(Fault::from),
     }
-}
-
-// The text of a scalar.
-fn write_scalar(alloc: Global, scalar: AnyScalar<'_>) -> Result<String, Fault> {
-    let mut text = String::new(alloc);
-    push_scalar(&mut text, scalar)?;
-    Ok(text)
-}
-
-// The text of two scalars.
-fn write_two(
-    alloc: Global,
-    least: AnyScalar<'_>,
-    greatest: AnyScalar<'_>,
-) -> Result<String, Fault> {
-    let mut text = String::new(alloc);
-    push_two(&mut text, least, greatest)?;
-    Ok(text)
 }
 
 // Adds two scalars to a text.

@@ -9,191 +9,103 @@
 //! | `bytes_min_ignore_nan_kernel A`, `text_min_ignore_nan_kernel A` and so on | the same of byte strings, or of texts by their bytes |
 
 ghost use Rattle.polars_arrays_nested.specs.GoodParts.{IsGood};
-ghost use Rattle.recorded_text.specs.Cases.{HasGoodArrays};
 
-use crate::call_names::Extremes;
-use crate::found_text::{
-    write_found, write_pair, write_string, write_strings, write_text, write_texts,
-};
+use crate::calls::{Extremes, Subject};
+use crate::found_text::{push_found, push_pair, push_string, push_strings, push_text, push_texts};
 use crate::kinds::of_kind;
-use polars_arrays_flat::boolean::BooleanArray;
-use polars_arrays_flat::primitive::PrimitiveArray;
 use polars_arrays_nested::any_array::AnyArray;
-use polars_arrays_numbers::native_type::NativeType;
 use polars_compare_extremes::borrowed::{BytesMinMaxKernel, TextMinMaxKernel};
 use polars_compare_extremes::kernel::MinMaxKernel;
 use recorded_text::fault::Fault;
-use recorded_text::store::Store;
-use recorded_text::words::Words;
-use std::alloc::Global;
 use std::fmt::Display;
 
-/// The answer to a call of this subject, or None for another one's.
-pub fn answer(
-    alloc: Global,
-    call: &str,
-    store: &Store,
-    words: &mut Words,
-) -> Result<Option<String>, Fault>
-    requires { HasGoodArrays store.now }
-{
-    match asked_of(call) {
-        Some((subject, extremes)) => {
-            of_array(alloc, subject, extremes, store.read(words)?).map(Some)
-        }
-        None => Ok(None),
-    }
-}
-
-// What numbers of an array the extremes are of.
-#[derive(Clone, Copy)]
-enum Numbers {
-    // Its rows, which may be truth values too.
-    Rows,
-    // Those that it stores.
-    Stored,
-}
-
-// What of an array the extremes are of.
-#[derive(Clone, Copy)]
-enum Subject {
-    // Its numbers.
-    Numbers(Numbers),
-    // Its byte strings.
-    Bytes,
-    // Its texts.
-    Texts,
-}
-
-// What a call asks, or None for a call of another subject.
-fn asked_of(call: &str) -> Option<(Subject, Extremes)> {
-    let call = call.strip_suffix("_kernel")?;
-    let (subject, name) = if let Some(name) = call.strip_prefix("slice_") {
-        (Subject::Numbers(Numbers::Stored), name)
-    } else if let Some(name) = call.strip_prefix("bytes_") {
-        (Subject::Bytes, name)
-    } else if let Some(name) = call.strip_prefix("text_") {
-        (Subject::Texts, name)
-    } else {
-        (Subject::Numbers(Numbers::Rows), call)
-    };
-    Some((subject, Extremes::named(name)?))
-}
-
-// The extremes of what is asked of an array.
-fn of_array(
-    alloc: Global,
+/// Adds the extremes of what is asked of an array.
+pub fn push_answer(
+    text: &mut String,
     subject: Subject,
-    extremes: Extremes,
+    asked: Extremes,
     array: &AnyArray,
-) -> Result<String, Fault>
+) -> Result<(), Fault>
     requires { IsGood array.now }
 {
     match subject {
-        Subject::Numbers(numbers) => of_plain(alloc, numbers, extremes, array),
-        Subject::Bytes => of_bytes(alloc, extremes, array),
-        Subject::Texts => of_texts(alloc, extremes, array),
+        Subject::Rows => push_of_rows(text, asked, array),
+        Subject::Stored => push_of_stored(text, asked, array),
+        Subject::Bytes => push_of_bytes(text, asked, array),
+        Subject::Texts => push_of_texts(text, asked, array),
     }
 }
 
-// The extremes of an array of numbers or truth values.
-fn of_plain(
-    alloc: Global,
-    numbers: Numbers,
-    extremes: Extremes,
-    array: &AnyArray,
-) -> Result<String, Fault> {
-    match array {
-        AnyArray::Boolean(rows) => of_truths(alloc, numbers, extremes, rows),
-        array => of_kind!(array, rows => of_numbers(alloc, numbers, extremes, rows),
-            Int8 Int16 Int32 Int64 Int128 UInt8 UInt16 UInt32 UInt64 UInt128),
-    }
+// Adds the extremes of the rows of an array of numbers or truth values.
+fn push_of_rows(text: &mut String, asked: Extremes, array: &AnyArray) -> Result<(), Fault> {
+    of_kind!(array, rows => push_extremes(text, asked, rows),
+        Boolean Int8 Int16 Int32 Int64 Int128 UInt8 UInt16 UInt32 UInt64 UInt128)
 }
 
-// The extremes of truth values, which are no stored numbers.
-fn of_truths(
-    alloc: Global,
-    numbers: Numbers,
-    extremes: Extremes,
-    rows: &BooleanArray,
-) -> Result<String, Fault> {
-    match numbers {
-        Numbers::Rows => write_extremes(alloc, extremes, rows),
-        Numbers::Stored => Err(Fault::Case),
-    }
+// Adds the extremes of the numbers that an array stores.
+fn push_of_stored(text: &mut String, asked: Extremes, array: &AnyArray) -> Result<(), Fault> {
+    of_kind!(array, rows => push_extremes(text, asked, &rows.values()),
+        Int8 Int16 Int32 Int64 Int128 UInt8 UInt16 UInt32 UInt64 UInt128)
 }
 
-// The extremes of numbers.
-fn of_numbers<T: NativeType + Display>(
-    alloc: Global,
-    numbers: Numbers,
-    extremes: Extremes,
-    rows: &PrimitiveArray<T>,
-) -> Result<String, Fault> {
-    match numbers {
-        Numbers::Rows => write_extremes(alloc, extremes, rows),
-        Numbers::Stored => write_extremes(alloc, extremes, &rows.values()),
-    }
-}
-
-// The extremes of rows, as text.
-fn write_extremes<K: MinMaxKernel<Scalar: Display>>(
-    alloc: Global,
-    extremes: Extremes,
+// Adds the extremes of numbers or truth values.
+fn push_extremes<K: MinMaxKernel<Scalar: Display>>(
+    text: &mut String,
+    asked: Extremes,
     rows: &K,
-) -> Result<String, Fault> {
-    match extremes {
-        Extremes::MinIgnore => write_found(alloc, rows.min_ignore_nan_kernel()),
-        Extremes::MaxIgnore => write_found(alloc, rows.max_ignore_nan_kernel()),
-        Extremes::MinMaxIgnore => write_pair(alloc, rows.min_max_ignore_nan_kernel()),
-        Extremes::MinPropagate => write_found(alloc, rows.min_propagate_nan_kernel()),
-        Extremes::MaxPropagate => write_found(alloc, rows.max_propagate_nan_kernel()),
-        Extremes::MinMaxPropagate => write_pair(alloc, rows.min_max_propagate_nan_kernel()),
+) -> Result<(), Fault> {
+    match asked {
+        Extremes::MinIgnore => push_found(text, rows.min_ignore_nan_kernel()),
+        Extremes::MaxIgnore => push_found(text, rows.max_ignore_nan_kernel()),
+        Extremes::MinMaxIgnore => push_pair(text, rows.min_max_ignore_nan_kernel()),
+        Extremes::MinPropagate => push_found(text, rows.min_propagate_nan_kernel()),
+        Extremes::MaxPropagate => push_found(text, rows.max_propagate_nan_kernel()),
+        Extremes::MinMaxPropagate => push_pair(text, rows.min_max_propagate_nan_kernel()),
     }
 }
 
-// The extremes of an array of byte strings.
-fn of_bytes(alloc: Global, extremes: Extremes, array: &AnyArray) -> Result<String, Fault>
+// Adds the extremes of an array of byte strings.
+fn push_of_bytes(text: &mut String, asked: Extremes, array: &AnyArray) -> Result<(), Fault>
     requires { IsGood array.now }
 {
-    of_kind!(array, rows => write_byte_extremes(alloc, extremes, rows), Binary LargeBinary BinaryView)
+    of_kind!(array, rows => push_byte_extremes(text, asked, rows), Binary LargeBinary BinaryView)
 }
 
-// The extremes of byte strings, as text.
-fn write_byte_extremes<K: BytesMinMaxKernel>(
-    alloc: Global,
-    extremes: Extremes,
+// Adds the extremes of byte strings.
+fn push_byte_extremes<K: BytesMinMaxKernel>(
+    text: &mut String,
+    asked: Extremes,
     rows: &K,
-) -> Result<String, Fault> {
-    match extremes {
-        Extremes::MinIgnore => write_string(alloc, rows.min_ignore_nan_kernel()),
-        Extremes::MaxIgnore => write_string(alloc, rows.max_ignore_nan_kernel()),
-        Extremes::MinMaxIgnore => write_strings(alloc, rows.min_max_ignore_nan_kernel()),
-        Extremes::MinPropagate => write_string(alloc, rows.min_propagate_nan_kernel()),
-        Extremes::MaxPropagate => write_string(alloc, rows.max_propagate_nan_kernel()),
-        Extremes::MinMaxPropagate => write_strings(alloc, rows.min_max_propagate_nan_kernel()),
+) -> Result<(), Fault> {
+    match asked {
+        Extremes::MinIgnore => push_string(text, rows.min_ignore_nan_kernel()),
+        Extremes::MaxIgnore => push_string(text, rows.max_ignore_nan_kernel()),
+        Extremes::MinMaxIgnore => push_strings(text, rows.min_max_ignore_nan_kernel()),
+        Extremes::MinPropagate => push_string(text, rows.min_propagate_nan_kernel()),
+        Extremes::MaxPropagate => push_string(text, rows.max_propagate_nan_kernel()),
+        Extremes::MinMaxPropagate => push_strings(text, rows.min_max_propagate_nan_kernel()),
     }
 }
 
-// The extremes of an array of texts.
-fn of_texts(alloc: Global, extremes: Extremes, array: &AnyArray) -> Result<String, Fault>
+// Adds the extremes of an array of texts.
+fn push_of_texts(text: &mut String, asked: Extremes, array: &AnyArray) -> Result<(), Fault>
     requires { IsGood array.now }
 {
-    of_kind!(array, rows => write_text_extremes(alloc, extremes, rows), Utf8 LargeUtf8 Utf8View)
+    of_kind!(array, rows => push_text_extremes(text, asked, rows), Utf8 LargeUtf8 Utf8View)
 }
 
-// The extremes of texts, as text.
-fn write_text_extremes<K: TextMinMaxKernel>(
-    alloc: Global,
-    extremes: Extremes,
+// Adds the extremes of texts.
+fn push_text_extremes<K: TextMinMaxKernel>(
+    text: &mut String,
+    asked: Extremes,
     rows: &K,
-) -> Result<String, Fault> {
-    match extremes {
-        Extremes::MinIgnore => write_text(alloc, rows.min_ignore_nan_kernel()),
-        Extremes::MaxIgnore => write_text(alloc, rows.max_ignore_nan_kernel()),
-        Extremes::MinMaxIgnore => write_texts(alloc, rows.min_max_ignore_nan_kernel()),
-        Extremes::MinPropagate => write_text(alloc, rows.min_propagate_nan_kernel()),
-        Extremes::MaxPropagate => write_text(alloc, rows.max_propagate_nan_kernel()),
-        Extremes::MinMaxPropagate => write_texts(alloc, rows.min_max_propagate_nan_kernel()),
+) -> Result<(), Fault> {
+    match asked {
+        Extremes::MinIgnore => push_text(text, rows.min_ignore_nan_kernel()),
+        Extremes::MaxIgnore => push_text(text, rows.max_ignore_nan_kernel()),
+        Extremes::MinMaxIgnore => push_texts(text, rows.min_max_ignore_nan_kernel()),
+        Extremes::MinPropagate => push_text(text, rows.min_propagate_nan_kernel()),
+        Extremes::MaxPropagate => push_text(text, rows.max_propagate_nan_kernel()),
+        Extremes::MinMaxPropagate => push_texts(text, rows.min_max_propagate_nan_kernel()),
     }
 }

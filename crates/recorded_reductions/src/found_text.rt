@@ -1,75 +1,64 @@
-//! What a call found, as text: a number, a truth value, or `x` and the hexadecimal digits of the bytes of a string or a text;
-//! two of these, parted by a space; and `none`.
+//! What a call found, as text: a number, a truth value, or `x` and the hexadecimal digits of the
+//! bytes of a string or a text; two of these, parted by a space; and `none`.
 
-use recorded_text::bytes_text::{push_bytes, write_bytes};
+use recorded_text::bytes_text::push_bytes;
 use recorded_text::fault::Fault;
-use std::alloc::Global;
 use std::fmt::Display;
 
-/// The text of nothing found.
-pub fn write_none(alloc: Global) -> Result<String, Fault> {
-    "none".to_string(alloc).map_err(Fault::from)
+/// Adds that nothing was found.
+pub fn push_none(text: &mut String) -> Result<(), Fault> {
+    text.push_str("none").map_err(Fault::from)
 }
 
-/// The text of a number or a truth value.
-pub fn write_found<T: Copy + Display>(alloc: Global, found: Option<T>) -> Result<String, Fault> {
+/// Adds a number or a truth value.
+pub fn push_found<T: Copy + Display>(text: &mut String, found: Option<T>) -> Result<(), Fault> {
     match found {
-        Some(found) => found.to_string(alloc).map_err(Fault::from),
-        None => write_none(alloc),
+        Some(found) => write!(text, "{found}").map_err(Fault::from),
+        None => push_none(text),
     }
 }
 
-/// The text of two numbers or truth values.
-pub fn write_pair<T: Copy + Display>(
-    alloc: Global,
-    found: Option<(T, T)>,
-) -> Result<String, Fault> {
+/// Adds two numbers or truth values.
+pub fn push_pair<T: Copy + Display>(text: &mut String, found: Option<(T, T)>) -> Result<(), Fault> {
     match found {
-        Some((least, greatest)) => { format!(in alloc; "{least} {greatest}").map_err(Fault::from) }
-        None => write_none(alloc),
+        Some((least, greatest)) => write!(text, "{least} {greatest}").map_err(Fault::from),
+        None => push_none(text),
     }
 }
 
-/// The text of a byte string.
-pub fn write_string(alloc: Global, found: Option<&[u8]>) -> Result<String, Fault> {
+/// Adds a byte string.
+pub fn push_string(text: &mut String, found: Option<&[u8]>) -> Result<(), Fault> {
     match found {
-        Some(bytes) => write_bytes(alloc, bytes),
-        None => write_none(alloc),
+        Some(bytes) => push_bytes(text, bytes),
+        None => push_none(text),
     }
 }
 
-/// The text of two byte strings.
-pub fn write_strings(alloc: Global, found: Option<(&[u8], &[u8])>) -> Result<String, Fault> {
+/// Adds two byte strings.
+pub fn push_strings(text: &mut String, found: Option<(&[u8], &[u8])>) -> Result<(), Fault> {
     match found {
-        Some((least, greatest)) => write_two(alloc, least, greatest),
-        None => write_none(alloc),
+        Some((least, greatest)) => push_two(text, least, greatest),
+        None => push_none(text),
     }
 }
 
-/// The text of a text's bytes.
-pub fn write_text(alloc: Global, found: Option<&str>) -> Result<String, Fault> {
+/// Adds the bytes of a text.
+pub fn push_text(text: &mut String, found: Option<&str>) -> Result<(), Fault> {
     match found {
-        Some(text) => write_bytes(alloc, text.as_bytes()),
-        None => write_none(alloc),
+        Some(found) => push_bytes(text, found.as_bytes()),
+        None => push_none(text),
     }
 }
 
-/// The text of two texts' bytes.
-pub fn write_texts(alloc: Global, found: Option<(&str, &str)>) -> Result<String, Fault> {
+/// Adds the bytes of two texts.
+pub fn push_texts(text: &mut String, found: Option<(&str, &str)>) -> Result<(), Fault> {
     match found {
-        Some((least, greatest)) => write_two(alloc, least.as_bytes(), greatest.as_bytes()),
-        None => write_none(alloc),
+        Some((least, greatest)) => push_two(text, least.as_bytes(), greatest.as_bytes()),
+        None => push_none(text),
     }
 }
 
-// One byte string behind another one.
-fn write_two(alloc: Global, least: &[u8], greatest: &[u8]) -> Result<String, Fault> {
-    let mut text = String::new(alloc);
-    push_two(&mut text, least, greatest)?;
-    Ok(text)
-}
-
-// Adds two byte strings to a text.
+// Adds two byte strings, parted by a space.
 fn push_two(text: &mut String, least: &[u8], greatest: &[u8]) -> Result<(), Fault> {
     push_bytes(text, least)?;
     text.push(' ')?;

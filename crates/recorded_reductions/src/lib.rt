@@ -1,13 +1,15 @@
-//! The recorded cases of columns that are counted, reduced and searched: counts of bits, reductions by bits, and
-//! extremes of arrays, of slices and of arrays of any kind.
+//! The recorded cases of columns that are counted, reduced and searched: counts of bits, reductions
+//! by bits, and extremes of arrays, of slices and of arrays of any kind.
 //!
-//! An array is an operand by its name, and is lent to the call. Sums are asked for in `recorded_arithmetic`.
+//! An array is an operand by its name, and is lent to the call. Sums are asked for in
+//! `recorded_arithmetic`. Each function adds its answer to one text, which `answer` makes and
+//! lends.
 #![tactic(auto)]
 
 ghost use Rattle.recorded_text.specs.Cases.{HasGoodArrays};
 
 mod bits;
-mod call_names;
+mod calls;
 mod dispatched;
 mod extremes;
 mod found_text;
@@ -15,21 +17,14 @@ mod kinds;
 mod places;
 mod scalar_bits;
 
+use crate::calls::{CALLS, Call};
 use recorded_text::fault::Fault;
+use recorded_text::names::find;
 use recorded_text::store::Store;
 use recorded_text::words::Words;
 use std::alloc::Global;
 
-// Returns the first answer that there is.
-macro_rules! first_answer {
-    ($($answer:expr),+ $(,)?) => {
-        $(if let Some(answer) = $answer? {
-            return Ok(Some(answer));
-        })+
-    };
-}
-
-/// The answer to a call of one of these subjects, or None for another one's.
+/// Returns the answer to a call of one of these subjects, or None for another one's.
 pub fn answer(
     alloc: Global,
     call: &str,
@@ -38,11 +33,43 @@ pub fn answer(
 ) -> Result<Option<String>, Fault>
     requires { HasGoodArrays store.now }
 {
-    first_answer!(
-        bits::answer(alloc, call, store, words),
-        extremes::answer(alloc, call, store, words),
-        dispatched::answer(alloc, call, store, words),
-        places::answer(alloc, call, store, words),
-    );
-    scalar_bits::answer(alloc, call, words)
+    match find(&CALLS, call) {
+        Some(call) => write_answer(alloc, call, store, words).map(Some),
+        None => Ok(None),
+    }
+}
+
+// Returns the answer to a call.
+fn write_answer(
+    alloc: Global,
+    call: Call,
+    store: &Store,
+    words: &mut Words,
+) -> Result<String, Fault>
+    requires { HasGoodArrays store.now }
+{
+    let mut text = String::new(alloc);
+    push_answer(alloc, &mut text, call, store, words)?;
+    Ok(text)
+}
+
+// Adds the answer to a call.
+fn push_answer(
+    alloc: Global,
+    text: &mut String,
+    call: Call,
+    store: &Store,
+    words: &mut Words,
+) -> Result<(), Fault>
+    requires { HasGoodArrays store.now }
+{
+    match call {
+        Call::Bits(question) => bits::push_answer(alloc, text, question, store.read(words)?),
+        Call::Extremes(subject, asked) => {
+            extremes::push_answer(text, subject, asked, store.read(words)?)
+        }
+        Call::Dispatched(asked) => dispatched::push_answer(text, asked, store.read(words)?),
+        Call::Best(best) => places::push_answer(text, best, store, words),
+        Call::Join(join) => scalar_bits::push_answer(text, join, words),
+    }
 }

@@ -8,7 +8,8 @@
 ghost use Rattle.polars_arrays_nested.specs.GoodParts.{IsGood};
 ghost use Rattle.recorded_text.specs.Cases.{HasGoodArrays};
 
-use crate::found_text::{write_found, write_string};
+use crate::calls::Best;
+use crate::found_text::{push_found, push_string};
 use crate::kinds::of_kind;
 use polars_arrays_flat::byte_rows::ByteRows;
 use polars_arrays_nested::any_array::AnyArray;
@@ -18,61 +19,48 @@ use polars_compare_extremes::preference::Preference;
 use recorded_text::fault::Fault;
 use recorded_text::store::Store;
 use recorded_text::words::Words;
-use std::alloc::Global;
 
-/// The answer to a call of this subject, or None for another one's.
-pub fn answer(
-    alloc: Global,
-    call: &str,
+/// Adds what is asked of the best of an array's byte strings, by the preference that the next word
+/// names.
+pub fn push_answer(
+    text: &mut String,
+    best: Best,
     store: &Store,
     words: &mut Words,
-) -> Result<Option<String>, Fault>
+) -> Result<(), Fault>
     requires { HasGoodArrays store.now }
 {
-    let question = match call {
-        "best_place" => Question::Place,
-        "best_string" => Question::Bytes,
-        _ => return Ok(None),
-    };
-    let answer = match words.read()? {
-        "less" => of_strings(alloc, question, &Less, store.read(words)?),
-        "greater" => of_strings(alloc, question, &Greater, store.read(words)?),
-        _ => return Err(Fault::Word),
-    };
-    answer.map(Some)
+    match words.read()? {
+        "less" => push_preferred(text, best, &Less, store.read(words)?),
+        "greater" => push_preferred(text, best, &Greater, store.read(words)?),
+        _ => Err(Fault::Word),
+    }
 }
 
-// What is asked of the best byte string.
-#[derive(Clone, Copy)]
-enum Question {
-    Place,
-    Bytes,
-}
-
-// What is asked of the best of an array's byte strings.
-fn of_strings<P: Preference>(
-    alloc: Global,
-    question: Question,
+// Adds what is asked of the best of an array's byte strings.
+fn push_preferred<P: Preference>(
+    text: &mut String,
+    best: Best,
     preference: &P,
     array: &AnyArray,
-) -> Result<String, Fault>
+) -> Result<(), Fault>
     requires { IsGood array.now }
 {
-    of_kind!(array, rows => write_best(alloc, question, preference, rows),
+    of_kind!(array, rows => push_best(text, best, preference, rows),
         Binary LargeBinary Utf8 LargeUtf8 BinaryView Utf8View FixedSizeBinary)
 }
 
-// What is asked of the best of byte strings, as text.
-fn write_best<P: Preference, R: ByteRows>(
-    alloc: Global,
-    question: Question,
+// Adds what is asked of the best of byte strings.
+fn push_best<P: Preference, R: ByteRows>(
+    text: &mut String,
+    best: Best,
     preference: &P,
     rows: &R,
-) -> Result<String, Fault>
+) -> Result<(), Fault>
     requires { R.good rows.now }
 {
-    match question {
-        Question::Place => write_found(alloc, best_place(preference, rows, rows.validity())),
-        Question::Bytes => write_string(alloc, best_string(preference, rows, rows.validity())),
+    match best {
+        Best::Place => push_found(text, best_place(preference, rows, rows.validity())),
+        Best::Bytes => push_string(text, best_string(preference, rows, rows.validity())),
     }
 }

@@ -5,67 +5,48 @@
 //! | `bit_and TYPE NUMBER NUMBER`, and so of `or` and `xor` | a number |
 //! | `bit_and bool TRUTH TRUTH`, and so of `or` and `xor` | a truth value |
 
-use crate::call_names::Join;
-use crate::kinds::at_number_type;
+use crate::calls::Join;
 use polars_arrays_flat::boolean::BooleanArray;
 use polars_arrays_flat::primitive::PrimitiveArray;
-use polars_compute_bits::bit_number::BitNumber;
 use polars_compute_bits::bitwise::BitwiseKernel;
 use recorded_text::fault::Fault;
 use recorded_text::words::Words;
-use std::alloc::Global;
 use std::fmt::Display;
 use std::str::FromStr;
 
-/// The answer to a call of this subject, or None for another one's.
-pub fn answer(alloc: Global, call: &str, words: &mut Words) -> Result<Option<String>, Fault> {
-    let Some(name) = call.strip_prefix("bit_") else {
-        return Ok(None);
-    };
-    let Some(join) = Join::named(name) else {
-        return Ok(None);
-    };
-    let answer = match words.read()? {
-        "bool" => join_truths(alloc, join, words),
-        name => at_number_type!(name, join_numbers(alloc, join, words)),
-    };
-    answer.map(Some)
+/// Adds what two scalars of the type that the next word names are joined to.
+pub fn push_answer(text: &mut String, join: Join, words: &mut Words) -> Result<(), Fault> {
+    match words.read()? {
+        "bool" => push_joined::<BooleanArray>(text, join, words),
+        "i8" => push_joined::<PrimitiveArray<i8>>(text, join, words),
+        "i16" => push_joined::<PrimitiveArray<i16>>(text, join, words),
+        "i32" => push_joined::<PrimitiveArray<i32>>(text, join, words),
+        "i64" => push_joined::<PrimitiveArray<i64>>(text, join, words),
+        "u8" => push_joined::<PrimitiveArray<u8>>(text, join, words),
+        "u16" => push_joined::<PrimitiveArray<u16>>(text, join, words),
+        "u32" => push_joined::<PrimitiveArray<u32>>(text, join, words),
+        "u64" => push_joined::<PrimitiveArray<u64>>(text, join, words),
+        _ => Err(Fault::Word),
+    }
 }
 
-// The truth value that two of them are joined to.
-fn join_truths(alloc: Global, join: Join, words: &mut Words) -> Result<String, Fault> {
-    let left = read_truth(words)?;
-    let right = read_truth(words)?;
-    let joined = join_scalars::<BooleanArray>(join, left, right);
-    joined.to_string(alloc).map_err(Fault::from)
-}
-
-// The number that two of them are joined to.
-fn join_numbers<T: BitNumber + Display + FromStr<Err: Drop>>(
-    alloc: Global,
+// Adds what the two scalars are joined to that the next words write.
+fn push_joined<K: BitwiseKernel<Scalar: Copy + Display + FromStr<Err: Drop>>>(
+    text: &mut String,
     join: Join,
     words: &mut Words,
-) -> Result<String, Fault> {
-    let left: T = words.read_number()?;
-    let right: T = words.read_number()?;
-    let joined = join_scalars::<PrimitiveArray<T>>(join, left, right);
-    joined.to_string(alloc).map_err(Fault::from)
+) -> Result<(), Fault> {
+    let left: K::Scalar = words.read_number()?;
+    let right: K::Scalar = words.read_number()?;
+    let joined = join_scalars::<K>(join, left, right);
+    write!(text, "{joined}").map_err(Fault::from)
 }
 
-// What two scalars are joined to.
+// Returns what two scalars are joined to.
 fn join_scalars<K: BitwiseKernel>(join: Join, left: K::Scalar, right: K::Scalar) -> K::Scalar {
     match join {
         Join::And => K::bit_and(left, right),
         Join::Or => K::bit_or(left, right),
         Join::Xor => K::bit_xor(left, right),
-    }
-}
-
-// The truth value that the next word writes.
-fn read_truth(words: &mut Words) -> Result<bool, Fault> {
-    match words.read()? {
-        "true" => Ok(true),
-        "false" => Ok(false),
-        _ => Err(Fault::Word),
     }
 }

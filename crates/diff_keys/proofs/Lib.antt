@@ -1,0 +1,4 @@
+mod Examples
+pub mod ListingLemmas
+pub mod MatchingLemmas
+pub mod WaitingLemmas

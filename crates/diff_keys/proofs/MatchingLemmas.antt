@@ -1,0 +1,67 @@
+-- What was found, listed, is the matching of two tables.
+use Rattle.std.proofs.Common.{◌≡◌, ◌<◌, ◌↔◌, ℕ, List, Option, Some, None, length, get_or, arith, ap, sym, ◌∙◌, refl, subst}
+use Rattle.std.proofs.lemmas.Grind.{get_or_default_zero}
+use Rattle.std.proofs.lemmas.List.Elements.{Contains-get_or}
+use Rattle.std.specs.List.{Contains}
+use Rattle.std.specs.Prelude.{slice_index}
+use Rattle.diff_keys.specs.declared.matching.Matching.{Matching}
+use Rattle.diff_keys.specs.Listing.{HasNone, IsOther, ListsFound}
+use Rattle.diff_keys.specs.Matching.{IsAdded, IsMatching, IsRemoved, ListsRising}
+use Rattle.diff_keys.specs.Partners.{Keys, ArePartners, IsPartner, key_at, number_of}
+use Rattle.diff_keys.specs.Waiting.{nth}
+use Rattle.diff_keys.proofs.ListingLemmas.{listed_as}
+use Rattle.diff_keys.proofs.WaitingLemmas.{found_by_number}
+
+-- the partner of a row is found by the row's key and number
+pub partner_found : (left right : Keys) (i j : ℕ) → ArePartners left right i j → nth (key_at left i) (number_of left i) right ≡ Some j
+partner_found left right i j h =
+    ap (λ q. nth q (number_of left i) right) h.one_key ∙ (ap (λ n. nth (key_at right j) n right) h.one_number ∙ found_by_number right j h.right_row)
+
+-- a row has one partner at most
+pub one_partner : (left right : Keys) (i j k : ℕ) → ArePartners left right i j → ArePartners left right i k → j ≡ k
+one_partner left right i j k a b =
+    let both : Some j ≡ Some k = sym (partner_found left right i j a) ∙ partner_found left right i k b in
+    cc
+
+-- the partner that was found is the one that there is
+pub is_found : (left right : Keys) (i j : ℕ) (o : Option ℕ) → IsPartner left right i o → ArePartners left right i j → o ≡ Some j
+is_found left right i j None none h = absurd (none j h)
+is_found left right i j (Some k) is h = ap Some (one_partner left right i k j is h)
+
+-- no partner was found exactly where there is none
+pub none_found : (left right : Keys) (i : ℕ) (o : Option ℕ) → IsPartner left right i o → (o ≡ None) ↔ IsRemoved left right i
+none_found left right i None none = (λ _. none, λ _. refl)
+none_found left right i (Some j) is = (λ e. absurd (cc), λ removed. absurd (removed j is))
+
+pub matching_is : (left right : Keys) (found : List (Option ℕ)) (m : Matching) → length found ≡ length left
+    → ((i : ℕ) → i < length left → IsPartner left right i (get_or found i None))
+    → ListsFound found (length found) m.left_rows.items m.right_rows.items
+    → ListsRising (HasNone found) (length found) m.removed.items
+    → ListsRising (IsOther m.right_rows.items) (length right) m.added.items
+    → IsMatching left right m
+matching_is left right found m count told pairs alone others = record {
+  one_length = pairs.one_length;
+  partners = partners;
+  all_partners = λ i j h. pairs.each i j (omega (arith, h.left_row, count)) (is_found left right i j (get_or found i None) (told i h.left_row) h);
+  in_order = pairs.in_order;
+  removed = listed_as (HasNone found) (IsRemoved left right) (length left) m.removed.items
+      (λ i h. none_found left right i (get_or found i None) (told i h)) (rw count at alone);
+  added = listed_as (IsOther m.right_rows.items) (IsAdded left right) (length right) m.added.items added others;
+}
+  where
+    partners : (k : ℕ) → k < length m.left_rows.items → ArePartners left right (slice_index m.left_rows.items k) (slice_index m.right_rows.items k)
+    partners k within =
+        let got : (slice_index m.left_rows.items k < length found) × (get_or found (slice_index m.left_rows.items k) None ≡ Some (slice_index m.right_rows.items k)) = pairs.pair k within in
+        subst (λ o. IsPartner left right (slice_index m.left_rows.items k) o) got.1 (told (slice_index m.left_rows.items k) (omega (arith, got.0, count)))
+
+    added : (j : ℕ) → j < length right → IsOther m.right_rows.items j ↔ IsAdded left right j
+    added j within = (
+      λ other i h.
+          let (k, inside, l, r) = pairs.each i j (omega (arith, h.left_row, count)) (is_found left right i j (get_or found i None) (told i h.left_row) h) in
+          other (subst (λ x. Contains m.right_rows.items x) r (Contains-get_or m.right_rows.items k 0 (omega (arith, inside, pairs.one_length)))),
+      λ is_added there.
+          let (k, inside, is) = there in
+          let low : k < length m.left_rows.items = omega (arith, inside, pairs.one_length) in
+          let at : slice_index m.right_rows.items k ≡ j = sym (get_or_default_zero m.right_rows.items k j inside) ∙ is in
+          is_added (slice_index m.left_rows.items k) (subst (λ x. ArePartners left right (slice_index m.left_rows.items k) x) at (partners k low)),
+    )

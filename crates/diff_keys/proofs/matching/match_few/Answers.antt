@@ -1,0 +1,13 @@
+use Rattle.std.proofs.Common.{◌≡◌, length, arith}
+use Rattle.diff_keys.proofs.MatchingLemmas.{matching_is}
+use Rattle.diff_keys.proofs.matching.match_few.Goals as goal
+
+pub returns : goal.returns
+returns g c =
+    let found = c.in_ok-found.found.items in
+    let one_each : length found ≡ length (g.L.ByteRows.strings c.args.left.now) = omega (arith, c.in_ok-found.found.ok, c.in_ok-found.ensures.one_each) in
+    matching_is (g.L.ByteRows.strings c.args.left.now) (g.R.ByteRows.strings c.args.right.now) found _ one_each
+    c.in_ok-found.ensures.partners
+    (rw c.deref.ensures.value at c.in_ok-left_rows.ensures)
+    (rw c.deref-2.ensures.value at c.in_ok-removed.ensures)
+    (rw (c.deref-3.ensures.value, c.count.ensures) at c.in_ok-added.ensures)

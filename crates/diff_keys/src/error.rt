@@ -1,0 +1,33 @@
+//! Why rows are not matched.
+
+ghost use Rattle.diff_keys.specs.Errors.{IsMemory};
+
+use std::alloc::{AllocError, AllocFailed};
+use thiserror::Error;
+
+/// The reason why rows are not matched.
+#[derive(Clone, Copy, Debug, Drop, Error, PartialEq, Eq)]
+pub enum MatchError {
+    /// An allocation failed.
+    #[error("out of memory")]
+    Memory,
+    /// A table has more than 2^32 rows.
+    #[error("a table has more than 4,294,967,296 rows")]
+    TooManyRows,
+}
+
+impl From<AllocError> for MatchError {
+    ghost from_gives = { λ _ r. IsMemory r };
+
+    fn from(_failed: AllocError) -> MatchError {
+        MatchError::Memory
+    }
+}
+
+impl<T: Drop> From<AllocFailed<T>> for MatchError {
+    ghost from_gives = { λ _ r. IsMemory r };
+
+    fn from(_failed: AllocFailed<T>) -> MatchError {
+        MatchError::Memory
+    }
+}

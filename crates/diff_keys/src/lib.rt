@@ -1,0 +1,10 @@
+//! Matches the rows of two tables by their keys. Partners have one key, and as many rows of that
+//! key come before the one in its table as before the other in its own: so the first row of a key
+//! is matched with the first, the second with the second.
+#![tactic(auto)]
+
+pub mod error;
+mod listing;
+pub mod matching;
+mod partners;
+mod waiting;

@@ -1,0 +1,162 @@
+//! Arrays of numbers of each type: kernels of rows, and comparisons of stored numbers, whatever the
+//! validity says. A COMPARISON is one of `named_comparisons`.
+//!
+//! | Call | Answer |
+//! |---|---|
+//! | `compare_number_windows COMPARISON A a B b n` | which pairs of numbers pass: `n` from row `a` on of A, and as many from row `b` on of B |
+//! | `compare_number COMPARISON A NUMBER` | which numbers pass with a constant |
+
+ghost use Rattle.std.specs.Prelude.{◌+◌, ◌≤◌, length};
+ghost use Rattle.recorded_text.specs.Cases.{HasGoodArrays};
+
+use crate::kernel_names::Question;
+use crate::named_comparisons::{NamedComparison, with_comparison};
+use crate::named_kinds::{of_kind, of_one_kind};
+use crate::rows::ask_rows;
+use crate::scalars::ask_scalar;
+use crate::windows::{Windows, is_within, read_windows};
+use polars_arrays_bits::bitmap::Bitmap;
+use polars_arrays_bits::error::ComputeError;
+use polars_arrays_flat::array::Array;
+use polars_arrays_flat::primitive::PrimitiveArray;
+use polars_arrays_nested::any_array::AnyArray;
+use polars_arrays_numbers::comparison::{
+    Equal, Greater, GreaterOrEqual, Less, LessOrEqual, Unequal,
+};
+use polars_arrays_numbers::native_type::NativeType;
+use polars_compare_leaves::numbers::{compare_number, compare_number_windows};
+use recorded_text::bits_text::write_made;
+use recorded_text::fault::Fault;
+use recorded_text::store::Store;
+use recorded_text::words::Words;
+use std::alloc::Global;
+use std::str::FromStr;
+
+/// A question about an array of numbers and a number.
+#[derive(Clone, Copy)]
+pub enum Asked {
+    /// The answer of the rows beside the number.
+    Scalar(Question),
+    /// The stored numbers that pass with it.
+    Passing(NamedComparison),
+}
+
+/// A question about two arrays of numbers of one type.
+#[derive(Clone, Copy)]
+pub enum AskedBoth<'a> {
+    /// The answer of the rows.
+    Rows(Question),
+    /// The stored numbers of windows of the arrays that pass.
+    Passing(NamedComparison, Windows<'a>),
+}
+
+/// Returns which numbers of an array pass with the one that words write.
+pub fn beside(alloc: Global, store: &Store, words: &mut Words) -> Result<String, Fault>
+    requires { HasGoodArrays store.now }
+{
+    let comparison = NamedComparison::read(words)?;
+    let array = store.read(words)?;
+    ask_next(alloc, Asked::Passing(comparison), array, words)
+}
+
+/// Returns which numbers of two windows pass.
+pub fn windows(alloc: Global, store: &Store, words: &mut Words) -> Result<String, Fault>
+    requires { HasGoodArrays store.now }
+{
+    let comparison = NamedComparison::read(words)?;
+    let windows = read_windows(store, words)?;
+    ask_both(
+        alloc,
+        AskedBoth::Passing(comparison, windows),
+        windows.left,
+        windows.right,
+    )
+}
+
+/// Returns what an array of numbers answers beside the number that the next word writes.
+pub fn ask_next(
+    alloc: Global,
+    asked: Asked,
+    array: &AnyArray,
+    words: &mut Words,
+) -> Result<String, Fault> {
+    of_kind!(array, numbers => ask_numbers(alloc, asked, numbers, words),
+        Int8 Int16 Int32 Int64 Int128 UInt8 UInt16 UInt32 UInt64 UInt128)
+}
+
+// Returns what numbers of one type answer beside the one that the next word writes.
+fn ask_numbers<T: NativeType + FromStr<Err: Drop>>(
+    alloc: Global,
+    asked: Asked,
+    numbers: &PrimitiveArray<T>,
+    words: &mut Words,
+) -> Result<String, Fault> {
+    let number: T = words.read_number()?;
+    match asked {
+        Asked::Scalar(question) => ask_scalar(alloc, question, numbers, &number),
+        Asked::Passing(comparison) => {
+            write_made(alloc, passing(alloc, comparison, numbers, number))
+        }
+    }
+}
+
+// Returns which numbers of one type pass with one.
+fn passing<T: NativeType>(
+    alloc: Global,
+    comparison: NamedComparison,
+    numbers: &PrimitiveArray<T>,
+    number: T,
+) -> Result<Bitmap, ComputeError> {
+    with_comparison!(comparison, comparison => compare_number(alloc, comparison, numbers, number))
+}
+
+/// Returns what two arrays of numbers of one type answer.
+pub fn ask_both(
+    alloc: Global,
+    asked: AskedBoth<'_>,
+    these: &AnyArray,
+    those: &AnyArray,
+) -> Result<String, Fault> {
+    of_one_kind!(these, those, left, right => ask_pair(alloc, asked, left, right),
+        Int8 Int16 Int32 Int64 Int128 UInt8 UInt16 UInt32 UInt64 UInt128)
+}
+
+// Returns what numbers of one type on both sides answer.
+fn ask_pair<T: NativeType>(
+    alloc: Global,
+    asked: AskedBoth<'_>,
+    left: &PrimitiveArray<T>,
+    right: &PrimitiveArray<T>,
+) -> Result<String, Fault> {
+    match asked {
+        AskedBoth::Rows(question) => ask_rows(alloc, question, left, right),
+        AskedBoth::Passing(comparison, windows) => {
+            let Windows { a, b, n, .. } = windows;
+            if !is_within(a, n, left.len()) || !is_within(b, n, right.len()) {
+                return Err(Fault::Case);
+            }
+            write_made(
+                alloc,
+                passing_pairs(alloc, comparison, left, a, right, b, n),
+            )
+        }
+    }
+}
+
+// Returns which numbers of one type pass, in windows that lie within the arrays.
+fn passing_pairs<T: NativeType>(
+    alloc: Global,
+    comparison: NamedComparison,
+    left: &PrimitiveArray<T>,
+    a: usize,
+    right: &PrimitiveArray<T>,
+    b: usize,
+    n: usize,
+) -> Result<Bitmap, ComputeError>
+    requires left_in { a + n ≤ length left.now.values }
+    requires right_in { b + n ≤ length right.now.values }
+{
+    with_comparison!(comparison, comparison => {
+        compare_number_windows(alloc, comparison, left, a, right, b, n)
+    })
+}
