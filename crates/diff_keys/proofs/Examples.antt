@@ -1,6 +1,6 @@
 -- Worked examples of the definitions.
 use Rattle.std.proofs.Common.{ap, arith, get_or}
-use Rattle.std.specs.Prelude.{◌≡◌, ◌<◌, ℕ, zero, suc, List, [], ◌∷◌, refl}
+use Rattle.std.specs.Prelude.{◌≡◌, ℕ, zero, suc, [], ◌∷◌, refl}
 use Rattle.diff_keys.specs.Partners.{Keys, ArePartners, count_of, number_of}
 use Rattle.diff_keys.specs.Matching.{IsAdded, IsRemoved}
 

@@ -6,10 +6,11 @@ use Rattle.std.specs.List.{Contains}
 use Rattle.std.specs.Prelude.{slice_index}
 use Rattle.diff_keys.specs.declared.matching.Matching.{Matching}
 use Rattle.diff_keys.specs.Listing.{HasNone, IsOther, ListsFound}
-use Rattle.diff_keys.specs.Matching.{IsAdded, IsMatching, IsRemoved, ListsRising}
+use Rattle.diff_keys.specs.Matching.{IsAdded, IsMatching, IsRemoved}
+use Rattle.diff_keys.specs.Rising.{ListsRising}
 use Rattle.diff_keys.specs.Partners.{Keys, ArePartners, IsPartner, key_at, number_of}
 use Rattle.diff_keys.specs.Waiting.{nth}
-use Rattle.diff_keys.proofs.ListingLemmas.{listed_as}
+use Rattle.diff_keys.specs.RisingLaws.{listed_as}
 use Rattle.diff_keys.proofs.WaitingLemmas.{found_by_number}
 
 -- the partner of a row is found by the row's key and number

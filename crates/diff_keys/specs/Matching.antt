@@ -2,15 +2,10 @@
 --
 -- Of the left keys "a", "b", "a" and the right keys "a", "a", "a" the left rows 0 and 2 are matched with the
 -- right rows 0 and 1, left row 1 is removed, and right row 2 is added.
-use Rattle.std.specs.List.{Contains}
-use Rattle.std.specs.Prelude.{◌≡◌, ◌<◌, ◌↔◌, ℕ, suc, List, length, slice_index}
+use Rattle.std.specs.Prelude.{◌≡◌, ◌<◌, ℕ, suc, length, slice_index}
 use Rattle.diff_keys.specs.declared.matching.Matching.{Matching}
 use Rattle.diff_keys.specs.Partners.{Keys, ArePartners}
-
--- the numbers below n for which P holds are listed, in rising order
-pub record ListsRising (P : ℕ → Type 0) (n : ℕ) (rows : List ℕ) : Type 0 where
-  pub all : (i : ℕ) → (Contains rows i) ↔ ((i < n) × P i)
-  pub in_order : (k : ℕ) → suc k < length rows → slice_index rows k < slice_index rows (suc k)
+use Rattle.diff_keys.specs.Rising.{ListsRising}
 
 -- no right row is the partner of left row i
 abbrev pub IsRemoved : Keys → Keys → ℕ → Type 0

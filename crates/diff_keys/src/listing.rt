@@ -2,7 +2,7 @@
 
 ghost use Rattle.std.specs.Prelude.{◌≤◌, ◌<◌, ◌^◌, All, length, IfOk};
 ghost use Rattle.diff_keys.specs.Listing.{AreFlags, HasNone, IsOther, IsUnset, ListsFound};
-ghost use Rattle.diff_keys.specs.Matching.{ListsRising};
+ghost use Rattle.diff_keys.specs.Rising.{ListsRising};
 
 use std::alloc::{AllocError, Global};
 

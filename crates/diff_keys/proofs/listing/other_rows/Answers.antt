@@ -1,5 +1,6 @@
 use Rattle.diff_keys.specs.Listing.{IsOther, IsUnset}
-use Rattle.diff_keys.proofs.ListingLemmas.{listed_as, unset_others}
+use Rattle.diff_keys.specs.RisingLaws.{listed_as}
+use Rattle.diff_keys.proofs.ListingLemmas.{unset_others}
 use Rattle.diff_keys.proofs.listing.other_rows.Goals as goal
 
 pub returns : goal.returns

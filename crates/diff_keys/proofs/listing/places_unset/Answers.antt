@@ -1,6 +1,6 @@
 use Rattle.std.proofs.Common.{◌+◌, arith, rules}
 use Rattle.diff_keys.specs.Listing.{IsUnset}
-use Rattle.diff_keys.proofs.ListingLemmas.{one_listed, one_passed}
+use Rattle.diff_keys.specs.RisingLaws.{one_listed, one_passed}
 use Rattle.diff_keys.proofs.listing.places_unset.Goals.{then-not-flags-j+in_ok-push, else-not-flags-j}
 use Rattle.diff_keys.proofs.listing.places_unset.Goals as goal
 

@@ -1,5 +1,5 @@
 use Rattle.diff_keys.specs.Listing.{IsUnset}
-use Rattle.diff_keys.specs.Matching.{ListsRising}
+use Rattle.diff_keys.specs.Rising.{ListsRising}
 use Rattle.diff_keys.proofs.listing.places_unset.Given as goal
 
 abbrev pub invariant-loop-j : goal.invariant-loop-j

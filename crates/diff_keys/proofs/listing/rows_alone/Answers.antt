@@ -1,6 +1,6 @@
 use Rattle.std.proofs.Common.{◌+◌, arith, rules}
 use Rattle.diff_keys.specs.Listing.{HasNone}
-use Rattle.diff_keys.proofs.ListingLemmas.{one_listed, one_passed}
+use Rattle.diff_keys.specs.RisingLaws.{one_listed, one_passed}
 use Rattle.diff_keys.proofs.listing.rows_alone.Goals.{then-is_none+in_ok-push, else-is_none}
 use Rattle.diff_keys.proofs.listing.rows_alone.Goals as goal
 

@@ -1,0 +1,14 @@
+-- Worked examples of the definitions.
+use Rattle.std.proofs.Common.{arith}
+use Rattle.std.specs.Prelude.{◌<◌, ℕ, zero, suc, true, false, [], ◌∷◌, length, slice_index, refl}
+use Rattle.diff_pairs.specs.Pairs.{IsUnset, NameRows}
+
+-- 0 and 2 name two of three rows
+two-of-three : NameRows 3 (0 ∷ 2 ∷ [])
+two-of-three zero h = omega arith
+two-of-three (suc zero) h = omega arith
+two-of-three (suc (suc p)) h = absurd (omega (arith, h))
+
+-- of two bits the second is not set
+second-unset : IsUnset (true ∷ false ∷ []) 1
+second-unset = refl

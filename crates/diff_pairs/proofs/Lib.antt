@@ -1,0 +1,3 @@
+mod Examples
+pub mod PairLemmas
+pub mod Places
