@@ -20,15 +20,15 @@ pub enum Call {
     Bytes(Question),
     /// The rows of an array, and a text that is lent.
     Text(Question),
-    /// Where the rows of two arrays of any kind are equal or not, null to null alone.
+    /// The equal or the unequal rows of two arrays of any kind, null equal to null alone.
     Missing(Relation),
-    /// Where they are equal, by the call that takes a counter.
+    /// The equal rows of two arrays of any kind, by the call that takes a counter.
     WithSteps,
-    /// Where lists have for items all rows of an array.
+    /// The lists whose items are all rows of an array.
     Lists(ListKind),
     /// A law that holds as it is called.
     Law(Law),
-    /// Where the rows of two windows are equal, and how many comparisons were counted.
+    /// The equal rows of two windows, and the number of comparisons that were counted.
     Counted(Counted),
     /// The stored numbers that pass with one.
     Numbers,

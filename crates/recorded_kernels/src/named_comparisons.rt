@@ -106,7 +106,7 @@ pub enum Compared {
     StringAndConstant,
     /// Two rows that are kept by views.
     TwoViews,
-    /// Such a row and a byte string.
+    /// A row that is kept by views, and a byte string.
     ViewAndString,
     /// The stored rows of an array and a constant: truth values, byte strings, and those by views.
     Truths,

@@ -51,11 +51,11 @@ pub struct Windows<'a> {
 /// The calls that count the comparisons of leaves.
 #[derive(Clone, Copy)]
 pub enum Counted {
-    /// Where all rows of two arrays are equal or not, null to null alone.
+    /// The equal or the unequal rows of two whole arrays, null equal to null alone.
     Missing(Relation),
-    /// Where the rows of windows are equal, null to null alone.
+    /// The equal rows of windows, null equal to null alone.
     Windows,
-    /// Where the stored rows of windows are equal, by the kind of the arrays.
+    /// The equal stored rows of windows, by the kind of the arrays.
     Lists,
     FixedSizeLists,
     Structs,
