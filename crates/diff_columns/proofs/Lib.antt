@@ -1,0 +1,3 @@
+mod Examples
+pub mod LayoutLemmas
+pub mod NameLemmas

@@ -1,0 +1,42 @@
+//! Columns that one table alone has.
+
+ghost use Rattle.std.specs.Prelude.{◌<◌, ◌↔◌, length, IfOk, IsTrue};
+ghost use Rattle.diff_keys.specs.Rising.{ListsRising};
+ghost use Rattle.diff_columns.specs.Layout.{IsAlone};
+
+use crate::choice::Choice;
+use crate::names::has_column;
+use polars_arrays_flat::byte_rows::ByteRows;
+use std::alloc::{AllocError, Global};
+
+/// Returns whether a column is chosen, and the other table does not have it.
+fn is_alone<N: ByteRows, O: ByteRows>(
+    names: &N,
+    others: &O,
+    choice: &Choice<'_>,
+    column: usize,
+) -> bool
+    requires { column < length (N.strings names.now) }
+    ensures { IsTrue result ↔ IsAlone choice.now (N.strings names.now) (O.strings others.now) column }
+{
+    let name = names.bytes(column);
+    choice.has(name) && !has_column(others, name)
+}
+
+/// Lists the chosen columns of a table that the other one does not have.
+pub(crate) fn columns_alone<N: ByteRows, O: ByteRows>(
+    alloc: Global,
+    names: &N,
+    others: &O,
+    choice: &Choice<'_>,
+) -> Result<Vec<usize>, AllocError>
+    ensures { IfOk result (λ alone. ListsRising (IsAlone choice.now (N.strings names.now) (O.strings others.now)) (length (N.strings names.now)) alone.items) }
+{
+    let mut alone = Vec::new(alloc);
+    for i in 0..names.count() {
+        if is_alone(names, others, choice, i) {
+            alone.push(i)?;
+        }
+    }
+    Ok(alone)
+}

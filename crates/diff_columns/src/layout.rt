@@ -1,0 +1,101 @@
+//! The columns of two tables, matched by name.
+
+ghost use Rattle.std.specs.Prelude.{IfOk, MatchResult};
+ghost use Rattle.diff_columns.specs.Errors.{IsColumnFault};
+ghost use Rattle.diff_columns.specs.Layout.{IsLayout};
+ghost use Rattle.diff_columns.specs.Names.{AreMatchable, names_of};
+
+use crate::alone::columns_alone;
+use crate::choice::Choice;
+use crate::error::{ColumnError, Side};
+use crate::names::{column_repeated, key_missing};
+use crate::pairs::{Pairs, compared_pairs};
+use crate::places::key_places;
+use polars_arrays_flat::byte_rows::ByteRows;
+use std::alloc::{AllocError, Global};
+
+/// The columns of two tables that are compared, matched by name.
+#[derive(Debug, Drop)]
+pub struct Layout {
+    /// The left columns, in rising order.
+    pub left: Vec<usize>,
+    /// The right column of the same name, for each of them.
+    pub right: Vec<usize>,
+    /// The places of the key columns among them, in the order of the keys.
+    pub keys: Vec<usize>,
+    /// The chosen left columns that the right table does not have, in rising order.
+    pub left_alone: Vec<usize>,
+    /// The chosen right columns that the left table does not have, in rising order.
+    pub right_alone: Vec<usize>,
+}
+
+/// Tests the names of the columns of two tables: none may come twice in a table, and each key must
+/// be a name in both.
+fn test_names<L: ByteRows, R: ByteRows>(
+    left: &L,
+    right: &R,
+    keys: &[&[u8]],
+) -> Result<(), ColumnError>
+    ensures { MatchResult result (λ _. AreMatchable (L.strings left.now) (R.strings right.now) (names_of keys.now)) (IsColumnFault (L.strings left.now) (R.strings right.now) (names_of keys.now)) }
+{
+    let side = Side::Left;
+    if let Some(column) = column_repeated(left) {
+        return Err(ColumnError::NameTwice { side, column });
+    }
+    if let Some(key) = key_missing(left, keys) {
+        return Err(ColumnError::NoKey { side, key });
+    }
+    let side = Side::Right;
+    if let Some(column) = column_repeated(right) {
+        return Err(ColumnError::NameTwice { side, column });
+    }
+    if let Some(key) = key_missing(right, keys) {
+        return Err(ColumnError::NoKey { side, key });
+    }
+    Ok(())
+}
+
+/// Lays out the columns of tables whose names can be matched.
+fn layout_of<L: ByteRows, R: ByteRows>(
+    alloc: Global,
+    left: &L,
+    right: &R,
+    choice: &Choice<'_>,
+) -> Result<Layout, AllocError>
+    requires { AreMatchable (L.strings left.now) (R.strings right.now) (names_of choice.now.keys.now) }
+    ensures { IfOk result (IsLayout (L.strings left.now) (R.strings right.now) choice.now) }
+{
+    let Pairs {
+        left_columns,
+        right_columns,
+    } = compared_pairs(alloc, left, right, choice)?;
+    let keys = key_places(alloc, left, &left_columns, choice.keys)?;
+    let left_alone = columns_alone(alloc, left, right, choice)?;
+    let right_alone = columns_alone(alloc, right, left, choice)?;
+    Ok(Layout {
+        left: left_columns,
+        right: right_columns,
+        keys,
+        left_alone,
+        right_alone,
+    })
+}
+
+/// Matches the columns of two tables by name. The strings of `left` and `right` are the names of
+/// their columns. Fails with `NameTwice` where a name comes twice in a table, with `NoKey` where a
+/// table has no column for a key, and else only with `Memory`.
+pub fn match_columns<L: ByteRows, R: ByteRows>(
+    alloc: Global,
+    left: &L,
+    right: &R,
+    choice: &Choice<'_>,
+) -> Result<Layout, ColumnError>
+    ensures names { IfOk result (λ _. AreMatchable (L.strings left.now) (R.strings right.now) (names_of choice.now.keys.now)) }
+    ensures layout { MatchResult result (IsLayout (L.strings left.now) (R.strings right.now) choice.now) (IsColumnFault (L.strings left.now) (R.strings right.now) (names_of choice.now.keys.now)) }
+{
+    test_names(left, right, choice.keys)?;
+    match layout_of(alloc, left, right, choice) {
+        Ok(layout) => Ok(layout),
+        Err(_) => Err(ColumnError::Memory),
+    }
+}

@@ -1,0 +1,57 @@
+//! Columns that both tables have.
+
+ghost use Rattle.std.specs.Prelude.{◌<◌, length, IfOk, MatchOption};
+ghost use Rattle.diff_columns.specs.Layout.{IsCompared};
+ghost use Rattle.diff_columns.specs.Pairs.{ArePairs, IsPair};
+
+use crate::choice::Choice;
+use crate::names::column_named;
+use polars_arrays_flat::byte_rows::ByteRows;
+use std::alloc::{AllocError, Global};
+
+/// Columns of one name in both tables, place by place.
+#[derive(Drop)]
+pub(crate) struct Pairs {
+    pub(crate) left_columns: Vec<usize>,
+    pub(crate) right_columns: Vec<usize>,
+}
+
+/// Returns the right column that a left one is compared with, or `None`.
+fn partner<L: ByteRows, R: ByteRows>(
+    left: &L,
+    right: &R,
+    choice: &Choice<'_>,
+    column: usize,
+) -> Option<usize>
+    requires { column < length (L.strings left.now) }
+    ensures { MatchOption result (¬ (IsCompared choice.now (L.strings left.now) (R.strings right.now) column)) (IsPair choice.now (L.strings left.now) (R.strings right.now) column) }
+{
+    let name = left.bytes(column);
+    if !choice.has(name) {
+        return None;
+    }
+    column_named(right, name)
+}
+
+/// Lists the left columns that are compared, and their partners.
+pub(crate) fn compared_pairs<L: ByteRows, R: ByteRows>(
+    alloc: Global,
+    left: &L,
+    right: &R,
+    choice: &Choice<'_>,
+) -> Result<Pairs, AllocError>
+    ensures { IfOk result (λ pairs. ArePairs choice.now (L.strings left.now) (R.strings right.now) (length (L.strings left.now)) pairs.left_columns.items pairs.right_columns.items) }
+{
+    let mut left_columns = Vec::new(alloc);
+    let mut right_columns = Vec::new(alloc);
+    for i in 0..left.count() {
+        if let Some(j) = partner(left, right, choice, i) {
+            left_columns.push(i)?;
+            right_columns.push(j)?;
+        }
+    }
+    Ok(Pairs {
+        left_columns,
+        right_columns,
+    })
+}
