@@ -1,0 +1,122 @@
+//! Two tables, compared by key.
+
+ghost use Rattle.std.specs.Prelude.{◌≡◌, ◌<◌, All, length, MatchResult};
+ghost use Rattle.polars_arrays_bits.specs.Errors.{IsMemory};
+ghost use Rattle.diff_keys.specs.Matching.{IsMatching};
+ghost use Rattle.diff_keys.specs.Rising.{ListsRising};
+ghost use Rattle.diff_tables.specs.Comparison.{ArePairs, IsComparison, IsDifferent};
+ghost use Rattle.diff_tables.specs.Errors.{IsCompareFault};
+ghost use Rattle.diff_tables.specs.Held.{HoldsRows};
+ghost use Rattle.diff_tables.specs.Keys.{row_keys};
+ghost use Rattle.diff_tables.specs.Tables.{TableRows};
+
+use crate::keys::keys_of;
+use crate::table::Table;
+use diff_keys::error::MatchError;
+use diff_keys::matching::{Matching, match_rows};
+use diff_pairs::changed::changed_pairs;
+use polars_arrays_bits::error::ComputeError;
+use polars_arrays_nested::any_array::AnyArray;
+use std::alloc::Global;
+
+/// The rows of two tables, matched and compared.
+#[derive(Debug, Drop)]
+pub struct Comparison {
+    /// The rows that are partners, and those that have none.
+    pub matching: Matching,
+    /// The places among the partners where the two rows differ, in rising order.
+    pub changed: Vec<usize>,
+}
+
+/// Lists the pairs of rows that differ, where the left rows are the lists of an array.
+fn changed_lists(
+    alloc: Global,
+    left: AnyArray,
+    left_rows: Vec<u32>,
+    right: &Table,
+    right_rows: Vec<u32>,
+) -> Result<Vec<usize>, ComputeError>
+    requires { (t : TableRows) × HoldsRows t left × (t.width ≡ right.now.width) × ArePairs t.rows right.now.rows left_rows.items right_rows.items }
+    ensures { MatchResult result (λ changed. (t : TableRows) → HoldsRows t left → ArePairs t.rows right.now.rows left_rows.items right_rows.items → ListsRising (IsDifferent t.rows right.now.rows left_rows.items right_rows.items) (length left_rows.items) changed.items) IsMemory }
+{
+    match right.list_array(alloc) {
+        Ok(right) => changed_pairs(alloc, left, left_rows, right, right_rows),
+        Err(error) => Err(error),
+    }
+}
+
+/// Lists the pairs of rows that differ.
+fn changed_rows(
+    alloc: Global,
+    left: &Table,
+    left_rows: Vec<u32>,
+    right: &Table,
+    right_rows: Vec<u32>,
+) -> Result<Vec<usize>, ComputeError>
+    requires width { left.now.width ≡ right.now.width }
+    requires pairs { ArePairs left.now.rows right.now.rows left_rows.items right_rows.items }
+    ensures { MatchResult result (λ changed. ListsRising (IsDifferent left.now.rows right.now.rows left_rows.items right_rows.items) (length left_rows.items) changed.items) IsMemory }
+{
+    match left.list_array(alloc) {
+        Ok(left) => changed_lists(alloc, left, left_rows, right, right_rows),
+        Err(error) => Err(error),
+    }
+}
+
+/// Lists the places among matched rows where the two differ.
+fn changed_places(
+    alloc: Global,
+    left: &Table,
+    right: &Table,
+    matching: &Matching,
+) -> Result<Vec<usize>, ComputeError>
+    requires width { left.now.width ≡ right.now.width }
+    requires pairs { ArePairs left.now.rows right.now.rows matching.now.left_rows.items matching.now.right_rows.items }
+    ensures { MatchResult result (λ changed. ListsRising (IsDifferent left.now.rows right.now.rows matching.now.left_rows.items matching.now.right_rows.items) (length matching.now.left_rows.items) changed.items) IsMemory }
+{
+    let left_rows = Vec::from_slice(alloc, &matching.left_rows)?;
+    let right_rows = Vec::from_slice(alloc, &matching.right_rows)?;
+    changed_rows(alloc, left, left_rows, right, right_rows)
+}
+
+/// Matches the rows of two tables that have the same cells in the key columns.
+fn matched(
+    alloc: Global,
+    left: &Table,
+    right: &Table,
+    columns: &[usize],
+) -> Result<Matching, MatchError>
+    requires left_columns { All (λ c. c < left.now.width) columns.now }
+    requires right_columns { All (λ c. c < right.now.width) columns.now }
+    ensures { MatchResult result (IsMatching (row_keys columns.now left.now.rows) (row_keys columns.now right.now.rows)) (IsCompareFault columns.now left.now.rows right.now.rows) }
+{
+    let Ok(left_keys) = keys_of(alloc, left, columns) else {
+        return Err(MatchError::Memory);
+    };
+    let Ok(right_keys) = keys_of(alloc, right, columns) else {
+        return Err(MatchError::Memory);
+    };
+    match match_rows(alloc, &left_keys, &right_keys) {
+        Ok(matching) => Ok(matching),
+        Err(error) => Err(error),
+    }
+}
+
+/// Compares two tables of one width by their key columns: matches the rows, and lists the partners that
+/// differ. Fails with `TooManyRows` only where a table has more than 2^32 rows, and else with `Memory`.
+pub fn compare_tables(
+    alloc: Global,
+    left: &Table,
+    right: &Table,
+    columns: &[usize],
+) -> Result<Comparison, MatchError>
+    requires width { left.now.width ≡ right.now.width }
+    requires columns { All (λ c. c < left.now.width) columns.now }
+    ensures { MatchResult result (IsComparison columns.now left.now.rows right.now.rows) (IsCompareFault columns.now left.now.rows right.now.rows) }
+{
+    let matching = matched(alloc, left, right, columns)?;
+    match changed_places(alloc, left, right, &matching) {
+        Ok(changed) => Ok(Comparison { matching, changed }),
+        Err(_) => Err(MatchError::Memory),
+    }
+}

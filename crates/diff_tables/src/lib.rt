@@ -1,0 +1,8 @@
+//! Tables of cells, and the rows of two of them compared by key.
+#![tactic(auto)]
+
+pub mod compare;
+mod escaped;
+pub mod keys;
+pub mod strings;
+pub mod table;
