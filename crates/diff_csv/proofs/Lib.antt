@@ -1,0 +1,4 @@
+mod Examples
+pub mod NameLemmas
+pub mod ReadingLemmas
+pub mod RowLemmas

@@ -1,0 +1,30 @@
+use Rattle.std.proofs.Common.{◌∷◌, [], subst}
+use Rattle.csv.specs.Records.{fields_of}
+use Rattle.diff_csv.specs.Records.{data_rows}
+use Rattle.diff_csv.specs.Tables.{IsTableWith}
+use Rattle.diff_csv.proofs.source.Source.read.Goals as goal
+
+pub table_of-requires : goal.table_of-requires
+table_of-requires g c = ([], c.in_ok-none.ensures c.args.columns.now)
+
+pub returns-in_default : goal.returns-in_default
+returns-in_default g c = λ options text opened. record {
+  records = [];
+  all = rw c.in_default.is at opened.begun;
+  one_length = tt;
+  table = c.in_ok-table.ensures [] (c.in_ok-none.ensures c.args.columns.now);
+}
+
+pub returns : goal.returns
+returns g c = λ options text opened.
+    let begun = rw c.in-Some.is at opened.begun in
+    let kept = c.in_ok-rows.ensures in
+    let all = kept.all options text begun in
+    let records = fields_of c.in-Some.row ∷ kept.more in
+    record {
+      records = records;
+      all = all.0;
+      one_length = all.1;
+      table = subst (λ b. IsTableWith c.args.columns.now (data_rows b (fields_of c.in-Some.row ∷ c.in_ok-rows.ensures.more)) c.in_ok-table-2.table) opened.header
+          (c.in_ok-table-2.ensures (data_rows c.args.self.has_header records) kept.held);
+    }

@@ -1,0 +1,10 @@
+//! Reads CSV texts to tables: the rows of a text are the records that the `csv` crate reads, each
+//! with its cells in chosen columns. All records have the length of the first one.
+#![tactic(auto)]
+
+pub mod error;
+mod names;
+pub mod options;
+mod reading;
+mod rows;
+pub mod source;

@@ -1,0 +1,159 @@
+//! A CSV text from its first record on.
+
+ghost use Rattle.std.specs.Prelude.{◌≡◌, [], ◌∷◌, ℕ, List, Some, IfErr, IfOk, MatchResult};
+ghost use Rattle.csv.specs.Records.{fields_of};
+ghost use Rattle.polars_arrays_bits.specs.Errors.{IsMemory};
+ghost use Rattle.polars_arrays_bytes.specs.OffsetStrings.{offset_strings};
+ghost use Rattle.diff_csv.specs.Errors.{IsNotLength, IsOutOfMemory};
+ghost use Rattle.diff_csv.specs.Reading.{IsOpen, IsReading};
+ghost use Rattle.diff_csv.specs.Records.{AreRecordsOf, IsReadFault, data_rows, names_of};
+ghost use Rattle.diff_csv.specs.Rows.{HoldsRows, ReadsAll};
+ghost use Rattle.diff_csv.specs.Tables.{IsTableOf, IsTableWith};
+ghost use Rattle.diff_csv.specs.declared.options.CsvOptions.{CsvOptions};
+
+use crate::error::CsvError;
+use crate::names::{field_names, number_names};
+use crate::options::CsvOptions;
+use crate::reading::{read_row, reader_of};
+use crate::rows::Rows;
+use csv::{ByteRecord, Reader};
+use diff_tables::table::Table;
+use polars_arrays_bits::error::ComputeError;
+use polars_arrays_bytes::binary::BinaryArray;
+use std::alloc::{AllocError, Global};
+use std::io::Read;
+
+/// A table, and the line of the text at which each of its rows was found.
+#[derive(Drop)]
+pub struct CsvTable {
+    /// The rows, each with its cells in the columns that were chosen.
+    pub table: Table,
+    /// For each row the line at which the reader began to look for it, the first line being 1: the
+    /// last line of the row before where that line ends by CR LF, and else the next one.
+    pub lines: Vec<u64>,
+}
+
+/// Returns the table of rows, with as many cells each as there are columns.
+fn table_of(alloc: Global, rows: Rows, columns: &[usize]) -> Result<CsvTable, CsvError>
+    requires { (held : List (List (List ℕ))) × HoldsRows columns.now rows held }
+    ensures { MatchResult result (λ table. (held : List (List (List ℕ))) → HoldsRows columns.now rows held → IsTableWith columns.now held table) IsOutOfMemory }
+{
+    let Rows { cells, lines } = rows;
+    match Table::new(alloc, columns.len(), lines.len(), cells) {
+        Ok(table) => Ok(CsvTable { table, lines }),
+        Err(_) => Err(CsvError::Memory),
+    }
+}
+
+/// Returns the rows that a first record is: one where there is no header, else none.
+fn first_rows(
+    alloc: Global,
+    first: &ByteRecord,
+    has_header: bool,
+    columns: &[usize],
+) -> Result<Rows, AllocError>
+    ensures { IfOk result (λ rows. HoldsRows columns.now rows (data_rows has_header (fields_of first.now ∷ []))) }
+{
+    let mut rows = Rows::new(alloc)?;
+    if has_header {
+        return Ok(rows);
+    }
+    rows.push(first, columns)?;
+    Ok(rows)
+}
+
+/// Reads all rows from a first record on, which is a row itself where there is no header.
+fn read_rows<R: Read + Drop>(
+    alloc: Global,
+    mut reader: Reader<R>,
+    first: ByteRecord,
+    has_header: bool,
+    columns: &[usize],
+) -> Result<Rows, CsvError>
+    ensures { MatchResult result (ReadsAll R.remaining has_header columns.now reader (fields_of first))
+        (λ error. (options : CsvOptions) (text : List ℕ) → IsReading R.remaining options text reader (fields_of first ∷ []) → IsReadFault options text error) }
+{
+    let mut rows = first_rows(alloc, &first, has_header, columns)?;
+    let mut row = first;
+    for _ in 0..u64::MAX {
+        if !read_row(&mut reader, &mut row)? {
+            return Ok(rows);
+        }
+        rows.push(&row, columns)?;
+    }
+    // No memory holds so many rows.
+    Err(CsvError::Memory)
+}
+
+/// A CSV text whose first record is read.
+#[derive(Drop)]
+pub struct Source<R> {
+    reader: Reader<R>,
+    // The first record, unless the text has none.
+    first: Option<ByteRecord>,
+    has_header: bool,
+}
+
+impl<R: Read + Drop> Source<R> {
+    /// Reads the first record of a text. Fails with `Read` where the reader fails, and else only
+    /// with `Memory`.
+    pub fn open(alloc: Global, input: R, options: CsvOptions) -> Result<Source<R>, CsvError>
+        ensures opened { IfOk result (λ source. (text : List ℕ) → R.remaining input ≡ Some text → IsOpen R.remaining options text source) }
+        ensures fault { IfErr result IsNotLength }
+    {
+        let mut reader = reader_of(alloc, input, options);
+        let mut row = ByteRecord::new(alloc);
+        let has_header = options.has_header;
+        if !read_row(&mut reader, &mut row)? {
+            return Ok(Source {
+                reader,
+                first: None,
+                has_header,
+            });
+        }
+        Ok(Source {
+            reader,
+            first: Some(row),
+            has_header,
+        })
+    }
+
+    /// Returns the names of the columns: the fields of the first record, or their numbers from 1 on
+    /// where there is no header. The one error is `Memory`.
+    pub fn names(&self, alloc: Global) -> Result<BinaryArray<i64>, ComputeError>
+        ensures { MatchResult result (λ names. (options : CsvOptions) (text : List ℕ) (records : List (List (List ℕ))) → IsOpen R.remaining options text self.now → AreRecordsOf options text records → offset_strings (λ x. x) names ≡ names_of options.has_header records) IsMemory }
+    {
+        let Some(row) = &self.first else {
+            let none = number_names(alloc, 0)?;
+            return Ok(none);
+        };
+        if self.has_header {
+            let fields = field_names(alloc, row)?;
+            return Ok(fields);
+        }
+        let numbers = number_names(alloc, row.len())?;
+        Ok(numbers)
+    }
+
+    /// Reads the rows, each with its cells in these columns: an empty one where a record has no such
+    /// column. Fails with `Length` only at a record of another length than the first one's.
+    pub fn read(self, alloc: Global, columns: &[usize]) -> Result<CsvTable, CsvError>
+        ensures { MatchResult result
+            (λ table. (options : CsvOptions) (text : List ℕ) → IsOpen R.remaining options text self → IsTableOf options text columns.now table)
+            (λ error. (options : CsvOptions) (text : List ℕ) → IsOpen R.remaining options text self → IsReadFault options text error) }
+    {
+        let Source {
+            reader,
+            first,
+            has_header,
+        } = self;
+        let Some(row) = first else {
+            let none = Rows::new(alloc)?;
+            let table = table_of(alloc, none, columns)?;
+            return Ok(table);
+        };
+        let rows = read_rows(alloc, reader, row, has_header, columns)?;
+        let table = table_of(alloc, rows, columns)?;
+        Ok(table)
+    }
+}
