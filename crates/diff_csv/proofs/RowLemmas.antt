@@ -1,5 +1,5 @@
 -- Rows of cells, as they are appended and as a table cuts them.
-use Rattle.std.proofs.Common.{◌≡◌, ◌<◌, ◌+◌, ◌*◌, ◌∙◌, Bool, true, false, Option, ℕ, suc, List, [], ◌∷◌, ◌++◌, length, get_or, map, take, drop, refl, ap, arith, length-append, subst}
+use Rattle.std.proofs.Common.{◌≡◌, ◌<◌, ◌+◌, ◌*◌, ◌∙◌, Bool, true, false, Option, ℕ, suc, List, [], ◌∷◌, ◌++◌, length, get_or, map, take, drop, refl, ap, sym, arith, length-append, subst}
 use Rattle.std.proofs.Math.Seq.{take-append_seam, drop-append_seam}
 use Rattle.std.proofs.lemmas.List.{append_assoc, length-map, map_more}
 use Rattle.std.specs.List.{flat_map}
@@ -9,8 +9,10 @@ use Rattle.diff_tables.specs.Tables.{cut_rows}
 use Rattle.diff_csv.specs.Reading.{IsReading}
 use Rattle.diff_csv.specs.Records.{data_rows}
 use Rattle.diff_csv.specs.Rows.{HoldsRows}
+use Rattle.diff_csv.specs.Tables.{HasShape, IsTableWith}
 use Rattle.diff_csv.specs.declared.options.CsvOptions.{CsvOptions}
 use Rattle.diff_csv.specs.declared.rows.Rows.{Rows}
+use Rattle.diff_csv.specs.declared.source.CsvTable.{CsvTable}
 
 -- one cell more
 pub one_cell : (all fields : List (List ℕ)) (columns : List ℕ) (i j : ℕ) (x : List ℕ) → i < length columns → j ≡ i + 1
@@ -55,3 +57,7 @@ pub record IsProgress {R : Type 0} (remaining : R → Option (List ℕ)) (has_he
   pub more : List (List (List ℕ))
   pub held : HoldsRows columns r (data_rows has_header (first ∷ more))
   pub reading : (options : CsvOptions) (text : List ℕ) → IsReading remaining options text start (first ∷ []) → IsReading remaining options text reader (first ∷ more)
+
+-- a table of records has as many columns as were chosen, and a line for each row
+pub shape_of : (columns : List ℕ) (records : List (List (List ℕ))) (t : CsvTable) → IsTableWith columns records t → HasShape columns t
+shape_of columns records t h = record { width = h.width; lines = h.lines ∙ sym (ap length h.rows ∙ length-map records (cells_at columns)) }

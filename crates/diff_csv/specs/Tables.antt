@@ -13,6 +13,11 @@ pub record IsTableWith (columns : List ℕ) (records : List (List (List ℕ))) (
   pub rows : t.table.rows ≡ map (cells_at columns) records
   pub lines : length t.lines.items ≡ length records
 
+-- the table has these columns, and each row has a line
+pub record HasShape (columns : List ℕ) (t : CsvTable) : Type 0 where
+  pub width : t.table.width ≡ length columns
+  pub lines : length t.lines.items ≡ length t.table.rows
+
 -- the table has the rows of the text, each as its cells in the columns; all records of the text have one length
 pub record IsTableOf (options : CsvOptions) (text : List ℕ) (columns : List ℕ) (t : CsvTable) : Type 0 where
   pub records : List (List (List ℕ))

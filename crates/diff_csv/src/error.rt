@@ -3,6 +3,7 @@
 ghost use Rattle.csv.specs.Reading.{error_kind};
 ghost use Rattle.diff_csv.specs.Errors.{IsOutOfMemory, TellsFault};
 
+use crate::lines::line_at;
 use csv::ErrorKind;
 use std::alloc::{AllocError, AllocFailed};
 use std::io;
@@ -19,8 +20,8 @@ pub enum CsvError {
     Read {
         cause: io::Error,
     },
-    /// A record has another number of fields than the first one. `line` is where the reader began to
-    /// look for it, from 1 on.
+    /// A record has another number of fields than the first one. `line` is where it begins, counted
+    /// as a table's lines are.
     #[error("the record at line {line} has {found} fields, and the first one has {expected}")]
     Length {
         line: u64,
@@ -45,8 +46,8 @@ impl<T: Drop> From<AllocFailed<T>> for CsvError {
     }
 }
 
-/// Returns what an error of the reader of bytes says.
-pub(crate) fn fault_of(error: csv::Error) -> CsvError
+/// Returns what an error of the reader of bytes says. Adds `lag` to the line that it names.
+pub(crate) fn fault_of(error: csv::Error, lag: u64) -> CsvError
     ensures { TellsFault (error_kind error) result }
 {
     match error.into_kind() {
@@ -56,7 +57,7 @@ pub(crate) fn fault_of(error: csv::Error) -> CsvError
             expected_len,
             len,
         } => CsvError::Length {
-            line: pos.map_or(0, |at| at.line()),
+            line: line_at(pos, lag),
             expected: expected_len,
             found: len,
         },

@@ -3,6 +3,7 @@
 #![tactic(auto)]
 
 pub mod error;
+mod lines;
 mod names;
 pub mod options;
 mod reading;

@@ -27,10 +27,12 @@ pub(crate) fn reader_of<R: Read>(alloc: Global, input: R, options: CsvOptions) -
         .from_reader(alloc, input)
 }
 
-/// Reads the next record into `row`. Returns whether there was one.
+/// Reads the next record into `row`. Returns whether there was one. Adds `lag` to the line that an
+/// error names.
 pub(crate) fn read_row<R: Read>(
     reader: &mut Reader<R>,
     row: &mut ByteRecord,
+    lag: u64,
 ) -> Result<bool, CsvError>
     ensures told { MatchResult result
         (λ found. (options : CsvOptions) (text : List ℕ) (rows : List (List (List ℕ))) → IsReading R.remaining options text reader.old rows → ReadsOne R.remaining options text reader.new rows (fields_of row.new) found)
@@ -39,6 +41,6 @@ pub(crate) fn read_row<R: Read>(
 {
     match reader.read_byte_record(row) {
         Ok(found) => Ok(found),
-        Err(error) => Err(fault_of(error)),
+        Err(error) => Err(fault_of(error, lag)),
     }
 }

@@ -6,11 +6,12 @@ ghost use Rattle.diff_tables.specs.Keys.{cells_at};
 ghost use Rattle.diff_tables.specs.Strings.{AreStrings};
 ghost use Rattle.diff_csv.specs.Rows.{HoldsRows};
 
+use crate::lines::line_at;
 use csv::ByteRecord;
 use diff_tables::strings::Strings;
 use std::alloc::{AllocError, Global};
 
-/// Rows of cells, one row's cells after another's, and the line at which each row was found.
+/// Rows of cells, one row's cells after another's, and the line at which each row begins.
 #[derive(Drop)]
 pub(crate) struct Rows {
     pub(crate) cells: Strings,
@@ -25,11 +26,6 @@ fn cell(row: &ByteRecord, column: usize) -> &[u8]
         Some(field) => field,
         None => &[],
     }
-}
-
-/// Returns the line at which the reader began to look for a record.
-fn line_of(row: &ByteRecord) -> u64 {
-    row.position().map_or(0, |at| at.line())
 }
 
 /// Appends a record's cells in these columns.
@@ -52,12 +48,17 @@ impl Rows {
         Ok(Rows { cells, lines })
     }
 
-    /// Appends the row of a record: its cells in these columns.
-    pub(crate) fn push(&mut self, row: &ByteRecord, columns: &[usize]) -> Result<(), AllocError>
+    /// Appends the row of a record: its cells in these columns, and its line plus `lag`.
+    pub(crate) fn push(
+        &mut self,
+        row: &ByteRecord,
+        columns: &[usize],
+        lag: u64,
+    ) -> Result<(), AllocError>
         ensures { OnOk result ((rows : List (List (List ℕ))) → HoldsRows columns.now self.old rows → HoldsRows columns.now self.new (rows ++ fields_of row.now ∷ [])) }
     {
         push_cells(&mut self.cells, row, columns)?;
-        self.lines.push(line_of(row))?;
+        self.lines.push(line_at(row.position(), lag))?;
         Ok(())
     }
 }

@@ -8,10 +8,11 @@ ghost use Rattle.diff_csv.specs.Errors.{IsNotLength, IsOutOfMemory};
 ghost use Rattle.diff_csv.specs.Reading.{IsOpen, IsReading};
 ghost use Rattle.diff_csv.specs.Records.{AreRecordsOf, IsReadFault, data_rows, names_of};
 ghost use Rattle.diff_csv.specs.Rows.{HoldsRows, ReadsAll};
-ghost use Rattle.diff_csv.specs.Tables.{IsTableOf, IsTableWith};
+ghost use Rattle.diff_csv.specs.Tables.{HasShape, IsTableOf, IsTableWith};
 ghost use Rattle.diff_csv.specs.declared.options.CsvOptions.{CsvOptions};
 
 use crate::error::CsvError;
+use crate::lines::lag_behind;
 use crate::names::{field_names, number_names};
 use crate::options::CsvOptions;
 use crate::reading::{read_row, reader_of};
@@ -23,13 +24,15 @@ use polars_arrays_bytes::binary::BinaryArray;
 use std::alloc::{AllocError, Global};
 use std::io::Read;
 
-/// A table, and the line of the text at which each of its rows was found.
+/// A table, and the line of the text at which each of its rows begins.
 #[derive(Drop)]
 pub struct CsvTable {
     /// The rows, each with its cells in the columns that were chosen.
     pub table: Table,
-    /// For each row the line at which the reader began to look for it, the first line being 1: the
-    /// last line of the row before where that line ends by CR LF, and else the next one.
+    /// For each row the line at which it begins, from 1 on: right where all records end by LF, or
+    /// all by CR LF. Line feeds in quoted fields count. A row behind empty lines has the line of
+    /// the first of them, and empty lines before the first record may put the later lines of a
+    /// CR LF text one too low.
     pub lines: Vec<u64>,
 }
 
@@ -58,17 +61,19 @@ fn first_rows(
     if has_header {
         return Ok(rows);
     }
-    rows.push(first, columns)?;
+    rows.push(first, columns, 0)?;
     Ok(rows)
 }
 
-/// Reads all rows from a first record on, which is a row itself where there is no header.
+/// Reads all rows from a first record on, which is a row itself where there is no header. Adds
+/// `lag` to the lines of the later records.
 fn read_rows<R: Read + Drop>(
     alloc: Global,
     mut reader: Reader<R>,
     first: ByteRecord,
     has_header: bool,
     columns: &[usize],
+    lag: u64,
 ) -> Result<Rows, CsvError>
     ensures { MatchResult result (ReadsAll R.remaining has_header columns.now reader (fields_of first))
         (λ error. (options : CsvOptions) (text : List ℕ) → IsReading R.remaining options text reader (fields_of first ∷ []) → IsReadFault options text error) }
@@ -76,10 +81,10 @@ fn read_rows<R: Read + Drop>(
     let mut rows = first_rows(alloc, &first, has_header, columns)?;
     let mut row = first;
     for _ in 0..u64::MAX {
-        if !read_row(&mut reader, &mut row)? {
+        if !read_row(&mut reader, &mut row, lag)? {
             return Ok(rows);
         }
-        rows.push(&row, columns)?;
+        rows.push(&row, columns, lag)?;
     }
     // No memory holds so many rows.
     Err(CsvError::Memory)
@@ -92,6 +97,8 @@ pub struct Source<R> {
     // The first record, unless the text has none.
     first: Option<ByteRecord>,
     has_header: bool,
+    // How far the reader's lines of later records are behind.
+    lag: u64,
 }
 
 impl<R: Read + Drop> Source<R> {
@@ -104,17 +111,20 @@ impl<R: Read + Drop> Source<R> {
         let mut reader = reader_of(alloc, input, options);
         let mut row = ByteRecord::new(alloc);
         let has_header = options.has_header;
-        if !read_row(&mut reader, &mut row)? {
+        if !read_row(&mut reader, &mut row, 0)? {
             return Ok(Source {
                 reader,
                 first: None,
                 has_header,
+                lag: 0,
             });
         }
+        let lag = lag_behind(&row, reader.position());
         Ok(Source {
             reader,
             first: Some(row),
             has_header,
+            lag,
         })
     }
 
@@ -135,10 +145,11 @@ impl<R: Read + Drop> Source<R> {
         Ok(numbers)
     }
 
-    /// Reads the rows, each with its cells in these columns: an empty one where a record has no such
-    /// column. Fails with `Length` only at a record of another length than the first one's.
+    /// Reads the rows, each with its cells in these columns: an empty one where a record has no
+    /// such column. Fails with `Length` only at a record of another length than the first one's.
     pub fn read(self, alloc: Global, columns: &[usize]) -> Result<CsvTable, CsvError>
-        ensures { MatchResult result
+        ensures shape { IfOk result (HasShape columns.now) }
+        ensures table { MatchResult result
             (λ table. (options : CsvOptions) (text : List ℕ) → IsOpen R.remaining options text self → IsTableOf options text columns.now table)
             (λ error. (options : CsvOptions) (text : List ℕ) → IsOpen R.remaining options text self → IsReadFault options text error) }
     {
@@ -146,13 +157,14 @@ impl<R: Read + Drop> Source<R> {
             reader,
             first,
             has_header,
+            lag,
         } = self;
         let Some(row) = first else {
             let none = Rows::new(alloc)?;
             let table = table_of(alloc, none, columns)?;
             return Ok(table);
         };
-        let rows = read_rows(alloc, reader, row, has_header, columns)?;
+        let rows = read_rows(alloc, reader, row, has_header, columns, lag)?;
         let table = table_of(alloc, rows, columns)?;
         Ok(table)
     }

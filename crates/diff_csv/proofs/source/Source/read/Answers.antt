@@ -2,21 +2,30 @@ use Rattle.std.proofs.Common.{◌∷◌, [], subst}
 use Rattle.csv.specs.Records.{fields_of}
 use Rattle.diff_csv.specs.Records.{data_rows}
 use Rattle.diff_csv.specs.Tables.{IsTableWith}
+use Rattle.diff_csv.proofs.RowLemmas.{shape_of}
 use Rattle.diff_csv.proofs.source.Source.read.Goals as goal
 
 pub table_of-requires : goal.table_of-requires
 table_of-requires g c = ([], c.in_ok-none.ensures c.args.columns.now)
 
-pub returns-in_default : goal.returns-in_default
-returns-in_default g c = λ options text opened. record {
+pub returns-in_default-clause-shape : goal.returns-in_default-clause-shape
+returns-in_default-clause-shape g c = shape_of c.args.columns.now [] _ (c.in_ok-table.ensures [] (c.in_ok-none.ensures c.args.columns.now))
+
+pub returns-in_default-clause-table : goal.returns-in_default-clause-table
+returns-in_default-clause-table g c = λ options text opened. record {
   records = [];
   all = rw c.in_default.is at opened.begun;
   one_length = tt;
   table = c.in_ok-table.ensures [] (c.in_ok-none.ensures c.args.columns.now);
 }
 
-pub returns : goal.returns
-returns g c = λ options text opened.
+pub returns-clause-shape : goal.returns-clause-shape
+returns-clause-shape g c =
+    let kept = c.in_ok-rows.ensures in
+    shape_of c.args.columns.now (data_rows c.args.self.has_header (fields_of c.in-Some.row ∷ kept.more)) _ (c.in_ok-table-2.ensures (data_rows c.args.self.has_header (fields_of c.in-Some.row ∷ kept.more)) kept.held)
+
+pub returns-clause-table : goal.returns-clause-table
+returns-clause-table g c = λ options text opened.
     let begun = rw c.in-Some.is at opened.begun in
     let kept = c.in_ok-rows.ensures in
     let all = kept.all options text begun in
