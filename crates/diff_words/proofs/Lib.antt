@@ -1,0 +1,4 @@
+mod Examples
+pub mod ListLemmas
+pub mod PlainLaws
+pub mod QuotedLemmas

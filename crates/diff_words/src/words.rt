@@ -1,0 +1,42 @@
+//! Words: byte strings that need no quotes.
+
+ghost use Rattle.std.specs.List.{list_all};
+ghost use Rattle.std.specs.Prelude.{◌≡◌, ◌++◌, OnOk};
+ghost use Rattle.diff_words.specs.Words.{is_word, is_word_byte, word_text};
+
+use crate::quoted::push_quoted;
+use std::alloc::AllocError;
+
+/// Returns whether a byte may stand in a word.
+fn is_word_byte(byte: u8) -> bool
+    ensures { result ≡ is_word_byte byte }
+{
+    byte > 32 && byte != b'"' && byte != b',' && byte != b'=' && byte != b'\\' && byte != 127
+}
+
+/// Returns whether each byte may stand in a word.
+fn are_word_bytes(bytes: &[u8]) -> bool
+    ensures { result ≡ list_all is_word_byte bytes.now }
+{
+    bytes.iter().all(|byte| is_word_byte(*byte))
+}
+
+/// Returns whether a byte string is a word.
+fn is_word(bytes: &[u8]) -> bool
+    ensures { result ≡ is_word bytes.now }
+{
+    !bytes.is_empty() && are_word_bytes(bytes)
+}
+
+/// Appends a byte string as it is where it is a word, and else between quotes.
+#[tactic(auto, unfolding(crate::specs::Words::word_text))]
+pub fn push_word(out: &mut Vec<u8>, bytes: &[u8]) -> Result<(), AllocError>
+    ensures { OnOk result (out.new.items ≡ out.old.items ++ word_text bytes.now) }
+{
+    if is_word(bytes) {
+        out.extend_from_slice(bytes)?;
+        return Ok(());
+    }
+    push_quoted(out, bytes)?;
+    Ok(())
+}
