@@ -1,0 +1,34 @@
+use Rattle.std.proofs.Common.{◌≡◌, ◌∙◌, ◌++◌, ◌+◌, cond, length, map, ap, sym, refl, arith}
+use Rattle.std.proofs.lemmas.List.{append-nil}
+use Rattle.std.specs.List.{filter, range_with_len}
+use Rattle.std.specs.Prelude.{codes}
+use Rattle.diff_words.specs.Lists.{listed}
+use Rattle.diff_words.proofs.ListLemmas.{kept_count, kept_within, kept_written}
+use Rattle.diff_report.specs.Sides.{naming_of}
+use Rattle.diff_report.specs.Summary.{by_column, columns_counted, count_text, is_counted}
+use Rattle.diff_report.proofs.Joins.{joined_three}
+use Rattle.diff_report.proofs.summary.push_by_column.Goals as goal
+
+pub loop-column-init : goal.loop-column-init
+unfolding listed
+loop-column-init c = record { text = c.in_ok-extend_from_slice.ensures.items ∙ sym (append-nil _); count = refl }
+
+pub push_if_counted-requires-clause-room : goal.push_if_counted-requires-clause-room
+push_if_counted-requires-clause-room c = omega (arith, kept_within (is_counted c.args.counts.now) c.loop-column.column, c.loop-column.invariant.count)
+
+pub loop-column-preserved : goal.loop-column-preserved
+loop-column-preserved c = record {
+  text = kept_written (codes ", ") (count_text (naming_of c.args.sides.now) c.args.counts.now) (is_counted c.args.counts.now) (c.args.out.now.items ++ codes "  By column: ") _ _ c.loop-column.column _
+      c.loop-column.invariant.count c.loop-column.invariant.text c.in_ok-written.ensures.text;
+  count = c.in_ok-written.ensures.count
+      ∙ (ap (λ n. n + cond (is_counted c.args.counts.now c.loop-column.column) 1 0) c.loop-column.invariant.count ∙ sym (kept_count (is_counted c.args.counts.now) c.loop-column.column));
+}
+
+pub returns : goal.returns
+unfolding by_column
+returns c =
+    let all : c.loop-column.column ≡ length c.args.counts.now = omega arith in
+    c.in_ok-push.ensures.items
+    ∙ (ap (λ l. l ++ codes ".") (c.loop-column.invariant.text
+    ∙ ap (λ n. (c.args.out.now.items ++ codes "  By column: ") ++ listed (codes ", ") (map (count_text (naming_of c.args.sides.now) c.args.counts.now) (filter (is_counted c.args.counts.now) (range_with_len 0 n)))) all)
+    ∙ joined_three c.args.out.now.items (codes "  By column: ") (listed (codes ", ") (map (count_text (naming_of c.args.sides.now) c.args.counts.now) (columns_counted c.args.counts.now))) (codes "."))

@@ -1,0 +1,22 @@
+-- How often each column differs.
+--
+-- Where of three changed pairs two differ in column 1, and all in column 2, the counts are 0, 2, 3.
+use Rattle.std.specs.List.{count_by, range_with_len}
+use Rattle.std.specs.Prelude.{◌≡◌, ◌<◌, ◌+◌, ℕ, Bool, if◌then◌else◌, List, length, map, slice_index}
+use Rattle.diff_keys.specs.declared.matching.Matching.{Matching}
+use Rattle.diff_report.specs.Pairs.{differ_at}
+use Rattle.diff_report.specs.Sides.{left_at, naming_of, right_at}
+use Rattle.diff_report.specs.declared.sides.Sides.{Sides}
+
+-- how many of the pairs at these places differ in a column
+abbrev pub count_at : Sides → Matching → List ℕ → ℕ → ℕ
+count_at s m places column = count_by (λ k. differ_at (left_at s m k) (right_at s m k) column) places
+
+-- the same for each column
+abbrev pub column_counts : Sides → Matching → List ℕ → List ℕ
+column_counts s m places = map (count_at s m places) (range_with_len 0 (length (naming_of s).names))
+
+-- numbers are 1 more where p holds of their place, and else the same
+pub record AddsWhere (p : ℕ → Bool) (old new : List ℕ) : Type 0 where
+  pub as_many : length new ≡ length old
+  pub each : (k : ℕ) → k < length old → slice_index new k ≡ slice_index old k + (if p k then 1 else 0)

@@ -1,0 +1,21 @@
+-- The columns in which two rows differ.
+--
+-- With the columns id and city the rows 7, Oslo and 7, Bergen differ in column 1, as city "Oslo" -> "Bergen".
+use Rattle.std.specs.List.{range_with_len}
+use Rattle.std.specs.Prelude.{ℕ, Bool, not, List, [], ◌∷◌, ◌++◌, filter, get_or, codes}
+use Rattle.std.specs.Str.{bytes_eq}
+use Rattle.diff_words.specs.Cells.{cell_text}
+use Rattle.diff_words.specs.Words.{word_text}
+use Rattle.diff_report.specs.Naming.{Naming}
+
+-- two rows differ in a column
+abbrev pub differ_at : List (List ℕ) → List (List ℕ) → ℕ → Bool
+differ_at left right column = not (bytes_eq (get_or left column []) (get_or right column []))
+
+-- the columns among the first ones in which two rows differ
+abbrev pub columns_apart : ℕ → List (List ℕ) → List (List ℕ) → List ℕ
+columns_apart width left right = filter (differ_at left right) (range_with_len 0 width)
+
+-- the name of a column, and the two cells in it
+abbrev pub change_text : Naming → List (List ℕ) → List (List ℕ) → ℕ → List ℕ
+change_text n left right column = word_text (get_or n.names column []) ++ 32 ∷ [] ++ cell_text n.null (get_or left column []) ++ codes " -> " ++ cell_text n.null (get_or right column [])

@@ -1,0 +1,45 @@
+-- Two tables of the same columns, and row numbers that name their rows.
+use Rattle.std.specs.Option.{option_map}
+use Rattle.std.specs.Prelude.{◌≡◌, ◌<◌, ◌≤◌, ℕ, List, [], All, length, get_or, slice_index}
+use Rattle.diff_keys.specs.declared.matching.Matching.{Matching}
+use Rattle.diff_tables.specs.Comparison.{ArePairs}
+use Rattle.diff_tables.specs.declared.compare.Comparison.{Comparison}
+use Rattle.polars_arrays_bytes.specs.OffsetStrings.{offset_strings}
+use Rattle.diff_report.specs.Naming.{Naming}
+use Rattle.diff_report.specs.declared.sides.Side.{Side}
+use Rattle.diff_report.specs.declared.sides.Sides.{Sides}
+
+-- what the rows and cells of two tables are named by
+abbrev pub naming_of : Sides → Naming
+naming_of s = record { names = offset_strings (λ x. x) s.names; keys = s.keys.items; null = option_map (λ v. v.items) s.null }
+
+-- row i of a table
+abbrev pub row_of : Side → ℕ → List (List ℕ)
+row_of side i = get_or side.table.rows i []
+
+-- the left row at place k of the matched rows
+abbrev pub left_at : Sides → Matching → ℕ → List (List ℕ)
+left_at s m k = row_of s.left (slice_index m.left_rows.items k)
+
+-- its partner
+abbrev pub right_at : Sides → Matching → ℕ → List (List ℕ)
+right_at s m k = row_of s.right (slice_index m.right_rows.items k)
+
+-- a table has the named columns, and a line for each row
+pub record IsSide (n : Naming) (side : Side) : Type 0 where
+  pub width : side.table.width ≡ length n.names
+  pub lines : length side.lines.items ≡ length side.table.rows
+
+-- both tables have the named columns, of which the keys are some
+pub record AreSides (s : Sides) : Type 0 where
+  pub left : IsSide (naming_of s) s.left
+  pub right : IsSide (naming_of s) s.right
+  pub keys : All (λ column. column < length (naming_of s).names) s.keys.items
+
+-- the row numbers of a comparison name rows of the tables
+pub record NamesRows (s : Sides) (c : Comparison) : Type 0 where
+  pub pairs : ArePairs s.left.table.rows s.right.table.rows c.matching.left_rows.items c.matching.right_rows.items
+  pub changed : All (λ k. k < length c.matching.left_rows.items) c.changed.items
+  pub few : length c.changed.items ≤ length c.matching.left_rows.items
+  pub removed : All (λ i. i < length s.left.table.rows) c.matching.removed.items
+  pub added : All (λ j. j < length s.right.table.rows) c.matching.added.items

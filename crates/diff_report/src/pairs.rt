@@ -1,0 +1,94 @@
+//! The columns in which two rows differ.
+
+ghost use Rattle.std.specs.Prelude.{◌≡◌, ◌<◌, ◌+◌, ◌++◌, [], if◌then◌else◌, length, map, codes, IfOk, OnOk};
+ghost use Rattle.diff_words.specs.Lists.{gap, listed};
+ghost use Rattle.diff_report.specs.Pairs.{change_text, columns_apart, differ_at};
+ghost use Rattle.diff_report.specs.Sides.{AreSides, naming_of, row_of};
+
+use crate::sides::Sides;
+use diff_words::cells::push_cell;
+use diff_words::lists::push_gap;
+use diff_words::words::push_word;
+use polars_arrays_flat::byte_rows::ByteRows;
+use std::alloc::AllocError;
+
+/// Returns whether left row `i` and right row `j` differ in a column.
+pub(crate) fn differ_at(sides: &Sides, i: usize, j: usize, column: usize) -> bool
+    requires sides { AreSides sides.now }
+    requires left { i < length sides.now.left.table.rows }
+    requires right { j < length sides.now.right.table.rows }
+    requires column { column < length (naming_of sides.now).names }
+    ensures { result ≡ differ_at (row_of sides.now.left i) (row_of sides.now.right j) column }
+{
+    sides.left.table.cell(i, column) != sides.right.table.cell(j, column)
+}
+
+/// Appends the name of a column, and the two cells in it.
+fn push_change(
+    out: &mut Vec<u8>,
+    sides: &Sides,
+    i: usize,
+    j: usize,
+    column: usize,
+) -> Result<(), AllocError>
+    requires sides { AreSides sides.now }
+    requires left { i < length sides.now.left.table.rows }
+    requires right { j < length sides.now.right.table.rows }
+    requires column { column < length (naming_of sides.now).names }
+    ensures { OnOk result (out.new.items ≡ out.old.items ++ change_text (naming_of sides.now) (row_of sides.now.left i) (row_of sides.now.right j) column) }
+{
+    push_word(out, sides.names.bytes(column))?;
+    out.push(b' ')?;
+    push_cell(out, &sides.null, sides.left.table.cell(i, column))?;
+    out.extend_from_slice(b" -> ")?;
+    push_cell(out, &sides.null, sides.right.table.cell(j, column))?;
+    Ok(())
+}
+
+/// Appends a column where the two rows differ in it, as the element of a list that has `written`
+/// elements already. Returns how many it has then.
+fn push_if_changed(
+    out: &mut Vec<u8>,
+    sides: &Sides,
+    i: usize,
+    j: usize,
+    column: usize,
+    written: usize,
+) -> Result<usize, AllocError>
+    requires sides { AreSides sides.now }
+    requires left { i < length sides.now.left.table.rows }
+    requires right { j < length sides.now.right.table.rows }
+    requires column { column < length (naming_of sides.now).names }
+    requires room { written < usize.MAX }
+    ensures text { OnOk result (out.new.items ≡ out.old.items ++ (if differ_at (row_of sides.now.left i) (row_of sides.now.right j) column
+        then gap (codes ", ") written ++ change_text (naming_of sides.now) (row_of sides.now.left i) (row_of sides.now.right j) column else [])) }
+    ensures count { IfOk result (λ n. n ≡ written + (if differ_at (row_of sides.now.left i) (row_of sides.now.right j) column then 1 else 0)) }
+{
+    if !differ_at(sides, i, j, column) {
+        return Ok(written);
+    }
+    push_gap(out, b", ", written)?;
+    push_change(out, sides, i, j, column)?;
+    Ok(written + 1)
+}
+
+/// Appends the columns in which two rows differ.
+pub(crate) fn push_changes(
+    out: &mut Vec<u8>,
+    sides: &Sides,
+    i: usize,
+    j: usize,
+) -> Result<(), AllocError>
+    requires sides { AreSides sides.now }
+    requires left { i < length sides.now.left.table.rows }
+    requires right { j < length sides.now.right.table.rows }
+    ensures { OnOk result (out.new.items ≡ out.old.items ++ listed (codes ", ")
+        (map (change_text (naming_of sides.now) (row_of sides.now.left i) (row_of sides.now.right j))
+        (columns_apart (length (naming_of sides.now).names) (row_of sides.now.left i) (row_of sides.now.right j)))) }
+{
+    let mut written = 0;
+    for column in 0..sides.left.table.width() {
+        written = push_if_changed(out, sides, i, j, column, written)?;
+    }
+    Ok(())
+}
