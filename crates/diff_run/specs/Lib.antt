@@ -1,0 +1,4 @@
+pub mod Inputs
+pub mod Lone
+pub mod Matched
+pub mod Run

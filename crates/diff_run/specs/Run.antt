@@ -1,0 +1,68 @@
+-- The report of two CSV texts.
+--
+-- With the key "id" the texts "id,n", "7,1", "8,2" and "n,id", "3,8" of three and two lines have the report
+-- ~ id=8  n "2" -> "3"
+-- - id=7  old.csv line 2
+-- 1 changed, 1 removed, 0 added, 0 the same.  By column: n 1.
+use Rattle.std.specs.Prelude.{◌≡◌, ◌==◌, ◌&&◌, ◌||◌, ℕ, Bool, if◌then◌else◌, List, [], ◌++◌, length, option_map}
+use Rattle.polars_arrays_bytes.specs.OffsetStrings.{offset_strings}
+use Rattle.diff_columns.specs.Layout.{IsLayout}
+use Rattle.diff_columns.specs.Names.{AreMatchable, Names, names_of}
+use Rattle.diff_columns.specs.declared.layout.Layout.{Layout}
+use Rattle.diff_csv.specs.Records.{AreRecordsOf, HaveOneLength}
+use Rattle.diff_csv.specs.Records as csv
+use Rattle.diff_report.specs.Counts.{column_counts}
+use Rattle.diff_report.specs.Report.{report_text}
+use Rattle.diff_report.specs.declared.sides.Sides.{Sides}
+use Rattle.diff_run.specs.Inputs.{IsSideWith}
+use Rattle.diff_run.specs.Lone.{lone_lines}
+use Rattle.diff_run.specs.declared.options.Options.{Options}
+use Rattle.diff_run.specs.declared.run.Outcome.{Outcome}
+use Rattle.diff_run.specs.declared.run.Outcome.TheVariants.{Same, Different}
+use Rattle.diff_tables.specs.Comparison.{IsComparison}
+use Rattle.diff_tables.specs.Keys.{cells_at}
+use Rattle.diff_tables.specs.declared.compare.Comparison.{Comparison}
+
+-- no two rows differ, and each has a partner
+abbrev pub no_rows : Comparison → Bool
+no_rows c = (length c.changed.items == 0) && (length c.matching.removed.items == 0) && (length c.matching.added.items == 0)
+
+-- neither input has a column alone
+abbrev pub no_columns : Layout → Bool
+no_columns layout = (length layout.left_alone.items == 0) && (length layout.right_alone.items == 0)
+
+-- the tables are the same where no row and no column makes a difference
+abbrev pub outcome_of : Options → Layout → Comparison → Outcome
+outcome_of options layout c = if no_rows c && (options.common || no_columns layout) then Same else Different
+
+-- the lines of the columns that one input has alone
+abbrev pub columns_text : Options → List ℕ → List ℕ → Names → Names → Layout → List ℕ
+columns_text options left right left_names right_names layout =
+    if options.common then [] else lone_lines left left_names layout.left_alone.items ++ lone_lines right right_names layout.right_alone.items
+
+-- the sides are the rows of two texts in the columns that are compared
+pub record AreSidesOf (options : Options) (left_text right_text left_name right_name : List ℕ) (layout : Layout) (sides : Sides) : Type 0 where
+  pub left_records : List (List (List ℕ))
+  pub right_records : List (List (List ℕ))
+  pub left_all : AreRecordsOf options.csv left_text left_records
+  pub right_all : AreRecordsOf options.csv right_text right_records
+  pub left_lengths : HaveOneLength left_records
+  pub right_lengths : HaveOneLength right_records
+  pub matchable : AreMatchable (csv.names_of options.csv.has_header left_records) (csv.names_of options.csv.has_header right_records) (names_of options.choice.keys.now)
+  pub laid_out : IsLayout (csv.names_of options.csv.has_header left_records) (csv.names_of options.csv.has_header right_records) options.choice layout
+  pub left : IsSideWith options.csv.has_header left_records layout.left.items left_name sides.left
+  pub right : IsSideWith options.csv.has_header right_records layout.right.items right_name sides.right
+  pub column_names : offset_strings (λ x. x) sides.names ≡ cells_at layout.left.items (csv.names_of options.csv.has_header left_records)
+  pub keys : sides.keys.items ≡ layout.keys.items
+  pub null : option_map (λ v. v.items) sides.null ≡ option_map (λ v. v.now) options.null
+
+-- the report of two texts, and what it comes to
+pub record IsReportOf (options : Options) (left_text right_text left_name right_name written : List ℕ) (outcome : Outcome) : Type 0 where
+  pub layout : Layout
+  pub sides : Sides
+  pub comparison : Comparison
+  pub sides_are : AreSidesOf options left_text right_text left_name right_name layout sides
+  pub compared : IsComparison sides.keys.items sides.left.table.rows sides.right.table.rows comparison
+  pub text : written ≡ columns_text options left_name right_name (csv.names_of options.csv.has_header sides_are.left_records) (csv.names_of options.csv.has_header sides_are.right_records) layout
+      ++ report_text sides comparison (column_counts sides comparison.matching comparison.changed.items) options.limit
+  pub outcome_is : outcome ≡ outcome_of options layout comparison

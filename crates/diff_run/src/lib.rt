@@ -1,0 +1,9 @@
+//! Compares two CSV inputs by key, and writes what differs.
+#![tactic(auto)]
+
+pub mod error;
+mod inputs;
+mod lone;
+mod names;
+pub mod options;
+pub mod run;
