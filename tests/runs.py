@@ -16,10 +16,10 @@ MOST_KEPT = 50
 Ran = collections.namedtuple("Ran", "status printed said")
 
 
-def options(doc, name):
-    """The options of a script that tries a program of the crates."""
+def options(doc, name, number=1_000_000):
+    """The options of a script that tries a program of the crates on so many inputs, if it is not told how many."""
     parser = argparse.ArgumentParser(description=doc, formatter_class=argparse.RawDescriptionHelpFormatter)
-    parser.add_argument("--number", type=int, default=1_000_000, help="how many inputs (1,000,000)")
+    parser.add_argument("--number", type=int, default=number, help=f"how many inputs ({number:,})")
     parser.add_argument("--seed", default="1", help="what they are made from (1)")
     parser.add_argument("--jobs", type=int, default=2, help="how many processes (2)")
     parser.add_argument("--program", default=str(ROOT / "crates" / name / "out" / name), help="the built program")
