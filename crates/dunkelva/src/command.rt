@@ -3,8 +3,8 @@
 use clap::{Arg, ArgAction, Command, value_parser};
 use std::alloc::{AllocError, Global};
 
-/// The version of the program.
-const VERSION: &str = "0.2.0";
+/// The version of the program. `CHANGELOG.md` says what each version brought.
+const VERSION: &str = "0.1.0";
 
 /// What `dunkelva diff --help` has behind the options.
 const STATUSES: &str = "\

@@ -51,7 +51,7 @@ fn open<'a>(rt: &HostRuntime, name: &'a str) -> Result<Input<'a, fs::File>> {
     }
 }
 
-/// Compares the two inputs that are named, of which one may be standard input.
+/// Compares the two inputs that are named. One of them may be standard input.
 fn diff(rt: &HostRuntime, matches: &ArgMatches<'_>) -> Result<u8> {
     let names = Names::of(rt.alloc(), matches)?;
     let options = Options {
