@@ -1,0 +1,10 @@
+//! Exact decimals, as the numbers of JSON write them, and one normal text of each.
+#![tactic(auto)]
+
+mod digits;
+pub mod error;
+pub mod laws;
+pub mod numbers;
+mod tens;
+#[cfg(test)]
+mod tests;

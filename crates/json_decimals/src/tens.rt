@@ -1,0 +1,88 @@
+//! The tens of a numeral, read from its exponent and its fraction.
+
+ghost use Rattle.std.specs.Option.{SomeIff};
+ghost use Rattle.std.specs.Prelude.{◌≡◌, ◌+◌, ◌-◌, ◌^◌, ◌<◌, ◌≤◌, ◌++◌, MatchOption, OnOk};
+ghost use Rattle.std.specs.Str.Parse.{AllDigits, digits_value};
+ghost use Rattle.fast_float.specs.Text.{tens_up, tens_down};
+ghost use Rattle.json_decimals.specs.Texts.{tens_text};
+
+use fast_float::Numeral;
+use itoa::Buffer;
+use std::alloc::AllocError;
+
+/// Powers of ten beside a coefficient: those that it is multiplied by, and those that divide it.
+#[derive(Clone, Copy, Drop)]
+pub(crate) struct Tens {
+    pub(crate) up: u128,
+    pub(crate) down: u128,
+}
+
+impl Tens {
+    /// Returns the tens where so many zeros more stand behind the coefficient, on one side.
+    pub(crate) fn with_zeros(self, zeros: usize) -> Tens
+        requires { self.up + self.down < 10 ^ 31 }
+        ensures up { result.up ≡ self.up + zeros - self.down }
+        ensures down { result.down ≡ self.down - (self.up + zeros) }
+    {
+        let up = self.up + zeros as u128;
+        Tens {
+            up: up.saturating_sub(self.down),
+            down: self.down.saturating_sub(up),
+        }
+    }
+}
+
+/// Returns the number that digits write, where it has at most 30 digits behind its zeros.
+fn value_of(digits: &[u8]) -> Option<u128>
+    requires { AllDigits 10 digits.now }
+    ensures { SomeIff result (digits_value 10 digits.now < 10 ^ 30) (digits_value 10 digits.now) }
+{
+    let mut value: u128 = 0;
+    for digit in digits {
+        if value >= 100_000_000_000_000_000_000_000_000_000 {
+            return None;
+        }
+        value = value * 10 + (*digit - b'0') as u128;
+    }
+    Some(value)
+}
+
+/// Returns the tens of a numeral, where its exponent has at most 30 digits behind its zeros.
+pub(crate) fn tens_of(numeral: &Numeral<'_>) -> Option<Tens>
+    ensures tens { MatchOption result (10 ^ 30 ≤ digits_value 10 numeral.now.exponent)
+        (λ t. (t.up ≡ tens_up numeral.now) × (t.down ≡ tens_down numeral.now)) }
+    ensures narrow { MatchOption result (10 ^ 30 ≤ digits_value 10 numeral.now.exponent)
+        (λ t. digits_value 10 numeral.now.exponent < 10 ^ 30) }
+    ensures bound { MatchOption result (10 ^ 30 ≤ digits_value 10 numeral.now.exponent)
+        (λ t. t.up + t.down < 10 ^ 31) }
+{
+    let exponent = value_of(numeral.exponent())?;
+    let fraction = numeral.fraction().len() as u128;
+    if numeral.is_exponent_negative() {
+        Some(Tens {
+            up: 0,
+            down: fraction + exponent,
+        })
+    } else {
+        Some(Tens {
+            up: exponent,
+            down: fraction,
+        })
+    }
+}
+
+/// Appends an exponent, and nothing where there are no tens.
+pub(crate) fn push_tens(out: &mut Vec<u8>, tens: Tens) -> Result<(), AllocError>
+    requires { tens.up + tens.down < 10 ^ 32 }
+    ensures { OnOk result (out.new.items ≡ out.old.items ++ tens_text tens.up tens.down) }
+{
+    let mut buffer = Buffer::new();
+    if tens.up > 0 {
+        out.push(b'e')?;
+        out.extend_from_slice(buffer.format(tens.up).as_bytes())?;
+    } else if tens.down > 0 {
+        out.extend_from_slice(b"e-")?;
+        out.extend_from_slice(buffer.format(tens.down).as_bytes())?;
+    }
+    Ok(())
+}

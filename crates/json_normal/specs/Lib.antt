@@ -1,0 +1,5 @@
+pub mod Errors
+pub mod Laws
+pub mod Narrow
+pub mod Normal
+pub mod Same

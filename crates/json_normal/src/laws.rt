@@ -1,0 +1,12 @@
+//! Laws of normal forms and of their texts.
+
+ghost use Rattle.json_normal.specs.Laws.{MembersInAnyOrder, NormalFormsTell, NormalTextsTell, NumbersAreReadWhole, TextReadsBack};
+
+/// Says which values have one normal form, and that its text tells.
+pub fn normal_laws()
+    ensures members_in_any_order { MembersInAnyOrder }
+    ensures normal_forms_tell { NormalFormsTell }
+    ensures normal_texts_tell { NormalTextsTell }
+    ensures text_reads_back { TextReadsBack }
+    ensures numbers_are_read_whole { NumbersAreReadWhole }
+{}

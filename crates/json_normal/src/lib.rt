@@ -1,0 +1,10 @@
+//! The normal text of a JSON value: members in the order of their names, numbers in one form.
+#![tactic(auto)]
+
+pub mod document;
+pub mod laws;
+mod order;
+#[cfg(test)]
+mod tests;
+pub mod text;
+pub mod write;
