@@ -1,4 +1,5 @@
 mod Examples
 pub mod ListingLemmas
 pub mod MatchingLemmas
+pub mod UniqueLemmas
 pub mod WaitingLemmas

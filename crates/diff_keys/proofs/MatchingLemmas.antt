@@ -8,15 +8,9 @@ use Rattle.diff_keys.specs.declared.matching.Matching.{Matching}
 use Rattle.diff_keys.specs.Listing.{HasNone, IsOther, ListsFound}
 use Rattle.diff_keys.specs.Matching.{IsAdded, IsMatching, IsRemoved}
 use Rattle.diff_keys.specs.Rising.{ListsRising}
-use Rattle.diff_keys.specs.Partners.{Keys, ArePartners, IsPartner, key_at, number_of}
-use Rattle.diff_keys.specs.Waiting.{nth}
+use Rattle.diff_keys.specs.Partners.{Keys, ArePartners, IsPartner}
+use Rattle.diff_keys.specs.NthLaws.{partner_found}
 use Rattle.diff_keys.specs.RisingLaws.{listed_as}
-use Rattle.diff_keys.proofs.WaitingLemmas.{found_by_number}
-
--- the partner of a row is found by the row's key and number
-pub partner_found : (left right : Keys) (i j : ℕ) → ArePartners left right i j → nth (key_at left i) (number_of left i) right ≡ Some j
-partner_found left right i j h =
-    ap (λ q. nth q (number_of left i) right) h.one_key ∙ (ap (λ n. nth (key_at right j) n right) h.one_number ∙ found_by_number right j h.right_row)
 
 -- a row has one partner at most
 pub one_partner : (left right : Keys) (i j k : ℕ) → ArePartners left right i j → ArePartners left right i k → j ≡ k

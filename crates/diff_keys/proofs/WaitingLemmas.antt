@@ -4,49 +4,16 @@ use Rattle.std.proofs.Math.Seq.{take-length, get_or-append_seam}
 use Rattle.std.proofs.lemmas.Bool.{cases_eq}
 use Rattle.std.proofs.lemmas.Grind.{common_steps}
 use Rattle.std.proofs.lemmas.List.{length-set, get_or-set_same, get_or-set_other, get_or_append_left}
-use Rattle.std.proofs.lemmas.Slice.Eq.{bytes_eq-Decides}
-use Rattle.std.specs.Prelude.{option_map}
+use Rattle.std.specs.Option.{option_flatten}
+use Rattle.std.specs.Prelude.{cond, option_map}
 use Rattle.std.specs.Str.{bytes_eq}
-use Rattle.diff_keys.specs.Partners.{Keys, key_at, one_more, count_of, number_of, IsPartner}
+use Rattle.diff_keys.specs.Partners.{Keys, key_at, one_more, count_of, number_of}
+use Rattle.diff_keys.specs.NthLaws.{bytes_eq-refl, is_nth, next_from_step, same_bytes}
 use Rattle.diff_keys.specs.Waiting.{this_or_later, nth, next_from, later_of, KeepsNext}
-
--- a key that is found is the same bytes
-pub same_bytes : (xs ys : List ℕ) → bytes_eq xs ys ≡ true → xs ≡ ys
-same_bytes xs ys h = (bytes_eq-Decides xs ys).0 h
-
-pub bytes_eq-refl : (xs : List ℕ) → bytes_eq xs xs ≡ true
-bytes_eq-refl xs = (bytes_eq-Decides xs xs).1 refl
-
--- a place that is one further
-pub shifted : (t : Bool) (j : ℕ) (a c : Option ℕ) → a ≡ (if t then Some j else c) → option_map suc a ≡ (if t then Some (suc j) else option_map suc c)
-shifted true j a c e = ap (option_map suc) e
-shifted false j a c e = ap (option_map suc) e
-
-pub unshifted : (o : Option ℕ) (j : ℕ) → option_map suc o ≡ Some j → (i : ℕ) × (o ≡ Some i) × (j ≡ suc i)
-unshifted None j e = absurd (cc)
-unshifted (Some i) j e = (i, refl, cc)
 
 pub unshifted_none : (o : Option ℕ) → option_map suc o ≡ None → o ≡ None
 unshifted_none None e = refl
 unshifted_none (Some i) e = absurd (cc)
-
-pub here_step : (b : Bool) (later : ℕ → Option ℕ) → this_or_later b 0 later ≡ (if b then Some 0 else this_or_later b (one_more b 0) later)
-here_step true later = refl
-here_step false later = refl
-
-pub later_step : (b t : Bool) (j m n : ℕ) (later : ℕ → Option ℕ) → later n ≡ (if t then Some j else later m)
-    → this_or_later b (one_more b n) later ≡ (if t then Some (suc j) else this_or_later b (one_more b m) later)
-later_step true t j m n later e = shifted t j (later n) (later m) e
-later_step false t j m n later e = shifted t j (later n) (later m) e
-
--- the next row from row j on is row j, or the next one after it
-pub next_from_step : (q : List ℕ) (j : ℕ) (keys : Keys) → j < length keys
-    → next_from q j keys ≡ (if bytes_eq (key_at keys j) q then Some j else next_from q (suc j) keys)
-unfolding nth count_of
-next_from_step q j [] h = absurd (omega arith)
-next_from_step q zero (x ∷ xs) h = here_step (bytes_eq x q) (λ m. nth q m xs)
-next_from_step q (suc j) (x ∷ xs) h =
-    later_step (bytes_eq x q) (bytes_eq (key_at xs j) q) j (count_of q (take (suc j) xs)) (count_of q (take j xs)) (λ m. nth q m xs) (next_from_step q j xs (omega arith))
 
 -- past the last row of a key there is none
 pub none_past : (q : List ℕ) (keys : Keys) → nth q (count_of q keys) keys ≡ None
@@ -69,42 +36,6 @@ none_further q n (x ∷ xs) e = further (bytes_eq x q) n (λ m. none_further q m
     further true zero ih h = absurd (cc)
     further true (suc m) ih h = ap (option_map suc) (ih m (unshifted_none (nth q m xs) h))
     further false m ih h = ap (option_map suc) (ih m (unshifted_none (nth q m xs) h))
-
--- row j is that of the key q with the number n
-pub record IsNth (q : List ℕ) (n : ℕ) (keys : Keys) (j : ℕ) : Type 0 where
-  pub within : j < length keys
-  pub key : key_at keys j ≡ q
-  pub number : count_of q (take j keys) ≡ n
-
--- the same of one row more, before it
-pub later_nth : (q : List ℕ) (b : Bool) (m : ℕ) (x : List ℕ) (xs : Keys) (i : ℕ) → bytes_eq x q ≡ b → IsNth q m xs i → IsNth q (one_more b m) (x ∷ xs) (suc i)
-unfolding count_of
-later_nth q b m x xs i eb h = record {
-  within = omega (arith, h.within);
-  key = h.key;
-  number = rw (eb, h.number) refl;
-}
-
-pub is_nth : (q : List ℕ) (n : ℕ) (keys : Keys) (j : ℕ) → nth q n keys ≡ Some j → IsNth q n keys j
-unfolding nth count_of
-is_nth q n [] j e = absurd (cc)
-is_nth q n (x ∷ xs) j e = at (bytes_eq x q) n (λ m i. is_nth q m xs i) refl e
-  where
-    at : (b : Bool) (m : ℕ) → ((i k : ℕ) → nth q i xs ≡ Some k → IsNth q i xs k) → bytes_eq x q ≡ b
-        → this_or_later b m (λ i. nth q i xs) ≡ Some j → IsNth q m (x ∷ xs) j
-    at true zero ih eb h =
-        let zero_is : 0 ≡ j = cc in
-        subst (λ k. IsNth q 0 (x ∷ xs) k) zero_is (record { within = omega arith; key = same_bytes x q eb; number = refl })
-    at true (suc m) ih eb h =
-        let one = unshifted (nth q m xs) j h in
-        subst (λ k. IsNth q (suc m) (x ∷ xs) k) (sym one.2) (later_nth q true m x xs one.0 eb (ih m one.0 one.1))
-    at false m ih eb h =
-        let one = unshifted (nth q m xs) j h in
-        subst (λ k. IsNth q m (x ∷ xs) k) (sym one.2) (later_nth q false m x xs one.0 eb (ih m one.0 one.1))
-
--- a row is found by its key and number
-pub found_by_number : (keys : Keys) (j : ℕ) → j < length keys → nth (key_at keys j) (number_of keys j) keys ≡ Some j
-found_by_number keys j h = rw (bytes_eq-refl (key_at keys j)) at (next_from_step (key_at keys j) j keys h)
 
 -- one row more
 pub count_step : (q : List ℕ) (i : ℕ) (keys : Keys) → i < length keys → count_of q (take (suc i) keys) ≡ one_more (bytes_eq (key_at keys i) q) (count_of q (take i keys))
@@ -133,6 +64,11 @@ pub record AreTaken (left right : Keys) (i : ℕ) (first : List ℕ → Option �
   pub nexts : KeepsNext right 0 next
   pub one_each : length found ≡ i
   pub told : (t : ℕ) → t < i → get_or found t None ≡ nth (key_at left t) (number_of left t) right
+
+-- the rows that wait for each key, after what waits for one was written
+pub written : {A : Type 0} (b : Bool) (o' : Option A) (w later old : Option (Option A)) → w ≡ Some o' → later ≡ (cond b w old) → option_flatten later ≡ (if b then o' else option_flatten old)
+written true o' w later old e h = rw (h, e) refl
+written false o' w later old e h = rw h refl
 
 -- all rows are left, from past the last one on
 pub rows_init : (keys : Keys) (first : List ℕ → Option ℕ) (next : List (Option ℕ)) → length next ≡ length keys → ((q : List ℕ) → first q ≡ None) → AreRows keys (length keys) first next
@@ -213,15 +149,3 @@ taken_step left right i i' first first' next next' found found' row h old is_row
         let both : get_or (found ++ row ∷ []) i None ≡ nth (key_at left i) (number_of left i) right = there ∙ value in
         subst (λ m. get_or (found ++ row ∷ []) m None ≡ nth (key_at left m) (number_of left m) right) (sym e) both
     step t k (inr apart) = get_or_append_left found (row ∷ []) None t (omega (arith, old.one_each)) ∙ old.told t (omega arith)
-
--- what was found are the partners
-pub found_partners : (left right : Keys) (i : ℕ) (found : Option ℕ) → i < length left → found ≡ nth (key_at left i) (number_of left i) right → IsPartner left right i found
-found_partners left right i None h e = λ j pair.
-    let there : nth (key_at right j) (number_of right j) right ≡ Some j = found_by_number right j pair.right_row in
-    let keyed : nth (key_at left i) (number_of right j) right ≡ Some j = subst (λ k. nth k (number_of right j) right ≡ Some j) (sym pair.one_key) there in
-    let here : nth (key_at left i) (number_of left i) right ≡ Some j = subst (λ m. nth (key_at left i) m right ≡ Some j) (sym pair.one_number) keyed in
-    let clash : None ≡ Some j = e ∙ here in
-    absurd (cc)
-found_partners left right i (Some j) h e =
-    let at = is_nth _ _ right j (sym e) in
-    record { left_row = h; right_row = at.within; one_key = sym at.key; one_number = rw at.key (sym at.number) }

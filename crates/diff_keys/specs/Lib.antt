@@ -1,7 +1,12 @@
 pub mod Errors
 pub mod Listing
 pub mod Matching
+pub mod NthLaws
+pub mod OrderLaws
 pub mod Partners
 pub mod Rising
 pub mod RisingLaws
+pub mod Same
+pub mod SameLaws
+pub mod Unique
 pub mod Waiting

@@ -7,4 +7,5 @@ pub mod error;
 mod listing;
 pub mod matching;
 mod partners;
+pub mod unique;
 mod waiting;

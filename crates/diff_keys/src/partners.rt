@@ -20,8 +20,7 @@ pub(crate) fn partners<L: ByteRows, R: ByteRows>(
     let mut waiting = all_waiting(alloc, right)?;
     let mut found = Vec::with_capacity(alloc, left.count())?;
     for i in 0..left.count() {
-        let row = waiting.take(left.bytes(i))?;
-        found.push(row)?;
+        found.push(waiting.take(left.bytes(i)))?;
     }
     Ok(found)
 }

@@ -1,6 +1,6 @@
 -- Worked examples of the definitions.
 use Rattle.std.proofs.Common.{arith}
-use Rattle.std.specs.Prelude.{◌<◌, ℕ, zero, suc, true, false, [], ◌∷◌, length, slice_index, refl}
+use Rattle.std.specs.Prelude.{zero, suc, true, false, [], ◌∷◌, refl}
 use Rattle.diff_pairs.specs.Pairs.{IsUnset, NameRows}
 
 -- 0 and 2 name two of three rows

@@ -1,5 +1,5 @@
 -- From bits of dictionaries to the rows that their keys name, and from bits to a list.
-use Rattle.std.proofs.Common.{◌≡◌, ◌<◌, ◌↔◌, ℕ, zero, suc, Bool, true, false, List, [], ◌∷◌, Result, Ok, Err, MatchResult, length, arith, ap, sym, ◌∙◌, refl, inl, inr}
+use Rattle.std.proofs.Common.{◌≡◌, ◌<◌, ◌↔◌, ℕ, zero, suc, Bool, true, false, List, [], ◌∷◌, length, arith, ap, sym, ◌∙◌, refl, inl, inr}
 use Rattle.std.proofs.lemmas.Bool.{cases_Bool}
 use Rattle.std.specs.Prelude.{slice_index, slice_index_or, slice_get, Some}
 use Rattle.polars_arrays_flat.specs.Row.{Row, Null, Int, Truth, Bytes, Rows, Fields, Entry}
@@ -26,11 +26,6 @@ entry_back (Entry x) = refl
 
 pub entry_same : (x y : Row) → entry_row x ≡ entry_row y → x ≡ y
 entry_same x y e = sym (entry_back x) ∙ (ap entry_of e ∙ entry_back y)
-
--- a result says more of its value
-pub more_told : {A E : Type 0} (P Q : A → Type 0) (F : E → Type 0) (r : Result A E) → ((x : A) → P x → Q x) → MatchResult r P F → MatchResult r Q F
-more_told P Q F (Ok x) f h = f x h
-more_told P Q F (Err e) f h = h
 
 pub tells_same : (left right l r : AnyArray) (left_rows right_rows : List ℕ) (bits : List Bool) → length left_rows ≡ length right_rows
     → ArePicked left left_rows l → ArePicked right right_rows r → SameTrees true l r bits → TellsSame left right left_rows right_rows bits

@@ -1,0 +1,34 @@
+//! Keys that come twice.
+
+ghost use Rattle.std.specs.Prelude.{MatchResult};
+ghost use Rattle.diff_keys.specs.Errors.{IsMemory};
+ghost use Rattle.diff_keys.specs.Unique.{TellsFirstTwice};
+
+use crate::error::MatchError;
+use polars_arrays_flat::byte_rows::ByteRows;
+use std::alloc::Global;
+use std::collections::HashMap;
+
+/// Two rows that have one key.
+#[derive(Clone, Copy, Debug)]
+pub struct Twice {
+    /// The earlier row.
+    pub first: usize,
+    /// The later row.
+    pub again: usize,
+}
+
+/// Finds the first row whose key an earlier row has, and that earlier row. The one error is
+/// `Memory`.
+pub fn first_twice<K: ByteRows>(alloc: Global, keys: &K) -> Result<Option<Twice>, MatchError>
+    ensures { MatchResult result (TellsFirstTwice (K.strings keys.now)) IsMemory }
+{
+    let count = keys.count();
+    let mut seen = HashMap::with_capacity(alloc, count)?;
+    for i in 0..count {
+        if let Some(first) = seen.insert(keys.bytes(i), i)? {
+            return Ok(Some(Twice { first, again: i }));
+        }
+    }
+    Ok(None)
+}
