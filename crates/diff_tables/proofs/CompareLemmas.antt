@@ -1,5 +1,5 @@
 -- From arrays of rows to the rows of tables.
-use Rattle.std.proofs.Common.{◌≡◌, ◌<◌, ◌↔◌, ℕ, List, [], length, get_or, Result, Ok, Err, MatchResult, arith, ap, sym, ◌∙◌}
+use Rattle.std.proofs.Common.{◌≡◌, ◌<◌, ◌↔◌, ℕ, Bool, List, [], length, get_or, arith, ap, sym, ◌∙◌}
 use Rattle.std.proofs.lemmas.List.{length-map}
 use Rattle.std.specs.Prelude.{slice_index}
 use Rattle.polars_arrays_nested.specs.AnyRows.{row}
@@ -18,30 +18,24 @@ use Rattle.diff_tables.specs.Comparison.{ArePairs, IsDifferent}
 use Rattle.diff_tables.specs.Errors.{IsCompareFault}
 use Rattle.diff_tables.specs.Held.{HoldsRows, cells_tree}
 use Rattle.diff_tables.specs.Keys.{row_key, row_keys}
-use Rattle.diff_tables.specs.Tables.{TableRows}
 use Rattle.diff_tables.proofs.HeldLemmas.{same_cells}
 
--- a result says more of its value
-pub more_told : {A E : Type 0} (P Q : A → Type 0) (F : E → Type 0) (r : Result A E) → ((x : A) → P x → Q x) → MatchResult r P F → MatchResult r Q F
-more_told P Q F (Ok x) f h = f x h
-more_told P Q F (Err e) f h = h
-
 -- rows of a table are rows of its array
-pub named_left : (l r : TableRows) (a : AnyArray) (ls rs : List ℕ) → HoldsRows l a → ArePairs l.rows r.rows ls rs → NameRows (len_of a) ls
-named_left l r a ls rs h pairs = λ p within. let below : slice_index ls p < length l.rows = pairs.left_within p within in omega (arith, below, h.len)
+pub named_left : {far : Bool} {w : ℕ} (l r : List (List (List ℕ))) (a : AnyArray) (ls rs : List ℕ) → HoldsRows far w l a → ArePairs l r ls rs → NameRows (len_of a) ls
+named_left l r a ls rs h pairs = λ p within. let below : slice_index ls p < length l = pairs.left_within p within in omega (arith, below, h.len)
 
-pub named_right : (l r : TableRows) (a : AnyArray) (ls rs : List ℕ) → HoldsRows r a → ArePairs l.rows r.rows ls rs → NameRows (len_of a) rs
-named_right l r a ls rs h pairs = λ p within. let below : slice_index rs p < length r.rows = pairs.right_within p within in omega (arith, below, h.len)
+pub named_right : {far : Bool} {w : ℕ} (l r : List (List (List ℕ))) (a : AnyArray) (ls rs : List ℕ) → HoldsRows far w r a → ArePairs l r ls rs → NameRows (len_of a) rs
+named_right l r a ls rs h pairs = λ p within. let below : slice_index rs p < length r = pairs.right_within p within in omega (arith, below, h.len)
 
 -- pairs of different trees are pairs of different rows
-pub rows_differ : (l r : TableRows) (left right : AnyArray) (ls rs changed : List ℕ) → HoldsRows l left → HoldsRows r right → ArePairs l.rows r.rows ls rs
-    → ListsRising (IsChanged left right ls rs) (length ls) changed → ListsRising (IsDifferent l.rows r.rows ls rs) (length ls) changed
-rows_differ l r left right ls rs changed from_left from_right pairs h = listed_as (IsChanged left right ls rs) (IsDifferent l.rows r.rows ls rs) (length ls) changed same h
+pub rows_differ : {far : Bool} {w : ℕ} (l r : List (List (List ℕ))) (left right : AnyArray) (ls rs changed : List ℕ) → HoldsRows far w l left → HoldsRows far w r right → ArePairs l r ls rs
+    → ListsRising (IsChanged left right ls rs) (length ls) changed → ListsRising (IsDifferent l r ls rs) (length ls) changed
+rows_differ l r left right ls rs changed from_left from_right pairs h = listed_as (IsChanged left right ls rs) (IsDifferent l r ls rs) (length ls) changed same h
   where
-    same : (p : ℕ) → p < length ls → IsChanged left right ls rs p ↔ IsDifferent l.rows r.rows ls rs p
+    same : (p : ℕ) → p < length ls → IsChanged left right ls rs p ↔ IsDifferent l r ls rs p
     same p within =
-        let l_at : row left (slice_index ls p) ≡ cells_tree (get_or l.rows (slice_index ls p) []) = from_left.held (slice_index ls p) (pairs.left_within p within) in
-        let r_at : row right (slice_index rs p) ≡ cells_tree (get_or r.rows (slice_index rs p) []) = from_right.held (slice_index rs p) (pairs.right_within p (omega (arith, within, pairs.one_length))) in (
+        let l_at : row left (slice_index ls p) ≡ cells_tree (get_or l (slice_index ls p) []) = from_left.held (slice_index ls p) (pairs.left_within p within) in
+        let r_at : row right (slice_index rs p) ≡ cells_tree (get_or r (slice_index rs p) []) = from_right.held (slice_index rs p) (pairs.right_within p (omega (arith, within, pairs.one_length))) in (
           λ differ equal. differ (l_at ∙ (ap cells_tree equal ∙ sym r_at)),
           λ differ equal. differ (same_cells _ _ (sym l_at ∙ (equal ∙ r_at))),
         )

@@ -1,5 +1,6 @@
 -- Worked examples of the definitions.
 use Rattle.std.specs.Prelude.{◌≡◌, [], ◌∷◌, refl}
+use Rattle.diff_keys.specs.Same.{rows_with}
 use Rattle.diff_tables.specs.Keys.{escaped, row_key}
 use Rattle.diff_tables.specs.Tables.{cut_rows}
 
@@ -17,3 +18,9 @@ key-of-two = refl
 zero-is-marked : row_key (0 ∷ []) ((0 ∷ []) ∷ []) ≡ 0 ∷ 1 ∷ 0 ∷ 0 ∷ []
 unfolding row_key escaped
 zero-is-marked = refl
+
+-- of the rows a 1, b 2, a 3 the first and the third have the key of a in column 0
+two-of-a : rows_with (row_key (0 ∷ [])) (97 ∷ 0 ∷ 0 ∷ []) (((97 ∷ []) ∷ (49 ∷ []) ∷ []) ∷ ((98 ∷ []) ∷ (50 ∷ []) ∷ []) ∷ ((97 ∷ []) ∷ (51 ∷ []) ∷ []) ∷ [])
+    ≡ ((97 ∷ []) ∷ (49 ∷ []) ∷ []) ∷ ((97 ∷ []) ∷ (51 ∷ []) ∷ []) ∷ []
+unfolding row_key escaped
+two-of-a = refl

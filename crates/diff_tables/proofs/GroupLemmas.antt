@@ -69,12 +69,12 @@ groups_push {A} ends elements more groups h = record {
         (same_window elements more (get_or ends k 0) (get_or ends (suc k) 0) old.0 old.1 ∙ (h.group k (omega arith) ∙ sym (get_or_append_left groups (more ∷ []) [] k (omega arith))))
 
 -- the first end is 0
-pub no_strings : (s : Strings) → s.ends.items ≡ pos 0 ∷ [] → s.bytes.items ≡ [] → AreStrings s []
-no_strings s ends bytes = record { ends = 0 ∷ []; stored = ends; groups = rw bytes no_groups }
+pub no_strings : (s : Strings) → s.ends.items ≡ pos 0 ∷ [] → s.far_ends.items ≡ [] → s.bytes.items ≡ [] → AreStrings s []
+no_strings s ends far bytes = record { ends = 0 ∷ []; stored = rw (ends, far) refl; groups = rw bytes no_groups }
 
 -- one string more
-pub string_pushed : (old new : Strings) (string : List ℕ) (all : List (List ℕ)) → AreStrings old all
-    → new.bytes.items ≡ old.bytes.items ++ string → new.ends.items ≡ old.ends.items ++ pos (length (old.bytes.items ++ string)) ∷ []
+pub string_pushed : (old new : Strings) (string : List ℕ) (all : List (List ℕ)) → AreStrings old all → new.bytes.items ≡ old.bytes.items ++ string
+    → new.ends.items ++ new.far_ends.items ≡ (old.ends.items ++ old.far_ends.items) ++ pos (length (old.bytes.items ++ string)) ∷ []
     → AreStrings new (all ++ string ∷ [])
 string_pushed old new string all h bytes ends = record {
   ends = h.ends ++ length (old.bytes.items ++ string) ∷ [];

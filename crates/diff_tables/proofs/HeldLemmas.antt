@@ -3,17 +3,30 @@ use Rattle.std.proofs.Common.{◌≡◌, ◌<◌, ◌≤◌, ◌+◌, ◌*◌, �
 use Rattle.std.proofs.lemmas.List.{get_or-map}
 use Rattle.std.proofs.Math.Seq.{drop-cons}
 use Rattle.polars_arrays_flat.specs.Row.{Row, RowList, Null, Bytes, Rows, no_rows, more_rows, row_list}
-use Rattle.std.specs.Prelude.{ℤ, None}
+use Rattle.std.specs.Prelude.{ℤ, None, false, true}
 use Rattle.polars_arrays_bytes.specs.OffsetStrings.{OffsetStrings, offset_strings}
-use Rattle.polars_arrays_nested.specs.AnyRows.{row, rows_from}
-use Rattle.polars_arrays_nested.specs.declared.any_array.AnyArray.{LargeBinary}
-use Rattle.diff_tables.specs.Held.{cells_tree}
+use Rattle.polars_arrays_nested.specs.AnyRows.{rows_from}
+use Rattle.polars_arrays_nested.specs.declared.any_array.AnyArray.{Binary, LargeBinary}
+use Rattle.diff_tables.specs.Held.{HoldsCells, cells_tree}
 use Rattle.diff_tables.specs.Tables.{cut_rows}
-use Rattle.diff_tables.proofs.TableLemmas.{row_cut}
+use Rattle.diff_tables.proofs.TableLemmas.{count_strings, row_cut}
 
--- row k of an array of strings that are all present
-pub string_row : (a : OffsetStrings ℤ) (k : ℕ) → a.validity ≡ None → k < length (offset_strings (λ x. x) a) → row (LargeBinary a) k ≡ Bytes (get_or (offset_strings (λ x. x) a) k [])
-string_row a k none within = rw none (get_or-map Bytes (offset_strings (λ x. x) a) k [] Null within)
+-- an array holds its strings, where all are present
+pub holds_near : (a : OffsetStrings ℤ) → a.validity ≡ None → HoldsCells false (offset_strings (λ x. x) a) (Binary a)
+holds_near a none = record {
+  good = tt;
+  kind = refl;
+  len = sym (count_strings a);
+  held = λ k within. rw none (get_or-map Bytes (offset_strings (λ x. x) a) k [] Null within);
+}
+
+pub holds_far : (a : OffsetStrings ℤ) → a.validity ≡ None → HoldsCells true (offset_strings (λ x. x) a) (LargeBinary a)
+holds_far a none = record {
+  good = tt;
+  kind = refl;
+  len = sym (count_strings a);
+  held = λ k within. rw none (get_or-map Bytes (offset_strings (λ x. x) a) k [] Null within);
+}
 
 -- the items of a list, where each is a cell
 pub cells_from : (f : ℕ → Row) (all : List (List ℕ)) (a n : ℕ) → ((k : ℕ) → k < length all → f k ≡ Bytes (get_or all k [])) → a + n ≤ length all

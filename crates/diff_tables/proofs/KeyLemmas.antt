@@ -1,6 +1,9 @@
 -- The loops that write keys, one step on.
-use Rattle.std.proofs.Common.{◌≡◌, ◌<◌, ◌+◌, ℕ, zero, suc, List, [], ◌∷◌, ◌++◌, length, get_or, take, ap, refl}
+use Rattle.std.proofs.Common.{◌≡◌, ◌<◌, ◌+◌, ℕ, zero, suc, List, [], ◌∷◌, ◌++◌, length, get_or, take, arith, ap, refl}
+use Rattle.std.proofs.lemmas.Grind.{common_steps}
 use Rattle.std.proofs.lemmas.List.{take_more, append_assoc, append-nil}
+use Rattle.std.specs.List.{list_any}
+use Rattle.std.specs.Prelude.{false, nat_eq}
 use Rattle.diff_tables.specs.Keys.{marked, escaped, row_key}
 
 -- the bytes of a string, each marked, without its end
@@ -28,6 +31,13 @@ part_more old s i j within next =
 -- the end of the string
 pub part_all : (old s : List ℕ) → ((old ++ part s) ++ 0 ∷ []) ++ 0 ∷ [] ≡ old ++ escaped s
 part_all old s = rw (escaped_is s, append_assoc, append_assoc) refl
+
+-- a string without a zero stays as it is
+pub escaped_plain : (xs : List ℕ) → list_any (λ y. nat_eq y 0) xs ≡ false → escaped xs ≡ xs ++ 0 ∷ 0 ∷ []
+unfolding escaped
+escaped_plain [] none = refl
+escaped_plain (zero ∷ xs) none = absurd (cc)
+escaped_plain (suc x ∷ xs) none = let rest : list_any (λ y. nat_eq y 0) xs ≡ false = grind (arith, common_steps, none) in ap (λ l. suc x ∷ l) (escaped_plain xs rest)
 
 key_append : (cs ds : List ℕ) (row : List (List ℕ)) → row_key (cs ++ ds) row ≡ row_key cs row ++ row_key ds row
 unfolding row_key

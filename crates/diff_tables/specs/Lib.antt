@@ -1,8 +1,11 @@
+pub mod Cells
 pub mod Comparison
 pub mod Errors
 pub mod Groups
 pub mod Held
 pub mod Keys
 pub mod KeyLaws
+pub mod Same
+pub mod SameLaws
 pub mod Strings
 pub mod Tables

@@ -1,19 +1,21 @@
 //! Two tables, compared by key.
 
-ghost use Rattle.std.specs.Prelude.{◌≡◌, ◌<◌, All, length, MatchResult};
+ghost use Rattle.std.specs.Prelude.{◌≡◌, ◌<◌, ℕ, List, true, All, length, MatchResult};
 ghost use Rattle.polars_arrays_bits.specs.Errors.{IsMemory};
 ghost use Rattle.diff_keys.specs.Matching.{IsMatching};
+ghost use Rattle.diff_keys.specs.Errors.{IsMemory as IsMatchMemory};
 ghost use Rattle.diff_keys.specs.Rising.{ListsRising};
+ghost use Rattle.diff_keys.specs.Unique.{TellsFirstTwice};
 ghost use Rattle.diff_tables.specs.Comparison.{ArePairs, IsComparison, IsDifferent};
 ghost use Rattle.diff_tables.specs.Errors.{IsCompareFault};
 ghost use Rattle.diff_tables.specs.Held.{HoldsRows};
 ghost use Rattle.diff_tables.specs.Keys.{row_keys};
-ghost use Rattle.diff_tables.specs.Tables.{TableRows};
 
 use crate::keys::keys_of;
 use crate::table::Table;
 use diff_keys::error::MatchError;
 use diff_keys::matching::{Matching, match_rows};
+use diff_keys::unique::{Twice, first_twice};
 use diff_pairs::changed::changed_pairs;
 use polars_arrays_bits::error::ComputeError;
 use polars_arrays_nested::any_array::AnyArray;
@@ -28,18 +30,21 @@ pub struct Comparison {
     pub changed: Vec<usize>,
 }
 
-/// Lists the pairs of rows that differ, where the left rows are the lists of an array.
+/// Lists the pairs of rows that differ, where the left rows are the lists of an array, whose cells
+/// lie between ends of 64 bits if `wide`.
 fn changed_lists(
     alloc: Global,
     left: AnyArray,
     left_rows: Vec<u32>,
     right: &Table,
     right_rows: Vec<u32>,
+    wide: bool,
 ) -> Result<Vec<usize>, ComputeError>
-    requires { (t : TableRows) × HoldsRows t left × (t.width ≡ right.now.width) × ArePairs t.rows right.now.rows left_rows.items right_rows.items }
-    ensures { MatchResult result (λ changed. (t : TableRows) → HoldsRows t left → ArePairs t.rows right.now.rows left_rows.items right_rows.items → ListsRising (IsDifferent t.rows right.now.rows left_rows.items right_rows.items) (length left_rows.items) changed.items) IsMemory }
+    requires wide { right.now.far ≡ true → wide ≡ true }
+    requires pairs { (rows : List (List (List ℕ))) × HoldsRows wide right.now.width rows left × ArePairs rows right.now.rows left_rows.items right_rows.items }
+    ensures { MatchResult result (λ changed. (rows : List (List (List ℕ))) → HoldsRows wide right.now.width rows left → ArePairs rows right.now.rows left_rows.items right_rows.items → ListsRising (IsDifferent rows right.now.rows left_rows.items right_rows.items) (length left_rows.items) changed.items) IsMemory }
 {
-    match right.list_array(alloc) {
+    match right.list_array(alloc, wide) {
         Ok(right) => changed_pairs(alloc, left, left_rows, right, right_rows),
         Err(error) => Err(error),
     }
@@ -57,8 +62,10 @@ fn changed_rows(
     requires pairs { ArePairs left.now.rows right.now.rows left_rows.items right_rows.items }
     ensures { MatchResult result (λ changed. ListsRising (IsDifferent left.now.rows right.now.rows left_rows.items right_rows.items) (length left_rows.items) changed.items) IsMemory }
 {
-    match left.list_array(alloc) {
-        Ok(left) => changed_lists(alloc, left, left_rows, right, right_rows),
+    // Both arrays have to be of one type.
+    let wide = left.is_far() || right.is_far();
+    match left.list_array(alloc, wide) {
+        Ok(left) => changed_lists(alloc, left, left_rows, right, right_rows, wide),
         Err(error) => Err(error),
     }
 }
@@ -118,5 +125,24 @@ pub fn compare_tables(
     match changed_places(alloc, left, right, &matching) {
         Ok(changed) => Ok(Comparison { matching, changed }),
         Err(_) => Err(MatchError::Memory),
+    }
+}
+
+/// Finds the first row whose key an earlier row of the table has, and that earlier row. The one
+/// error is `Memory`.
+pub fn key_twice(
+    alloc: Global,
+    table: &Table,
+    columns: &[usize],
+) -> Result<Option<Twice>, MatchError>
+    requires { All (λ c. c < table.now.width) columns.now }
+    ensures { MatchResult result (TellsFirstTwice (row_keys columns.now table.now.rows)) IsMatchMemory }
+{
+    let Ok(keys) = keys_of(alloc, table, columns) else {
+        return Err(MatchError::Memory);
+    };
+    match first_twice(alloc, &keys) {
+        Ok(twice) => Ok(twice),
+        Err(error) => Err(error),
     }
 }

@@ -18,8 +18,8 @@ fn push_byte(out: &mut Vec<u8>, byte: u8) -> Result<(), AllocError>
     Ok(())
 }
 
-/// Appends a byte string so that its end shows: a zero as 0 1, the end as 0 0.
-pub(crate) fn push_escaped(out: &mut Vec<u8>, string: &[u8]) -> Result<(), AllocError>
+/// Appends a byte string byte by byte so that its end shows.
+fn push_marked(out: &mut Vec<u8>, string: &[u8]) -> Result<(), AllocError>
     ensures { OnOk result (out.new.items ≡ out.old.items ++ escaped string.now) }
 {
     for byte in string {
@@ -27,5 +27,17 @@ pub(crate) fn push_escaped(out: &mut Vec<u8>, string: &[u8]) -> Result<(), Alloc
     }
     out.push(0)?;
     out.push(0)?;
+    Ok(())
+}
+
+/// Appends a byte string so that its end shows: a zero as 0 1, the end as 0 0.
+pub(crate) fn push_escaped(out: &mut Vec<u8>, string: &[u8]) -> Result<(), AllocError>
+    ensures { OnOk result (out.new.items ≡ out.old.items ++ escaped string.now) }
+{
+    if string.contains(&0) {
+        return push_marked(out, string);
+    }
+    out.extend_from_slice(string)?;
+    out.extend_from_slice(&[0, 0])?;
     Ok(())
 }

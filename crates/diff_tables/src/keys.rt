@@ -1,6 +1,6 @@
 //! The keys of a table's rows.
 
-ghost use Rattle.std.specs.Prelude.{◌≡◌, ◌<◌, [], All, length, get_or, IfOk, MatchResult};
+ghost use Rattle.std.specs.Prelude.{◌≡◌, ◌<◌, [], All, length, get_or, OnOk, MatchResult};
 ghost use Rattle.polars_arrays_bits.specs.Errors.{IsMemory};
 ghost use Rattle.polars_arrays_bytes.specs.OffsetStrings.{offset_strings};
 ghost use Rattle.diff_tables.specs.Keys.{row_key, row_keys};
@@ -12,17 +12,22 @@ use polars_arrays_bits::error::ComputeError;
 use polars_arrays_bytes::binary::BinaryArray;
 use std::alloc::{AllocError, Global};
 
-/// Returns the key of row `i`.
-fn key_of(alloc: Global, table: &Table, i: usize, columns: &[usize]) -> Result<Vec<u8>, AllocError>
+/// Makes `key` the key of row `i`.
+fn write_key(
+    key: &mut Vec<u8>,
+    table: &Table,
+    i: usize,
+    columns: &[usize],
+) -> Result<(), AllocError>
     requires row { i < length table.now.rows }
     requires columns { All (λ c. c < table.now.width) columns.now }
-    ensures { IfOk result (λ key. key.items ≡ row_key columns.now (get_or table.now.rows i [])) }
+    ensures { OnOk result (key.new.items ≡ row_key columns.now (get_or table.now.rows i [])) }
 {
-    let mut key = Vec::new(alloc);
+    key.clear();
     for column in columns {
-        push_escaped(&mut key, table.cell(i, *column))?;
+        push_escaped(key, table.cell(i, *column))?;
     }
-    Ok(key)
+    Ok(())
 }
 
 /// Returns the keys of all rows: a row's cells in the key columns, each with its end. The one error
@@ -36,8 +41,9 @@ pub fn keys_of(
     ensures { MatchResult result (λ keys. offset_strings (λ x. x) keys ≡ row_keys columns.now table.now.rows) IsMemory }
 {
     let mut keys = Strings::new(alloc)?;
+    let mut key = Vec::new(alloc);
     for i in 0..table.count() {
-        let key = key_of(alloc, table, i, columns)?;
+        write_key(&mut key, table, i, columns)?;
         keys.push(&key)?;
     }
     let array = keys.into_array(alloc)?;

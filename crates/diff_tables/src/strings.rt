@@ -1,21 +1,40 @@
 //! Byte strings that are appended one after another.
 
-ghost use Rattle.std.specs.Prelude.{◌≡◌, ◌++◌, ◌∷◌, [], ℕ, List, None, IfOk, OnOk, MatchResult};
+ghost use Rattle.std.specs.Prelude.{◌≡◌, ◌++◌, ◌∷◌, [], ℕ, List, None, map, pos, IfOk, OnOk, MatchResult};
 ghost use Rattle.polars_arrays_bits.specs.Errors.{IsMemory};
 ghost use Rattle.polars_arrays_bytes.specs.OffsetStrings.{offset_strings};
+ghost use Rattle.diff_tables.specs.Groups.{AreGroups};
 ghost use Rattle.diff_tables.specs.Strings.{AreStrings};
 
+use crate::cells::{Cells, all_ends};
 use polars_arrays_bits::buffer::Buffer;
 use polars_arrays_bits::error::ComputeError;
 use polars_arrays_bytes::binary::BinaryArray;
 use std::alloc::{AllocError, Global};
 
-/// Byte strings, one after another: string `k` lies between end `k` and end `k + 1`.
+/// Byte strings, one after another: string `k` lies between end `k` and end `k + 1`. An end takes 4
+/// bytes below 2^31, and 8 from there on.
 #[derive(Drop)]
 pub struct Strings {
-    // A 0, and behind it the end of each string.
-    ends: Vec<i64>,
+    // A 0, and behind it the end of each string: of the ends the first ones, which have 32 bits.
+    ends: Vec<i32>,
+    // The ends behind them.
+    far_ends: Vec<i64>,
     bytes: Vec<u8>,
+}
+
+/// Returns the cells between ends of 32 bits. The one error is `Memory`.
+fn near_cells(alloc: Global, ends: Vec<i32>, bytes: Vec<u8>) -> Result<Cells, ComputeError>
+    requires { (places : List ℕ) × (all : List (List ℕ)) × (ends.items ≡ map (λ n. pos n) places) × AreGroups places bytes.items all }
+    ensures { MatchResult result (λ cells. (places : List ℕ) (all : List (List ℕ)) → ends.items ≡ map (λ n. pos n) places → AreGroups places bytes.items all → cells.strings ≡ all) IsMemory }
+{
+    let offsets = Buffer::from_vec(ends).share(alloc)?;
+    let values = Buffer::from_vec(bytes).share(alloc)?;
+    let shared = values.clone_buffer(alloc)?;
+    match BinaryArray::try_new(offsets, values, None) {
+        Ok(array) => Ok(Cells::near(array, shared)),
+        Err(_) => unreachable!(),
+    }
 }
 
 impl Strings {
@@ -25,8 +44,13 @@ impl Strings {
     {
         let mut ends = Vec::new(alloc);
         ends.push(0)?;
+        let far_ends = Vec::new(alloc);
         let bytes = Vec::new(alloc);
-        Ok(Strings { ends, bytes })
+        Ok(Strings {
+            ends,
+            far_ends,
+            bytes,
+        })
     }
 
     /// Appends a string.
@@ -34,25 +58,51 @@ impl Strings {
         ensures { OnOk result ((all : List (List ℕ)) → AreStrings self.old all → AreStrings self.new (all ++ string.now ∷ [])) }
     {
         self.bytes.extend_from_slice(string)?;
+        let len = self.bytes.len();
+        if self.far_ends.is_empty() {
+            if let Ok(end) = i32::try_from(len) {
+                self.ends.push(end)?;
+                return Ok(());
+            }
+        }
         // No vector of bytes is as long as 2^63.
-        match i64::try_from(self.bytes.len()) {
-            Ok(end) => self.ends.push(end)?,
+        match i64::try_from(len) {
+            Ok(end) => self.far_ends.push(end)?,
             Err(_) => return Err(AllocError),
         }
         Ok(())
     }
 
-    /// Returns the array of the strings, whose clones share them. No byte is copied. The one error is `Memory`.
+    /// Returns the array of the strings, whose clones share them. No byte is copied. The one error is
+    /// `Memory`.
     pub fn into_array(self, alloc: Global) -> Result<BinaryArray<i64>, ComputeError>
         requires { (all : List (List ℕ)) × AreStrings self all }
         ensures { MatchResult result (λ array. (array.validity ≡ None) × ((all : List (List ℕ)) → AreStrings self all → offset_strings (λ x. x) array ≡ all)) IsMemory }
     {
-        let Strings { ends, bytes } = self;
+        let Strings {
+            ends,
+            far_ends,
+            bytes,
+        } = self;
+        let ends = all_ends(alloc, &ends, &far_ends)?;
         let offsets = Buffer::from_vec(ends).share(alloc)?;
         let values = Buffer::from_vec(bytes).share(alloc)?;
         match BinaryArray::try_new(offsets, values, None) {
             Ok(array) => Ok(array),
             Err(_) => unreachable!(),
         }
+    }
+
+    /// Returns the strings as cells. No byte is copied. The one error is `Memory`.
+    pub(crate) fn into_cells(self, alloc: Global) -> Result<Cells, ComputeError>
+        requires { (all : List (List ℕ)) × AreStrings self all }
+        ensures { MatchResult result (λ cells. (all : List (List ℕ)) → AreStrings self all → cells.strings ≡ all) IsMemory }
+    {
+        if self.far_ends.is_empty() {
+            let Strings { ends, bytes, .. } = self;
+            return near_cells(alloc, ends, bytes);
+        }
+        let array = self.into_array(alloc)?;
+        Ok(Cells::far(array))
     }
 }

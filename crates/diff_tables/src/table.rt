@@ -1,15 +1,14 @@
 //! Tables of cells.
 
-ghost use Rattle.std.specs.Prelude.{◌≡◌, ◌<◌, ◌*◌, ℕ, List, [], length, get_or, MatchResult};
+ghost use Rattle.std.specs.Prelude.{◌≡◌, ◌<◌, ◌*◌, ℕ, Bool, List, [], true, length, get_or, MatchResult};
 ghost use Rattle.polars_arrays_bits.specs.Errors.{IsMemory};
-ghost use Rattle.diff_tables.specs.Held.{HoldsRows};
+ghost use Rattle.diff_tables.specs.Held.{HoldsCells, HoldsRows};
 ghost use Rattle.diff_tables.specs.Strings.{AreStrings};
 ghost use Rattle.diff_tables.specs.Tables.{cut_rows};
 
+use crate::cells::Cells;
 use crate::strings::Strings;
 use polars_arrays_bits::error::ComputeError;
-use polars_arrays_bytes::binary::BinaryArray;
-use polars_arrays_flat::byte_rows::ByteRows;
 use polars_arrays_nested::any_array::AnyArray;
 use polars_arrays_nested::fixed_size_list::FixedSizeListArray;
 use std::alloc::Global;
@@ -21,7 +20,7 @@ pub struct Table {
     width: usize,
     count: usize,
     // The cells of all rows, the first row's first.
-    cells: BinaryArray<i64>,
+    cells: Cells,
 }
 
 impl Model for Table {
@@ -32,6 +31,23 @@ impl Model for Table {
     ghost view = { rows_of };
 
     ghost invariant = { IsTable };
+}
+
+/// Returns the array of `count` lists of `width` cells each. The one error is `Memory`.
+fn lists_of(
+    alloc: Global,
+    width: usize,
+    count: usize,
+    cells: AnyArray,
+) -> Result<AnyArray, ComputeError>
+    requires { (far : Bool) × (strings : List (List ℕ)) × HoldsCells far strings cells × (length strings ≡ width * count) }
+    ensures { MatchResult result (λ lists. (far : Bool) (strings : List (List ℕ)) → HoldsCells far strings cells → length strings ≡ width * count → HoldsRows far width (cut_rows width count strings) lists) IsMemory }
+{
+    let values = Box::new(alloc, cells)?;
+    match FixedSizeListArray::try_new(width, count, values, None) {
+        Ok(array) => Ok(AnyArray::FixedSizeList(array)),
+        Err(_) => unreachable!(),
+    }
 }
 
 impl Table {
@@ -46,7 +62,7 @@ impl Table {
         requires { (all : List (List ℕ)) × AreStrings cells all × (length all ≡ width * count) }
         ensures { MatchResult result (λ t. (t.width ≡ width) × ((all : List (List ℕ)) → AreStrings cells all → t.rows ≡ cut_rows width count all)) IsMemory }
     {
-        let cells = cells.into_array(alloc)?;
+        let cells = cells.into_cells(alloc)?;
         Ok(Table {
             width,
             count,
@@ -79,16 +95,23 @@ impl Table {
         self.cells.value(self.width * i + c)
     }
 
-    /// Returns the array whose rows are the lists of each row's cells. Cells that are shared are not copied. The
-    /// one error is `Memory`.
-    pub fn list_array(&self, alloc: Global) -> Result<AnyArray, ComputeError>
-        ensures { MatchResult result (HoldsRows self.now) IsMemory }
+    /// Returns whether the ends of the cells have 64 bits, as they have where all bytes are 2^31 or
+    /// more.
+    pub(crate) fn is_far(&self) -> bool
+        ensures { result ≡ self.now.far }
     {
-        let cells = self.cells.clone_array(alloc)?;
-        let values = Box::new(alloc, AnyArray::LargeBinary(cells))?;
-        match FixedSizeListArray::try_new(self.width, self.count, values, None) {
-            Ok(array) => Ok(AnyArray::FixedSizeList(array)),
-            Err(_) => unreachable!(),
+        self.cells.is_far()
+    }
+
+    /// Returns the array whose rows are the lists of each row's cells, between ends of 64 bits where
+    /// that is asked for. No cell is copied. The one error is `Memory`.
+    pub(crate) fn list_array(&self, alloc: Global, wide: bool) -> Result<AnyArray, ComputeError>
+        requires { self.now.far ≡ true → wide ≡ true }
+        ensures { MatchResult result (HoldsRows wide self.now.width self.now.rows) IsMemory }
+    {
+        match self.cells.array(alloc, wide) {
+            Ok(cells) => lists_of(alloc, self.width, self.count, cells),
+            Err(error) => Err(error),
         }
     }
 }

@@ -1,18 +1,13 @@
-use Rattle.std.proofs.Common.{arith, ◌≡◌, ◌∙◌, ap, refl, ◌++◌, ◌∷◌, [], ◌+◌, get_or, take}
-use Rattle.std.proofs.lemmas.List.{take_all}
-use Rattle.diff_tables.specs.Keys.{marked}
-use Rattle.diff_tables.proofs.KeyLemmas.{part, part_more, part_all}
+use Rattle.std.proofs.Common.{◌≡◌, ◌∙◌, ap, sym, rules, ◌++◌, ◌∷◌, [], false}
+use Rattle.std.proofs.lemmas.List.{append_assoc}
+use Rattle.std.specs.List.{list_any}
+use Rattle.std.specs.Prelude.{nat_eq}
+use Rattle.diff_tables.proofs.KeyLemmas.{escaped_plain}
 use Rattle.diff_tables.proofs.escaped.push_escaped.Goals as goal
-
-pub loop-byte-preserved : goal.loop-byte-preserved
-loop-byte-preserved c =
-    let step : c.push_byte.new.out.items ≡ c.loop-byte.out.items ++ marked (get_or c.args.string.now c.loop-byte.byte-index 0) = c.in_ok-push_byte.ensures in
-    step ∙ (ap (λ l. l ++ marked (get_or c.args.string.now c.loop-byte.byte-index 0)) c.loop-byte.invariant
-    ∙ part_more c.args.out.now.items c.args.string.now c.loop-byte.byte-index (c.loop-byte.byte-index + 1) (omega arith) refl)
 
 pub returns : goal.returns
 returns c =
-    let all : take c.loop-byte.byte-index c.args.string.now ≡ c.args.string.now = take_all c.loop-byte.byte-index c.args.string.now (omega arith) in
-    c.in_ok-push-2.ensures.items
-    ∙ (ap (λ l. l ++ 0 ∷ []) (c.in_ok-push.ensures.items ∙ ap (λ l. l ++ 0 ∷ []) (c.loop-byte.invariant ∙ ap (λ l. c.args.out.now.items ++ part l) all))
-    ∙ part_all c.args.out.now.items c.args.string.now)
+    let none : list_any (λ y. nat_eq y 0) c.args.string.now ≡ false = search rules in
+    c.in_ok-extend_from_slice-2.ensures.items
+    ∙ (ap (λ l. l ++ 0 ∷ 0 ∷ []) c.in_ok-extend_from_slice.ensures.items
+    ∙ (append_assoc c.args.out.now.items c.args.string.now (0 ∷ 0 ∷ []) ∙ ap (λ l. c.args.out.now.items ++ l) (sym (escaped_plain c.args.string.now none))))

@@ -7,7 +7,7 @@ use Rattle.diff_tables.proofs.keys.keys_of.Goals as goal
 pub loop-i-preserved : goal.loop-i-preserved
 loop-i-preserved c =
     let before = row_keys c.args.columns.now (take c.loop-i.i c.args.table.now.rows) in
-    let key : c.deref.result.now ≡ row_key c.args.columns.now (get_or c.args.table.now.rows c.loop-i.i []) = c.deref.ensures.value ∙ c.in_ok-key.ensures in
+    let key : c.deref.result.now ≡ row_key c.args.columns.now (get_or c.args.table.now.rows c.loop-i.i []) = c.deref.ensures.value ∙ c.in_ok-write_key.ensures in
     let is : row_keys c.args.columns.now (take c.loop-i.i c.args.table.now.rows) ++ c.deref.result.now ∷ [] ≡ row_keys c.args.columns.now (take (c.loop-i.i + 1) c.args.table.now.rows) =
     ap (λ x. row_keys c.args.columns.now (take c.loop-i.i c.args.table.now.rows) ++ x ∷ []) key ∙ sym (map_more (row_key c.args.columns.now) c.args.table.now.rows c.loop-i.i [] (omega arith)) in
     subst (λ l. AreStrings c.push.new.self l) is (c.in_ok-push.ensures (row_keys c.args.columns.now (take c.loop-i.i c.args.table.now.rows)) c.loop-i.invariant)

@@ -3,11 +3,11 @@ use Rattle.std.proofs.lemmas.List.{take_all}
 use Rattle.std.proofs.lemmas.List.Elements.{All-get_or}
 use Rattle.diff_tables.specs.Keys.{escaped, row_key}
 use Rattle.diff_tables.proofs.KeyLemmas.{key_more}
-use Rattle.diff_tables.proofs.keys.key_of.Goals as goal
+use Rattle.diff_tables.proofs.keys.write_key.Goals as goal
 
 pub loop-column-init : goal.loop-column-init
 unfolding row_key
-loop-column-init c = c.new-key.ensures.items
+loop-column-init c = c.clear.ensures.items
 
 pub cell-requires : goal.cell-requires
 cell-requires c = record {
