@@ -2,10 +2,12 @@
 use Rattle.std.proofs.Common.{arith, refl}
 use Rattle.std.proofs.lemmas.Fmt.{decimal_digit}
 use Rattle.std.proofs.lemmas.List.Elements.{All-nil}
-use Rattle.std.specs.Prelude.{◌≡◌, ℕ, true, false, List, [], ◌∷◌, codes, length}
+use Rattle.std.specs.Prelude.{◌≡◌, ℕ, true, false, List, [], ◌∷◌, ◌++◌, codes, length}
 use Rattle.csv.specs.Machine.{next_record}
 use Rattle.csv.specs.Reading.{Reached, strip_bom}
 use Rattle.csv.specs.declared.parser.State.TheVariants as st
+use Rattle.diff_csv.specs.Options.{is_delimiter}
+use Rattle.diff_csv.specs.Quotes.{ends_open, mark, mark_fields, state_after}
 use Rattle.diff_csv.specs.Records.{AreRecordsOf, HasOtherLength, data_rows, names_of}
 use Rattle.diff_csv.specs.declared.options.CsvOptions.{CsvOptions}
 
@@ -22,6 +24,32 @@ seven = codes "7" ∷ codes "1" ∷ []
 two-records : AreRecordsOf commas (codes "id,n\n7,1\n") (header ∷ seven ∷ [])
 unfolding next_record Reached strip_bom
 two-records = (st.StartRecord, [], ((header, st.StartRecord, codes "7,1\n"), refl, refl, ((seven, st.StartRecord, []), refl, refl, (refl, refl))), refl)
+
+-- a text ends within quotes, or behind them
+open-quote : ends_open commas (codes "a,\"b") ≡ true
+unfolding state_after strip_bom
+open-quote = refl
+
+closed-quote : ends_open commas (codes "a,\"b\"") ≡ false
+unfolding state_after strip_bom
+closed-quote = refl
+
+-- with the mark behind it the first of these has a record whose last field is not empty, and the second one more record
+open-mark : AreRecordsOf commas (codes "a,\"b" ++ mark) ((codes "a" ∷ codes "b\n" ∷ []) ∷ [])
+unfolding next_record Reached strip_bom
+open-mark = (st.StartRecord, [], ((codes "a" ∷ codes "b\n" ∷ [], st.StartRecord, []), refl, refl, (refl, refl)), refl)
+
+closed-mark : AreRecordsOf commas (codes "a,\"b\"" ++ mark) ((codes "a" ∷ codes "b" ∷ []) ∷ mark_fields ∷ [])
+unfolding next_record Reached strip_bom
+closed-mark =
+    (st.StartRecord, [], ((codes "a" ∷ codes "b" ∷ [], st.StartRecord, codes "\""), refl, refl, ((mark_fields, st.StartRecord, []), refl, refl, (refl, refl))), refl)
+
+-- a tab stands between fields, and a quote does not
+tab-between : is_delimiter 9 ≡ true
+tab-between = refl
+
+no-quote-between : is_delimiter 34 ≡ false
+no-quote-between = refl
 
 -- a header is no row
 one-row : data_rows true (header ∷ seven ∷ []) ≡ seven ∷ []

@@ -3,14 +3,14 @@ use Rattle.std.proofs.Common.{◌≡◌, ◌<◌, ◌+◌, ◌*◌, ◌∙◌, B
 use Rattle.std.proofs.Math.Seq.{take-append_seam, drop-append_seam}
 use Rattle.std.proofs.lemmas.List.{append_assoc, length-map, map_more}
 use Rattle.std.specs.List.{flat_map}
-use Rattle.csv.specs.declared.reader.Reader.{Reader}
 use Rattle.diff_tables.specs.Keys.{cells_at}
 use Rattle.diff_tables.specs.Tables.{cut_rows}
 use Rattle.diff_csv.specs.Reading.{IsReading}
-use Rattle.diff_csv.specs.Records.{data_rows}
+use Rattle.diff_csv.specs.Records.{HaveOneLength, data_rows}
 use Rattle.diff_csv.specs.Rows.{HoldsRows}
 use Rattle.diff_csv.specs.Tables.{HasShape, IsTableWith}
 use Rattle.diff_csv.specs.declared.options.CsvOptions.{CsvOptions}
+use Rattle.diff_csv.specs.declared.reading.Records.{Records}
 use Rattle.diff_csv.specs.declared.rows.Rows.{Rows}
 use Rattle.diff_csv.specs.declared.source.CsvTable.{CsvTable}
 
@@ -53,10 +53,11 @@ data_push true first more r = refl
 data_push false first more r = refl
 
 -- some records behind a first one are read, and those that are rows are kept
-pub record IsProgress {R : Type 0} (remaining : R → Option (List ℕ)) (has_header : Bool) (columns : List ℕ) (start : Reader R) (first : List (List ℕ)) (reader : Reader R) (r : Rows) : Type 0 where
+pub record IsProgress {R : Type 0} (remaining : R → Option (List ℕ)) (has_header : Bool) (columns : List ℕ) (start : Records R) (first : List (List ℕ)) (records : Records R) (r : Rows) : Type 0 where
   pub more : List (List (List ℕ))
   pub held : HoldsRows columns r (data_rows has_header (first ∷ more))
-  pub reading : (options : CsvOptions) (text : List ℕ) → IsReading remaining options text start (first ∷ []) → IsReading remaining options text reader (first ∷ more)
+  pub one_length : HaveOneLength (first ∷ more)
+  pub reading : (options : CsvOptions) (text : List ℕ) → IsReading remaining options text start (first ∷ []) → IsReading remaining options text records (first ∷ more)
 
 -- a table of records has as many columns as were chosen, and a line for each row
 pub shape_of : (columns : List ℕ) (records : List (List (List ℕ))) (t : CsvTable) → IsTableWith columns records t → HasShape columns t

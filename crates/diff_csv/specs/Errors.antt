@@ -1,5 +1,5 @@
 -- Why a CSV text is not read.
-use Rattle.std.specs.Prelude.{◌≡◌, ℕ, ⊤}
+use Rattle.std.specs.Prelude.{◌≡◌, ◌≢◌, ℕ, Bool, true, false, ⊤}
 use Rattle.csv.specs.declared.error.ErrorKind.{ErrorKind}
 use Rattle.csv.specs.declared.error.ErrorKind.TheVariants as kind
 use Rattle.diff_csv.specs.declared.error.CsvError.{CsvError}
@@ -9,23 +9,51 @@ use Rattle.diff_csv.specs.declared.error.CsvError.TheVariants as error
 abbrev pub IsOutOfMemory : CsvError → Type 0
 IsOutOfMemory e = e ≡ error.Memory
 
+-- what an error of the reader of records says: a read failed, or an allocation
+abbrev pub fault_of_kind : ErrorKind → CsvError
+fault_of_kind (kind.Io cause) = error.Read cause
+fault_of_kind (kind.UnequalLengths pos expected found) = error.Memory
+fault_of_kind (kind.Utf8 pos err) = error.Memory
+fault_of_kind kind.OutOfMemory = error.Memory
+fault_of_kind (kind.Serialize text) = error.Memory
+fault_of_kind (kind.Deserialize pos err) = error.Memory
+
+-- a read failed, or an allocation
+abbrev pub IsStop : CsvError → Type 0
+IsStop error.Memory = ⊤
+IsStop (error.Read cause) = ⊤
+IsStop error.Delimiter = ⊥
+IsStop (error.Length line expected found) = ⊥
+IsStop (error.OpenQuote line) = ⊥
+
+-- why there is no next record: a read failed, or an allocation, or the text ends within quotes
+abbrev pub IsNoRecord : CsvError → Type 0
+IsNoRecord error.Memory = ⊤
+IsNoRecord (error.Read cause) = ⊤
+IsNoRecord error.Delimiter = ⊥
+IsNoRecord (error.Length line expected found) = ⊥
+IsNoRecord (error.OpenQuote line) = ⊤
+
 -- the error is not one of lengths
 abbrev pub IsNotLength : CsvError → Type 0
 IsNotLength error.Memory = ⊤
 IsNotLength (error.Read cause) = ⊤
+IsNotLength error.Delimiter = ⊤
 IsNotLength (error.Length line expected found) = ⊥
+IsNotLength (error.OpenQuote line) = ⊤
 
--- the reader found a record of another length, with these two lengths
-abbrev pub FoundLengths : ℕ → ℕ → ErrorKind → Type 0
-FoundLengths expected found (kind.UnequalLengths pos e f) = (expected ≡ e) × (found ≡ f)
-FoundLengths expected found (kind.Io cause) = ⊥
-FoundLengths expected found (kind.Utf8 pos err) = ⊥
-FoundLengths expected found kind.OutOfMemory = ⊥
-FoundLengths expected found (kind.Serialize text) = ⊥
-FoundLengths expected found (kind.Deserialize pos err) = ⊥
+-- a record that begins at this line has another number of fields than the first one
+abbrev pub IsOtherLength : (line expected found : ℕ) → CsvError → Type 0
+IsOtherLength line expected found error.Memory = ⊥
+IsOtherLength line expected found (error.Read cause) = ⊥
+IsOtherLength line expected found error.Delimiter = ⊥
+IsOtherLength line expected found (error.Length l e f) = (l ≡ line) × (e ≡ expected) × (f ≡ found) × (expected ≢ found)
+IsOtherLength line expected found (error.OpenQuote l) = ⊥
 
--- an error of lengths has those that the reader found
-abbrev pub TellsFault : ErrorKind → CsvError → Type 0
-TellsFault k error.Memory = ⊤
-TellsFault k (error.Read cause) = ⊤
-TellsFault k (error.Length line expected found) = FoundLengths expected found k
+-- the error is that of the byte between fields exactly where this may not stand there
+abbrev pub TellsDelimiter : Bool → CsvError → Type 0
+TellsDelimiter able error.Memory = able ≡ true
+TellsDelimiter able (error.Read cause) = able ≡ true
+TellsDelimiter able error.Delimiter = able ≡ false
+TellsDelimiter able (error.Length line expected found) = able ≡ true
+TellsDelimiter able (error.OpenQuote line) = able ≡ true

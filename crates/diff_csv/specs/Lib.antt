@@ -1,4 +1,6 @@
 pub mod Errors
+pub mod Options
+pub mod Quotes
 pub mod Reading
 pub mod Records
 pub mod Rows

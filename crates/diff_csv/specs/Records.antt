@@ -5,18 +5,15 @@
 -- and all three records are rows.
 use Rattle.std.specs.Fmt.{decimal}
 use Rattle.std.specs.List.{range_with_len}
-use Rattle.std.specs.Prelude.{◌≡◌, ◌≢◌, if◌then◌else◌, ℕ, Bool, List, [], ◌∷◌, ◌++◌, All, length, map, ⊤}
-use Rattle.csv.specs.Reading.{AreRecords, Reached, default_config, strip_bom}
-use Rattle.csv.specs.declared.parser.Config.{Config}
+use Rattle.std.specs.Prelude.{◌≡◌, ◌≢◌, if◌then◌else◌, ℕ, Bool, true, false, List, [], ◌∷◌, ◌++◌, All, length, map, ⊤}
+use Rattle.csv.specs.Reading.{AreRecords, Reached, strip_bom}
 use Rattle.csv.specs.declared.parser.State.{State}
 use Rattle.csv.specs.declared.parser.State.TheVariants as st
+use Rattle.diff_csv.specs.Options.{config_of, is_delimiter}
+use Rattle.diff_csv.specs.Quotes.{ends_open}
 use Rattle.diff_csv.specs.declared.error.CsvError.{CsvError}
 use Rattle.diff_csv.specs.declared.error.CsvError.TheVariants as error
 use Rattle.diff_csv.specs.declared.options.CsvOptions.{CsvOptions}
-
--- how records are read: as the `csv` crate does by default, but with this byte between fields
-abbrev pub config_of : CsvOptions → Config
-config_of options = record default_config { delimiter = options.delimiter }
 
 -- these are all the records of the text, its header among them; a byte order mark before them is left out
 abbrev pub AreRecordsOf : CsvOptions → List ℕ → List (List (List ℕ)) → Type 0
@@ -52,8 +49,11 @@ pub record HasOtherLength (options : CsvOptions) (text : List ℕ) (expected fou
   pub found_is : found ≡ length other
   pub differ : expected ≢ found
 
--- why a text is not read: a record has another length than the first, a read failed, or an allocation
+-- why a text is not read: an allocation failed, or a read; no text is read with that byte between fields; a record has
+-- another length than the first; or the text ends within quotes
 abbrev pub IsReadFault : CsvOptions → List ℕ → CsvError → Type 0
 IsReadFault options text error.Memory = ⊤
 IsReadFault options text (error.Read cause) = ⊤
+IsReadFault options text error.Delimiter = is_delimiter options.delimiter ≡ false
 IsReadFault options text (error.Length line expected found) = HasOtherLength options text expected found
+IsReadFault options text (error.OpenQuote line) = ends_open options text ≡ true

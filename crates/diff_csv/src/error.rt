@@ -1,9 +1,9 @@
 //! Why a CSV text is not read.
 
+ghost use Rattle.std.specs.Prelude.{◌≡◌};
 ghost use Rattle.csv.specs.Reading.{error_kind};
-ghost use Rattle.diff_csv.specs.Errors.{IsOutOfMemory, TellsFault};
+ghost use Rattle.diff_csv.specs.Errors.{IsOutOfMemory, fault_of_kind};
 
-use crate::lines::line_at;
 use csv::ErrorKind;
 use std::alloc::{AllocError, AllocFailed};
 use std::io;
@@ -20,13 +20,22 @@ pub enum CsvError {
     Read {
         cause: io::Error,
     },
+    /// The byte between fields is a quote, a line feed or a carriage return. Nothing was read.
+    #[error("fields can't be parted by a quote or by the end of a line")]
+    Delimiter,
     /// A record has another number of fields than the first one. `line` is where it begins, counted
     /// as a table's lines are.
-    #[error("the record at line {line} has {found} fields, and the first one has {expected}")]
+    #[error("the record at line {line} has a field count of {found}, and the first of {expected}")]
     Length {
         line: u64,
         expected: u64,
         found: u64,
+    },
+    /// A quote opens in the last record, and the text ends within it. `line` is where this record
+    /// begins, counted as a table's lines are.
+    #[error("the quote that opens in the record at line {line} never ends")]
+    OpenQuote {
+        line: u64,
     },
 }
 
@@ -46,22 +55,13 @@ impl<T: Drop> From<AllocFailed<T>> for CsvError {
     }
 }
 
-/// Returns what an error of the reader of bytes says. Adds `lag` to the line that it names.
-pub(crate) fn fault_of(error: csv::Error, lag: u64) -> CsvError
-    ensures { TellsFault (error_kind error) result }
+/// Returns what an error of the reader of records says.
+pub(crate) fn fault_of(error: csv::Error) -> CsvError
+    ensures { result ≡ fault_of_kind (error_kind error) }
 {
     match error.into_kind() {
         ErrorKind::Io(cause) => CsvError::Read { cause },
-        ErrorKind::UnequalLengths {
-            pos,
-            expected_len,
-            len,
-        } => CsvError::Length {
-            line: line_at(pos, lag),
-            expected: expected_len,
-            found: len,
-        },
-        // Bytes are read with no other error than a refused growth.
+        // Bytes in records of any length are read with no other error than a refused growth.
         _ => CsvError::Memory,
     }
 }

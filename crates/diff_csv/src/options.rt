@@ -1,10 +1,21 @@
 //! How a CSV text is read.
 
+ghost use Rattle.std.specs.Prelude.{◌≡◌};
+ghost use Rattle.diff_csv.specs.Options.{is_delimiter};
+
 /// How a CSV text is read.
 #[derive(Clone, Copy, Debug, PartialEq, Eq)]
 pub struct CsvOptions {
-    /// The byte between fields.
+    /// The byte between fields: any but a quote, a line feed and a carriage return.
     pub delimiter: u8,
     /// Whether the first record names the columns.
     pub has_header: bool,
+}
+
+/// Returns whether a byte may stand between fields: any but a quote, a line feed and a carriage
+/// return.
+pub fn is_delimiter(byte: u8) -> bool
+    ensures { result ≡ is_delimiter byte }
+{
+    !(byte == b'"' || byte == b'\n' || byte == b'\r')
 }

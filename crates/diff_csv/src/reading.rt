@@ -1,46 +1,115 @@
 //! The records of a CSV text, one after another.
+//!
+//! The reader of the `csv` crate takes a text that ends within quotes as if they ended there. So it
+//! reads a mark behind the text, a line feed and a quote. Where the text ends outside quotes, this
+//! makes one record more, of one empty field. Where it ends within quotes, the line feed joins the
+//! field that is open, so that the last record is another.
 
-ghost use Rattle.std.specs.Prelude.{◌≡◌, [], ℕ, List, Some, None, IfErr, MatchResult};
-ghost use Rattle.csv.specs.Reading.{Ready, expected_len};
+ghost use Rattle.std.specs.Prelude.{◌≡◌, ◌↔◌, ◌++◌, ◌∷◌, [], true, ℕ, List, Some, IfErr, IfOk, MatchResult};
 ghost use Rattle.csv.specs.Records.{fields_of};
-ghost use Rattle.diff_csv.specs.Errors.{IsNotLength};
-ghost use Rattle.diff_csv.specs.Reading.{IsReading, ReadsOne};
+ghost use Rattle.diff_csv.specs.Errors.{IsNoRecord, IsStop};
+ghost use Rattle.diff_csv.specs.Options.{is_delimiter};
+ghost use Rattle.diff_csv.specs.Quotes.{mark, mark_fields};
+ghost use Rattle.diff_csv.specs.Reading.{HasRead, HasReadOne, IsReading, ReadsOne, marked_remaining};
 ghost use Rattle.diff_csv.specs.Records.{IsReadFault};
 ghost use Rattle.diff_csv.specs.declared.options.CsvOptions.{CsvOptions};
 
 use crate::error::{CsvError, fault_of};
+use crate::lines::{lag_behind, line_at};
 use crate::options::CsvOptions;
 use csv::{ByteRecord, Reader, ReaderBuilder};
 use std::alloc::Global;
-use std::io::Read;
+use std::io::{Chain, Read};
+use std::mem;
 
-/// Returns a reader of records that all have the length of the first one.
-pub(crate) fn reader_of<R: Read>(alloc: Global, input: R, options: CsvOptions) -> Reader<R>
-    ensures starts { (text : List ℕ) → R.remaining input ≡ Some text → IsReading R.remaining options text result [] }
-    ensures ready { Ready result }
-    ensures first { expected_len result ≡ None }
+/// What is read behind a text.
+const MARK: &[u8] = b"\n\"";
+
+/// Returns whether a record is what the mark alone makes: one empty field.
+fn is_mark(row: &ByteRecord) -> bool
+    ensures { (result ≡ true) ↔ (fields_of row.now ≡ mark_fields) }
+{
+    match row.get(0) {
+        Some(field) => row.len() == 1 && field.is_empty(),
+        None => false,
+    }
+}
+
+/// Returns a reader of the records of a text, of any lengths, with the mark behind it.
+fn reader_of<R: Read>(
+    alloc: Global,
+    input: R,
+    options: CsvOptions,
+) -> Reader<Chain<R, &'static [u8]>>
+    ensures { (text : List ℕ) → R.remaining input ≡ Some text → HasRead (marked_remaining R.remaining) options (text ++ mark) result [] }
 {
     ReaderBuilder::new()
         .has_headers(false)
-        .flexible(false)
+        .flexible(true)
         .delimiter(options.delimiter)
-        .from_reader(alloc, input)
+        .from_reader(alloc, input.chain(MARK))
 }
 
-/// Reads the next record into `row`. Returns whether there was one. Adds `lag` to the line that an
-/// error names.
-pub(crate) fn read_row<R: Read>(
-    reader: &mut Reader<R>,
-    row: &mut ByteRecord,
-    lag: u64,
-) -> Result<bool, CsvError>
-    ensures told { MatchResult result
-        (λ found. (options : CsvOptions) (text : List ℕ) (rows : List (List (List ℕ))) → IsReading R.remaining options text reader.old rows → ReadsOne R.remaining options text reader.new rows (fields_of row.new) found)
-        (λ error. (options : CsvOptions) (text : List ℕ) (rows : List (List (List ℕ))) → IsReading R.remaining options text reader.old rows → IsReadFault options text error) }
-    ensures first { IfErr result (λ error. Ready reader.old → expected_len reader.old ≡ None → IsNotLength error) }
+/// Reads the next record into `row`. Returns whether there was one.
+#[inline(always)]
+fn read_record<R: Read>(reader: &mut Reader<R>, row: &mut ByteRecord) -> Result<bool, CsvError>
+    ensures told { IfOk result (λ found. (options : CsvOptions) (text : List ℕ) (rows : List (List (List ℕ))) → HasRead R.remaining options text reader.old rows → HasReadOne R.remaining options text reader.new rows (fields_of row.new) found) }
+    ensures stop { IfErr result IsStop }
 {
     match reader.read_byte_record(row) {
         Ok(found) => Ok(found),
-        Err(error) => Err(fault_of(error, lag)),
+        Err(error) => Err(fault_of(error)),
+    }
+}
+
+/// Records of a text that are given one after another.
+#[derive(Drop)]
+pub(crate) struct Records<R> {
+    reader: Reader<Chain<R, &'static [u8]>>,
+    // The record behind those that were given: the mark's, where the text has no more.
+    ahead: Box<ByteRecord>,
+    // The line at which it begins.
+    line: u64,
+    // How far the reader's lines of later records are behind.
+    lag: u64,
+}
+
+impl<R: Read + Drop> Records<R> {
+    /// Begins a text. No record is given yet.
+    pub(crate) fn new(alloc: Global, input: R, options: CsvOptions) -> Result<Records<R>, CsvError>
+        ensures { MatchResult result (λ records. (text : List ℕ) → R.remaining input ≡ Some text → is_delimiter options.delimiter ≡ true → IsReading R.remaining options text records []) IsStop }
+    {
+        let mut ahead = Box::new(alloc, ByteRecord::new(alloc))?;
+        let mut reader = reader_of(alloc, input, options);
+        // There is a record, if only the mark's.
+        read_record(&mut reader, &mut ahead)?;
+        let line = line_at(ahead.position(), 0);
+        let lag = lag_behind(&ahead, reader.position());
+        Ok(Records {
+            reader,
+            ahead,
+            line,
+            lag,
+        })
+    }
+
+    /// Gives the next record in `row`. Returns the line at which it begins, or `None` where there
+    /// is no more record.
+    pub(crate) fn read(&mut self, row: &mut Box<ByteRecord>) -> Result<Option<u64>, CsvError>
+        ensures told { MatchResult result
+            (λ line. (options : CsvOptions) (text : List ℕ) (rows : List (List (List ℕ))) → IsReading R.remaining options text self.old rows → ReadsOne R.remaining options text self.new rows (fields_of row.new.value) line)
+            (λ error. (options : CsvOptions) (text : List ℕ) (rows : List (List (List ℕ))) → IsReading R.remaining options text self.old rows → IsReadFault options text error) }
+        ensures fault { IfErr result IsNoRecord }
+    {
+        let line = self.line;
+        mem::swap(row, &mut self.ahead);
+        if read_record(&mut self.reader, &mut self.ahead)? {
+            self.line = line_at(self.ahead.position(), self.lag);
+            return Ok(Some(line));
+        }
+        if is_mark(row) {
+            return Ok(None);
+        }
+        Err(CsvError::OpenQuote { line })
     }
 }

@@ -6,7 +6,6 @@ ghost use Rattle.diff_tables.specs.Keys.{cells_at};
 ghost use Rattle.diff_tables.specs.Strings.{AreStrings};
 ghost use Rattle.diff_csv.specs.Rows.{HoldsRows};
 
-use crate::lines::line_at;
 use csv::ByteRecord;
 use diff_tables::strings::Strings;
 use std::alloc::{AllocError, Global};
@@ -48,17 +47,17 @@ impl Rows {
         Ok(Rows { cells, lines })
     }
 
-    /// Appends the row of a record: its cells in these columns, and its line plus `lag`.
+    /// Appends the row of a record: its cells in these columns, and the line at which it begins.
     pub(crate) fn push(
         &mut self,
         row: &ByteRecord,
         columns: &[usize],
-        lag: u64,
+        line: u64,
     ) -> Result<(), AllocError>
         ensures { OnOk result ((rows : List (List (List ℕ))) → HoldsRows columns.now self.old rows → HoldsRows columns.now self.new (rows ++ fields_of row.now ∷ [])) }
     {
         push_cells(&mut self.cells, row, columns)?;
-        self.lines.push(line_at(row.position(), lag))?;
+        self.lines.push(line)?;
         Ok(())
     }
 }

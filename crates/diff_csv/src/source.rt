@@ -1,10 +1,11 @@
 //! A CSV text from its first record on.
 
-ghost use Rattle.std.specs.Prelude.{◌≡◌, [], ◌∷◌, ℕ, List, Some, IfErr, IfOk, MatchResult};
+ghost use Rattle.std.specs.Prelude.{◌≡◌, [], ◌∷◌, ℕ, List, Some, true, length, IfErr, IfOk, MatchResult};
 ghost use Rattle.csv.specs.Records.{fields_of};
 ghost use Rattle.polars_arrays_bits.specs.Errors.{IsMemory};
 ghost use Rattle.polars_arrays_bytes.specs.OffsetStrings.{offset_strings};
-ghost use Rattle.diff_csv.specs.Errors.{IsNotLength, IsOutOfMemory};
+ghost use Rattle.diff_csv.specs.Errors.{IsNotLength, IsOtherLength, IsOutOfMemory, TellsDelimiter};
+ghost use Rattle.diff_csv.specs.Options.{is_delimiter};
 ghost use Rattle.diff_csv.specs.Reading.{IsOpen, IsReading};
 ghost use Rattle.diff_csv.specs.Records.{AreRecordsOf, IsReadFault, data_rows, names_of};
 ghost use Rattle.diff_csv.specs.Rows.{HoldsRows, ReadsAll};
@@ -12,12 +13,12 @@ ghost use Rattle.diff_csv.specs.Tables.{HasShape, IsTableOf, IsTableWith};
 ghost use Rattle.diff_csv.specs.declared.options.CsvOptions.{CsvOptions};
 
 use crate::error::CsvError;
-use crate::lines::lag_behind;
+use crate::lines::line_at;
 use crate::names::{field_names, number_names};
-use crate::options::CsvOptions;
-use crate::reading::{read_row, reader_of};
+use crate::options::{CsvOptions, is_delimiter};
+use crate::reading::Records;
 use crate::rows::Rows;
-use csv::{ByteRecord, Reader};
+use csv::ByteRecord;
 use diff_tables::table::Table;
 use polars_arrays_bits::error::ComputeError;
 use polars_arrays_bytes::binary::BinaryArray;
@@ -61,30 +62,45 @@ fn first_rows(
     if has_header {
         return Ok(rows);
     }
-    rows.push(first, columns, 0)?;
+    rows.push(first, columns, line_at(first.position(), 0))?;
     Ok(rows)
 }
 
-/// Reads all rows from a first record on, which is a row itself where there is no header. Adds
-/// `lag` to the lines of the later records.
+/// Checks that a record has `width` fields. `line` is where it begins.
+fn check_length(row: &ByteRecord, width: usize, line: u64) -> Result<(), CsvError>
+    ensures { MatchResult result (λ _. length (fields_of row.now) ≡ width) (IsOtherLength line width (length (fields_of row.now))) }
+{
+    let found = row.len();
+    if found == width {
+        return Ok(());
+    }
+    Err(CsvError::Length {
+        line,
+        expected: width as u64,
+        found: found as u64,
+    })
+}
+
+/// Reads all rows from a first record on, which is a row itself where there is no header.
 fn read_rows<R: Read + Drop>(
     alloc: Global,
-    mut reader: Reader<R>,
+    mut records: Records<R>,
     first: ByteRecord,
     has_header: bool,
     columns: &[usize],
-    lag: u64,
 ) -> Result<Rows, CsvError>
-    ensures { MatchResult result (ReadsAll R.remaining has_header columns.now reader (fields_of first))
-        (λ error. (options : CsvOptions) (text : List ℕ) → IsReading R.remaining options text reader (fields_of first ∷ []) → IsReadFault options text error) }
+    ensures { MatchResult result (ReadsAll R.remaining has_header columns.now records (fields_of first))
+        (λ error. (options : CsvOptions) (text : List ℕ) → IsReading R.remaining options text records (fields_of first ∷ []) → IsReadFault options text error) }
 {
+    let width = first.len();
     let mut rows = first_rows(alloc, &first, has_header, columns)?;
-    let mut row = first;
+    let mut row = Box::new(alloc, first)?;
     for _ in 0..u64::MAX {
-        if !read_row(&mut reader, &mut row, lag)? {
+        let Some(line) = records.read(&mut row)? else {
             return Ok(rows);
-        }
-        rows.push(&row, columns, lag)?;
+        };
+        check_length(&row, width, line)?;
+        rows.push(&row, columns, line)?;
     }
     // No memory holds so many rows.
     Err(CsvError::Memory)
@@ -93,38 +109,40 @@ fn read_rows<R: Read + Drop>(
 /// A CSV text whose first record is read.
 #[derive(Drop)]
 pub struct Source<R> {
-    reader: Reader<R>,
+    // The records behind the first one.
+    records: Records<R>,
     // The first record, unless the text has none.
     first: Option<ByteRecord>,
     has_header: bool,
-    // How far the reader's lines of later records are behind.
-    lag: u64,
 }
 
 impl<R: Read + Drop> Source<R> {
-    /// Reads the first record of a text. Fails with `Read` where the reader fails, and else only
-    /// with `Memory`.
+    /// Reads the first record of a text. Fails with `Delimiter` exactly where the byte between
+    /// fields may not stand there, with `OpenQuote` only where the text ends within quotes that
+    /// open in the first record, with `Read` where the reader fails, and else only with `Memory`.
     pub fn open(alloc: Global, input: R, options: CsvOptions) -> Result<Source<R>, CsvError>
         ensures opened { IfOk result (λ source. (text : List ℕ) → R.remaining input ≡ Some text → IsOpen R.remaining options text source) }
         ensures fault { IfErr result IsNotLength }
+        ensures delimiter { MatchResult result (λ _. is_delimiter options.delimiter ≡ true) (TellsDelimiter (is_delimiter options.delimiter)) }
+        ensures trouble { IfErr result (λ error. (text : List ℕ) → R.remaining input ≡ Some text → IsReadFault options text error) }
     {
-        let mut reader = reader_of(alloc, input, options);
-        let mut row = ByteRecord::new(alloc);
+        if !is_delimiter(options.delimiter) {
+            return Err(CsvError::Delimiter);
+        }
         let has_header = options.has_header;
-        if !read_row(&mut reader, &mut row, 0)? {
+        let mut records = Records::new(alloc, input, options)?;
+        let mut row = Box::new(alloc, ByteRecord::new(alloc))?;
+        let Some(_) = records.read(&mut row)? else {
             return Ok(Source {
-                reader,
+                records,
                 first: None,
                 has_header,
-                lag: 0,
             });
-        }
-        let lag = lag_behind(&row, reader.position());
+        };
         Ok(Source {
-            reader,
-            first: Some(row),
+            records,
+            first: Some(Box::into_inner(row)),
             has_header,
-            lag,
         })
     }
 
@@ -146,7 +164,8 @@ impl<R: Read + Drop> Source<R> {
     }
 
     /// Reads the rows, each with its cells in these columns: an empty one where a record has no
-    /// such column. Fails with `Length` only at a record of another length than the first one's.
+    /// such column. Fails with `Length` only at a record of another length than the first one's,
+    /// with `OpenQuote` only where the text ends within quotes, and never with `Delimiter`.
     pub fn read(self, alloc: Global, columns: &[usize]) -> Result<CsvTable, CsvError>
         ensures shape { IfOk result (HasShape columns.now) }
         ensures table { MatchResult result
@@ -154,17 +173,16 @@ impl<R: Read + Drop> Source<R> {
             (λ error. (options : CsvOptions) (text : List ℕ) → IsOpen R.remaining options text self → IsReadFault options text error) }
     {
         let Source {
-            reader,
+            records,
             first,
             has_header,
-            lag,
         } = self;
         let Some(row) = first else {
             let none = Rows::new(alloc)?;
             let table = table_of(alloc, none, columns)?;
             return Ok(table);
         };
-        let rows = read_rows(alloc, reader, row, has_header, columns, lag)?;
+        let rows = read_rows(alloc, records, row, has_header, columns)?;
         let table = table_of(alloc, rows, columns)?;
         Ok(table)
     }

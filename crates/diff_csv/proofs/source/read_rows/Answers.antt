@@ -1,28 +1,44 @@
-use Rattle.std.proofs.Common.{◌++◌, ◌∷◌, [], subst}
+use Rattle.std.proofs.Common.{◌≡◌, ◌++◌, ◌∷◌, ◌∙◌, [], ℕ, List, length, subst, ap, sym}
+use Rattle.std.proofs.lemmas.List.Elements.{All-nil, All-push}
 use Rattle.std.proofs.lemmas.Result.{err_from_is_err_and}
-use Rattle.csv.specs.Records.{fields_of}
+use Rattle.csv.specs.Records.{Row, fields_of}
 use Rattle.diff_csv.specs.Records.{data_rows}
 use Rattle.diff_csv.specs.Rows.{HoldsRows}
+use Rattle.diff_csv.proofs.ReadingLemmas.{other_length}
 use Rattle.diff_csv.proofs.RowLemmas.{data_push}
 use Rattle.diff_csv.proofs.source.read_rows.Goals as goal
 
 pub loop-init : goal.loop-init
-loop-init g c = record { more = []; held = c.in_ok-rows.ensures; reading = λ options text h. h }
+loop-init g c = record {
+  more = [];
+  held = c.in_ok-rows.ensures;
+  one_length = All-nil (λ (r : List (List ℕ)). length r ≡ length (fields_of c.args.first));
+  reading = λ options text h. h;
+}
 
-pub returns-in_err-read_row : goal.returns-in_err-read_row
-returns-in_err-read_row g c =
+pub returns-in_err-line : goal.returns-in_err-line
+returns-in_err-line g c =
     let before = c.loop.invariant in
-    let p = err_from_is_err_and c.from_residual-in_err-read_row.result c.from_residual-in_err-read_row.ensures.1 in
-    rw (p.1, p.2) (λ options text h. c.in_err-read_row.ensures.told options text (fields_of c.args.first ∷ before.more) (before.reading options text h))
+    let p = err_from_is_err_and c.from_residual-in_err-line.result c.from_residual-in_err-line.ensures.1 in
+    rw (p.1, p.2) (λ options text h. c.in_err-line.ensures.told options text (fields_of c.args.first ∷ before.more) (before.reading options text h))
 
-pub returns-then-not-branch : goal.returns-then-not-branch
-returns-then-not-branch g c =
+pub returns-in_default : goal.returns-in_default
+returns-in_default g c =
     let before = c.loop.invariant in
     record {
       more = before.more;
       held = before.held;
-      all = λ options text h. rw c.if-not-branch.true at (c.in_ok-read_row.ensures.told options text (fields_of c.args.first ∷ before.more) (before.reading options text h));
+      one_length = before.one_length;
+      all = λ options text h. rw c.in_default.is at (c.in_ok-line.ensures.told options text (fields_of c.args.first ∷ before.more) (before.reading options text h));
     }
+
+pub returns-in_err-check_length : goal.returns-in_err-check_length
+returns-in_err-check_length g c =
+    let before = c.loop.invariant in
+    let p = err_from_is_err_and c.from_residual-in_err-check_length.result c.from_residual-in_err-check_length.ensures.1 in
+    rw (p.1, p.2) (λ options text h.
+    other_length g.R.Read.remaining options text c.read.new.self (fields_of c.args.first) before.more (fields_of c.read.new.row.value) c.in-Some.line c.len-width.result _ _
+    (rw c.in-Some.is at (c.in_ok-line.ensures.told options text (fields_of c.args.first ∷ before.more) (before.reading options text h))) before.one_length c.len-width.ensures (ap (λ (r : Row). length (fields_of r)) c.deref.ensures) c.in_err-check_length.ensures)
 
 pub returns-in_err-push : goal.returns-in_err-push
 returns-in_err-push g c =
@@ -33,10 +49,11 @@ pub loop-preserved : goal.loop-preserved
 loop-preserved g c =
     let before = c.loop.invariant in
     let first = fields_of c.args.first in
-    let next = fields_of c.read_row.new.row in
+    let next = fields_of c.read.new.row.value in
     record {
       more = before.more ++ next ∷ [];
       held = subst (λ rs. HoldsRows c.args.columns.now c.push.new.self rs) (data_push c.args.has_header first before.more next)
-          (c.in_ok-push.ensures (data_rows c.args.has_header (first ∷ before.more)) before.held);
-      reading = λ options text h. rw c.if-not-branch.false at (c.in_ok-read_row.ensures.told options text (fields_of c.args.first ∷ before.more) (before.reading options text h));
+          (rw c.deref-in-loop.ensures at (c.in_ok-push.ensures (data_rows c.args.has_header (first ∷ before.more)) before.held));
+      one_length = All-push (λ (r : List (List ℕ)). length r ≡ length first) before.more next before.one_length (ap (λ (r : Row). length (fields_of r)) (sym c.deref.ensures) ∙ (c.in_ok-check_length.ensures ∙ c.len-width.ensures));
+      reading = λ options text h. rw c.in-Some.is at (c.in_ok-line.ensures.told options text (fields_of c.args.first ∷ before.more) (before.reading options text h));
     }

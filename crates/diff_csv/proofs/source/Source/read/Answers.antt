@@ -1,4 +1,5 @@
 use Rattle.std.proofs.Common.{◌∷◌, [], subst}
+use Rattle.std.proofs.lemmas.Result.{err_from_is_err_and}
 use Rattle.csv.specs.Records.{fields_of}
 use Rattle.diff_csv.specs.Records.{data_rows}
 use Rattle.diff_csv.specs.Tables.{IsTableWith}
@@ -14,8 +15,9 @@ returns-in_default-clause-shape g c = shape_of c.args.columns.now [] _ (c.in_ok-
 pub returns-in_default-clause-table : goal.returns-in_default-clause-table
 returns-in_default-clause-table g c = λ options text opened. record {
   records = [];
-  all = rw c.in_default.is at opened.begun;
+  all = (rw c.in_default.is at opened.begun).0;
   one_length = tt;
+  closed = (rw c.in_default.is at opened.begun).1;
   table = c.in_ok-table.ensures [] (c.in_ok-none.ensures c.args.columns.now);
 }
 
@@ -33,7 +35,13 @@ returns-clause-table g c = λ options text opened.
     record {
       records = records;
       all = all.0;
-      one_length = all.1;
+      one_length = kept.one_length;
+      closed = all.1;
       table = subst (λ b. IsTableWith c.args.columns.now (data_rows b (fields_of c.in-Some.row ∷ c.in_ok-rows.ensures.more)) c.in_ok-table-2.table) opened.header
           (c.in_ok-table-2.ensures (data_rows c.args.self.has_header records) kept.held);
     }
+
+pub returns-in_err-rows-clause-table : goal.returns-in_err-rows-clause-table
+returns-in_err-rows-clause-table g c =
+    let p = err_from_is_err_and c.from_residual-in_err-rows.result c.from_residual-in_err-rows.ensures.1 in
+    rw (p.1, p.2) (λ options text opened. c.in_err-rows.ensures options text (rw c.in-Some.is at opened.begun))
