@@ -1,8 +1,9 @@
--- What rows and cells are named by.
-use Rattle.std.specs.Prelude.{ℕ, List, Option}
+-- What rows and cells are named by, and whether in colours.
+use Rattle.std.specs.Prelude.{ℕ, Bool, List, Option}
 
--- the names of the columns, the key columns, and the cell that stands for no value, where there is one
+-- the names of the columns, the key columns, the cell that stands for no value, where there is one, and whether there are colours
 pub record Naming : Type 0 where
   pub names : List (List ℕ)
   pub keys : List ℕ
   pub null : Option (List ℕ)
+  pub colored : Bool

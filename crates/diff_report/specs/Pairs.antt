@@ -5,7 +5,9 @@ use Rattle.std.specs.List.{range_with_len}
 use Rattle.std.specs.Prelude.{ℕ, Bool, not, List, [], ◌∷◌, ◌++◌, filter, get_or, codes}
 use Rattle.std.specs.Str.{bytes_eq}
 use Rattle.diff_words.specs.Cells.{cell_text}
+use Rattle.diff_words.specs.Colors.{painted}
 use Rattle.diff_words.specs.Words.{word_text}
+use Rattle.diff_words.specs.declared.colors.Color.TheVariants.{Red, Green}
 use Rattle.diff_report.specs.Naming.{Naming}
 
 -- two rows differ in a column
@@ -18,4 +20,5 @@ columns_apart width left right = filter (differ_at left right) (range_with_len 0
 
 -- the name of a column, and the two cells in it
 abbrev pub change_text : Naming → List (List ℕ) → List (List ℕ) → ℕ → List ℕ
-change_text n left right column = word_text (get_or n.names column []) ++ 32 ∷ [] ++ cell_text n.null (get_or left column []) ++ codes " -> " ++ cell_text n.null (get_or right column [])
+change_text n left right column = word_text (get_or n.names column []) ++ 32 ∷ [] ++ painted n.colored Red (cell_text n.null (get_or left column []))
+    ++ codes " -> " ++ painted n.colored Green (cell_text n.null (get_or right column []))

@@ -11,7 +11,7 @@ use Rattle.diff_report.specs.declared.sides.Sides.{Sides}
 
 -- what the rows and cells of two tables are named by
 abbrev pub naming_of : Sides → Naming
-naming_of s = record { names = offset_strings (λ x. x) s.names; keys = s.keys.items; null = option_map (λ v. v.items) s.null }
+naming_of s = record { names = offset_strings (λ x. x) s.names; keys = s.keys.items; null = option_map (λ v. v.items) s.null; colored = s.colored }
 
 -- row i of a table
 abbrev pub row_of : Side → ℕ → List (List ℕ)

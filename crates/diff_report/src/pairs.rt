@@ -6,7 +6,8 @@ ghost use Rattle.diff_report.specs.Pairs.{change_text, columns_apart, differ_at}
 ghost use Rattle.diff_report.specs.Sides.{AreSides, naming_of, row_of};
 
 use crate::sides::Sides;
-use diff_words::cells::push_cell;
+use diff_words::cells::push_painted_cell;
+use diff_words::colors::Color;
 use diff_words::lists::push_gap;
 use diff_words::words::push_word;
 use polars_arrays_flat::byte_rows::ByteRows;
@@ -39,9 +40,11 @@ fn push_change(
 {
     push_word(out, sides.names.bytes(column))?;
     out.push(b' ')?;
-    push_cell(out, &sides.null, sides.left.table.cell(i, column))?;
+    let left = sides.left.table.cell(i, column);
+    let right = sides.right.table.cell(j, column);
+    push_painted_cell(out, sides.colored, Color::Red, &sides.null, left)?;
     out.extend_from_slice(b" -> ")?;
-    push_cell(out, &sides.null, sides.right.table.cell(j, column))?;
+    push_painted_cell(out, sides.colored, Color::Green, &sides.null, right)?;
     Ok(())
 }
 

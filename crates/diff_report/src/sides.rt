@@ -25,4 +25,6 @@ pub struct Sides {
     pub keys: Vec<usize>,
     /// The cell that stands for no value, where there is one.
     pub null: Option<Vec<u8>>,
+    /// Whether the report has colours for a terminal.
+    pub colored: bool,
 }

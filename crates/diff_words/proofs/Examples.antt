@@ -1,14 +1,21 @@
 -- Worked examples of the definitions.
-use Rattle.std.specs.Prelude.{◌≡◌, [], ◌∷◌, Some, codes, refl}
+use Rattle.std.specs.Prelude.{◌≡◌, ◌++◌, [], ◌∷◌, true, false, Some, codes, refl}
 use Rattle.diff_words.specs.Cells.{cell_text}
+use Rattle.diff_words.specs.Colors.{color_text, painted}
 use Rattle.diff_words.specs.Lists.{listed}
 use Rattle.diff_words.specs.Quoted.{byte_text, quoted}
 use Rattle.diff_words.specs.Words.{word_text}
+use Rattle.diff_words.specs.declared.colors.Color.TheVariants.{Red}
 
 -- the bytes a, ", line feed and 27
 quoted-bytes : quoted (97 ∷ 34 ∷ 10 ∷ 27 ∷ []) ≡ codes "\"a\\\"\\n\\x1b\""
 unfolding quoted byte_text
 quoted-bytes = refl
+
+-- the bytes of U+009B and of U+00B0, a degree sign
+high-bytes : quoted (194 ∷ 155 ∷ 194 ∷ 176 ∷ []) ≡ 34 ∷ codes "\\xc2\\x9b" ++ 194 ∷ 176 ∷ 34 ∷ []
+unfolding quoted byte_text
+high-bytes = refl
 
 -- a word needs no quotes
 word-is-bare : word_text (codes "4411") ≡ codes "4411"
@@ -39,3 +46,13 @@ other-cell = refl
 three-listed : listed (codes ", ") (codes "a" ∷ codes "b" ∷ codes "c" ∷ []) ≡ codes "a, b, c"
 unfolding listed
 three-listed = refl
+
+-- a red text
+red-text : painted true Red (codes "ab") ≡ 27 ∷ codes "[31mab" ++ 27 ∷ codes "[0m"
+unfolding painted color_text
+red-text = refl
+
+-- the same without colours
+bare-text : painted false Red (codes "ab") ≡ codes "ab"
+unfolding painted color_text
+bare-text = refl

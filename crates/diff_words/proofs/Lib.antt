@@ -1,4 +1,5 @@
 mod Examples
+pub mod HighLaws
 pub mod ListLemmas
 pub mod PlainLaws
 pub mod QuotedLemmas

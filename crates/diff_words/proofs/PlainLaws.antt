@@ -1,14 +1,17 @@
--- Laws: the texts of words and cells have no control character of ASCII.
+-- Laws: the texts of words and cells have no control character of ASCII, and without colours a text is as it is.
 use Rattle.std.proofs.Common.{◌≡◌, ◌<◌, ◌/◌, ◌%◌, ℕ, Bool, true, false, cond, List, [], ◌∷◌, ◌++◌, Option, Some, None, arith, ap, sym, refl}
 use Rattle.std.proofs.lemmas.Bool.Decides.{nat_tests}
+use Rattle.std.proofs.lemmas.List.{append-nil}
 use Rattle.std.proofs.lemmas.List.Elements.{All-append, All-cons, All-nil, All-weaker}
 use Rattle.std.proofs.lemmas.List.Sums.{AllPass-from_list_all}
 use Rattle.std.specs.Fmt.{digit_glyph}
-use Rattle.std.specs.List.{flat_map, list_all}
-use Rattle.std.specs.Prelude.{All, length, codes, ◌==◌, not, ◌&&◌}
+use Rattle.std.specs.List.{list_all}
+use Rattle.std.specs.Prelude.{All, get_or, length, codes, ◌==◌, not, ◌&&◌}
 use Rattle.diff_words.specs.Cells.{cell_text, is_null}
-use Rattle.diff_words.specs.Quoted.{byte_text, hex_text, is_control, letter_of, quoted, text_by}
+use Rattle.diff_words.specs.Colors.{color_text, painted}
+use Rattle.diff_words.specs.Quoted.{byte_text, hex_text, is_control, is_hidden, letter_of, quoted, text_by, texts_behind}
 use Rattle.diff_words.specs.Words.{is_word, is_word_byte, word_text}
+use Rattle.diff_words.specs.declared.colors.Color.{Color}
 
 -- no byte is a control character of ASCII
 abbrev pub IsPlain : List ℕ → Type 0
@@ -34,35 +37,38 @@ plain_letter false false false false false letter e = absurd (cc)
 plain_digit : (d : ℕ) → d < 16 → is_control (digit_glyph false d) ≡ false
 plain_digit d low = grind (arith, nat_tests)
 
-control_low : (b : ℕ) → is_control b ≡ true → b < 128
-control_low b h = grind (arith, nat_tests)
+pub hidden_low : (before b after : ℕ) → is_hidden before b after ≡ true → b < 256
+hidden_low before b after h = grind (arith, nat_tests)
 
-plain_hex : (b : ℕ) → b < 128 → IsPlain (hex_text b)
+bare_plain : (before b after : ℕ) → is_hidden before b after ≡ false → is_control b ≡ false
+bare_plain before b after h = grind (arith, nat_tests)
+
+plain_hex : (b : ℕ) → b < 256 → IsPlain (hex_text b)
 plain_hex b low =
     let high = digit_glyph false (b / 16) in
     let rest = digit_glyph false (b % 16) in
     plain_cons 92 (120 ∷ high ∷ rest ∷ []) refl
     (plain_cons 120 (high ∷ rest ∷ []) refl (plain_cons high (rest ∷ []) (plain_digit (b / 16) (omega arith)) (plain_cons rest [] (plain_digit (b % 16) (omega arith)) plain_nil)))
 
-plain_choice : (b : ℕ) (control : Bool) → is_control b ≡ control → IsPlain (cond control (hex_text b) (b ∷ []))
-plain_choice b true e = plain_hex b (control_low b e)
-plain_choice b false e = plain_cons b [] e plain_nil
+plain_choice : (before b after : ℕ) (hidden : Bool) → is_hidden before b after ≡ hidden → IsPlain (cond hidden (hex_text b) (b ∷ []))
+plain_choice before b after true e = plain_hex b (hidden_low before b after e)
+plain_choice before b after false e = plain_cons b [] (bare_plain before b after e) plain_nil
 
-plain_by : (o : Option ℕ) (b : ℕ) → ((letter : ℕ) → o ≡ Some letter → is_control letter ≡ false) → IsPlain (text_by o b)
-plain_by (Some letter) b h = plain_cons 92 (letter ∷ []) refl (plain_cons letter [] (h letter refl) plain_nil)
-plain_by None b h = plain_choice b (is_control b) refl
+plain_by : (o : Option ℕ) (before b after : ℕ) → ((letter : ℕ) → o ≡ Some letter → is_control letter ≡ false) → IsPlain (text_by o (is_hidden before b after) b)
+plain_by (Some letter) before b after h = plain_cons 92 (letter ∷ []) refl (plain_cons letter [] (h letter refl) plain_nil)
+plain_by None before b after h = plain_choice before b after (is_hidden before b after) refl
 
-plain_byte : (b : ℕ) → IsPlain (byte_text b)
+plain_byte : (before b after : ℕ) → IsPlain (byte_text before b after)
 unfolding byte_text
-plain_byte b = plain_by (letter_of b) b (λ letter e. plain_letter (b == 34) (b == 92) (b == 10) (b == 13) (b == 9) letter e)
+plain_byte before b after = plain_by (letter_of b) before b after (λ letter e. plain_letter (b == 34) (b == 92) (b == 10) (b == 13) (b == 9) letter e)
 
-plain_texts : (bytes : List ℕ) → IsPlain (flat_map byte_text bytes)
-plain_texts [] = plain_nil
-plain_texts (b ∷ bs) = plain_append (byte_text b) (flat_map byte_text bs) (plain_byte b) (plain_texts bs)
+plain_texts : (before : ℕ) (bytes : List ℕ) → IsPlain (texts_behind before bytes)
+plain_texts before [] = plain_nil
+plain_texts before (b ∷ bs) = plain_append (byte_text before b (get_or bs 0 0)) (texts_behind b bs) (plain_byte before b (get_or bs 0 0)) (plain_texts b bs)
 
 pub quoted_plain : (bytes : List ℕ) → IsPlain (quoted bytes)
 unfolding quoted
-quoted_plain bytes = plain_cons 34 (flat_map byte_text bytes ++ 34 ∷ []) refl (plain_append (flat_map byte_text bytes) (34 ∷ []) (plain_texts bytes) (plain_cons 34 [] refl plain_nil))
+quoted_plain bytes = plain_cons 34 (texts_behind 0 bytes ++ 34 ∷ []) refl (plain_append (texts_behind 0 bytes) (34 ∷ []) (plain_texts 0 bytes) (plain_cons 34 [] refl plain_nil))
 
 word_byte_plain : (b : ℕ) → is_word_byte b ≡ true → is_control b ≡ false
 word_byte_plain b h = grind (arith, nat_tests)
@@ -88,3 +94,7 @@ cell_plain cell false = quoted_plain cell
 pub cell_text_plain : (null : Option (List ℕ)) (cell : List ℕ) → IsPlain (cell_text null cell)
 unfolding cell_text
 cell_text_plain null cell = cell_plain cell (is_null null cell)
+
+pub painted_bare : (color : Color) (text : List ℕ) → painted false color text ≡ text
+unfolding painted color_text
+painted_bare color text = append-nil text

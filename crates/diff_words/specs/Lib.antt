@@ -1,4 +1,5 @@
 pub mod Cells
+pub mod Colors
 pub mod Lists
 pub mod Quoted
 pub mod Words

@@ -1,9 +1,8 @@
--- Byte strings between quotes, whose text has no control character of ASCII.
+-- Byte strings between quotes, whose text has no control character.
 --
--- The bytes a, ", line feed and 27 have the text "a\"\n\x1b".
+-- The bytes a, ", line feed and 27 have the text "a\"\n\x1b", and those of U+009B have the text "\xc2\x9b".
 use Rattle.std.specs.Fmt.{digit_glyph}
-use Rattle.std.specs.List.{flat_map}
-use Rattle.std.specs.Prelude.{ℕ, ◌/◌, ◌%◌, ◌==◌, Bool, false, ◌||◌, nat_lt, if◌then◌else◌, List, [], ◌∷◌, ◌++◌, Option, Some, None}
+use Rattle.std.specs.Prelude.{ℕ, ◌/◌, ◌%◌, ◌==◌, Bool, false, ◌&&◌, ◌||◌, nat_lt, if◌then◌else◌, List, [], ◌∷◌, ◌++◌, get_or, Option, Some, None}
 
 -- the letter that stands behind a backslash for a quote, a backslash, a line feed, a carriage return and a tab
 abbrev pub letter_of : ℕ → Option ℕ
@@ -17,15 +16,28 @@ is_control b = nat_lt b 32 || b == 127
 abbrev pub hex_text : ℕ → List ℕ
 hex_text b = 92 ∷ 120 ∷ digit_glyph false (b / 16) ∷ digit_glyph false (b % 16) ∷ []
 
--- a byte with this letter, or without one
-abbrev pub text_by : Option ℕ → ℕ → List ℕ
-text_by (Some letter) b = 92 ∷ letter ∷ []
-text_by None b = if is_control b then hex_text b else b ∷ []
+-- two bytes that are a control character from U+0080 to U+009F in UTF-8
+abbrev pub is_high_control : ℕ → ℕ → Bool
+is_high_control first second = first == 194 && nat_lt 127 second && nat_lt second 160
 
--- a byte of a quoted text
-unfoldable pub byte_text : ℕ → List ℕ
-byte_text b = text_by (letter_of b) b
+-- a byte between two others is a control character, or half of one
+abbrev pub is_hidden : ℕ → ℕ → ℕ → Bool
+is_hidden before b after = is_control b || is_high_control before b || is_high_control b after
+
+-- a byte with this letter, or without one
+abbrev pub text_by : Option ℕ → Bool → ℕ → List ℕ
+text_by (Some letter) hidden b = 92 ∷ letter ∷ []
+text_by None hidden b = if hidden then hex_text b else b ∷ []
+
+-- a byte of a quoted text, between two others
+unfoldable pub byte_text : ℕ → ℕ → ℕ → List ℕ
+byte_text before b after = text_by (letter_of b) (is_hidden before b after) b
+
+-- the bytes of a quoted text that stand behind another one, where 0 stands for none
+abbrev pub texts_behind : ℕ → List ℕ → List ℕ
+texts_behind before [] = []
+texts_behind before (b ∷ bs) = byte_text before b (get_or bs 0 0) ++ texts_behind b bs
 
 -- a byte string between quotes
 unfoldable pub quoted : List ℕ → List ℕ
-quoted bytes = 34 ∷ flat_map byte_text bytes ++ 34 ∷ []
+quoted bytes = 34 ∷ texts_behind 0 bytes ++ 34 ∷ []

@@ -3,7 +3,9 @@
 ghost use Rattle.std.specs.Option.{option_map};
 ghost use Rattle.std.specs.Prelude.{◌≡◌, ◌++◌, OnOk};
 ghost use Rattle.diff_words.specs.Cells.{cell_text, is_null};
+ghost use Rattle.diff_words.specs.Colors.{painted};
 
+use crate::colors::{Color, push_color};
 use crate::quoted::push_quoted;
 use std::alloc::AllocError;
 
@@ -27,5 +29,22 @@ pub fn push_cell(out: &mut Vec<u8>, null: &Option<Vec<u8>>, cell: &[u8]) -> Resu
         return Ok(());
     }
     push_quoted(out, cell)?;
+    Ok(())
+}
+
+/// Appends a cell in a colour, where there are colours.
+#[tactic(auto, unfolding(crate::specs::Colors::painted))]
+pub fn push_painted_cell(
+    out: &mut Vec<u8>,
+    colored: bool,
+    color: Color,
+    null: &Option<Vec<u8>>,
+    cell: &[u8],
+) -> Result<(), AllocError>
+    ensures { OnOk result (out.new.items ≡ out.old.items ++ painted colored color (cell_text (option_map (λ v. v.items) null.now) cell.now)) }
+{
+    push_color(out, colored, color)?;
+    push_cell(out, null, cell)?;
+    push_color(out, colored, Color::Plain)?;
     Ok(())
 }

@@ -1,7 +1,9 @@
-//! Texts of cells, words and lists. None has a control character of ASCII, whatever the bytes are.
+//! Texts of cells, words and lists, and colours. No text of a cell or a word has a control
+//! character, whatever its bytes are.
 #![tactic(auto)]
 
 pub mod cells;
+pub mod colors;
 pub mod decimals;
 pub mod lists;
 mod quoted;

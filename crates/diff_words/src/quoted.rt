@@ -1,8 +1,8 @@
 //! Byte strings between quotes.
 
 ghost use Rattle.std.specs.Fmt.{digit_glyph};
-ghost use Rattle.std.specs.Prelude.{◌≡◌, ◌<◌, ◌++◌, ◌∷◌, [], false, OnOk};
-ghost use Rattle.diff_words.specs.Quoted.{byte_text, hex_text, is_control, letter_of, quoted};
+ghost use Rattle.std.specs.Prelude.{◌≡◌, ◌<◌, ◌++◌, false, get_or, OnOk};
+ghost use Rattle.diff_words.specs.Quoted.{byte_text, hex_text, is_hidden, is_high_control, letter_of, quoted};
 
 use std::alloc::AllocError;
 
@@ -20,11 +20,18 @@ fn letter_of(byte: u8) -> Option<u8>
     }
 }
 
-/// Returns whether a byte is a control character of ASCII.
-fn is_control(byte: u8) -> bool
-    ensures { result ≡ is_control byte }
+/// Returns whether two bytes are a control character from U+0080 to U+009F in UTF-8.
+fn is_high_control(first: u8, second: u8) -> bool
+    ensures { result ≡ is_high_control first second }
 {
-    byte < 32 || byte == 127
+    first == 194 && 127 < second && second < 160
+}
+
+/// Returns whether a byte between two others is a control character, or half of one.
+fn is_hidden(before: u8, byte: u8, after: u8) -> bool
+    ensures { result ≡ is_hidden before byte after }
+{
+    byte < 32 || byte == 127 || is_high_control(before, byte) || is_high_control(byte, after)
 }
 
 /// Returns a hexadecimal digit, in small letters.
@@ -45,17 +52,17 @@ fn push_hex(out: &mut Vec<u8>, byte: u8) -> Result<(), AllocError>
     Ok(())
 }
 
-/// Appends a byte of a quoted text.
+/// Appends a byte of a quoted text, which stands between two others.
 #[tactic(auto, unfolding(crate::specs::Quoted::byte_text))]
-fn push_byte(out: &mut Vec<u8>, byte: u8) -> Result<(), AllocError>
-    ensures { OnOk result (out.new.items ≡ out.old.items ++ byte_text byte) }
+fn push_byte(out: &mut Vec<u8>, before: u8, byte: u8, after: u8) -> Result<(), AllocError>
+    ensures { OnOk result (out.new.items ≡ out.old.items ++ byte_text before byte after) }
 {
     if let Some(letter) = letter_of(byte) {
         out.push(b'\\')?;
         out.push(letter)?;
         return Ok(());
     }
-    if is_control(byte) {
+    if is_hidden(before, byte, after) {
         push_hex(out, byte)?;
         return Ok(());
     }
@@ -63,13 +70,22 @@ fn push_byte(out: &mut Vec<u8>, byte: u8) -> Result<(), AllocError>
     Ok(())
 }
 
+/// Returns byte `i`, or 0 where there is none.
+fn byte_at(bytes: &[u8], i: usize) -> u8
+    ensures { result ≡ get_or bytes.now i 0 }
+{
+    if i < bytes.len() { bytes[i] } else { 0 }
+}
+
 /// Appends a byte string between quotes.
 pub(crate) fn push_quoted(out: &mut Vec<u8>, bytes: &[u8]) -> Result<(), AllocError>
     ensures { OnOk result (out.new.items ≡ out.old.items ++ quoted bytes.now) }
 {
     out.push(b'"')?;
-    for byte in bytes {
-        push_byte(out, *byte)?;
+    let mut before = 0;
+    for i in 0..bytes.len() {
+        push_byte(out, before, bytes[i], byte_at(bytes, i + 1))?;
+        before = bytes[i];
     }
     out.push(b'"')?;
     Ok(())

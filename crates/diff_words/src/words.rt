@@ -7,11 +7,18 @@ ghost use Rattle.diff_words.specs.Words.{is_word, is_word_byte, word_text};
 use crate::quoted::push_quoted;
 use std::alloc::AllocError;
 
-/// Returns whether a byte may stand in a word.
+/// Returns whether a byte may stand in a word. With 194 begin the characters from U+0080 to U+00BF,
+/// of which some are control characters.
 fn is_word_byte(byte: u8) -> bool
     ensures { result ≡ is_word_byte byte }
 {
-    byte > 32 && byte != b'"' && byte != b',' && byte != b'=' && byte != b'\\' && byte != 127
+    byte > 32
+        && byte != b'"'
+        && byte != b','
+        && byte != b'='
+        && byte != b'\\'
+        && byte != 127
+        && byte != 194
 }
 
 /// Returns whether each byte may stand in a word.

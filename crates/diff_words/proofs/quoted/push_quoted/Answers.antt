@@ -1,22 +1,18 @@
-use Rattle.std.proofs.Common.{◌≡◌, ◌∙◌, ◌++◌, ◌∷◌, [], take, ap, sym, refl, arith}
-use Rattle.std.proofs.lemmas.List.{append-nil, take_all}
-use Rattle.std.specs.List.{flat_map}
-use Rattle.diff_words.specs.Quoted.{byte_text, quoted}
-use Rattle.diff_words.proofs.ListLemmas.{texts_written}
-use Rattle.diff_words.proofs.QuotedLemmas.{quotes_around}
+use Rattle.std.proofs.Common.{◌∙◌, ◌++◌, ◌∷◌, [], ap, refl, arith}
+use Rattle.diff_words.specs.Quoted.{quoted, texts_behind}
+use Rattle.diff_words.proofs.QuotedLemmas.{all_written, byte_written, quotes_around}
 use Rattle.diff_words.proofs.quoted.push_quoted.Goals as goal
 
-pub loop-byte-init : goal.loop-byte-init
-loop-byte-init c = c.in_ok-push.ensures.items ∙ sym (append-nil _)
+pub loop-i-init : goal.loop-i-init
+loop-i-init c = ap (λ l. l ++ texts_behind 0 c.args.bytes.now) c.in_ok-push.ensures.items
 
-pub loop-byte-preserved : goal.loop-byte-preserved
-loop-byte-preserved c =
-    texts_written byte_text (c.args.out.now.items ++ 34 ∷ []) _ _ c.args.bytes.now c.loop-byte.byte-index 0 _ (omega arith) c.loop-byte.invariant c.in_ok-push_byte.ensures refl
+pub loop-i-preserved : goal.loop-i-preserved
+loop-i-preserved c =
+    byte_written _ _ _ c.loop-i.before _ _ c.args.bytes.now c.loop-i.i (omega arith) c.loop-i.invariant c.in_ok-push_byte.ensures refl c.byte_at.ensures
 
 pub returns : goal.returns
 unfolding quoted
 returns c =
-    let all : take c.loop-byte.byte-index c.args.bytes.now ≡ c.args.bytes.now = take_all c.loop-byte.byte-index c.args.bytes.now (omega arith) in
     c.in_ok-push-2.ensures.items
-    ∙ (ap (λ l. l ++ 34 ∷ []) (c.loop-byte.invariant ∙ ap (λ l. (c.args.out.now.items ++ 34 ∷ []) ++ flat_map byte_text l) all)
-    ∙ quotes_around c.args.out.now.items (flat_map byte_text c.args.bytes.now))
+    ∙ (ap (λ l. l ++ 34 ∷ []) (all_written _ _ c.loop-i.before c.args.bytes.now c.loop-i.i (omega arith) c.loop-i.invariant)
+    ∙ quotes_around c.args.out.now.items (texts_behind 0 c.args.bytes.now))

@@ -1,7 +1,6 @@
-use Rattle.std.proofs.Common.{◌≡◌, ◌++◌, ◌∷◌, [], take}
-use Rattle.std.specs.List.{flat_map}
-use Rattle.diff_words.specs.Quoted.{byte_text}
+use Rattle.std.proofs.Common.{◌≡◌, ◌++◌, ◌∷◌, [], drop}
+use Rattle.diff_words.specs.Quoted.{texts_behind}
 use Rattle.diff_words.proofs.quoted.push_quoted.Given as goal
 
-abbrev pub invariant-loop-byte : goal.invariant-loop-byte
-invariant-loop-byte l = l.out.items ≡ (l.fn.out.items ++ 34 ∷ []) ++ flat_map byte_text (take l.byte-index l.bytes)
+abbrev pub invariant-loop-i : goal.invariant-loop-i
+invariant-loop-i l = l.out.items ++ texts_behind l.before (drop l.i l.bytes) ≡ (l.fn.out.items ++ 34 ∷ []) ++ texts_behind 0 l.bytes
