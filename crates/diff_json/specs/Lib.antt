@@ -1,0 +1,10 @@
+pub mod Cells
+pub mod Changes
+pub mod Columns
+pub mod Counts
+pub mod Keys
+pub mod Laws
+pub mod Lines
+pub mod Plain
+pub mod Report
+pub mod Strings

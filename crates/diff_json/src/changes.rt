@@ -1,0 +1,83 @@
+//! The columns in which two rows differ.
+
+ghost use Rattle.std.specs.Prelude.{◌≡◌, ◌<◌, ◌+◌, ◌++◌, [], if◌then◌else◌, length, codes, IfOk, OnOk};
+ghost use Rattle.diff_words.specs.Lists.{gap};
+ghost use Rattle.diff_report.specs.Pairs.{differ_at};
+ghost use Rattle.diff_report.specs.Sides.{AreSides, naming_of, row_of};
+ghost use Rattle.diff_json.specs.Changes.{change_member, change_members};
+
+use crate::cells::push_cell;
+use crate::strings::push_string;
+use diff_report::sides::Sides;
+use diff_words::lists::push_gap;
+use polars_arrays_flat::byte_rows::ByteRows;
+use std::alloc::AllocError;
+
+/// Appends the name of a column, and the two cells in it.
+fn push_change(
+    out: &mut Vec<u8>,
+    sides: &Sides,
+    i: usize,
+    j: usize,
+    column: usize,
+) -> Result<(), AllocError>
+    requires sides { AreSides sides.now }
+    requires left { i < length sides.now.left.table.rows }
+    requires right { j < length sides.now.right.table.rows }
+    requires column { column < length (naming_of sides.now).names }
+    ensures { OnOk result (out.new.items ≡ out.old.items ++ change_member (naming_of sides.now) (row_of sides.now.left i) (row_of sides.now.right j) column) }
+{
+    push_string(out, sides.names.bytes(column))?;
+    out.extend_from_slice(br#":{"left":"#)?;
+    push_cell(out, &sides.null, sides.left.table.cell(i, column))?;
+    out.extend_from_slice(br#","right":"#)?;
+    push_cell(out, &sides.null, sides.right.table.cell(j, column))?;
+    out.push(b'}')?;
+    Ok(())
+}
+
+/// Appends a column where the two rows differ in it, as the element of a list that has `written`
+/// elements already. Returns how many it has then.
+fn push_if_changed(
+    out: &mut Vec<u8>,
+    sides: &Sides,
+    i: usize,
+    j: usize,
+    column: usize,
+    written: usize,
+) -> Result<usize, AllocError>
+    requires sides { AreSides sides.now }
+    requires left { i < length sides.now.left.table.rows }
+    requires right { j < length sides.now.right.table.rows }
+    requires column { column < length (naming_of sides.now).names }
+    requires room { written < usize.MAX }
+    ensures text { OnOk result (out.new.items ≡ out.old.items ++ (if differ_at (row_of sides.now.left i) (row_of sides.now.right j) column
+        then gap (codes ",") written ++ change_member (naming_of sides.now) (row_of sides.now.left i) (row_of sides.now.right j) column else [])) }
+    ensures count { IfOk result (λ n. n ≡ written + (if differ_at (row_of sides.now.left i) (row_of sides.now.right j) column then 1 else 0)) }
+{
+    if sides.left.table.cell(i, column) == sides.right.table.cell(j, column) {
+        return Ok(written);
+    }
+    push_gap(out, b",", written)?;
+    push_change(out, sides, i, j, column)?;
+    Ok(written + 1)
+}
+
+/// Appends the columns in which two rows differ.
+pub(crate) fn push_changes(
+    out: &mut Vec<u8>,
+    sides: &Sides,
+    i: usize,
+    j: usize,
+) -> Result<(), AllocError>
+    requires sides { AreSides sides.now }
+    requires left { i < length sides.now.left.table.rows }
+    requires right { j < length sides.now.right.table.rows }
+    ensures { OnOk result (out.new.items ≡ out.old.items ++ change_members (naming_of sides.now) (row_of sides.now.left i) (row_of sides.now.right j)) }
+{
+    let mut written = 0;
+    for column in 0..sides.left.table.width() {
+        written = push_if_changed(out, sides, i, j, column, written)?;
+    }
+    Ok(())
+}

@@ -1,0 +1,90 @@
+//! The line with the counts.
+
+ghost use Rattle.std.specs.Prelude.{◌≡◌, ◌<◌, ◌≤◌, ◌+◌, ◌++◌, [], if◌then◌else◌, length, codes, IfOk, OnOk};
+ghost use Rattle.diff_words.specs.Lists.{gap};
+ghost use Rattle.diff_report.specs.Sides.{naming_of};
+ghost use Rattle.diff_report.specs.Summary.{is_counted};
+ghost use Rattle.diff_json.specs.Counts.{column_member, column_members, counts_object, totals_of};
+
+use crate::numbers::push_number;
+use crate::strings::push_string;
+use diff_report::sides::Sides;
+use diff_tables::compare::Comparison;
+use diff_words::lists::push_gap;
+use polars_arrays_flat::byte_rows::ByteRows;
+use std::alloc::AllocError;
+
+/// Appends the name of a column where its count is not 0, and the count, as the element of a list
+/// that has `written` elements already. Returns how many it has then.
+fn push_if_counted(
+    out: &mut Vec<u8>,
+    sides: &Sides,
+    counts: &[usize],
+    column: usize,
+    written: usize,
+) -> Result<usize, AllocError>
+    requires names { column < length (naming_of sides.now).names }
+    requires counts { column < length counts.now }
+    requires room { written < usize.MAX }
+    ensures text { OnOk result (out.new.items ≡ out.old.items ++ (if is_counted counts.now column then gap (codes ",") written ++ column_member (naming_of sides.now) counts.now column else [])) }
+    ensures count { IfOk result (λ n. n ≡ written + (if is_counted counts.now column then 1 else 0)) }
+{
+    if counts[column] == 0 {
+        return Ok(written);
+    }
+    push_gap(out, b",", written)?;
+    push_string(out, sides.names.bytes(column))?;
+    push_number(out, b":", counts[column])?;
+    Ok(written + 1)
+}
+
+/// Appends the columns that differ, and how often.
+fn push_by_column(out: &mut Vec<u8>, sides: &Sides, counts: &[usize]) -> Result<(), AllocError>
+    requires { length counts.now ≡ length (naming_of sides.now).names }
+    ensures { OnOk result (out.new.items ≡ out.old.items ++ column_members (naming_of sides.now) counts.now) }
+{
+    let mut written = 0;
+    for column in 0..counts.len() {
+        written = push_if_counted(out, sides, counts, column, written)?;
+    }
+    Ok(())
+}
+
+/// Appends how many rows are changed, removed, added and the same, and how many differences have
+/// no line.
+fn push_totals(out: &mut Vec<u8>, comparison: &Comparison, limit: usize) -> Result<(), AllocError>
+    requires { length comparison.now.changed.items ≤ length comparison.now.matching.left_rows.items }
+    ensures { OnOk result (out.new.items ≡ out.old.items ++ totals_of comparison.now limit) }
+{
+    let matching = &comparison.matching;
+    let same = matching.left_rows.len() - comparison.changed.len();
+    let alone = matching.removed.len() as u128 + matching.added.len() as u128;
+    let count = comparison.changed.len() as u128 + alone;
+    let not_shown = count.saturating_sub(limit as u128);
+    push_number(out, br#""changed":"#, comparison.changed.len())?;
+    push_number(out, br#","removed":"#, matching.removed.len())?;
+    push_number(out, br#","added":"#, matching.added.len())?;
+    push_number(out, br#","same":"#, same)?;
+    push_number(out, br#","not_shown":"#, not_shown)?;
+    Ok(())
+}
+
+/// Appends the last line: how many rows differ, and in which columns.
+pub(crate) fn push_counts(
+    out: &mut Vec<u8>,
+    sides: &Sides,
+    comparison: &Comparison,
+    counts: &[usize],
+    limit: usize,
+) -> Result<(), AllocError>
+    requires few { length comparison.now.changed.items ≤ length comparison.now.matching.left_rows.items }
+    requires counts { length counts.now ≡ length (naming_of sides.now).names }
+    ensures { OnOk result (out.new.items ≡ out.old.items ++ counts_object (naming_of sides.now) comparison.now counts.now limit) }
+{
+    out.extend_from_slice(br#"{"kind":"counts","#)?;
+    push_totals(out, comparison, limit)?;
+    out.extend_from_slice(br#","columns":{"#)?;
+    push_by_column(out, sides, counts)?;
+    out.extend_from_slice(b"}}\n")?;
+    Ok(())
+}

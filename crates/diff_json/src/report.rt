@@ -1,0 +1,53 @@
+//! The report of a comparison as JSON lines.
+
+ghost use Rattle.std.specs.List.{concat};
+ghost use Rattle.std.specs.Prelude.{◌≡◌, ◌++◌, length, take, OnOk};
+ghost use Rattle.diff_tables.specs.Comparison.{IsComparison};
+ghost use Rattle.diff_report.specs.Sides.{AreSides, NamesRows, naming_of};
+ghost use Rattle.diff_json.specs.Report.{difference_objects, json_text};
+
+use crate::counts::push_counts;
+use crate::lines::{push_changed_lines, push_side_lines};
+use diff_report::sides::Sides;
+use diff_tables::compare::Comparison;
+use std::alloc::AllocError;
+
+/// Appends the lines of the first `limit` differences: the changed rows in left order, then the
+/// removed ones, then the added ones.
+fn push_lines(
+    out: &mut Vec<u8>,
+    sides: &Sides,
+    comparison: &Comparison,
+    limit: usize,
+) -> Result<(), AllocError>
+    requires sides { AreSides sides.now }
+    requires rows { NamesRows sides.now comparison.now }
+    ensures { OnOk result (out.new.items ≡ out.old.items ++ concat (take limit (difference_objects sides.now comparison.now))) }
+{
+    let matching = &comparison.matching;
+    push_changed_lines(out, sides, comparison, limit)?;
+    let room = limit.saturating_sub(comparison.changed.len());
+    push_side_lines(out, b"removed", sides, &sides.left, &matching.removed, room)?;
+    let room = room.saturating_sub(matching.removed.len());
+    push_side_lines(out, b"added", sides, &sides.right, &matching.added, room)?;
+    Ok(())
+}
+
+/// Appends the report of a comparison as JSON lines: an object for each of the first `limit`
+/// differences, and one with the counts. `counts` says how often each column differs.
+pub fn push_json(
+    out: &mut Vec<u8>,
+    sides: &Sides,
+    comparison: &Comparison,
+    counts: &[usize],
+    limit: usize,
+) -> Result<(), AllocError>
+    requires sides { AreSides sides.now }
+    requires comparison { IsComparison sides.now.keys.items sides.now.left.table.rows sides.now.right.table.rows comparison.now }
+    requires counts { length counts.now ≡ length (naming_of sides.now).names }
+    ensures { OnOk result (out.new.items ≡ out.old.items ++ json_text sides.now comparison.now counts.now limit) }
+{
+    push_lines(out, sides, comparison, limit)?;
+    push_counts(out, sides, comparison, counts, limit)?;
+    Ok(())
+}
