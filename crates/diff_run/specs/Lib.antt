@@ -1,4 +1,5 @@
+pub mod Faults
+pub mod Heads
 pub mod Inputs
 pub mod Lone
-pub mod Matched
 pub mod Run

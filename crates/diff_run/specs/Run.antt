@@ -4,23 +4,29 @@
 -- ~ id=8  n "2" -> "3"
 -- - id=7  old.csv line 2
 -- 1 changed, 1 removed, 0 added, 0 the same.  By column: n 1.
-use Rattle.std.specs.Prelude.{◌≡◌, ◌==◌, ◌&&◌, ◌||◌, ℕ, Bool, if◌then◌else◌, List, [], ◌++◌, length, option_map}
+use Rattle.std.specs.Prelude.{◌≡◌, ◌==◌, ◌&&◌, ◌||◌, ℕ, Bool, true, false, if◌then◌else◌, List, [], ◌++◌, length, option_map}
 use Rattle.polars_arrays_bytes.specs.OffsetStrings.{offset_strings}
 use Rattle.diff_columns.specs.Layout.{IsLayout}
 use Rattle.diff_columns.specs.Names.{AreMatchable, Names, names_of}
 use Rattle.diff_columns.specs.declared.layout.Layout.{Layout}
+use Rattle.diff_columns.specs.declared.error.Side.TheVariants.{Left, Right}
+use Rattle.diff_csv.specs.Quotes.{ends_open}
 use Rattle.diff_csv.specs.Records.{AreRecordsOf, HaveOneLength}
 use Rattle.diff_csv.specs.Records as csv
+use Rattle.diff_json.specs.Report.{json_text}
+use Rattle.diff_keys.specs.Unique.{AllDiffer}
 use Rattle.diff_report.specs.Counts.{column_counts}
 use Rattle.diff_report.specs.Report.{report_text}
 use Rattle.diff_report.specs.declared.sides.Sides.{Sides}
 use Rattle.diff_run.specs.Inputs.{IsSideWith}
-use Rattle.diff_run.specs.Lone.{lone_lines}
+use Rattle.diff_run.specs.Lone.{alone_lines}
+use Rattle.diff_run.specs.declared.options.Format.{Format}
+use Rattle.diff_run.specs.declared.options.Format.TheVariants.{Text, Json}
 use Rattle.diff_run.specs.declared.options.Options.{Options}
-use Rattle.diff_run.specs.declared.run.Outcome.{Outcome}
-use Rattle.diff_run.specs.declared.run.Outcome.TheVariants.{Same, Different}
+use Rattle.diff_run.specs.declared.report.Outcome.{Outcome}
+use Rattle.diff_run.specs.declared.report.Outcome.TheVariants.{Same, Different}
 use Rattle.diff_tables.specs.Comparison.{IsComparison}
-use Rattle.diff_tables.specs.Keys.{cells_at}
+use Rattle.diff_tables.specs.Keys.{cells_at, row_keys}
 use Rattle.diff_tables.specs.declared.compare.Comparison.{Comparison}
 
 -- no two rows differ, and each has a partner
@@ -38,7 +44,16 @@ outcome_of options layout c = if no_rows c && (options.common || no_columns layo
 -- the lines of the columns that one input has alone
 abbrev pub columns_text : Options → List ℕ → List ℕ → Names → Names → Layout → List ℕ
 columns_text options left right left_names right_names layout =
-    if options.common then [] else lone_lines left left_names layout.left_alone.items ++ lone_lines right right_names layout.right_alone.items
+    if options.common then [] else alone_lines options.format Left left left_names layout.left_alone.items ++ alone_lines options.format Right right right_names layout.right_alone.items
+
+-- the lines of the differences, and the counts
+abbrev pub differences_text : Format → Sides → Comparison → List ℕ → ℕ → List ℕ
+differences_text Text sides comparison counts limit = report_text sides comparison counts limit
+differences_text Json sides comparison counts limit = json_text sides comparison counts limit
+
+-- no key comes twice on either side
+abbrev pub HaveUniqueKeys : Sides → Type 0
+HaveUniqueKeys sides = AllDiffer (row_keys sides.keys.items sides.left.table.rows) × AllDiffer (row_keys sides.keys.items sides.right.table.rows)
 
 -- the sides are the rows of two texts in the columns that are compared
 pub record AreSidesOf (options : Options) (left_text right_text left_name right_name : List ℕ) (layout : Layout) (sides : Sides) : Type 0 where
@@ -48,6 +63,8 @@ pub record AreSidesOf (options : Options) (left_text right_text left_name right_
   pub right_all : AreRecordsOf options.csv right_text right_records
   pub left_lengths : HaveOneLength left_records
   pub right_lengths : HaveOneLength right_records
+  pub left_closed : ends_open options.csv left_text ≡ false
+  pub right_closed : ends_open options.csv right_text ≡ false
   pub matchable : AreMatchable (csv.names_of options.csv.has_header left_records) (csv.names_of options.csv.has_header right_records) (names_of options.choice.keys.now)
   pub laid_out : IsLayout (csv.names_of options.csv.has_header left_records) (csv.names_of options.csv.has_header right_records) options.choice layout
   pub left : IsSideWith options.csv.has_header left_records layout.left.items left_name sides.left
@@ -55,6 +72,7 @@ pub record AreSidesOf (options : Options) (left_text right_text left_name right_
   pub column_names : offset_strings (λ x. x) sides.names ≡ cells_at layout.left.items (csv.names_of options.csv.has_header left_records)
   pub keys : sides.keys.items ≡ layout.keys.items
   pub null : option_map (λ v. v.items) sides.null ≡ option_map (λ v. v.now) options.null
+  pub colored : sides.colored ≡ options.colored
 
 -- the report of two texts, and what it comes to
 pub record IsReportOf (options : Options) (left_text right_text left_name right_name written : List ℕ) (outcome : Outcome) : Type 0 where
@@ -63,6 +81,7 @@ pub record IsReportOf (options : Options) (left_text right_text left_name right_
   pub comparison : Comparison
   pub sides_are : AreSidesOf options left_text right_text left_name right_name layout sides
   pub compared : IsComparison sides.keys.items sides.left.table.rows sides.right.table.rows comparison
+  pub unique : options.unique ≡ true → HaveUniqueKeys sides
   pub text : written ≡ columns_text options left_name right_name (csv.names_of options.csv.has_header sides_are.left_records) (csv.names_of options.csv.has_header sides_are.right_records) layout
-      ++ report_text sides comparison (column_counts sides comparison.matching comparison.changed.items) options.limit
+      ++ differences_text options.format sides comparison (column_counts sides comparison.matching comparison.changed.items) options.limit
   pub outcome_is : outcome ≡ outcome_of options layout comparison

@@ -1,26 +1,31 @@
 //! Why two inputs are not compared.
 
+ghost use Rattle.diff_run.specs.Faults.{IsMemory};
+
 use diff_columns::error::{ColumnError, Side};
 use diff_csv::error::CsvError;
-use diff_keys::error::MatchError;
 use polars_arrays_bits::error::ComputeError;
-use std::alloc::{AllocError, AllocFailed};
+use std::alloc::AllocError;
 use std::io;
 use thiserror::Error;
 
-/// The reason why two inputs are not compared.
+/// The reason why two inputs are not compared. Nothing was written, unless it is `Write`.
 #[derive(Debug, Drop, Error)]
 pub enum RunError {
-    /// An allocation failed. Nothing was written.
+    /// An allocation failed.
     #[error("out of memory")]
     Memory,
-    /// A table has more than 2^32 rows. Nothing was written.
+    /// A table has more than 2^32 rows.
     #[error("a table has more than 4,294,967,296 rows")]
     TooManyRows,
-    /// An input can't be read as CSV. Nothing was written.
+    /// An input can't be read as CSV.
     #[error("{cause}")]
     Csv { side: Side, cause: CsvError },
-    /// The columns can't be matched. Nothing was written.
+    /// Two rows of a table have one key, where keys have to be unique. `first` and `again` are the
+    /// lines at which they begin.
+    #[error("the rows at lines {first} and {again} have one key")]
+    KeyTwice { side: Side, first: u64, again: u64 },
+    /// The columns can't be matched.
     #[error("{cause}")]
     Columns { cause: ColumnError },
     /// A write failed. A beginning of the report may have been written.
@@ -29,34 +34,17 @@ pub enum RunError {
 }
 
 impl From<AllocError> for RunError {
+    ghost from_gives = { λ _ r. IsMemory r };
+
     fn from(_failed: AllocError) -> RunError {
         RunError::Memory
     }
 }
 
-impl<T: Drop> From<AllocFailed<T>> for RunError {
-    fn from(_failed: AllocFailed<T>) -> RunError {
-        RunError::Memory
-    }
-}
-
 impl From<ComputeError> for RunError {
+    ghost from_gives = { λ _ r. IsMemory r };
+
     fn from(_failed: ComputeError) -> RunError {
         RunError::Memory
-    }
-}
-
-impl From<MatchError> for RunError {
-    fn from(error: MatchError) -> RunError {
-        match error {
-            MatchError::Memory => RunError::Memory,
-            MatchError::TooManyRows => RunError::TooManyRows,
-        }
-    }
-}
-
-impl From<ColumnError> for RunError {
-    fn from(cause: ColumnError) -> RunError {
-        RunError::Columns { cause }
     }
 }

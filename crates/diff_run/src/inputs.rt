@@ -1,47 +1,76 @@
-//! Inputs, and the tables that they are.
+//! Inputs, and the rows that they have.
 
-ghost use Rattle.std.specs.Prelude.{◌≡◌, ℕ, List, Some, length, IfOk};
+ghost use Rattle.std.specs.Prelude.{◌≡◌, ℕ, List, Some, IfOk, MatchResult};
 ghost use Rattle.diff_csv.specs.Reading.{IsOpen};
-ghost use Rattle.diff_csv.specs.declared.options.CsvOptions.{CsvOptions};
-ghost use Rattle.diff_run.specs.Inputs.{IsSideOf};
+ghost use Rattle.diff_csv.specs.Tables.{HasShape, IsTableOf};
+ghost use Rattle.diff_run.specs.Faults.{IsRunFault, text_on};
+ghost use Rattle.diff_run.specs.Inputs.{AreBothOf};
+ghost use Rattle.diff_run.specs.declared.options.Options.{Options};
 
 use crate::error::RunError;
+use crate::options::Options;
 use diff_columns::error::Side;
-use diff_csv::options::CsvOptions;
+use diff_columns::layout::Layout;
 use diff_csv::source::{CsvTable, Source};
-use diff_report::sides::Side as Table;
 use std::alloc::Global;
 use std::io::Read;
+
+/// The rows of two inputs.
+#[derive(Drop)]
+pub(crate) struct Both {
+    pub(crate) left: CsvTable,
+    pub(crate) right: CsvTable,
+}
 
 /// Reads the first record of an input.
 pub(crate) fn opened<R: Read + Drop>(
     alloc: Global,
     reader: R,
-    options: CsvOptions,
+    options: &Options<'_>,
     side: Side,
 ) -> Result<Source<R>, RunError>
-    ensures { IfOk result (λ source. (text : List ℕ) → R.remaining reader ≡ Some text → IsOpen R.remaining options text source) }
+    ensures { MatchResult result
+        (λ source. (text : List ℕ) → R.remaining reader ≡ Some text → IsOpen R.remaining options.now.csv text source)
+        (λ error. (left_text right_text : List ℕ) → R.remaining reader ≡ Some (text_on side left_text right_text) → IsRunFault options.now left_text right_text error) }
 {
-    match Source::open(alloc, reader, options) {
+    match Source::open(alloc, reader, options.csv) {
         Ok(source) => Ok(source),
         Err(cause) => Err(RunError::Csv { side, cause }),
     }
 }
 
 /// Reads the rows of an input, each with its cells in these columns.
-pub(crate) fn read_side<R: Read + Drop>(
+fn read_rows<R: Read + Drop>(
     alloc: Global,
     source: Source<R>,
     columns: &[usize],
-    name: &[u8],
     side: Side,
-) -> Result<Table, RunError>
-    ensures shape { IfOk result (λ table. (table.table.width ≡ length columns.now) × (length table.lines.items ≡ length table.table.rows)) }
-    ensures side { IfOk result (λ table. (options : CsvOptions) (text : List ℕ) → IsOpen R.remaining options text source → IsSideOf options text columns.now name.now table) }
+) -> Result<CsvTable, RunError>
+    ensures shape { IfOk result (HasShape columns.now) }
+    ensures table { MatchResult result
+        (λ table. (options : Options) (text : List ℕ) → IsOpen R.remaining options.csv text source → IsTableOf options.csv text columns.now table)
+        (λ error. (options : Options) (left_text right_text : List ℕ) → IsOpen R.remaining options.csv (text_on side left_text right_text) source → IsRunFault options left_text right_text error) }
 {
-    let name = Vec::from_slice(alloc, name)?;
     match source.read(alloc, columns) {
-        Ok(CsvTable { table, lines }) => Ok(Table { name, table, lines }),
+        Ok(table) => Ok(table),
         Err(cause) => Err(RunError::Csv { side, cause }),
     }
+}
+
+/// Reads the rows of two inputs, each with its cells in the columns that are compared.
+pub(crate) fn read_both<L: Read + Drop, R: Read + Drop>(
+    alloc: Global,
+    left: Source<L>,
+    right: Source<R>,
+    layout: &Layout,
+) -> Result<Both, RunError>
+    ensures left { IfOk result (λ both. HasShape layout.now.left.items both.left) }
+    ensures right { IfOk result (λ both. HasShape layout.now.right.items both.right) }
+    ensures tables { MatchResult result
+        (λ both. (options : Options) (left_text right_text : List ℕ) → IsOpen L.remaining options.csv left_text left → IsOpen R.remaining options.csv right_text right → AreBothOf options left_text right_text layout.now both)
+        (λ error. (options : Options) (left_text right_text : List ℕ) → IsOpen L.remaining options.csv left_text left → IsOpen R.remaining options.csv right_text right → IsRunFault options left_text right_text error) }
+{
+    let left = read_rows(alloc, left, &layout.left, Side::Left)?;
+    let right = read_rows(alloc, right, &layout.right, Side::Right)?;
+    Ok(Both { left, right })
 }

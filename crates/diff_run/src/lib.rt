@@ -2,8 +2,12 @@
 #![tactic(auto)]
 
 pub mod error;
+mod heads;
 mod inputs;
 mod lone;
 mod names;
 pub mod options;
+pub mod report;
 pub mod run;
+mod sides;
+mod unique;

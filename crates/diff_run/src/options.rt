@@ -3,6 +3,15 @@
 use diff_columns::choice::Choice;
 use diff_csv::options::CsvOptions;
 
+/// The form of a report.
+#[derive(Clone, Copy, Debug, PartialEq, Eq)]
+pub enum Format {
+    /// Lines to read.
+    Text,
+    /// A JSON object in each line.
+    Json,
+}
+
 /// What is compared, and how it is reported.
 #[derive(Clone, Copy, Debug)]
 pub struct Options<'a> {
@@ -16,4 +25,10 @@ pub struct Options<'a> {
     pub limit: usize,
     /// Whether columns that one input has alone are left out of the report.
     pub common: bool,
+    /// Whether a key that comes twice in an input is an error.
+    pub unique: bool,
+    /// The form of the report.
+    pub format: Format,
+    /// Whether a report in text has colours for a terminal.
+    pub colored: bool,
 }

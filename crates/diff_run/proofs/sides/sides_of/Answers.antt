@@ -1,0 +1,17 @@
+use Rattle.std.proofs.lemmas.Result.{err_from_is_err_and}
+use Rattle.diff_run.proofs.SideLemmas.{sides_are, sides_fit}
+use Rattle.diff_run.proofs.sides.sides_of.Goals as goal
+
+pub returns-clause-sides : goal.returns-clause-sides
+returns-clause-sides g c =
+    sides_fit c.args.options.now c.args.heads.now c.args.files.left.now c.args.files.right.now c.in_ok-frame.frame c.in_ok-both.both c.requires c.in_ok-frame.ensures c.in_ok-both.ensures.left c.in_ok-both.ensures.right
+
+pub returns-clause-texts : goal.returns-clause-texts
+returns-clause-texts g c = λ left_text right_text left right heads.
+    sides_are c.args.options.now left_text right_text c.args.files.left.now c.args.files.right.now c.args.heads.now c.in_ok-frame.frame c.in_ok-both.both heads c.requires c.in_ok-frame.ensures
+    (c.in_ok-both.ensures.tables c.args.options.now left_text right_text left right)
+
+pub returns-in_err-both-clause-texts : goal.returns-in_err-both-clause-texts
+returns-in_err-both-clause-texts g c =
+    let p = err_from_is_err_and c.from_residual-in_err-both.result c.from_residual-in_err-both.ensures.1 in
+    rw (p.1, p.2) (λ left_text right_text left right. c.in_err-both.ensures.tables c.args.options.now left_text right_text left right)

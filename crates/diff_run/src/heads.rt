@@ -1,0 +1,50 @@
+//! The columns of two inputs.
+
+ghost use Rattle.std.specs.Prelude.{ℕ, List, IfOk, MatchResult};
+ghost use Rattle.polars_arrays_bytes.specs.OffsetStrings.{offset_strings};
+ghost use Rattle.diff_columns.specs.Layout.{IsLayout};
+ghost use Rattle.diff_csv.specs.Reading.{IsOpen};
+ghost use Rattle.diff_run.specs.Faults.{IsRunFault};
+ghost use Rattle.diff_run.specs.Heads.{AreHeadsOf};
+
+use crate::error::RunError;
+use crate::options::Options;
+use diff_columns::error::ColumnError;
+use diff_columns::layout::{Layout, match_columns};
+use diff_csv::source::Source;
+use polars_arrays_bytes::binary::BinaryArray;
+use std::alloc::Global;
+use std::io::Read;
+
+/// The names of the columns of two inputs, and how they are matched.
+#[derive(Drop)]
+pub(crate) struct Heads {
+    pub(crate) left_names: BinaryArray<i64>,
+    pub(crate) right_names: BinaryArray<i64>,
+    pub(crate) layout: Layout,
+}
+
+/// Matches the columns of two inputs by their names.
+pub(crate) fn heads_of<L: Read + Drop, R: Read + Drop>(
+    alloc: Global,
+    left: &Source<L>,
+    right: &Source<R>,
+    options: &Options<'_>,
+) -> Result<Heads, RunError>
+    ensures layout { IfOk result (λ h. IsLayout (offset_strings (λ x. x) h.left_names) (offset_strings (λ x. x) h.right_names) options.now.choice h.layout) }
+    ensures texts { MatchResult result
+        (λ h. (left_text right_text : List ℕ) → IsOpen L.remaining options.now.csv left_text left.now → IsOpen R.remaining options.now.csv right_text right.now → AreHeadsOf options.now left_text right_text h)
+        (λ error. (left_text right_text : List ℕ) → IsOpen L.remaining options.now.csv left_text left.now → IsOpen R.remaining options.now.csv right_text right.now → IsRunFault options.now left_text right_text error) }
+{
+    let left_names = left.names(alloc)?;
+    let right_names = right.names(alloc)?;
+    match match_columns(alloc, &left_names, &right_names, &options.choice) {
+        Ok(layout) => Ok(Heads {
+            left_names,
+            right_names,
+            layout,
+        }),
+        Err(ColumnError::Memory) => Err(RunError::Memory),
+        Err(cause) => Err(RunError::Columns { cause }),
+    }
+}

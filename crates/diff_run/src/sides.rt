@@ -1,0 +1,109 @@
+//! Two inputs as a report takes them.
+
+ghost use Rattle.std.specs.Option.{option_map};
+ghost use Rattle.std.specs.Prelude.{◌≡◌, ℕ, List, IfOk, MatchResult};
+ghost use Rattle.polars_arrays_bytes.specs.OffsetStrings.{offset_strings};
+ghost use Rattle.diff_columns.specs.Layout.{IsLayout};
+ghost use Rattle.diff_csv.specs.Reading.{IsOpen};
+ghost use Rattle.diff_report.specs.Sides.{AreSides};
+ghost use Rattle.diff_run.specs.Faults.{IsMemory, IsRunFault};
+ghost use Rattle.diff_run.specs.Heads.{AreHeadsOf, IsFrameOf};
+ghost use Rattle.diff_run.specs.Run.{AreSidesOf};
+
+use crate::error::RunError;
+use crate::heads::Heads;
+use crate::inputs::{Both, read_both};
+use crate::names::names_at;
+use crate::options::Options;
+use diff_csv::source::Source;
+use diff_report::sides::{Side, Sides};
+use polars_arrays_bytes::binary::BinaryArray;
+use std::alloc::{AllocError, Global};
+use std::io::Read;
+
+/// The names that the report has for two inputs.
+#[derive(Clone, Copy)]
+pub(crate) struct Files<'a> {
+    pub(crate) left: &'a [u8],
+    pub(crate) right: &'a [u8],
+}
+
+/// What the report has beside the rows: the names of the inputs and of the columns, the places of
+/// the keys among these, and the cell that stands for no value, where there is one.
+#[derive(Drop)]
+pub(crate) struct Frame {
+    pub(crate) left: Vec<u8>,
+    pub(crate) right: Vec<u8>,
+    pub(crate) names: BinaryArray<i64>,
+    pub(crate) keys: Vec<usize>,
+    pub(crate) null: Option<Vec<u8>>,
+}
+
+/// Copies a text, where there is one.
+fn copied(alloc: Global, text: Option<&[u8]>) -> Result<Option<Vec<u8>>, AllocError>
+    ensures { IfOk result (λ copy. option_map (λ v. v.items) copy ≡ option_map (λ v. v.now) text.entry) }
+{
+    match text {
+        Some(bytes) => Ok(Some(Vec::from_slice(alloc, bytes)?)),
+        None => Ok(None),
+    }
+}
+
+/// Returns what the report has beside the rows. The one error is `Memory`.
+fn frame_of(
+    alloc: Global,
+    heads: &Heads,
+    files: Files<'_>,
+    options: &Options<'_>,
+) -> Result<Frame, RunError>
+    requires { IsLayout (offset_strings (λ x. x) heads.now.left_names) (offset_strings (λ x. x) heads.now.right_names) options.now.choice heads.now.layout }
+    ensures { MatchResult result (IsFrameOf options.now heads.now files.entry.left.now files.entry.right.now) IsMemory }
+{
+    let left = Vec::from_slice(alloc, files.left)?;
+    let right = Vec::from_slice(alloc, files.right)?;
+    let keys = Vec::from_slice(alloc, &heads.layout.keys)?;
+    let null = copied(alloc, options.null)?;
+    let names = names_at(alloc, &heads.left_names, &heads.layout.left)?;
+    Ok(Frame {
+        left,
+        right,
+        names,
+        keys,
+        null,
+    })
+}
+
+/// Reads the rows of two inputs whose columns are matched.
+pub(crate) fn sides_of<L: Read + Drop, R: Read + Drop>(
+    alloc: Global,
+    left: Source<L>,
+    right: Source<R>,
+    heads: &Heads,
+    files: Files<'_>,
+    options: &Options<'_>,
+) -> Result<Sides, RunError>
+    requires { IsLayout (offset_strings (λ x. x) heads.now.left_names) (offset_strings (λ x. x) heads.now.right_names) options.now.choice heads.now.layout }
+    ensures sides { IfOk result AreSides }
+    ensures texts { MatchResult result
+        (λ sides. (left_text right_text : List ℕ) → IsOpen L.remaining options.now.csv left_text left → IsOpen R.remaining options.now.csv right_text right → AreHeadsOf options.now left_text right_text heads.now → AreSidesOf options.now left_text right_text files.entry.left.now files.entry.right.now heads.now.layout sides)
+        (λ error. (left_text right_text : List ℕ) → IsOpen L.remaining options.now.csv left_text left → IsOpen R.remaining options.now.csv right_text right → IsRunFault options.now left_text right_text error) }
+{
+    let frame = frame_of(alloc, heads, files, options)?;
+    let both = read_both(alloc, left, right, &heads.layout)?;
+    Ok(Sides {
+        left: Side {
+            name: frame.left,
+            table: both.left.table,
+            lines: both.left.lines,
+        },
+        right: Side {
+            name: frame.right,
+            table: both.right.table,
+            lines: both.right.lines,
+        },
+        names: frame.names,
+        keys: frame.keys,
+        null: frame.null,
+        colored: options.colored,
+    })
+}
