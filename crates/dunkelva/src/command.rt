@@ -10,6 +10,12 @@ const VERSION: &str = "0.1.0";
 const STATUSES: &str = "\
 The status is 0 where the tables are the same, 1 where they differ, and 2 where they can't be compared.";
 
+/// The words of `--color`.
+const COLORS: [&str; 3] = ["auto", "always", "never"];
+
+/// The words of `--format`.
+const FORMATS: [&str; 2] = ["text", "json"];
+
 /// Returns an option that takes names of columns, with commas between them or given again.
 fn columns<'a>(alloc: Global, id: &'a str) -> Arg<'a> {
     Arg::new(alloc, id)
@@ -41,6 +47,11 @@ fn diff<'a>(alloc: Global) -> Result<Command<'a>, AllocError> {
         ))?
         .arg(columns(alloc, "only").help("Compare these columns alone, and the key"))?
         .arg(columns(alloc, "ignore").help("Compare all columns but these"))?
+        .arg(
+            switch(alloc, "unique")
+                .help("A key that comes twice in a file is an error")
+                .requires_arg("key")?,
+        )?
         .arg(switch(alloc, "common").help("Leave out columns that one file has alone"))?
         .arg(
             Arg::new(alloc, "null")
@@ -65,6 +76,22 @@ fn diff<'a>(alloc: Global) -> Result<Command<'a>, AllocError> {
                 .default_value("20")
                 .value_parser(value_parser!(usize))
                 .help("Print at most N differences; 0 prints all"),
+        )?
+        .arg(
+            Arg::new(alloc, "format")
+                .long("format")
+                .value_name("FORM")
+                .default_value("text")
+                .value_parser(FORMATS.as_slice())
+                .help("Print lines to read, or a JSON object in each line"),
+        )?
+        .arg(
+            Arg::new(alloc, "color")
+                .long("color")
+                .value_name("WHEN")
+                .default_value("auto")
+                .value_parser(COLORS.as_slice())
+                .help("Print in colours; auto does on a terminal, unless NO_COLOR is set"),
         )
 }
 

@@ -14,28 +14,37 @@ fn file_of<'a>(files: (&'a [u8], &'a [u8]), side: Side) -> &'a str {
     str::from_utf8(name).unwrap_or("-")
 }
 
-/// Returns what is said of an error: the file, and what is wrong.
+/// Returns what is said of a key that no column has for its name.
+fn no_key(key: usize, options: &Options<'_>) -> Error {
+    match options.choice.keys.get(key) {
+        Some(name) => anyhow!(
+            "no column is named {}",
+            str::from_utf8(name).unwrap_or("so")
+        ),
+        None => anyhow!("a key column is missing"),
+    }
+}
+
+/// Returns what is said of an error: what is wrong, and of which file as its context.
 pub(crate) fn trouble_of(error: RunError, files: (&[u8], &[u8]), options: &Options<'_>) -> Error {
     match error {
-        RunError::Csv { side, cause } => anyhow!("{}: {cause}", file_of(files, side)),
+        RunError::Csv { side, cause } => anyhow!("{cause}").context(file_of(files, side)),
+        RunError::KeyTwice { side, first, again } => {
+            anyhow!("the rows at lines {first} and {again} have one key").context(file_of(
+                files, side,
+            ))
+        }
         RunError::Columns {
             cause: ColumnError::NameTwice { side, column },
         } => anyhow!(
-            "{}: column {} has the name of an earlier one",
-            file_of(files, side),
+            "column {} has the name of an earlier one",
             column.saturating_add(1)
-        ),
+        )
+        .context(file_of(files, side)),
         RunError::Columns {
             cause: ColumnError::NoKey { side, key },
-        } => match options.choice.keys.get(key) {
-            Some(name) => anyhow!(
-                "{}: no column is named {}",
-                file_of(files, side),
-                str::from_utf8(name).unwrap_or("so")
-            ),
-            None => anyhow!("{}: a key column is missing", file_of(files, side)),
-        },
-        RunError::Write { cause } => anyhow!("standard output: {cause}"),
+        } => no_key(key, options).context(file_of(files, side)),
+        RunError::Write { cause } => anyhow!("{cause}").context("standard output"),
         other => anyhow!("{other}"),
     }
 }

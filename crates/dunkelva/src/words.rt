@@ -3,8 +3,12 @@
 use anyhow::{Result, anyhow};
 use clap::ArgMatches;
 use diff_columns::choice::Choice;
-use diff_csv::options::CsvOptions;
+use diff_csv::options::{CsvOptions, is_delimiter};
+use diff_run::options::Format;
 use std::alloc::{AllocError, Global};
+use std::env;
+use std::env::VarError;
+use std::io::IsTerminal;
 
 /// The names that the words give, each as its bytes.
 #[derive(Drop)]
@@ -47,13 +51,18 @@ impl<'a> Names<'a> {
     }
 }
 
-/// Returns the byte that a text stands for: its only byte, or a tab for `\t`.
+/// Returns the byte that a text stands for: its only byte, or a tab for `\t`. Neither a quote nor the
+/// end of a line may stand between fields.
 fn delimiter_of(text: &str) -> Result<u8> {
-    match text.as_bytes() {
-        b"\\t" => Ok(b'\t'),
-        [byte] => Ok(*byte),
-        _ => Err(anyhow!("--delimiter takes one byte, and not {text:?}")),
+    let byte = match text.as_bytes() {
+        b"\\t" => b'\t',
+        [byte] => *byte,
+        _ => return Err(anyhow!("--delimiter takes one byte, and not {text:?}")),
+    };
+    if !is_delimiter(byte) {
+        return Err(anyhow!("--delimiter takes no quote and no end of a line, and not {text:?}"));
     }
+    Ok(byte)
 }
 
 /// Returns how the inputs are read.
@@ -70,5 +79,31 @@ pub(crate) fn limit_of(matches: &ArgMatches<'_>) -> usize {
         Some(0) => usize::MAX,
         Some(limit) => limit,
         None => 20,
+    }
+}
+
+/// Returns the form of the report.
+pub(crate) fn format_of(matches: &ArgMatches<'_>) -> Format {
+    match matches.get_str("format") {
+        Some("json") => Format::Json,
+        _ => Format::Text,
+    }
+}
+
+/// Returns whether the environment asks for no colours: `NO_COLOR` is there, and not empty.
+fn asks_no_color(rt: &HostRuntime) -> bool {
+    match env::var(rt, "NO_COLOR") {
+        Ok(value) => !value.is_empty(),
+        Err(VarError::NotPresent) => false,
+        Err(_) => true,
+    }
+}
+
+/// Returns whether the report has colours: where it is asked for, or standard output is a terminal.
+pub(crate) fn is_colored(rt: &HostRuntime, matches: &ArgMatches<'_>) -> bool {
+    match matches.get_str("color") {
+        Some("always") => true,
+        Some("never") => false,
+        _ => rt.stdout().is_terminal() && !asks_no_color(rt),
     }
 }
