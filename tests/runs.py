@@ -16,10 +16,10 @@ MOST_KEPT = 50
 Ran = collections.namedtuple("Ran", "status printed said")
 
 
-def options(doc, name, number=1_000_000):
+def options(doc, name, number=1_000_000, what="inputs"):
     """The options of a script that tries a program of the crates on so many inputs, if it is not told how many."""
     parser = argparse.ArgumentParser(description=doc, formatter_class=argparse.RawDescriptionHelpFormatter)
-    parser.add_argument("--number", type=int, default=number, help=f"how many inputs ({number:,})")
+    parser.add_argument("--number", type=int, default=number, help=f"how many {what} ({number:,})")
     parser.add_argument("--seed", default="1", help="what they are made from (1)")
     parser.add_argument("--jobs", type=int, default=2, help="how many processes (2)")
     parser.add_argument("--program", default=str(ROOT / "crates" / name / "out" / name), help="the built program")
@@ -27,13 +27,16 @@ def options(doc, name, number=1_000_000):
     chosen = parser.parse_args()
     if not pathlib.Path(chosen.program).exists():
         parser.error(f"{chosen.program} is not built: `rt run < /dev/null` in crates/{name}")
+    # a run may be in another folder
+    chosen.program = str(pathlib.Path(chosen.program).resolve())
     return chosen
 
 
-def run(command, given):
-    """What a command does with an input. The status is negative after a signal, and None where the run didn't end."""
+def run(command, given, folder=None):
+    """What a command does with an input, in a folder if one is named. The status is negative after a signal, and None
+    where the run didn't end."""
     try:
-        ran = subprocess.run(command, input=given, capture_output=True, timeout=SECONDS, check=False)
+        ran = subprocess.run(command, input=given, capture_output=True, timeout=SECONDS, check=False, cwd=folder)
     except subprocess.TimeoutExpired:
         return Ran(None, b"", b"")
     return Ran(ran.returncode, ran.stdout, ran.stderr)

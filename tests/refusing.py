@@ -1,0 +1,145 @@
+"""Runs of a program that is refused what it asks of the system: requests for memory, reads and writes.
+
+A library that is loaded in front of the C library counts the requests, and refuses those that the environment names:
+
+| Variable | |
+|---|---|
+| `REFUSED=N` | the request for memory of this number, from 1 on |
+| `SILENT` | all requests for memory between those of the two marking sizes |
+| `READ_FAILS=N`, `WRITE_FAILS=N` | the read or the write of this number fails |
+| `BYTEWISE` | a read or a write moves a byte at most |
+| `READS_INTERRUPTED`, `WRITES_INTERRUPTED` | every other read or write is interrupted by a signal |
+| `ASKED` | at the end the counts are said on standard error |
+"""
+import os
+import pathlib
+import re
+import subprocess
+
+SECONDS = 120
+
+SOURCE = r"""
+#define _GNU_SOURCE
+#include <dlfcn.h>
+#include <errno.h>
+#include <stdio.h>
+#include <stdlib.h>
+#include <unistd.h>
+
+enum { BEGIN = 77777, END = 88888 };
+
+static long asked, begun, ended, within, refused = -1, reads, writes, read_fails = -1, write_fails = -1;
+static int is_ready, is_silent, is_within, is_bytewise, reads_interrupted, writes_interrupted;
+
+static long number_of(const char *name) {
+    const char *number = getenv(name);
+    return number ? atol(number) : -1;
+}
+
+static void prepare(void) {
+    if (is_ready) return;
+    refused = number_of("REFUSED");
+    read_fails = number_of("READ_FAILS");
+    write_fails = number_of("WRITE_FAILS");
+    is_silent = getenv("SILENT") != NULL;
+    is_bytewise = getenv("BYTEWISE") != NULL;
+    reads_interrupted = getenv("READS_INTERRUPTED") != NULL;
+    writes_interrupted = getenv("WRITES_INTERRUPTED") != NULL;
+    is_ready = 1;
+}
+
+static int is_refused(size_t size) {
+    prepare();
+    asked++;
+    if (size == BEGIN) { begun++; is_within = 1; return 0; }
+    if (size == END) { ended += is_within; is_within = 0; return 0; }
+    within += is_within;
+    return asked == refused || (is_within && is_silent);
+}
+
+void *malloc(size_t size) {
+    static void *(*real)(size_t);
+    if (!real) real = dlsym(RTLD_NEXT, "malloc");
+    if (is_refused(size)) { errno = ENOMEM; return NULL; }
+    return real(size);
+}
+
+void *realloc(void *old, size_t size) {
+    static void *(*real)(void *, size_t);
+    if (!real) real = dlsym(RTLD_NEXT, "realloc");
+    if (is_refused(size)) { errno = ENOMEM; return NULL; }
+    return real(old, size);
+}
+
+void *aligned_alloc(size_t align, size_t size) {
+    static void *(*real)(size_t, size_t);
+    if (!real) real = dlsym(RTLD_NEXT, "aligned_alloc");
+    if (is_refused(size)) { errno = ENOMEM; return NULL; }
+    return real(align, size);
+}
+
+int posix_memalign(void **to, size_t align, size_t size) {
+    static int (*real)(void **, size_t, size_t);
+    if (!real) real = dlsym(RTLD_NEXT, "posix_memalign");
+    if (is_refused(size)) return ENOMEM;
+    return real(to, align, size);
+}
+
+/* Returns the error that a read or a write ends with, or 0. */
+static int fault_of(long number, long fails, int is_interrupted) {
+    if (number == fails) return EIO;
+    return is_interrupted && number % 2 ? EINTR : 0;
+}
+
+ssize_t read(int fd, void *to, size_t size) {
+    static ssize_t (*real)(int, void *, size_t);
+    if (!real) real = dlsym(RTLD_NEXT, "read");
+    prepare();
+    int fault = fault_of(++reads, read_fails, reads_interrupted);
+    if (fault) { errno = fault; return -1; }
+    return real(fd, to, is_bytewise && size > 1 ? 1 : size);
+}
+
+ssize_t write(int fd, const void *from, size_t size) {
+    static ssize_t (*real)(int, const void *, size_t);
+    if (!real) real = dlsym(RTLD_NEXT, "write");
+    prepare();
+    int fault = fault_of(++writes, write_fails, writes_interrupted);
+    if (fault) { errno = fault; return -1; }
+    return real(fd, from, is_bytewise && size > 1 ? 1 : size);
+}
+
+__attribute__((destructor)) static void tell(void) {
+    if (getenv("ASKED")) {
+        dprintf(2, "asked=%ld begun=%ld ended=%ld within=%ld reads=%ld writes=%ld\n", asked, begun, ended, within,
+                reads, writes);
+    }
+}
+"""
+
+
+def build(room):
+    """Builds the library that refuses requests, in a folder, and returns its path."""
+    source, library = f"{room}/refuse.c", f"{room}/refuse.so"
+    pathlib.Path(source).write_text(SOURCE, encoding="utf-8")
+    subprocess.run(["cc", "-shared", "-fPIC", "-O1", "-o", library, source, "-ldl"], check=True)
+    return library
+
+
+def run(command, file, library, folder=None, **environment):
+    """Runs a command on a file, and returns what it printed, its status and its complaints. Without an end within
+    `SECONDS` the status is None."""
+    with open(file, "rb") as given:
+        told = {**os.environ, "LD_PRELOAD": library, **environment}
+        how = {"stdin": given, "capture_output": True, "env": told, "cwd": folder, "timeout": SECONDS, "check": False}
+        try:
+            ran = subprocess.run(command, **how)
+        except subprocess.TimeoutExpired:
+            return b"", None, f"no end after {SECONDS} seconds"
+    return ran.stdout, ran.returncode, ran.stderr.decode(errors="replace")
+
+
+def counts(complaints):
+    """Returns the counts that the library told; of a run that it could not tell of they are 0."""
+    told = {name: int(number) for name, number in re.findall(r"(\w+)=(\d+)", complaints)}
+    return {name: told.get(name, 0) for name in ("asked", "begun", "ended", "within", "reads", "writes")}

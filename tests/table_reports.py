@@ -1,0 +1,227 @@
+"""The reports that `dunkelva diff` has to print, worked out from the rows of two tables (`random_tables.py`)."""
+import collections
+import json
+import re
+
+import random_tables
+
+# `sides` are the rows of both tables in the compared columns `names`, `keys` the places of the key among these, `lone`
+# pairs of a side and the name of a column that it has alone, `changed` the rows of partners and the places that differ
+Comparison = collections.namedtuple("Comparison", "names keys lone sides changed removed added same")
+
+
+def partners(left_keys, right_keys):
+    """Returns pairs of rows of one key, the first with the first, and the right rows that have none."""
+    waiting = collections.defaultdict(collections.deque)
+    for j, key in enumerate(right_keys):
+        waiting[key].append(j)
+    pairs = [(i, waiting[key].popleft() if waiting[key] else None) for i, key in enumerate(left_keys)]
+    return pairs, sorted(j for rows in waiting.values() for j in rows)
+
+
+def is_chosen(name, options):
+    """Returns whether a column is compared."""
+    if name in options["keys"]:
+        return True
+    return name in options.get("only", [name]) and name not in options.get("ignored", [])
+
+
+def comparison_of(pair):
+    """Compares two tables that can be compared."""
+    left, right, options = pair.left, pair.right, pair.options
+    names = [name for name in left.names if name in right.names and is_chosen(name, options)]
+    lone = [(side, name) for side, table, other in ((0, left, right), (1, right, left))
+            for name in table.names if name not in other.names and is_chosen(name, options)]
+    places = [[table.names.index(name) for name in names] for table in (left, right)]
+    sides = [[[row[c] for c in columns] for row in table.rows] for table, columns in zip((left, right), places)]
+    keys = [names.index(name) for name in options["keys"]]
+    pairs, added = partners(*[[tuple(row[k] for k in keys) for row in rows] for rows in sides])
+    removed = [i for i, j in pairs if j is None]
+    matched = [(i, j) for i, j in pairs if j is not None]
+    changed = [(i, j, [c for c in range(len(names)) if sides[0][i][c] != sides[1][j][c]]) for i, j in matched]
+    changed = [it for it in changed if it[2]]
+    same = len(matched) - len(changed)
+    return Comparison(names, keys, [] if options["common"] else lone, sides, changed, removed, added, same)
+
+
+def status_of(found):
+    """Returns the status that a comparison ends with."""
+    return 1 if found.lone or found.changed or found.removed or found.added else 0
+
+
+def column_counts(found):
+    """Returns how many cells differ in each column where one does, in the order of the columns."""
+    counts = collections.Counter(c for _, _, places in found.changed for c in places)
+    return [(found.names[c], counts[c]) for c in sorted(counts)]
+
+
+def shown(lines, options):
+    """Returns the first differences, and how many are left out."""
+    limit = 20 if options["limit"] is None else options["limit"] or len(lines)
+    return lines[:limit], max(len(lines) - limit, 0)
+
+
+# ---- the report as text
+
+NAMED = {'"': '\\"', "\\": "\\\\", "\n": "\\n", "\r": "\\r", "\t": "\\t"}
+# what is not printed as it is: control characters, also those from U+0080 to U+009F in UTF-8
+HIDDEN = re.compile('["\\\\\0-\x1f\x7f]|\xc2[\x80-\x9f]')
+RED, GREEN, YELLOW = 31, 32, 33
+
+
+def quoted(cell):
+    """Returns a cell as the report quotes it."""
+    def text(found):
+        return "".join(NAMED.get(c, f"\\x{ord(c):02x}") for c in found[0])
+
+    return f'"{HIDDEN.sub(text, cell)}"'
+
+
+def word(cell):
+    """Returns a key cell, a name or a file: as it is where it is a plain word, else quoted."""
+    plain = cell and all(ord(c) > 32 and c not in '\x7f\xc2"\\,=' for c in cell)
+    return cell if plain else quoted(cell)
+
+
+def text_report(pair):
+    """Returns the report that the program has to print as lines to read."""
+    found, options = comparison_of(pair), pair.options
+    files = [word(file) for file in random_tables.named_files(options)]
+    left, right = found.sides
+
+    def row_text(row, i):
+        return ",".join(f"{word(found.names[k])}={word(row[k])}" for k in found.keys) or f"row {i + 1}"
+
+    def painted(color, text):
+        return f"\x1b[{color}m{text}\x1b[0m" if options["colored"] else text
+
+    def cell_text(color, cell):
+        return painted(color, "null" if cell == options["null"] else quoted(cell))
+
+    def changed_text(i, j, places):
+        cells = ((word(found.names[c]), cell_text(RED, left[i][c]), cell_text(GREEN, right[j][c])) for c in places)
+        changes = ", ".join(f"{name} {before} -> {after}" for name, before, after in cells)
+        return f"{painted(YELLOW, f'~ {row_text(left[i], i)}')}  {changes}"
+
+    lines = [changed_text(*it) for it in found.changed]
+    lines += [painted(RED, f"- {row_text(left[i], i)}  {files[0]} line {pair.left.lines[i]}") for i in found.removed]
+    lines += [painted(GREEN, f"+ {row_text(right[j], j)}  {files[1]} line {pair.right.lines[j]}") for j in found.added]
+    lines, rest = shown(lines, options)
+    lines = [f"! column {word(name)} only in {files[side]}" for side, name in found.lone] + lines
+    lines += [f".. and {rest} more"] * (rest > 0)
+    counts = (f"{len(found.changed)} changed, {len(found.removed)} removed, {len(found.added)} added, "
+              f"{found.same} the same.")
+    columns = ", ".join(f"{word(name)} {count}" for name, count in column_counts(found))
+    lines.append(f"{counts}  By column: {columns}." if columns else counts)
+    return "".join(f"{line}\n" for line in lines).encode("latin-1")
+
+
+# ---- the report as JSON
+
+def as_text(cell):
+    """Returns a cell as a string of JSON: what is no UTF-8 in it is replaced."""
+    return cell.encode("latin-1").decode("utf-8", errors="replace")
+
+
+def json_objects(pair):
+    """Returns the objects of the lines that the program has to print, each as pairs of a name and a value."""
+    found, options = comparison_of(pair), pair.options
+    left, right = found.sides
+    names = list(map(as_text, found.names))
+
+    def key(row):
+        return tuple((names[k], as_text(row[k])) for k in found.keys)
+
+    def value(cell):
+        return None if cell == options["null"] else as_text(cell)
+
+    def changed(i, j, places):
+        changes = tuple((names[c], (("left", value(left[i][c])), ("right", value(right[j][c])))) for c in places)
+        return (("kind", "changed"), ("key", key(left[i])), ("left_row", i + 1), ("right_row", j + 1),
+                ("left_line", pair.left.lines[i]), ("right_line", pair.right.lines[j]), ("changes", changes))
+
+    def alone(kind, rows, table, i):
+        return ("kind", kind), ("key", key(rows[i])), ("row", i + 1), ("line", table.lines[i])
+
+    objects = [changed(*it) for it in found.changed]
+    objects += [alone("removed", left, pair.left, i) for i in found.removed]
+    objects += [alone("added", right, pair.right, j) for j in found.added]
+    objects, rest = shown(objects, options)
+    lone = [(("kind", "column"), ("column", as_text(name)), ("only_in", ("left", "right")[side]))
+            for side, name in found.lone]
+    columns = tuple((as_text(name), count) for name, count in column_counts(found))
+    counts = (("kind", "counts"), ("changed", len(found.changed)), ("removed", len(found.removed)),
+              ("added", len(found.added)), ("same", found.same), ("not_shown", rest), ("columns", columns))
+    return [*lone, *objects, counts]
+
+
+def objects_of(printed):
+    """Returns the objects of JSON lines. A line may have no blank outside of strings, and no control character."""
+    objects, text = [], printed.decode()
+    if not text.endswith("\n"):
+        raise ValueError("no end of the last line")
+    for line in text.removesuffix("\n").split("\n"):
+        if re.search(r"[\0-\x1f\x7f-\x9f]", line) or " " in re.sub(r'"(?:[^"\\]|\\.)*"', "", line):
+            raise ValueError(f"a blank or a control character in {line!r}")
+        objects.append(json.loads(line, object_pairs_hook=tuple))
+    return objects
+
+
+# ---- what a run has to do
+
+def key_twice(pair):
+    """Returns what is said of the first row whose key an earlier row of its file has, or None."""
+    found = comparison_of(pair)
+    files = random_tables.named_files(pair.options)
+    for file, table, rows in zip(files, (pair.left, pair.right), found.sides):
+        seen = {}
+        for i, row in enumerate(rows):
+            first = seen.setdefault(tuple(row[k] for k in found.keys), i)
+            if first < i:
+                return f"{file}: the rows at lines {table.lines[first]} and {table.lines[i]} have one key"
+    return None
+
+
+LINES = re.compile(rb"(?m)^((?:\x1b\[3\dm)?[-+] .* line )\d+(?=(?:\x1b\[0m)?$)")
+
+
+def without_lines(text):
+    """Returns a report as lines to read without the numbers of lines."""
+    return LINES.sub(rb"\1N", text)
+
+
+def members_without_lines(members):
+    """Returns the members of an object without the numbers of lines."""
+    return tuple(it for it in members if it[0] not in ("line", "left_line", "right_line"))
+
+
+def is_report(printed, pair, has_lines):
+    """Returns whether this is the report of two tables, with its numbers of lines if these are known."""
+    if not pair.options["json"]:
+        wanted_text = text_report(pair)
+        return printed == wanted_text or not has_lines and without_lines(printed) == without_lines(wanted_text)
+    try:
+        objects = objects_of(printed)
+    except ValueError:
+        return False
+    wanted_objects = json_objects(pair)
+    if not has_lines:
+        objects, wanted_objects = ([members_without_lines(it) for it in each] for each in (objects, wanted_objects))
+    return objects == wanted_objects
+
+
+def is_right(ran, pair, has_lines=True):
+    """Returns whether a run over two tables that can be compared did as it has to."""
+    said = key_twice(pair) if pair.options["unique"] else None
+    if said and has_lines:
+        return ran == (2, b"", f"dunkelva: {said}\n".encode("latin-1"))
+    if said:
+        return ran.status == 2 and ran.said.endswith(b" have one key\n") and not ran.printed
+    return not ran.said and ran.status == status_of(comparison_of(pair)) and is_report(ran.printed, pair, has_lines)
+
+
+def wanted(pair):
+    """Returns what a run over two tables has to do, in words."""
+    said = key_twice(pair) if pair.options["unique"] else None
+    report = json_objects(pair) if pair.options["json"] else text_report(pair)
+    return f"status 2: {said}" if said else f"status {status_of(comparison_of(pair))}: {report}"
