@@ -1,4 +1,5 @@
 mod Examples
+pub mod AlikeLemmas
 pub mod CompareLemmas
 pub mod GroupLemmas
 pub mod HeldLemmas

@@ -1,3 +1,4 @@
+pub mod Alike
 pub mod Cells
 pub mod Comparison
 pub mod Errors

@@ -3,8 +3,10 @@
 ghost use Rattle.std.specs.Prelude.{◌≡◌, ◌<◌, ◌++◌, List, [], None, true, false, length, get_or, IfOk, MatchResult};
 ghost use Rattle.polars_arrays_bits.specs.Errors.{IsMemory};
 ghost use Rattle.polars_arrays_bytes.specs.OffsetStrings.{offset_strings};
+ghost use Rattle.diff_tables.specs.Alike.{AreSameCells, ListsAllBut, NameRowsOf};
 ghost use Rattle.diff_tables.specs.Held.{HoldsCells};
 
+use crate::alike::unlike_pairs;
 use polars_arrays_bits::buffer::Buffer;
 use polars_arrays_bits::error::ComputeError;
 use polars_arrays_bytes::binary::BinaryArray;
@@ -144,6 +146,36 @@ impl Cells {
         match &self.stored {
             Stored::Near(array, _) => array.bytes(i),
             Stored::Far(array) => array.bytes(i),
+        }
+    }
+
+    /// Lists the pairs of rows of `width` strings each that are not stored alike.
+    pub(crate) fn unlike_pairs(
+        &self,
+        alloc: Global,
+        rows: &[u32],
+        other: &Cells,
+        other_rows: &[u32],
+        width: usize,
+    ) -> Result<Vec<usize>, AllocError>
+        requires one_length { length rows.now ≡ length other_rows.now }
+        requires rows { NameRowsOf width self.now.strings rows.now }
+        requires other_rows { NameRowsOf width other.now.strings other_rows.now }
+        ensures { IfOk result (λ places. ListsAllBut (AreSameCells width self.now.strings other.now.strings rows.now other_rows.now) (length rows.now) places.items) }
+    {
+        match (&self.stored, &other.stored) {
+            (Stored::Near(left, _), Stored::Near(right, _)) => {
+                unlike_pairs(alloc, left, rows, right, other_rows, width)
+            }
+            (Stored::Near(left, _), Stored::Far(right)) => {
+                unlike_pairs(alloc, left, rows, right, other_rows, width)
+            }
+            (Stored::Far(left), Stored::Near(right, _)) => {
+                unlike_pairs(alloc, left, rows, right, other_rows, width)
+            }
+            (Stored::Far(left), Stored::Far(right)) => {
+                unlike_pairs(alloc, left, rows, right, other_rows, width)
+            }
         }
     }
 

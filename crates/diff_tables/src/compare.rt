@@ -1,11 +1,12 @@
 //! Two tables, compared by key.
 
-ghost use Rattle.std.specs.Prelude.{◌≡◌, ◌<◌, ℕ, List, true, All, length, MatchResult};
+ghost use Rattle.std.specs.Prelude.{◌≡◌, ◌<◌, ℕ, List, true, All, length, map, slice_index, IfOk, MatchResult};
 ghost use Rattle.polars_arrays_bits.specs.Errors.{IsMemory};
 ghost use Rattle.diff_keys.specs.Matching.{IsMatching};
 ghost use Rattle.diff_keys.specs.Errors.{IsMemory as IsMatchMemory};
 ghost use Rattle.diff_keys.specs.Rising.{ListsRising};
 ghost use Rattle.diff_keys.specs.Unique.{TellsFirstTwice};
+ghost use Rattle.diff_tables.specs.Alike.{ArePlaces};
 ghost use Rattle.diff_tables.specs.Comparison.{ArePairs, IsComparison, IsDifferent};
 ghost use Rattle.diff_tables.specs.Errors.{IsCompareFault};
 ghost use Rattle.diff_tables.specs.Held.{HoldsRows};
@@ -19,7 +20,7 @@ use diff_keys::unique::{Twice, first_twice};
 use diff_pairs::changed::changed_pairs;
 use polars_arrays_bits::error::ComputeError;
 use polars_arrays_nested::any_array::AnyArray;
-use std::alloc::Global;
+use std::alloc::{AllocError, Global};
 
 /// The rows of two tables, matched and compared.
 #[derive(Debug, Drop)]
@@ -70,6 +71,30 @@ fn changed_rows(
     }
 }
 
+/// Returns the numbers at some places.
+fn numbers_at(alloc: Global, numbers: &[u32], places: &[usize]) -> Result<Vec<u32>, AllocError>
+    requires { ArePlaces (length numbers.now) places.now }
+    ensures { IfOk result (λ picked. picked.items ≡ map (slice_index numbers.now) places.now) }
+{
+    let mut picked = Vec::with_capacity(alloc, places.len())?;
+    for k in 0..places.len() {
+        picked.push(numbers[places[k]])?;
+    }
+    Ok(picked)
+}
+
+/// Returns the places that stand at some places among these.
+fn places_at(alloc: Global, all: &[usize], places: &[usize]) -> Result<Vec<usize>, AllocError>
+    requires { ArePlaces (length all.now) places.now }
+    ensures { IfOk result (λ picked. picked.items ≡ map (slice_index all.now) places.now) }
+{
+    let mut picked = Vec::with_capacity(alloc, places.len())?;
+    for k in 0..places.len() {
+        picked.push(all[places[k]])?;
+    }
+    Ok(picked)
+}
+
 /// Lists the places among matched rows where the two differ.
 fn changed_places(
     alloc: Global,
@@ -81,9 +106,13 @@ fn changed_places(
     requires pairs { ArePairs left.now.rows right.now.rows matching.now.left_rows.items matching.now.right_rows.items }
     ensures { MatchResult result (λ changed. ListsRising (IsDifferent left.now.rows right.now.rows matching.now.left_rows.items matching.now.right_rows.items) (length matching.now.left_rows.items) changed.items) IsMemory }
 {
-    let left_rows = Vec::from_slice(alloc, &matching.left_rows)?;
-    let right_rows = Vec::from_slice(alloc, &matching.right_rows)?;
-    changed_rows(alloc, left, left_rows, right, right_rows)
+    // Most rows are stored alike, and so the same. Of the others the kernel says which differ.
+    let places = left.unlike_pairs(alloc, &matching.left_rows, right, &matching.right_rows)?;
+    let left_rows = numbers_at(alloc, &matching.left_rows, &places)?;
+    let right_rows = numbers_at(alloc, &matching.right_rows, &places)?;
+    let changed = changed_rows(alloc, left, left_rows, right, right_rows)?;
+    let changed = places_at(alloc, &places, &changed)?;
+    Ok(changed)
 }
 
 /// Matches the rows of two tables that have the same cells in the key columns.

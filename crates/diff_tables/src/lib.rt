@@ -1,6 +1,7 @@
 //! Tables of cells, and the rows of two of them compared by key.
 #![tactic(auto)]
 
+mod alike;
 mod cells;
 pub mod compare;
 mod escaped;

@@ -1,7 +1,9 @@
 //! Tables of cells.
 
-ghost use Rattle.std.specs.Prelude.{◌≡◌, ◌<◌, ◌*◌, ℕ, Bool, List, [], true, length, get_or, MatchResult};
+ghost use Rattle.std.specs.Prelude.{◌≡◌, ◌<◌, ◌*◌, ℕ, Bool, List, [], true, length, get_or, IfOk, MatchResult};
 ghost use Rattle.polars_arrays_bits.specs.Errors.{IsMemory};
+ghost use Rattle.diff_tables.specs.Alike.{AreSameRows, ListsAllBut};
+ghost use Rattle.diff_tables.specs.Comparison.{ArePairs};
 ghost use Rattle.diff_tables.specs.Held.{HoldsCells, HoldsRows};
 ghost use Rattle.diff_tables.specs.Strings.{AreStrings};
 ghost use Rattle.diff_tables.specs.Tables.{cut_rows};
@@ -11,7 +13,7 @@ use crate::strings::Strings;
 use polars_arrays_bits::error::ComputeError;
 use polars_arrays_nested::any_array::AnyArray;
 use polars_arrays_nested::fixed_size_list::FixedSizeListArray;
-use std::alloc::Global;
+use std::alloc::{AllocError, Global};
 use std::marker::Model;
 
 /// Rows of cells. Each row has the same number of cells, its width, and each cell is a byte string.
@@ -93,6 +95,23 @@ impl Table {
         // The place below is less than this number, and so fits a `usize`.
         let _cells = self.cells.count();
         self.cells.value(self.width * i + c)
+    }
+
+    /// Lists the pairs of rows that are not stored alike: with cells as long, and of the same bytes.
+    /// The rows of all other pairs are the same.
+    pub(crate) fn unlike_pairs(
+        &self,
+        alloc: Global,
+        rows: &[u32],
+        other: &Table,
+        other_rows: &[u32],
+    ) -> Result<Vec<usize>, AllocError>
+        requires width { self.now.width ≡ other.now.width }
+        requires pairs { ArePairs self.now.rows other.now.rows rows.now other_rows.now }
+        ensures { IfOk result (λ places. ListsAllBut (AreSameRows self.now.rows other.now.rows rows.now other_rows.now) (length rows.now) places.items) }
+    {
+        self.cells
+            .unlike_pairs(alloc, rows, &other.cells, other_rows, self.width)
     }
 
     /// Returns whether the ends of the cells have 64 bits, as they have where all bytes are 2^31 or

@@ -1,0 +1,32 @@
+-- Strings that are stored alike: as long, and with the same bytes one behind another.
+--
+-- The strings "ab", "c" and the strings "a", "bc" have the same bytes, but not the same lengths.
+use Rattle.std.specs.List.{Contains, flat_map}
+use Rattle.std.specs.Prelude.{◌≡◌, ◌<◌, ◌≤◌, ◌+◌, ◌*◌, ◌⊎◌, ℕ, suc, List, [], length, get_or, slice_index}
+use Rattle.polars_arrays_flat.specs.Validity.{window}
+
+-- the bytes of strings, one string's behind another's
+abbrev pub all_bytes : List (List ℕ) → List ℕ
+all_bytes strings = flat_map (λ s. s) strings
+
+-- each number names a row of w strings
+abbrev pub NameRowsOf : ℕ → List (List ℕ) → List ℕ → Type 0
+NameRowsOf w strings rows = (p : ℕ) → p < length rows → w * slice_index rows p + w ≤ length strings
+
+-- the two rows of w strings that pair p names have the same strings
+abbrev pub AreSameCells : ℕ → List (List ℕ) → List (List ℕ) → List ℕ → List ℕ → ℕ → Type 0
+AreSameCells w left right left_rows right_rows p = window (w * slice_index left_rows p) w left ≡ window (w * slice_index right_rows p) w right
+
+-- the two rows that pair p names are the same
+abbrev pub AreSameRows : List (List (List ℕ)) → List (List (List ℕ)) → List ℕ → List ℕ → ℕ → Type 0
+AreSameRows left right left_rows right_rows p = get_or left (slice_index left_rows p) [] ≡ get_or right (slice_index right_rows p) []
+
+-- each number is below n
+abbrev pub ArePlaces : ℕ → List ℕ → Type 0
+ArePlaces n places = (k : ℕ) → k < length places → slice_index places k < n
+
+-- numbers below n are listed in rising order, and for each of the others P holds
+pub record ListsAllBut (P : ℕ → Type 0) (n : ℕ) (places : List ℕ) : Type 0 where
+  pub below : ArePlaces n places
+  pub in_order : (k : ℕ) → suc k < length places → slice_index places k < slice_index places (suc k)
+  pub others : (p : ℕ) → p < n → Contains places p ⊎ P p
