@@ -1,0 +1,3 @@
+pub mod Errors
+pub mod Paths
+pub mod Views

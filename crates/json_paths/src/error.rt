@@ -1,0 +1,33 @@
+//! Why a text is no path.
+
+ghost use Rattle.json_paths.specs.Errors.{IsMemory};
+
+use std::alloc::{AllocError, AllocFailed};
+use thiserror::Error;
+
+/// The reason why a text is not read as a path.
+#[derive(Clone, Copy, Debug, Drop, Error, PartialEq, Eq)]
+pub enum PathError {
+    /// An allocation failed.
+    #[error("out of memory")]
+    Memory,
+    /// The text is no path.
+    #[error("no path such as a.b[0] or .\"a b\"[1]")]
+    Invalid,
+}
+
+impl From<AllocError> for PathError {
+    ghost from_gives = { λ _ r. IsMemory r };
+
+    fn from(_failed: AllocError) -> PathError {
+        PathError::Memory
+    }
+}
+
+impl<T: Drop> From<AllocFailed<T>> for PathError {
+    ghost from_gives = { λ _ r. IsMemory r };
+
+    fn from(_failed: AllocFailed<T>) -> PathError {
+        PathError::Memory
+    }
+}

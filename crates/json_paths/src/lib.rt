@@ -1,0 +1,6 @@
+//! Paths into JSON values.
+#![tactic(auto)]
+
+pub mod error;
+pub mod parse;
+pub mod path;
