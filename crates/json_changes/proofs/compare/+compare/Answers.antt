@@ -1,0 +1,139 @@
+use Rattle.std.proofs.Common.{◌≡◌, ◌+◌, ◌<◌, ◌++◌, ℕ, List, suc, drop, length, map, take, IfSome, ap, sym, ◌∙◌, subst, arith, rules, Global}
+use Rattle.json.proofs.Trees.{item_smaller}
+use Rattle.json.specs.Find.{get_member}
+use Rattle.json.specs.Json.{Json, array, object}
+use Rattle.json.specs.Tree.{HasNumbers, json_tokens, items_tokens, members_tokens}
+use Rattle.json.specs.Value.{value_view, items_view, members_view}
+use Rattle.json.specs.declared.value.Value.{Value}
+use Rattle.json_normal.specs.Narrow.{HasNarrowNumbers}
+use Rattle.json_paths.specs.Paths.{name, place}
+use Rattle.json_changes.specs.Differences.{Difference, alone_items, beside, differences, inside, item_differences, member_differences, only_left, only_right}
+use Rattle.json_changes.specs.Errors.{IsFaultOf}
+use Rattle.json_changes.specs.Names.{seen}
+use Rattle.json_changes.specs.Texts.{change_view, told_from, with_step}
+use Rattle.json_changes.proofs.FoundLemmas.{fault_found, fault_within, if_seen, numbers_found}
+use Rattle.json_changes.proofs.PartLemmas.{Pair, items_end, items_step, member_narrow_at, member_numbers_at, members_step, narrow_at, numbers_at, two_smaller}
+use Rattle.json_changes.proofs.TableLemmas.{found_at}
+use Rattle.json_changes.proofs.TextLemmas.{cut, stepped, twice}
+use Rattle.json_changes.proofs.compare.+compare.Goals as goal
+
+pub compare_items-compare-requires : goal.compare_items-compare-requires
+compare_items-compare-requires t c =
+    let xs = c.args.own.now.items in
+    let ys = c.args.other.now.items in
+    let i = c.loop-i.i in
+    let x = c.index.result.now in
+    let y = c.index-in-loop-i.result.now in
+    let left_numbers : HasNumbers (value_view x) = subst (λ (v : Value Global). HasNumbers (value_view v)) (sym c.index.ensures) (numbers_at xs i x (omega arith) c.requires.left_numbers) in
+    let right_numbers : HasNumbers (value_view y) = subst (λ (v : Value Global). HasNumbers (value_view v)) (sym c.index-in-loop-i.ensures) (numbers_at ys i y (omega arith) c.requires.right_numbers) in
+    let smaller : length (json_tokens (value_view x)) < length (items_tokens (items_view xs)) =
+    subst (λ (v : Value Global). length (json_tokens (value_view v)) < length (items_tokens (items_view xs))) (sym c.index.ensures) (item_smaller xs i x (omega arith)) in
+    search rules
+
+pub compare_items-returns-in_err-compare-clause-fault : goal.compare_items-returns-in_err-compare-clause-fault
+compare_items-returns-in_err-compare-clause-fault t c =
+    let xs = c.args.own.now.items in
+    let ys = c.args.other.now.items in
+    let i = c.loop-i.i in
+    let x = c.index.result.now in
+    let y = c.index-in-loop-i.result.now in
+    let left : HasNarrowNumbers (array (items_view xs)) → HasNarrowNumbers (value_view x) = λ h. subst (λ (v : Value Global). HasNarrowNumbers (value_view v)) (sym c.index.ensures) (narrow_at xs i x (omega arith) h) in
+    let right : HasNarrowNumbers (array (items_view ys)) → HasNarrowNumbers (value_view y) = λ h. subst (λ (v : Value Global). HasNarrowNumbers (value_view v)) (sym c.index-in-loop-i.ensures) (narrow_at ys i y (omega arith) h) in
+    let whole : IsFaultOf (array (items_view xs)) (array (items_view ys)) c.in_err-compare.field-0.0 =
+    fault_within (array (items_view xs)) (array (items_view ys)) (value_view x) (value_view y) c.in_err-compare.field-0.0 left right c.in_err-compare.ensures.fault in
+    search rules
+
+pub compare_items-loop-i-preserved : goal.compare_items-loop-i-preserved
+compare_items-loop-i-preserved t c =
+    let xs = c.args.own.now.items in
+    let ys = c.args.other.now.items in
+    let i = c.loop-i.i in
+    let x = c.index.result.now in
+    let y = c.index-in-loop-i.result.now in
+    let text : List ℕ = c.args.path.now.items in
+    let here : c.push_place.new.path.items ≡ with_step text (place i) = c.in_ok-push_place.ensures ∙ ap (λ p. with_step p (place i)) c.loop-i.invariant.1 in
+    let told : map change_view c.compare.new.changes.items ≡ map change_view c.loop-i.changes.items ++ map (told_from (with_step text (place i))) (differences (value_view x) (value_view y)) =
+    c.in_ok-compare.ensures.told ∙ ap (λ p. map change_view c.loop-i.changes.items ++ map (told_from p) (differences (value_view x) (value_view y))) here in
+    let more : item_differences i (items_view (drop i xs)) (items_view (drop i ys))
+    ≡ map (inside (place i)) (differences (value_view x) (value_view y)) ++ item_differences (i + 1) (items_view (drop (i + 1) xs)) (items_view (drop (i + 1) ys)) =
+    items_step xs ys i x y (omega arith) (omega arith)
+    ∙ (λ s. map (inside (place i)) (differences (value_view (sym c.index.ensures s)) (value_view (sym c.index-in-loop-i.ensures s))) ++ item_differences (i + 1) (items_view (drop (i + 1) xs)) (items_view (drop (i + 1) ys))) in
+    let long : length c.loop-i.path.items ≡ length text = ap length c.loop-i.invariant.1 in
+    let end : c.len-end.result ≡ length text = omega arith in
+    let longer : c.compare.new.path.items ≡ with_step text (place i) = c.in_ok-compare.ensures.path ∙ here in (
+      stepped text (place i) (map change_view c.loop-i.changes.items) (map change_view c.compare.new.changes.items) (differences (value_view x) (value_view y))
+          (item_differences (i + 1) (items_view (drop (i + 1) xs)) (items_view (drop (i + 1) ys))) (item_differences i (items_view (drop i xs)) (items_view (drop i ys))) told more ∙ c.loop-i.invariant.0,
+      c.truncate.ensures.items ∙ (λ s. take (end s) (longer s)) ∙ cut text (place i),
+    )
+
+pub compare_items-returns-clause-told : goal.compare_items-returns-clause-told
+compare_items-returns-clause-told t c =
+    let xs = c.args.own.now.items in
+    let ys = c.args.other.now.items in
+    let text : List ℕ = c.args.path.now.items in
+    let shared : ℕ = c.min-shared.result in
+    let lefts = alone_items only_left shared (items_view (drop shared xs)) in
+    let rights = alone_items only_right shared (items_view (drop shared ys)) in
+    let at : c.loop-i.i ≡ shared = omega arith in
+    let first : map change_view c.push_items.new.changes.items ≡ map change_view c.loop-i.changes.items ++ map (told_from text) lefts =
+    c.in_ok-push_items.ensures.told ∙ ap (λ p. map change_view c.loop-i.changes.items ++ map (told_from p) lefts) c.loop-i.invariant.1 in
+    let second : map change_view c.push_items-2.new.changes.items ≡ map change_view c.push_items.new.changes.items ++ map (told_from text) rights =
+    c.in_ok-push_items-2.ensures.told ∙ ap (λ p. map change_view c.push_items.new.changes.items ++ map (told_from p) rights) (c.in_ok-push_items.ensures.path ∙ c.loop-i.invariant.1) in
+    let both : item_differences shared (items_view (drop shared xs)) (items_view (drop shared ys)) ≡ lefts ++ rights = items_end xs ys shared (omega arith) in
+    twice text (map change_view c.loop-i.changes.items) (map change_view c.push_items.new.changes.items) (map change_view c.push_items-2.new.changes.items) lefts rights
+    (item_differences shared (items_view (drop shared xs)) (items_view (drop shared ys))) first second both
+    ∙ ap (λ n. map change_view c.loop-i.changes.items ++ map (told_from text) (item_differences n (items_view (drop n xs)) (items_view (drop n ys)))) (sym at) ∙ c.loop-i.invariant.0
+
+pub compare_members-compare_found-requires : goal.compare_members-compare_found-requires
+compare_members-compare_found-requires t c =
+    let ms = c.args.own.now.items in
+    let ns = members_view c.args.other.now.items in
+    let i = c.loop-i.i in
+    let m = c.index-member.result.now in
+    let found : seen c.index.result.now ≡ get_member m.0.now ns =
+    ap seen c.index.ensures ∙ found_at ms c.in_ok-found.found.items ns i c.index.result.now m c.in_ok-found.ensures (omega arith) ∙ ap (λ (n : Pair Global). get_member n.0.now ns) (sym c.index-member.ensures) in
+    let left_numbers : HasNumbers (value_view m.1) = subst (λ (n : Pair Global). HasNumbers (value_view n.1)) (sym c.index-member.ensures) (member_numbers_at ms i m (omega arith) c.requires.left_numbers) in
+    let right_numbers : IfSome c.index.result.now (λ v. HasNumbers (value_view v.now)) =
+    if_seen HasNumbers (λ v. value_view v.now) c.index.result.now (get_member m.0.now ns) found (numbers_found m.0.now ns c.requires.right_numbers) in
+    let smaller : suc (length (json_tokens (value_view m.1))) < length (members_tokens (members_view ms)) =
+    subst (λ (n : Pair Global). suc (length (json_tokens (value_view n.1))) < length (members_tokens (members_view ms))) (sym c.index-member.ensures) (two_smaller ms i m (omega arith)) in
+    search rules
+
+pub compare_members-returns-in_err-compare_found-clause-fault :
+    goal.compare_members-returns-in_err-compare_found-clause-fault
+compare_members-returns-in_err-compare_found-clause-fault t c =
+    let ms = c.args.own.now.items in
+    let ns = members_view c.args.other.now.items in
+    let i = c.loop-i.i in
+    let m = c.index-member.result.now in
+    let found : seen c.index.result.now ≡ get_member m.0.now ns =
+    ap seen c.index.ensures ∙ found_at ms c.in_ok-found.found.items ns i c.index.result.now m c.in_ok-found.ensures (omega arith) ∙ ap (λ (n : Pair Global). get_member n.0.now ns) (sym c.index-member.ensures) in
+    let left : HasNarrowNumbers (object (members_view ms)) → HasNarrowNumbers (value_view m.1) = λ h. subst (λ (n : Pair Global). HasNarrowNumbers (value_view n.1)) (sym c.index-member.ensures) (member_narrow_at ms i m (omega arith) h) in
+    let whole : IsFaultOf (object (members_view ms)) (object ns) c.in_err-compare_found.field-0.0 =
+    fault_found (object (members_view ms)) ns m.0.now (value_view m.1) (λ v. value_view v.now) c.index.result.now c.in_err-compare_found.field-0.0 found left c.in_err-compare_found.ensures.fault in
+    search rules
+
+pub compare_members-loop-i-preserved : goal.compare_members-loop-i-preserved
+compare_members-loop-i-preserved t c =
+    let ms = c.args.own.now.items in
+    let ns = members_view c.args.other.now.items in
+    let i = c.loop-i.i in
+    let m = c.index-member.result.now in
+    let found : seen c.index.result.now ≡ get_member m.0.now ns =
+    ap seen c.index.ensures ∙ found_at ms c.in_ok-found.found.items ns i c.index.result.now m c.in_ok-found.ensures (omega arith) ∙ ap (λ (n : Pair Global). get_member n.0.now ns) (sym c.index-member.ensures) in
+    let text : List ℕ = c.args.path.now.items in
+    let key : List ℕ = m.0.now in
+    let between : Json → List Difference = λ k. differences (value_view m.1) k in
+    let here : c.push_name.new.path.items ≡ with_step text (name key) = c.in_ok-push_name.ensures ∙ ap (λ p. with_step p (name key)) c.loop-i.invariant.1 in
+    let told : map change_view c.compare_found.new.changes.items ≡ map change_view c.loop-i.changes.items ++ map (told_from (with_step text (name key))) (beside (value_view m.1) between (get_member key ns)) =
+    c.in_ok-compare_found.ensures.told ∙ (λ s. map change_view c.loop-i.changes.items ++ map (told_from (here s)) (beside (value_view m.1) between (found s))) in
+    let more : member_differences (members_view (drop i ms)) ns ≡ map (inside (name key)) (beside (value_view m.1) between (get_member key ns)) ++ member_differences (members_view (drop (i + 1) ms)) ns =
+    members_step ms ns i m (omega arith)
+    ∙ ap (λ (n : Pair Global). map (inside (name n.0.now)) (beside (value_view n.1) (λ k. differences (value_view n.1) k) (get_member n.0.now ns)) ++ member_differences (members_view (drop (i + 1) ms)) ns) (sym c.index-member.ensures) in
+    let long : length c.loop-i.path.items ≡ length text = ap length c.loop-i.invariant.1 in
+    let end : c.len-end.result ≡ length text = omega arith in
+    let longer : c.compare_found.new.path.items ≡ with_step text (name key) = c.in_ok-compare_found.ensures.path ∙ here in (
+      stepped text (name key) (map change_view c.loop-i.changes.items) (map change_view c.compare_found.new.changes.items) (beside (value_view m.1) between (get_member key ns))
+          (member_differences (members_view (drop (i + 1) ms)) ns) (member_differences (members_view (drop i ms)) ns) told more ∙ c.loop-i.invariant.0,
+      c.truncate.ensures.items ∙ (λ s. take (end s) (longer s)) ∙ cut text (name key),
+    )

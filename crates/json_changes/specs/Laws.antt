@@ -1,0 +1,65 @@
+-- Laws of differences.
+use Rattle.std.specs.List.{All, AllPairs}
+use Rattle.std.specs.Prelude.{◌≡◌, ◌↔◌, ◌⊎◌, List, [], ◌∷◌, Option, Some, None, ⊤}
+use Rattle.json.specs.Json.{Json, array, object}
+use Rattle.json.specs.Strict.{HasUniqueKeys}
+use Rattle.json_normal.specs.Same.{AreSame}
+use Rattle.json_paths.specs.Paths.{Path, part_at}
+use Rattle.json_changes.specs.Differences.{Difference, differences}
+
+-- there is no difference where two values are the same, and only there
+abbrev pub NoneWhereSame : Type 0
+NoneWhereSame = (j k : Json) → HasUniqueKeys j → HasUniqueKeys k → (differences j k ≡ []) ↔ AreSame j k
+
+-- the path of a difference leads to its parts: on each side to the part told, and nowhere where none is
+pub record LeadsToParts (j k : Json) (d : Difference) : Type 0 where
+  pub left : part_at d.path j ≡ d.left
+  pub right : part_at d.path k ≡ d.right
+
+-- the path of each difference leads to its parts
+abbrev pub PathsLead : Type 0
+PathsLead = (j k : Json) → HasUniqueKeys j → HasUniqueKeys k → All (LeadsToParts j k) (differences j k)
+
+-- two parts are the same, or both are missing
+abbrev pub PartsAreSame : Option Json → Option Json → Type 0
+PartsAreSame None None = ⊤
+PartsAreSame (Some j) (Some k) = AreSame j k
+PartsAreSame o p = ⊥
+
+-- the parts of each difference are not the same
+abbrev pub EachIsReal : Type 0
+EachIsReal = (j k : Json) → HasUniqueKeys j → HasUniqueKeys k → All (λ d. ¬ PartsAreSame d.left d.right) (differences j k)
+
+-- two arrays or two objects, whose parts can be compared
+abbrev pub HaveParts : Json → Json → Type 0
+HaveParts (array js) (array ks) = ⊤
+HaveParts (object ms) (object ns) = ⊤
+HaveParts j k = ⊥
+
+-- there are two values, and their parts can be compared
+abbrev pub CanGoOn : Option Json → Option Json → Type 0
+CanGoOn (Some j) (Some k) = HaveParts j k
+CanGoOn o p = ⊥
+
+-- no difference is of two arrays or of two objects: it is of their parts
+abbrev pub EachIsSmallest : Type 0
+EachIsSmallest = (j k : Json) → HasUniqueKeys j → HasUniqueKeys k → All (λ d. ¬ CanGoOn d.left d.right) (differences j k)
+
+-- one of two paths goes on from the other, or they are one
+abbrev pub IsAlong : Path → Path → Type 0
+IsAlong [] q = ⊤
+IsAlong (s ∷ p) [] = ⊤
+IsAlong (s ∷ p) (t ∷ q) = (s ≡ t) × IsAlong p q
+
+-- the path of one of the differences is along this one
+abbrev pub OneIsAlong : Path → List Difference → Type 0
+OneIsAlong p [] = ⊥
+OneIsAlong p (d ∷ ds) = IsAlong d.path p ⊎ OneIsAlong p ds
+
+-- where the parts at a path are not the same, there is a difference at this path, above it or below it
+abbrev pub NoneIsMissed : Type 0
+NoneIsMissed = (j k : Json) (p : Path) → ¬ PartsAreSame (part_at p j) (part_at p k) → OneIsAlong p (differences j k)
+
+-- no path of a difference goes on from that of another
+abbrev pub PathsPart : Type 0
+PathsPart = (j k : Json) → HasUniqueKeys j → HasUniqueKeys k → AllPairs (λ d e. ¬ IsAlong d.path e.path) (differences j k)

@@ -1,0 +1,5 @@
+pub mod Differences
+pub mod Errors
+pub mod Laws
+pub mod Names
+pub mod Texts

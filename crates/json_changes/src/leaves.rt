@@ -1,0 +1,70 @@
+//! Comparing two values that have no parts to compare.
+
+ghost use Rattle.std.specs.Prelude.{◌≡◌, ◌++◌, IfErr, IfOk, OnOk, map};
+ghost use Rattle.std.specs.Str.{bytes_eq};
+ghost use Rattle.json.specs.Json.{number};
+ghost use Rattle.json.specs.Tree.{HasNumbers};
+ghost use Rattle.json.specs.Value.{value_view};
+ghost use Rattle.json_decimals.specs.Texts.{normal_number};
+ghost use Rattle.json_changes.specs.Differences.{leaf_differences, is_same_leaf};
+ghost use Rattle.json_changes.specs.Errors.{IsFaultOf};
+ghost use Rattle.json_changes.specs.Texts.{change_view, told_from};
+
+use crate::parts::{Change, push_change};
+use json::Value;
+use json_decimals::error::NumberError;
+use json_decimals::numbers::push_normal_number;
+use std::alloc::Global;
+
+/// Returns whether two texts write the same number.
+fn are_same_numbers(alloc: Global, left: &str, right: &str) -> Result<bool, NumberError>
+    ensures same { IfOk result
+        (λ b. b ≡ bytes_eq (normal_number left.now) (normal_number right.now)) }
+    ensures fault { IfErr result (λ e. IsFaultOf (number left.now) (number right.now) e) }
+{
+    if left == right {
+        return Ok(true);
+    }
+    let mut first = Vec::new(alloc);
+    push_normal_number(&mut first, left)?;
+    let mut second = Vec::new(alloc);
+    push_normal_number(&mut second, right)?;
+    Ok(first.as_slice() == second.as_slice())
+}
+
+/// Returns whether two values with no parts are the same.
+fn are_same(alloc: Global, left: &Value<'_>, right: &Value<'_>) -> Result<bool, NumberError>
+    ensures same { IfOk result
+        (λ b. b ≡ is_same_leaf (value_view left.now) (value_view right.now)) }
+    ensures fault { IfErr result (λ e. IsFaultOf (value_view left.now) (value_view right.now) e) }
+{
+    match (left, right) {
+        (Value::Null, Value::Null) => Ok(true),
+        (Value::Bool(a), Value::Bool(b)) => Ok(*a == *b),
+        (Value::Number(a), Value::Number(b)) => are_same_numbers(alloc, a, b),
+        (Value::String(a), Value::String(b)) => Ok(*a == *b),
+        _ => Ok(false),
+    }
+}
+
+/// Appends the change of two values, where they are not the same.
+pub(crate) fn compare_leaves(
+    alloc: Global,
+    path: &Vec<u8>,
+    changes: &mut Vec<Change>,
+    left: &Value<'_>,
+    right: &Value<'_>,
+) -> Result<(), NumberError>
+    requires left_numbers { HasNumbers (value_view left.now) }
+    requires right_numbers { HasNumbers (value_view right.now) }
+    ensures told { OnOk result (map change_view changes.new.items
+        ≡ map change_view changes.old.items ++ map (told_from path.now.items)
+        (leaf_differences (value_view left.now) (value_view right.now))) }
+    ensures fault { IfErr result (λ e. IsFaultOf (value_view left.now) (value_view right.now) e) }
+{
+    if are_same(alloc, left, right)? {
+        return Ok(());
+    }
+    push_change(alloc, path, changes, Some(left), Some(right))?;
+    Ok(())
+}

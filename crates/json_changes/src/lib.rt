@@ -1,0 +1,11 @@
+//! The differences between two JSON values: the smallest parts that differ, told by path.
+#![tactic(auto)]
+
+pub mod changes;
+mod compare;
+pub mod laws;
+mod leaves;
+mod members;
+mod names;
+mod parts;
+mod paths;

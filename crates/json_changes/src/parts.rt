@@ -1,0 +1,82 @@
+//! Changes, and the texts of the parts that they name.
+
+ghost use Rattle.std.specs.Option.{option_map};
+ghost use Rattle.std.specs.Prelude.{◌≡◌, ◌++◌, ◌∷◌, [], IfOk, IfSome, OnOk, map};
+ghost use Rattle.json.specs.Tree.{HasNumbers};
+ghost use Rattle.json.specs.Value.{value_view};
+ghost use Rattle.json_changes.specs.Differences.{apart};
+ghost use Rattle.json_changes.specs.Texts.{change_view, only_in, part_text, told_from};
+
+use json::{Value, to_vec};
+use std::alloc::{AllocError, Global};
+
+/// A difference between two values, in texts.
+#[derive(Debug, Drop)]
+pub struct Change {
+    /// The path to the parts that differ.
+    pub path: Vec<u8>,
+    /// The part of the left value, as JSON, where it has one.
+    pub left: Option<Vec<u8>>,
+    /// The part of the right value, as JSON, where it has one.
+    pub right: Option<Vec<u8>>,
+}
+
+/// One of two values that are compared.
+#[derive(Clone, Copy)]
+pub(crate) enum Side {
+    Left,
+    Right,
+}
+
+/// Returns the text of a part, where there is one.
+fn text_of(alloc: Global, part: Option<&Value<'_>>) -> Result<Option<Vec<u8>>, AllocError>
+    requires { IfSome part (λ v. HasNumbers (value_view v.now)) }
+    ensures { IfOk result (λ text. option_map (λ v. v.items) text
+        ≡ option_map (λ v. part_text (value_view v.now)) part.entry) }
+{
+    match part {
+        Some(value) => Ok(Some(to_vec(alloc, value)?)),
+        None => Ok(None),
+    }
+}
+
+/// Appends the change of two parts at a path.
+pub(crate) fn push_change(
+    alloc: Global,
+    path: &Vec<u8>,
+    changes: &mut Vec<Change>,
+    left: Option<&Value<'_>>,
+    right: Option<&Value<'_>>,
+) -> Result<(), AllocError>
+    requires left_numbers { IfSome left (λ v. HasNumbers (value_view v.now)) }
+    requires right_numbers { IfSome right (λ v. HasNumbers (value_view v.now)) }
+    ensures { OnOk result (map change_view changes.new.items
+        ≡ map change_view changes.old.items ++ told_from path.now.items (apart
+        (option_map (λ v. value_view v.now) left.entry)
+        (option_map (λ v. value_view v.now) right.entry)) ∷ []) }
+{
+    let left = text_of(alloc, left)?;
+    let right = text_of(alloc, right)?;
+    let path = Vec::from_slice(alloc, path.as_slice())?;
+    changes.push(Change { path, left, right })?;
+    Ok(())
+}
+
+/// Appends the change of a part that one side alone has.
+pub(crate) fn push_alone(
+    alloc: Global,
+    path: &Vec<u8>,
+    changes: &mut Vec<Change>,
+    side: Side,
+    part: &Value<'_>,
+) -> Result<(), AllocError>
+    requires { HasNumbers (value_view part.now) }
+    ensures { OnOk result (map change_view changes.new.items
+        ≡ map change_view changes.old.items
+        ++ told_from path.now.items (only_in side (value_view part.now)) ∷ []) }
+{
+    match side {
+        Side::Left => push_change(alloc, path, changes, Some(part), None),
+        Side::Right => push_change(alloc, path, changes, None, Some(part)),
+    }
+}

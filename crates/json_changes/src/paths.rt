@@ -1,0 +1,63 @@
+//! The texts of paths.
+
+ghost use Rattle.std.specs.List.{list_all};
+ghost use Rattle.std.specs.Prelude.{◌≡◌, ◌++◌, OnOk};
+ghost use Rattle.json.specs.Print.{quoted};
+ghost use Rattle.json_paths.specs.Paths.{name, place};
+ghost use Rattle.json_changes.specs.Texts.{is_plain, is_plain_byte, with_step};
+
+use itoa::Buffer;
+use json::{Value, to_vec};
+use std::alloc::{AllocError, Global};
+
+/// Returns whether each byte needs no quotes.
+fn are_plain(bytes: &[u8]) -> bool
+    ensures { result ≡ list_all is_plain_byte bytes.now }
+{
+    bytes
+        .iter()
+        .all(|b| b.is_ascii_alphanumeric() || *b == b'_' || *b == b'-')
+}
+
+/// Returns whether a name needs no quotes.
+fn is_plain(name: &str) -> bool
+    ensures { result ≡ is_plain name.now }
+{
+    !name.is_empty() && are_plain(name.as_bytes())
+}
+
+/// Appends a name between quotes.
+fn push_quoted(alloc: Global, path: &mut Vec<u8>, name: &str) -> Result<(), AllocError>
+    ensures { OnOk result (path.new.items ≡ path.old.items ++ quoted name.now) }
+{
+    let value: Value<'_> = Value::String(name);
+    let text = to_vec(alloc, &value)?;
+    path.extend_from_slice(text.as_slice())?;
+    Ok(())
+}
+
+/// Appends the step to the member of a name.
+pub(crate) fn push_name(alloc: Global, path: &mut Vec<u8>, key: &str) -> Result<(), AllocError>
+    ensures { OnOk result (path.new.items ≡ with_step path.old.items (name key.now)) }
+{
+    if !is_plain(key) {
+        path.push(b'.')?;
+        return push_quoted(alloc, path, key);
+    }
+    if !path.is_empty() {
+        path.push(b'.')?;
+    }
+    path.extend_from_slice(key.as_bytes())?;
+    Ok(())
+}
+
+/// Appends the step to the item at a place.
+pub(crate) fn push_place(path: &mut Vec<u8>, i: usize) -> Result<(), AllocError>
+    ensures { OnOk result (path.new.items ≡ with_step path.old.items (place i)) }
+{
+    let mut buffer = Buffer::new();
+    path.push(b'[')?;
+    path.extend_from_slice(buffer.format(i).as_bytes())?;
+    path.push(b']')?;
+    Ok(())
+}
