@@ -1,0 +1,6 @@
+mod DocumentLemmas
+mod Examples
+mod LineLemmas
+mod PairLemmas
+mod PartLemmas
+mod RowLemmas

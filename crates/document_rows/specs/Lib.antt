@@ -1,0 +1,6 @@
+pub mod Documents
+pub mod Errors
+pub mod Lines
+pub mod Reading
+pub mod Rows
+pub mod Tables

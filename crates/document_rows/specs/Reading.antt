@@ -1,0 +1,42 @@
+-- An input that is read line by line.
+--
+-- Of "ab", 10, "c" the first line that is read is "ab", and "c" is left. Of nothing there is no line.
+use Rattle.std.specs.Prelude.{◌≡◌, ◌<◌, ℕ, Bool, true, false, List, [], ◌∷◌, Option, Some, None, get_or, length, ⊤}
+use Rattle.json.specs.Json.{Json}
+use Rattle.json_paths.specs.Paths.{Path, part_at}
+use Rattle.document_rows.specs.Errors.{IsLineFault}
+use Rattle.document_rows.specs.Lines.{lines_of}
+use Rattle.document_rows.specs.declared.error.LineFault.TheVariants as fault
+use Rattle.document_rows.specs.declared.error.ReadError.{ReadError}
+use Rattle.document_rows.specs.declared.error.ReadError.TheVariants as error
+use Rattle.document_rows.specs.declared.values.Trouble.{Trouble}
+use Rattle.document_rows.specs.declared.values.Trouble.TheVariants as trouble
+
+-- a read shows the first line of what is left, and leaves what is behind it; or that nothing is left
+abbrev pub TakesLine : {R : Type 0} → (R → Option (List ℕ)) → List ℕ → List ℕ → R → Bool → Type 0
+TakesLine remaining rest line reader true = (after : List ℕ) × (remaining reader ≡ Some after) × (lines_of rest ≡ line ∷ lines_of after)
+TakesLine remaining rest line reader false = rest ≡ []
+
+-- an allocation failed
+abbrev pub IsTroubleMemory : Trouble → Type 0
+IsTroubleMemory t = t ≡ trouble.Memory
+
+-- why a line is not kept: an allocation failed, or it is no document
+abbrev pub IsTrouble : List Path → List ℕ → Trouble → Type 0
+IsTrouble keys line trouble.Memory = ⊤
+IsTrouble keys line (trouble.Fault what) = IsLineFault keys line what
+
+-- why the parts of a value are not kept: an allocation failed, or a key leads nowhere
+abbrev pub IsPartTrouble : List Path → Json → Trouble → Type 0
+IsPartTrouble keys j trouble.Memory = ⊤
+IsPartTrouble keys j (trouble.Fault fault.Invalid) = ⊥
+IsPartTrouble keys j (trouble.Fault fault.RepeatedName) = ⊥
+IsPartTrouble keys j (trouble.Fault fault.WideExponent) = ⊥
+IsPartTrouble keys j (trouble.Fault fault.NoObject) = ⊥
+IsPartTrouble keys j (trouble.Fault (fault.NoPart key)) = (key < length keys) × (part_at (get_or keys key []) j ≡ None)
+
+-- why the line of a number is not kept: an allocation failed, or it is no document
+abbrev pub IsFaultAt : List Path → List ℕ → ℕ → ReadError → Type 0
+IsFaultAt keys line number error.Memory = ⊤
+IsFaultAt keys line number (error.Read cause) = ⊥
+IsFaultAt keys line number (error.Line n what) = (n ≡ number) × IsLineFault keys line what

@@ -1,0 +1,11 @@
+//! Reads inputs of JSON documents, one a line, to tables, and tells which matched documents differ.
+#![tactic(auto)]
+
+mod cells;
+pub mod document;
+pub mod error;
+mod lines;
+mod narrow;
+pub mod pairs;
+pub mod read;
+mod values;

@@ -1,0 +1,135 @@
+//! Inputs of documents, read to tables.
+
+ghost use Rattle.std.specs.Io.Buffered.{reader_remaining};
+ghost use Rattle.std.specs.Prelude.{◌≡◌, ◌++◌, ◌∷◌, [], ℕ, List, Some, IfErr, IfOk, MatchResult};
+ghost use Rattle.json_paths.specs.Views.{paths_view};
+ghost use Rattle.document_rows.specs.Errors.{IsMemory, IsReadFault, IsStop};
+ghost use Rattle.document_rows.specs.Reading.{IsFaultAt, TakesLine};
+ghost use Rattle.document_rows.specs.Rows.{HoldsRows, ReadsAll};
+ghost use Rattle.document_rows.specs.Tables.{AreDocumentsOf, AreDocumentsWith, HaveDocuments};
+
+use crate::cells::{Rooms, Rows};
+use crate::error::ReadError;
+use crate::lines::read_line;
+use crate::values::Trouble;
+use diff_tables::table::Table;
+use json_paths::path::Path;
+use std::alloc::Global;
+use std::io;
+use std::io::{BufRead, BufReader, ErrorKind, Read};
+
+/// Documents of an input, one a line.
+#[derive(Drop)]
+pub struct Documents {
+    /// A row for each document: the normal text of the part at each key, and last the line.
+    pub table: Table,
+    /// For each row its line's number, from 1 on.
+    pub lines: Vec<u64>,
+}
+
+/// Returns what a failure of the reader says.
+fn fault_of(cause: io::Error) -> ReadError
+    ensures { IsStop result }
+{
+    match cause.kind() {
+        ErrorKind::OutOfMemory => ReadError::Memory,
+        _ => ReadError::Read { cause },
+    }
+}
+
+/// Reads the next line into `line`. Returns whether there was one.
+fn next_line<B: BufRead>(reader: &mut B, line: &mut Vec<u8>) -> Result<bool, ReadError>
+    ensures told { IfOk result (λ found. (rest : List ℕ) → B.remaining reader.old ≡ Some rest → TakesLine B.remaining rest line.new.items reader.new found) }
+    ensures stop { IfErr result IsStop }
+{
+    match read_line(reader, line) {
+        Ok(found) => Ok(found),
+        Err(cause) => Err(fault_of(cause)),
+    }
+}
+
+/// Keeps the document of a line. `number` is the line's, from 1 on.
+fn keep_line(
+    alloc: Global,
+    rows: &mut Rows,
+    line: &[u8],
+    number: u64,
+    keys: &[Path],
+    rooms: &mut Rooms,
+) -> Result<(), ReadError>
+    ensures { MatchResult result
+        (λ _. (all : List (List ℕ)) → HoldsRows (paths_view keys.now) all rows.old → HoldsRows (paths_view keys.now) (all ++ line.now ∷ []) rows.new)
+        (IsFaultAt (paths_view keys.now) line.now number) }
+{
+    match rows.push(alloc, line, keys, rooms) {
+        Ok(()) => Ok(()),
+        Err(Trouble::Memory) => Err(ReadError::Memory),
+        Err(Trouble::Fault(fault)) => Err(ReadError::Line {
+            line: number,
+            fault,
+        }),
+    }
+}
+
+/// Reads the rows of all lines.
+fn read_rows<B: BufRead + Drop>(
+    alloc: Global,
+    mut reader: B,
+    keys: &[Path],
+) -> Result<Rows, ReadError>
+    ensures { MatchResult result
+        (ReadsAll B.remaining (paths_view keys.now) reader)
+        (λ error. (text : List ℕ) → B.remaining reader ≡ Some text → IsReadFault text (paths_view keys.now) error) }
+{
+    let mut rows = Rows::new(alloc)?;
+    let mut rooms = Rooms::new(alloc)?;
+    let mut line = Vec::new(alloc);
+    for before in 0..u64::MAX {
+        if !next_line(&mut reader, &mut line)? {
+            return Ok(rows);
+        }
+        keep_line(alloc, &mut rows, &line, before + 1, keys, &mut rooms)?;
+    }
+    // No memory holds so many rows.
+    Err(ReadError::Memory)
+}
+
+/// Returns the table of rows, which have a cell for each key and one for the line.
+fn table_of(alloc: Global, rows: Rows, keys: &[Path]) -> Result<Documents, ReadError>
+    requires { (lines : List (List ℕ)) × HoldsRows (paths_view keys.now) lines rows }
+    ensures { MatchResult result (λ documents. (lines : List (List ℕ)) → HoldsRows (paths_view keys.now) lines rows → AreDocumentsWith (paths_view keys.now) lines documents) IsMemory }
+{
+    let Rows { cells, lines } = rows;
+    match Table::new(alloc, keys.len() + 1, lines.len(), cells) {
+        Ok(table) => Ok(Documents { table, lines }),
+        Err(_) => Err(ReadError::Memory),
+    }
+}
+
+/// Returns a reader with a buffer, of which nothing is read.
+fn buffered<R: Read + Drop>(alloc: Global, reader: R) -> Result<BufReader<R>, ReadError>
+    ensures { MatchResult result (λ b. reader_remaining R.remaining b ≡ R.remaining reader) IsStop }
+{
+    match BufReader::new(alloc, reader) {
+        Ok(buffered) => Ok(buffered),
+        Err(cause) => Err(fault_of(cause)),
+    }
+}
+
+/// Reads the documents of an input, each of which has a part at each key. Fails with `Line` only
+/// where a line is no such document, with `Read` where the reader fails, and else with `Memory`.
+pub fn read_documents<R: Read + Drop>(
+    alloc: Global,
+    reader: R,
+    keys: &[Path],
+) -> Result<Documents, ReadError>
+    ensures shape { IfOk result (HaveDocuments (paths_view keys.now)) }
+    ensures documents { MatchResult result
+        (λ documents. (text : List ℕ) → R.remaining reader ≡ Some text → AreDocumentsOf text (paths_view keys.now) documents)
+        (λ error. (text : List ℕ) → R.remaining reader ≡ Some text → IsReadFault text (paths_view keys.now) error) }
+{
+    let buffered = buffered(alloc, reader)?;
+    let rows = read_rows(alloc, buffered, keys)?;
+    let documents = table_of(alloc, rows, keys)?;
+    Ok(documents)
+}

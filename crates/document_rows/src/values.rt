@@ -1,0 +1,82 @@
+//! The values of lines, and what may be wrong with a line.
+
+ghost use Rattle.std.specs.Prelude.{◌≡◌, List, Some, IfErr, IfOk, MatchResult};
+ghost use Rattle.std.specs.Str.{IsUtf8};
+ghost use Rattle.json.specs.Json.{document};
+ghost use Rattle.json.specs.Strict.{HasUniqueKeys};
+ghost use Rattle.json.specs.Value.{value_view};
+ghost use Rattle.json_normal.specs.Narrow.{HasNarrowNumbers};
+ghost use Rattle.document_rows.specs.Errors.{IsObject};
+ghost use Rattle.json_paths.specs.Paths.{Path};
+ghost use Rattle.document_rows.specs.Reading.{IsTrouble, IsTroubleMemory};
+
+use crate::error::LineFault;
+use crate::narrow::check_narrow;
+use json::{Error, Scratch, Value};
+use json_decimals::error::NumberError;
+use std::alloc::{AllocError, AllocFailed, Global};
+
+/// The reason why a line is not kept.
+#[derive(Drop)]
+pub(crate) enum Trouble {
+    /// An allocation failed.
+    Memory,
+    /// The line is no document.
+    Fault(LineFault),
+}
+
+impl From<AllocError> for Trouble {
+    ghost from_gives = { λ _ r. IsTroubleMemory r };
+
+    fn from(_failed: AllocError) -> Trouble {
+        Trouble::Memory
+    }
+}
+
+impl<T: Drop> From<AllocFailed<T>> for Trouble {
+    ghost from_gives = { λ _ r. IsTroubleMemory r };
+
+    fn from(_failed: AllocFailed<T>) -> Trouble {
+        Trouble::Memory
+    }
+}
+
+/// Reads the value of a line.
+fn parsed<'a>(alloc: Global, line: &'a [u8], scratch: &'a mut Scratch) -> Result<Value<'a>, Trouble>
+    ensures { MatchResult result
+        (λ v. IsUtf8 line.now × (document line.now ≡ Some (value_view v)) × HasUniqueKeys (value_view v))
+        (λ trouble. (keys : List Path) → IsTrouble keys line.now trouble) }
+{
+    let Ok(text) = std::str::from_utf8(line) else {
+        return Err(Trouble::Fault(LineFault::Invalid));
+    };
+    match Value::parse_strict(alloc, text, scratch) {
+        Ok(value) => Ok(value),
+        Err(Error::Invalid) => Err(Trouble::Fault(LineFault::Invalid)),
+        Err(Error::DuplicateKey) => Err(Trouble::Fault(LineFault::RepeatedName)),
+        Err(Error::OutOfMemory) => Err(Trouble::Memory),
+        Err(Error::TooLong) => unreachable!(),
+    }
+}
+
+/// Reads the object of a line, whose numbers are narrow. `room` is used for them.
+pub(crate) fn object_of<'a>(
+    alloc: Global,
+    line: &'a [u8],
+    scratch: &'a mut Scratch,
+    room: &mut Vec<u8>,
+) -> Result<Value<'a>, Trouble>
+    ensures utf8 { IfOk result (λ _. IsUtf8 line.now) }
+    ensures value { IfOk result (λ v. (document line.now ≡ Some (value_view v)) × IsObject (value_view v) × HasUniqueKeys (value_view v) × HasNarrowNumbers (value_view v)) }
+    ensures trouble { IfErr result (λ trouble. (keys : List Path) → IsTrouble keys line.now trouble) }
+{
+    let value = parsed(alloc, line, scratch)?;
+    let Value::Object(_) = &value else {
+        return Err(Trouble::Fault(LineFault::NoObject));
+    };
+    match check_narrow(room, &value) {
+        Ok(()) => Ok(value),
+        Err(NumberError::Memory) => Err(Trouble::Memory),
+        Err(NumberError::WideExponent) => Err(Trouble::Fault(LineFault::WideExponent)),
+    }
+}
