@@ -10,4 +10,4 @@ pub mod laws;
 mod lines;
 mod numbers;
 pub mod report;
-mod strings;
+pub mod strings;

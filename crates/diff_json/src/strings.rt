@@ -63,7 +63,7 @@ fn push_char(out: &mut Vec<u8>, c: char) -> Result<(), AllocError>
 }
 
 /// Appends the string of some bytes.
-pub(crate) fn push_string(out: &mut Vec<u8>, bytes: &[u8]) -> Result<(), AllocError>
+pub fn push_string(out: &mut Vec<u8>, bytes: &[u8]) -> Result<(), AllocError>
     ensures { OnOk result (out.new.items ≡ out.old.items ++ json_string bytes.now) }
 {
     out.push(b'"')?;

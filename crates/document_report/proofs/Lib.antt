@@ -1,0 +1,3 @@
+pub mod DocumentLemmas
+mod Examples
+pub mod Joins

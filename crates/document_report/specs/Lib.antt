@@ -1,0 +1,4 @@
+pub mod Documents
+pub mod Objects
+pub mod Pairs
+pub mod Report

@@ -1,0 +1,69 @@
+-- Worked examples of the definitions.
+use Rattle.bstr.proofs.Computing.{computing}
+use Rattle.std.specs.Char.{encode_utf8}
+use Rattle.std.specs.Fmt.{digits}
+use Rattle.std.specs.Prelude.{◌≡◌, ◌++◌, [], ◌∷◌, false, true, None, Some, codes, refl}
+use Rattle.diff_json.specs.Strings.{char_text, json_string}
+use Rattle.diff_words.specs.Colors.{color_text, painted}
+use Rattle.diff_words.specs.Lists.{listed}
+use Rattle.diff_words.specs.Quoted.{byte_text, quoted}
+use Rattle.diff_words.specs.Words.{word_text}
+use Rattle.document_words.specs.Changes.{change_object, change_text, part_member, part_text}
+use Rattle.document_words.specs.Counts.{totals_text}
+use Rattle.document_words.specs.Keys.{document_name, key_members}
+use Rattle.document_words.specs.Lines.{alone_json, alone_text}
+use Rattle.json_plain.specs.Plain.{plain_byte, plain_json}
+
+name-by-keys : document_name (codes "order.id" ∷ codes "day" ∷ []) 0 (codes "\"A-7\"" ∷ codes "3" ∷ codes "{}" ∷ []) ≡ codes "order.id=\"A-7\",day=3"
+unfolding document_name listed word_text plain_json plain_byte
+name-by-keys = refl
+
+name-by-number : document_name [] 1 (codes "{}" ∷ []) ≡ codes "row 2"
+unfolding document_name digits
+name-by-number = refl
+
+-- a key whose name has a space
+name-with-space : document_name (codes "a b" ∷ []) 0 (codes "1" ∷ codes "{}" ∷ []) ≡ codes "\"a b\"=1"
+unfolding document_name listed word_text quoted byte_text plain_json plain_byte
+name-with-space = refl
+
+no-members : key_members [] (codes "{}" ∷ []) ≡ []
+unfolding listed
+no-members = refl
+
+members : key_members (codes "id" ∷ codes "day" ∷ []) (codes "\"A-7\"" ∷ codes "3" ∷ codes "{}" ∷ []) ≡ codes "\"id\":\"A-7\",\"day\":3"
+unfolding listed json_string char_text encode_utf8 plain_json plain_byte computing
+members = refl
+
+price : change_text false (codes "items[2].price") (Some (codes "9.5")) (Some (codes "9.75")) ≡ codes "items[2].price 9.5 -> 9.75"
+unfolding change_text part_text painted color_text plain_json plain_byte
+price = refl
+
+no-tag : change_text false (codes "tags[1]") (Some (codes "\"new\"")) None ≡ codes "tags[1] \"new\" -> missing"
+unfolding change_text part_text painted color_text plain_json plain_byte
+no-tag = refl
+
+in-colours : change_text true (codes "a") (Some (codes "1")) None ≡ codes "a " ++ 27 ∷ codes "[31m1" ++ 27 ∷ codes "[0m -> " ++ 27 ∷ codes "[32mmissing" ++ 27 ∷ codes "[0m"
+unfolding change_text part_text painted color_text plain_json plain_byte
+in-colours = refl
+
+-- U+0085 in a string
+next-line : part_text (Some (34 ∷ 194 ∷ 133 ∷ 34 ∷ [])) ≡ codes "\"\\u0085\""
+unfolding part_text plain_json plain_byte
+next-line = refl
+
+no-tag-in-json : change_object (codes "tags[1]") (Some (codes "\"new\"")) None ≡ codes "{\"path\":\"tags[1]\",\"left\":\"new\"}"
+unfolding change_object part_member json_string char_text encode_utf8 plain_json plain_byte computing
+no-tag-in-json = refl
+
+removed : alone_text 45 (codes "id=7") (codes "a.ndjson") 12 ≡ codes "- id=7  a.ndjson line 12"
+unfolding alone_text word_text digits
+removed = refl
+
+removed-in-json : alone_json (codes "removed") (codes "\"id\":7") 12 ≡ codes "{\"kind\":\"removed\",\"key\":{\"id\":7},\"line\":12}\n"
+unfolding alone_json digits
+removed-in-json = refl
+
+summary : totals_text 1 1 1 5 ≡ codes "1 changed, 1 removed, 1 added, 5 the same.\n"
+unfolding totals_text digits
+summary = refl

@@ -1,0 +1,3 @@
+pub mod CountedLemmas
+mod Examples
+pub mod NamedLemmas

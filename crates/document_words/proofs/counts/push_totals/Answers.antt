@@ -1,0 +1,14 @@
+use Rattle.std.proofs.Common.{◌∙◌}
+use Rattle.std.proofs.lemmas.List.{append_assoc}
+use Rattle.std.specs.Fmt.{decimal}
+use Rattle.std.specs.Prelude.{codes}
+use Rattle.diff_json.proofs.Pieces.{pieces}
+use Rattle.document_words.specs.Counts.{totals_text}
+use Rattle.document_words.proofs.counts.push_totals.Goals as goal
+
+pub returns : goal.returns
+unfolding totals_text
+returns c =
+    let old = c.args.out.now.items in
+    let first = c.in_ok-push_count.ensures ∙ append_assoc old (decimal c.args.changed) (codes " changed, ") in
+    pieces old _ _ _ _ _ (pieces old _ _ _ _ _ (pieces old _ _ _ _ _ first c.in_ok-push_count-2.ensures) c.in_ok-push_count-3.ensures) c.in_ok-push_count-4.ensures

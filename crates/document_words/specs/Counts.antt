@@ -1,0 +1,24 @@
+-- How many documents differ.
+--
+-- 1 changed, 1 removed, 1 added, 5 the same.
+-- {"kind":"counts","changed":1,"removed":1,"added":1,"same":5,"not_shown":0}
+use Rattle.std.specs.Fmt.{decimal}
+use Rattle.std.specs.Prelude.{ℕ, ◌+◌, ◌-◌, List, ◌++◌, length, codes}
+use Rattle.diff_json.specs.Counts.{totals_members}
+use Rattle.diff_keys.specs.declared.matching.Matching.{Matching}
+
+-- how many differences there are, where so many of the matched rows are changed
+abbrev pub difference_count : Matching → ℕ → ℕ
+difference_count m changed = changed + length m.removed.items + length m.added.items
+
+-- how many documents are changed, removed, added, and the same
+unfoldable pub totals_text : ℕ → ℕ → ℕ → ℕ → List ℕ
+totals_text changed removed added same = decimal changed ++ codes " changed, " ++ decimal removed ++ codes " removed, " ++ decimal added ++ codes " added, " ++ decimal same ++ codes " the same.\n"
+
+-- the last line, where so many of the matched documents are changed
+abbrev pub summary_text : Matching → ℕ → List ℕ
+summary_text m changed = totals_text changed (length m.removed.items) (length m.added.items) (length m.left_rows.items - changed)
+
+-- the same in JSON, with how many differences have no line
+unfoldable pub counts_object : Matching → ℕ → ℕ → List ℕ
+counts_object m changed limit = codes "{\"kind\":\"counts\"," ++ totals_members changed (length m.removed.items) (length m.added.items) (length m.left_rows.items - changed) (difference_count m changed - limit) ++ codes "}\n"

@@ -1,0 +1,5 @@
+pub mod Changes
+pub mod Counts
+pub mod Keys
+pub mod Lines
+pub mod Sides

@@ -1,0 +1,132 @@
+//! The lines of documents that only one file has.
+
+ghost use Rattle.std.specs.List.{flat_map};
+ghost use Rattle.std.specs.Prelude.{◌≡◌, ◌<◌, ◌++◌, All, length, slice_index, take, OnOk};
+ghost use Rattle.diff_report.specs.Lines.{mark_color};
+ghost use Rattle.diff_report.specs.Sides.{row_of};
+ghost use Rattle.document_words.specs.Keys.{document_name};
+ghost use Rattle.document_words.specs.Lines.{alone_line, alone_object, alone_text};
+ghost use Rattle.document_words.specs.Sides.{IsDocumentSide, names_of};
+
+use crate::keys::{push_document_name, push_key_members};
+use crate::sides::DocumentSides;
+use diff_report::sides::Side;
+use diff_words::colors::{Color, push_color};
+use diff_words::decimals::push_decimal;
+use diff_words::words::push_word;
+use std::alloc::AllocError;
+
+/// Returns the colour of a line with this mark: red behind a minus, and else green.
+fn mark_color(mark: u8) -> Color
+    ensures { result ≡ mark_color mark }
+{
+    if mark == b'-' {
+        Color::Red
+    } else {
+        Color::Green
+    }
+}
+
+/// Appends a document that only one file has, without the line feed.
+#[tactic(auto, unfolding(crate::specs::Lines::alone_text))]
+fn push_alone(
+    out: &mut Vec<u8>,
+    mark: u8,
+    sides: &DocumentSides,
+    side: &Side,
+    i: usize,
+) -> Result<(), AllocError>
+    requires side { IsDocumentSide (length sides.now.keys.items) side.now }
+    requires row { i < length side.now.table.rows }
+    ensures { OnOk result (out.new.items ≡ out.old.items ++ alone_text mark (document_name (names_of sides.now) i (row_of side.now i)) side.now.name.items (slice_index side.now.lines.items i)) }
+{
+    out.push(mark)?;
+    out.push(b' ')?;
+    push_document_name(out, sides, side, i)?;
+    out.extend_from_slice(b"  ")?;
+    push_word(out, &side.name)?;
+    out.extend_from_slice(b" line ")?;
+    push_decimal(out, side.lines[i])?;
+    Ok(())
+}
+
+/// Appends the line of a document that only one file has.
+#[tactic(auto, unfolding(crate::specs::Lines::alone_line, diff_words::specs::Colors::painted))]
+fn push_alone_line(
+    out: &mut Vec<u8>,
+    mark: u8,
+    sides: &DocumentSides,
+    side: &Side,
+    i: usize,
+) -> Result<(), AllocError>
+    requires side { IsDocumentSide (length sides.now.keys.items) side.now }
+    requires row { i < length side.now.table.rows }
+    ensures { OnOk result (out.new.items ≡ out.old.items ++ alone_line mark sides.now side.now i) }
+{
+    push_color(out, sides.colored, mark_color(mark))?;
+    push_alone(out, mark, sides, side, i)?;
+    push_color(out, sides.colored, Color::Plain)?;
+    out.push(b'\n')?;
+    Ok(())
+}
+
+/// Appends the lines of the first `limit` of these documents.
+pub fn push_alone_lines(
+    out: &mut Vec<u8>,
+    mark: u8,
+    sides: &DocumentSides,
+    side: &Side,
+    rows: &[u32],
+    limit: usize,
+) -> Result<(), AllocError>
+    requires side { IsDocumentSide (length sides.now.keys.items) side.now }
+    requires rows { All (λ i. i < length side.now.table.rows) rows.now }
+    ensures { OnOk result (out.new.items ≡ out.old.items ++ flat_map (alone_line mark sides.now side.now) (take limit rows.now)) }
+{
+    for n in 0..rows.len().min(limit) {
+        push_alone_line(out, mark, sides, side, rows[n] as usize)?;
+    }
+    Ok(())
+}
+
+/// Appends the line of a document that only one file has, in JSON.
+#[tactic(auto, unfolding(crate::specs::Lines::alone_json, crate::specs::Lines::alone_object))]
+fn push_alone_object(
+    out: &mut Vec<u8>,
+    kind: &[u8],
+    sides: &DocumentSides,
+    side: &Side,
+    i: usize,
+) -> Result<(), AllocError>
+    requires side { IsDocumentSide (length sides.now.keys.items) side.now }
+    requires row { i < length side.now.table.rows }
+    ensures { OnOk result (out.new.items ≡ out.old.items ++ alone_object kind.now sides.now side.now i) }
+{
+    out.extend_from_slice(br#"{"kind":""#)?;
+    out.extend_from_slice(kind)?;
+    out.extend_from_slice(br#"","key":{"#)?;
+    push_key_members(out, sides, side, i)?;
+    out.extend_from_slice(br#"},"line":"#)?;
+    push_decimal(out, side.lines[i])?;
+    out.extend_from_slice(b"}\n")?;
+    Ok(())
+}
+
+/// Appends the lines of the first `limit` of these documents, in JSON.
+pub fn push_alone_objects(
+    out: &mut Vec<u8>,
+    kind: &[u8],
+    sides: &DocumentSides,
+    side: &Side,
+    rows: &[u32],
+    limit: usize,
+) -> Result<(), AllocError>
+    requires side { IsDocumentSide (length sides.now.keys.items) side.now }
+    requires rows { All (λ i. i < length side.now.table.rows) rows.now }
+    ensures { OnOk result (out.new.items ≡ out.old.items ++ flat_map (alone_object kind.now sides.now side.now) (take limit rows.now)) }
+{
+    for n in 0..rows.len().min(limit) {
+        push_alone_object(out, kind, sides, side, rows[n] as usize)?;
+    }
+    Ok(())
+}
