@@ -1,117 +1,58 @@
-//! Compares tables: `dunkelva diff LEFT RIGHT` prints what differs between two CSV files.
+//! Compares files: `dunkelva diff LEFT RIGHT` prints what differs between two CSV files, or between
+//! two files of JSON documents.
 #![tactic(auto)]
 
 mod command;
+mod files;
+mod keys;
+mod kinds;
 mod progress;
+mod tasks;
 mod trouble;
 mod words;
 
 use crate::command::command;
-use crate::progress::{Cleared, Counted, Progress};
-use crate::trouble::trouble_of;
+use crate::files::{open, open_beside, total_of};
+use crate::keys::Keys;
+use crate::kinds::{hold_documents, refuse_table_options};
+use crate::tasks::{Task, compare};
 use crate::words::{Names, csv_options, format_of, is_colored, limit_of};
 use anyhow::{Result, anyhow};
 use clap::ArgMatches;
 use diff_run::options::Options;
-use diff_run::report::Outcome;
-use diff_run::run::{Input, run};
-use std::io::Read;
-use std::os::fd::AsRawFd;
+use diff_run::run::Input;
+use document_run::options::DocumentOptions;
+use std::env;
 use std::process::ExitCode;
-use std::{env, fs, io};
 
-/// The status where the tables are the same.
-const SAME: u8 = 0;
-
-/// The status where the tables differ.
-const DIFFERENT: u8 = 1;
-
-/// The status where the tables can't be compared.
+/// The status where the files can't be compared.
 const TROUBLE: u8 = 2;
 
-/// Returns an input whose bytes are counted.
-fn counted<'a, R: Read>(
-    input: Input<'a, R>,
-    progress: &'a Progress<'a>,
-) -> Input<'a, Counted<'a, R>> {
-    let Input { name, reader } = input;
-    Input {
-        name,
-        reader: Counted { reader, progress },
-    }
-}
-
-/// Compares two readers, and returns the status. `total` is how many bytes both have.
-fn compare<L: Read + Drop, R: Read + Drop>(
-    rt: &HostRuntime,
-    left: Input<'_, L>,
-    right: Input<'_, R>,
-    total: Option<u64>,
-    options: &Options<'_>,
-) -> Result<u8> {
-    let files = (left.name, right.name);
-    let progress = Progress::new(rt, total);
-    let mut out = Cleared {
-        writer: io::writer(rt),
-        progress: &progress,
-    };
-    let outcome = run(
-        rt.alloc(),
-        counted(left, &progress),
-        counted(right, &progress),
-        &mut out,
-        options,
-    );
-    progress.erase();
-    match outcome {
-        Ok(Outcome::Same) => Ok(SAME),
-        Ok(Outcome::Different) => Ok(DIFFERENT),
-        Err(error) => Err(trouble_of(error, files, options)),
-    }
-}
-
-/// Opens a file to read.
-fn open<'a>(rt: &HostRuntime, name: &'a str) -> Result<Input<'a, fs::File>> {
-    match fs::open(rt, name) {
-        Ok(reader) => Ok(Input {
-            name: name.as_bytes(),
-            reader,
-        }),
-        Err(error) => Err(anyhow!("{error}").context(name)),
-    }
-}
-
-/// Opens a file to read beside standard input. Fails where that is closed, since the file is then
-/// opened in its place.
-fn open_beside<'a>(rt: &HostRuntime, name: &'a str) -> Result<Input<'a, fs::File>> {
-    let file = open(rt, name)?;
-    if file.reader.as_raw_fd() == 0 {
-        return Err(anyhow!("standard input is closed").context("-"));
-    }
-    Ok(file)
-}
-
-/// Returns how many bytes a file has, where it is no pipe or the like.
-fn size_of(file: &fs::File) -> Option<u64> {
-    let data = file.metadata().ok()?;
-    if data.is_file() {
-        Some(data.len())
-    } else {
-        None
-    }
-}
-
-/// Returns how many bytes two files have.
-fn total_of(left: &fs::File, right: &fs::File) -> Option<u64> {
-    size_of(left)?.checked_add(size_of(right)?)
-}
-
 /// Compares the two inputs that are named. One of them may be standard input.
-fn diff(rt: &HostRuntime, matches: &ArgMatches<'_>) -> Result<u8> {
+fn compare_named(rt: &HostRuntime, left: &str, right: &str, task: &Task<'_>) -> Result<u8> {
+    let input = Input {
+        name: b"-",
+        reader: rt.reader(),
+    };
+    match (left, right) {
+        ("-", "-") => Err(anyhow!("only one of the two can be standard input")),
+        ("-", _) => compare(rt, input, open_beside(rt, right)?, None, task),
+        (_, "-") => compare(rt, open_beside(rt, left)?, input, None, task),
+        _ => {
+            let left = open(rt, left)?;
+            let right = open(rt, right)?;
+            let total = total_of(&left.reader, &right.reader);
+            compare(rt, left, right, total, task)
+        }
+    }
+}
+
+/// Compares two CSV files.
+fn diff_tables(rt: &HostRuntime, matches: &ArgMatches<'_>, left: &str, right: &str) -> Result<u8> {
     let names = Names::of(rt.alloc(), matches)?;
     let options = Options {
         choice: names.choice(),
-        csv: csv_options(matches)?,
+        csv: csv_options(matches, left, right)?,
         null: matches.get_str("null").map(|word| word.as_bytes()),
         limit: limit_of(matches),
         common: matches.get_flag("common"),
@@ -119,23 +60,37 @@ fn diff(rt: &HostRuntime, matches: &ArgMatches<'_>) -> Result<u8> {
         format: format_of(matches),
         colored: is_colored(rt, matches),
     };
+    compare_named(rt, left, right, &Task::Tables(options))
+}
+
+/// Compares two files of documents.
+fn diff_documents(
+    rt: &HostRuntime,
+    matches: &ArgMatches<'_>,
+    left: &str,
+    right: &str,
+) -> Result<u8> {
+    refuse_table_options(matches)?;
+    let keys = Keys::of(rt.alloc(), matches)?;
+    let options = DocumentOptions {
+        keys: &keys.paths,
+        names: &keys.names,
+        limit: limit_of(matches),
+        unique: matches.get_flag("unique"),
+        format: format_of(matches),
+        colored: is_colored(rt, matches),
+    };
+    compare_named(rt, left, right, &Task::Documents(options))
+}
+
+/// Compares the two files that the words name.
+fn diff(rt: &HostRuntime, matches: &ArgMatches<'_>) -> Result<u8> {
     let left = matches.get_str("left").unwrap_or("-");
     let right = matches.get_str("right").unwrap_or("-");
-    let input = Input {
-        name: b"-",
-        reader: rt.reader(),
-    };
-    match (left, right) {
-        ("-", "-") => Err(anyhow!("only one of the two can be standard input")),
-        ("-", _) => compare(rt, input, open_beside(rt, right)?, None, &options),
-        (_, "-") => compare(rt, open_beside(rt, left)?, input, None, &options),
-        _ => {
-            let left = open(rt, left)?;
-            let right = open(rt, right)?;
-            let total = total_of(&left.reader, &right.reader);
-            compare(rt, left, right, total, &options)
-        }
+    if hold_documents(matches, left, right)? {
+        return diff_documents(rt, matches, left, right);
     }
+    diff_tables(rt, matches, left, right)
 }
 
 /// Does what the words of the command line ask for, and returns the status.

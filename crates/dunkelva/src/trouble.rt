@@ -1,9 +1,12 @@
-//! What is said where the tables can't be compared.
+//! What is said where the files can't be compared.
 
 use anyhow::{Error, anyhow};
 use diff_columns::error::{ColumnError, Side};
 use diff_run::error::RunError;
 use diff_run::options::Options;
+use document_rows::error::{LineFault, ReadError};
+use document_run::error::DocumentError;
+use document_run::options::DocumentOptions;
 
 /// Returns the name of a side's file.
 fn file_of<'a>(files: (&'a [u8], &'a [u8]), side: Side) -> &'a str {
@@ -25,14 +28,21 @@ fn no_key(key: usize, options: &Options<'_>) -> Error {
     }
 }
 
+/// Returns what is said of two rows that have one key.
+fn one_key(first: u64, again: u64) -> Error {
+    anyhow!("the rows at lines {first} and {again} have one key")
+}
+
 /// Returns what is said of an error: what is wrong, and of which file as its context.
-pub(crate) fn trouble_of(error: RunError, files: (&[u8], &[u8]), options: &Options<'_>) -> Error {
+pub(crate) fn table_trouble(
+    error: RunError,
+    files: (&[u8], &[u8]),
+    options: &Options<'_>,
+) -> Error {
     match error {
         RunError::Csv { side, cause } => anyhow!("{cause}").context(file_of(files, side)),
         RunError::KeyTwice { side, first, again } => {
-            anyhow!("the rows at lines {first} and {again} have one key").context(file_of(
-                files, side,
-            ))
+            one_key(first, again).context(file_of(files, side))
         }
         RunError::Columns {
             cause: ColumnError::NameTwice { side, column },
@@ -45,6 +55,52 @@ pub(crate) fn trouble_of(error: RunError, files: (&[u8], &[u8]), options: &Optio
             cause: ColumnError::NoKey { side, key },
         } => no_key(key, options).context(file_of(files, side)),
         RunError::Write { cause } => anyhow!("{cause}").context("standard output"),
+        other => anyhow!("{other}"),
+    }
+}
+
+/// Returns what is said of a line that is no document.
+fn line_trouble(line: u64, fault: LineFault, options: &DocumentOptions<'_>) -> Error {
+    match fault {
+        LineFault::Invalid => anyhow!("line {line} is no JSON"),
+        LineFault::NoObject => anyhow!("line {line} is no JSON object"),
+        LineFault::RepeatedName => anyhow!("line {line} has an object with a name twice"),
+        LineFault::WideExponent => {
+            anyhow!("line {line} has a number whose exponent has more than 30 digits")
+        }
+        LineFault::NoPart { key } => match options.names.get(key) {
+            Some(name) => anyhow!(
+                "line {line} has no {}",
+                str::from_utf8(name).unwrap_or("key")
+            ),
+            None => anyhow!("line {line} has no key"),
+        },
+    }
+}
+
+/// Returns what is said of an input of documents that can't be read.
+fn read_trouble(cause: ReadError, options: &DocumentOptions<'_>) -> Error {
+    match cause {
+        ReadError::Line { line, fault } => line_trouble(line, fault, options),
+        other => anyhow!("{other}"),
+    }
+}
+
+/// Returns what is said of an error that a comparison of documents has: what is wrong, and of which
+/// file as its context.
+pub(crate) fn document_trouble(
+    error: DocumentError,
+    files: (&[u8], &[u8]),
+    options: &DocumentOptions<'_>,
+) -> Error {
+    match error {
+        DocumentError::Read { side, cause } => {
+            read_trouble(cause, options).context(file_of(files, side))
+        }
+        DocumentError::KeyTwice { side, first, again } => {
+            one_key(first, again).context(file_of(files, side))
+        }
+        DocumentError::Write { cause } => anyhow!("{cause}").context("standard output"),
         other => anyhow!("{other}"),
     }
 }

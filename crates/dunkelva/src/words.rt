@@ -1,5 +1,6 @@
 //! What the words of the command line ask for.
 
+use crate::kinds::usual_delimiter;
 use anyhow::{Result, anyhow};
 use clap::ArgMatches;
 use diff_columns::choice::Choice;
@@ -65,10 +66,14 @@ fn delimiter_of(text: &str) -> Result<u8> {
     Ok(byte)
 }
 
-/// Returns how the inputs are read.
-pub(crate) fn csv_options(matches: &ArgMatches<'_>) -> Result<CsvOptions> {
+/// Returns how two tables are read.
+pub(crate) fn csv_options(matches: &ArgMatches<'_>, left: &str, right: &str) -> Result<CsvOptions> {
+    let delimiter = match matches.get_str("delimiter") {
+        Some(text) => delimiter_of(text)?,
+        None => usual_delimiter(left, right)?,
+    };
     Ok(CsvOptions {
-        delimiter: delimiter_of(matches.get_str("delimiter").unwrap_or(","))?,
+        delimiter,
         has_header: !matches.get_flag("no-header"),
     })
 }

@@ -1,0 +1,75 @@
+-- Why two inputs of documents are not compared.
+--
+-- With the key id the texts {"id": 7} and {"day": 7} are not compared, since line 1 of the right one has no id. Where
+-- keys have to be unique, a text of the lines {"id": 7} and {"id": 7.0} is not compared, since lines 1 and 2 have one key.
+use Rattle.std.specs.Prelude.{◌≡◌, ◌≤◌, ◌^◌, ℕ, suc, true, List, length, slice_index, ⊤}
+use Rattle.diff_columns.specs.declared.error.Side.{Side}
+use Rattle.diff_columns.specs.declared.error.Side.TheVariants.{Left, Right}
+use Rattle.diff_keys.specs.Errors.{AreFew}
+use Rattle.diff_keys.specs.Unique.{IsFirstTwice}
+use Rattle.diff_keys.specs.declared.unique.Twice.{Twice}
+use Rattle.diff_report.specs.declared.sides.Side.{Side as Table}
+use Rattle.diff_run.specs.Faults.{text_on}
+use Rattle.diff_tables.specs.Keys.{row_keys}
+use Rattle.document_rows.specs.Errors.{IsReadFault}
+use Rattle.document_rows.specs.Lines.{lines_of}
+use Rattle.document_run.specs.Run.{document_keys, key_columns, paths_of}
+use Rattle.document_run.specs.declared.error.DocumentError.{DocumentError}
+use Rattle.document_run.specs.declared.error.DocumentError.TheVariants as error
+use Rattle.document_run.specs.declared.options.DocumentOptions.{DocumentOptions}
+use Rattle.document_words.specs.declared.sides.DocumentSides.{DocumentSides}
+
+-- an allocation failed
+abbrev pub IsMemory : DocumentError → Type 0
+IsMemory e = e ≡ error.Memory
+
+-- each of the two texts has 2^32 lines at most
+abbrev pub HaveFewLines : List ℕ → List ℕ → Type 0
+HaveFewLines left_text right_text = (length (lines_of left_text) ≤ 2 ^ 32) × (length (lines_of right_text) ≤ 2 ^ 32)
+
+-- the documents on these two lines have one key, and of the documents before the later one no two have
+abbrev pub AreFirstTwice : List (List ℕ) → ℕ → ℕ → Type 0
+AreFirstTwice keys first again = (t : Twice) × IsFirstTwice keys t × (first ≡ suc t.first) × (again ≡ suc t.again)
+
+-- why two texts are not compared: a line of one of them is no document, there are too many lines, keys have to be unique
+-- and two documents of a text have one, or an allocation, a read or a write failed
+abbrev pub IsDocumentFault : DocumentOptions → List ℕ → List ℕ → DocumentError → Type 0
+IsDocumentFault options left_text right_text error.Memory = ⊤
+IsDocumentFault options left_text right_text error.TooManyRows = ¬ (HaveFewLines left_text right_text)
+IsDocumentFault options left_text right_text (error.Read side cause) = IsReadFault (text_on side left_text right_text) (paths_of options) cause
+IsDocumentFault options left_text right_text (error.KeyTwice side first again) = (options.unique ≡ true) × AreFirstTwice (document_keys options (text_on side left_text right_text)) first again
+IsDocumentFault options left_text right_text (error.Write cause) = ⊤
+
+-- a write failed
+abbrev pub IsWrite : DocumentError → Type 0
+IsWrite error.Memory = ⊥
+IsWrite error.TooManyRows = ⊥
+IsWrite (error.Read side cause) = ⊥
+IsWrite (error.KeyTwice side first again) = ⊥
+IsWrite (error.Write cause) = ⊤
+
+-- two documents of a side have one key; these are their lines
+abbrev pub HasKeyTwice : Table → List ℕ → ℕ → ℕ → Type 0
+HasKeyTwice side columns first again = (t : Twice) × IsFirstTwice (row_keys columns side.table.rows) t × (first ≡ slice_index side.lines.items t.first) × (again ≡ slice_index side.lines.items t.again)
+
+-- two documents of this side have one key, or an allocation failed
+abbrev pub IsSideFault : Table → List ℕ → Side → DocumentError → Type 0
+IsSideFault table columns side error.Memory = ⊤
+IsSideFault table columns side error.TooManyRows = ⊥
+IsSideFault table columns side (error.Read s cause) = ⊥
+IsSideFault table columns side (error.KeyTwice s first again) = (s ≡ side) × HasKeyTwice table columns first again
+IsSideFault table columns side (error.Write cause) = ⊥
+
+-- one of two sides
+abbrev pub side_on : Side → DocumentSides → Table
+side_on Left s = s.left
+side_on Right s = s.right
+
+-- the documents of the two sides are too many, two of one side have one key where keys have to be unique, or an
+-- allocation failed
+abbrev pub IsRowsFault : DocumentOptions → DocumentSides → DocumentError → Type 0
+IsRowsFault options s error.Memory = ⊤
+IsRowsFault options s error.TooManyRows = ¬ (AreFew (row_keys (key_columns options) s.left.table.rows) (row_keys (key_columns options) s.right.table.rows))
+IsRowsFault options s (error.Read side cause) = ⊥
+IsRowsFault options s (error.KeyTwice side first again) = (options.unique ≡ true) × HasKeyTwice (side_on side s) (key_columns options) first again
+IsRowsFault options s (error.Write cause) = ⊥

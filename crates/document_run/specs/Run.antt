@@ -1,0 +1,93 @@
+-- The report of two texts of documents.
+--
+-- With the key id the texts {"id": 7}, {"id": 8, "n": 2} and {"n": 3, "id": 8.0} of two lines and of one have the report
+-- ~ id=8  n 2 -> 3
+-- - id=7  old.ndjson line 1
+-- 1 changed, 1 removed, 0 added, 0 the same.
+use Rattle.std.specs.List.{range_with_len}
+use Rattle.std.specs.Prelude.{◌≡◌, ◌==◌, ◌&&◌, ℕ, Bool, true, if◌then◌else◌, List, [], get_or, length, map, slice_index}
+use Rattle.diff_columns.specs.Names.{names_of}
+use Rattle.diff_keys.specs.Matching.{IsMatching}
+use Rattle.diff_keys.specs.Rising.{ListsRising}
+use Rattle.diff_keys.specs.Unique.{AllDiffer}
+use Rattle.diff_keys.specs.declared.matching.Matching.{Matching}
+use Rattle.diff_report.specs.declared.sides.Side.{Side}
+use Rattle.diff_run.specs.declared.options.Format.{Format}
+use Rattle.diff_run.specs.declared.options.Format.TheVariants as format
+use Rattle.diff_run.specs.declared.report.Outcome.{Outcome}
+use Rattle.diff_run.specs.declared.report.Outcome.TheVariants.{Same, Different}
+use Rattle.diff_tables.specs.Keys.{row_keys}
+use Rattle.document_report.specs.Objects.{document_json_text}
+use Rattle.document_report.specs.Report.{document_report_text}
+use Rattle.document_rows.specs.Documents.{document_row, tree_of}
+use Rattle.document_rows.specs.Lines.{lines_of}
+use Rattle.document_rows.specs.Tables.{AreDocumentsOf}
+use Rattle.document_run.specs.declared.options.DocumentOptions.{DocumentOptions}
+use Rattle.document_words.specs.Sides as words
+use Rattle.document_words.specs.declared.sides.DocumentSides.{DocumentSides}
+use Rattle.json.specs.Json.{Json}
+use Rattle.json_normal.specs.Same.{AreSame}
+use Rattle.json_paths.specs.Paths.{Path}
+use Rattle.json_paths.specs.Views.{paths_view}
+
+-- the paths of the keys
+abbrev pub paths_of : DocumentOptions → List Path
+paths_of options = paths_view options.keys.now
+
+-- the columns of the keys, which stand before that of the line
+abbrev pub key_columns : DocumentOptions → List ℕ
+key_columns options = range_with_len 0 (length options.keys.now)
+
+-- the key of each document of a text: the normal texts of the parts at the paths
+abbrev pub document_keys : DocumentOptions → List ℕ → List (List ℕ)
+document_keys options text = row_keys (key_columns options) (map (document_row (paths_of options)) (lines_of text))
+
+-- the tree of the document on line i of a text, the first being 0
+abbrev pub tree_at : List ℕ → ℕ → Json
+tree_at text i = tree_of (get_or (lines_of text) i [])
+
+-- the documents at place k of two lists of line numbers are not the same
+abbrev pub HasOthers : List ℕ → List ℕ → Matching → ℕ → Type 0
+HasOthers left_text right_text m k = ¬ AreSame (tree_at left_text (slice_index m.left_rows.items k)) (tree_at right_text (slice_index m.right_rows.items k))
+
+-- a side has the documents of a text, and the name of its input
+pub record IsSideOf (options : DocumentOptions) (text name : List ℕ) (side : Side) : Type 0 where
+  pub named : side.name.items ≡ name
+  pub documents : AreDocumentsOf text (paths_of options) (record { table = side.table; lines = side.lines })
+
+-- the sides have the documents of two texts, and the names of the keys
+pub record AreSidesOf (options : DocumentOptions) (left_text right_text left_name right_name : List ℕ) (sides : DocumentSides) : Type 0 where
+  pub left : IsSideOf options left_text left_name sides.left
+  pub right : IsSideOf options right_text right_name sides.right
+  pub names : words.names_of sides ≡ names_of options.names.now
+  pub colored : sides.colored ≡ options.colored
+
+-- the lines of the differences, and the counts
+abbrev pub format_text : Format → DocumentSides → Matching → List ℕ → ℕ → List ℕ
+format_text format.Text sides matching changed limit = document_report_text sides matching changed limit
+format_text format.Json sides matching changed limit = document_json_text sides matching changed limit
+
+-- no two partners differ, and each document has a partner
+abbrev pub has_none : Matching → List ℕ → Bool
+has_none m changed = (length changed == 0) && (length m.removed.items == 0) && (length m.added.items == 0)
+
+-- what a comparison comes to
+abbrev pub outcome_of : Matching → List ℕ → Outcome
+outcome_of m changed = if has_none m changed then Same else Different
+
+-- no key comes twice in either text
+abbrev pub HaveUniqueKeys : DocumentOptions → List ℕ → List ℕ → Type 0
+HaveUniqueKeys options left_text right_text = AllDiffer (document_keys options left_text) × AllDiffer (document_keys options right_text)
+
+-- the report of two texts, and what it comes to: documents of one key are partners, the first with the first; of the
+-- partners those are changed that are not the same
+pub record IsDocumentReportOf (options : DocumentOptions) (left_text right_text left_name right_name written : List ℕ) (outcome : Outcome) : Type 0 where
+  pub sides : DocumentSides
+  pub matching : Matching
+  pub changed : List ℕ
+  pub sides_are : AreSidesOf options left_text right_text left_name right_name sides
+  pub matched : IsMatching (document_keys options left_text) (document_keys options right_text) matching
+  pub changed_are : ListsRising (HasOthers left_text right_text matching) (length matching.left_rows.items) changed
+  pub unique : options.unique ≡ true → HaveUniqueKeys options left_text right_text
+  pub text : written ≡ format_text options.format sides matching changed options.limit
+  pub outcome_is : outcome ≡ outcome_of matching changed

@@ -1,0 +1,70 @@
+//! What differs between two sides.
+
+ghost use Rattle.std.specs.List.{range_with_len};
+ghost use Rattle.std.specs.Prelude.{◌≡◌, true, IfOk, MatchResult};
+ghost use Rattle.diff_tables.specs.Comparison.{IsComparison};
+ghost use Rattle.document_run.specs.Faults.{IsRowsFault};
+ghost use Rattle.document_run.specs.Run.{key_columns};
+ghost use Rattle.document_run.specs.Sides.{AreComparable, HaveUniqueRows, IsFoundOn};
+
+use crate::error::DocumentError;
+use crate::options::DocumentOptions;
+use crate::unique::test_keys;
+use diff_keys::error::MatchError;
+use diff_keys::matching::Matching;
+use diff_tables::compare::{Comparison, compare_tables};
+use document_rows::pairs::differing_pairs;
+use document_words::sides::DocumentSides;
+use std::alloc::{AllocError, Global};
+
+/// The documents of two sides that are partners, and those that have none.
+#[derive(Drop)]
+pub(crate) struct Found {
+    pub(crate) matching: Matching,
+    /// The places among the partners where the two documents are not the same.
+    pub(crate) changed: Vec<usize>,
+}
+
+/// Lists the columns of the keys.
+fn key_columns(alloc: Global, count: usize) -> Result<Vec<usize>, AllocError>
+    ensures { IfOk result (λ columns. columns.items ≡ range_with_len 0 count) }
+{
+    (0..count).collect(alloc)
+}
+
+/// Matches the documents of two sides by their keys.
+fn compared(
+    alloc: Global,
+    sides: &DocumentSides,
+    options: &DocumentOptions<'_>,
+) -> Result<Comparison, DocumentError>
+    requires { AreComparable options.now sides.now }
+    ensures { MatchResult result
+        (λ comparison. IsComparison (key_columns options.now) sides.now.left.table.rows sides.now.right.table.rows comparison × (options.now.unique ≡ true → HaveUniqueRows (key_columns options.now) sides.now))
+        (IsRowsFault options.now sides.now) }
+{
+    let columns = key_columns(alloc, options.keys.len())?;
+    test_keys(alloc, sides, &columns, options)?;
+    match compare_tables(alloc, &sides.left.table, &sides.right.table, &columns) {
+        Ok(comparison) => Ok(comparison),
+        Err(MatchError::Memory) => Err(DocumentError::Memory),
+        Err(MatchError::TooManyRows) => Err(DocumentError::TooManyRows),
+    }
+}
+
+/// Finds what differs between two sides.
+pub(crate) fn found_on(
+    alloc: Global,
+    sides: &DocumentSides,
+    options: &DocumentOptions<'_>,
+) -> Result<Found, DocumentError>
+    requires { AreComparable options.now sides.now }
+    ensures { MatchResult result (IsFoundOn options.now sides.now) (IsRowsFault options.now sides.now) }
+{
+    let comparison = compared(alloc, sides, options)?;
+    let changed = differing_pairs(alloc, &sides.left.table, &sides.right.table, &comparison)?;
+    Ok(Found {
+        matching: comparison.matching,
+        changed,
+    })
+}

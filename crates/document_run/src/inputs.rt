@@ -1,0 +1,35 @@
+//! Inputs, and the documents that they have.
+
+ghost use Rattle.std.specs.Prelude.{◌≡◌, ℕ, List, Some, IfOk, MatchResult};
+ghost use Rattle.diff_run.specs.Faults.{text_on};
+ghost use Rattle.document_run.specs.Faults.{IsDocumentFault};
+ghost use Rattle.document_run.specs.Run.{IsSideOf};
+ghost use Rattle.document_run.specs.Sides.{HasDocuments};
+
+use crate::error::DocumentError;
+use crate::options::DocumentOptions;
+use diff_columns::error::Side;
+use diff_report::sides::Side as Table;
+use diff_run::run::Input;
+use document_rows::read::{Documents, read_documents};
+use std::alloc::Global;
+use std::io::Read;
+
+/// Reads the documents of the input on a side.
+pub(crate) fn read_side<R: Read + Drop>(
+    alloc: Global,
+    input: Input<'_, R>,
+    options: &DocumentOptions<'_>,
+    side: Side,
+) -> Result<Table, DocumentError>
+    ensures shape { IfOk result (HasDocuments options.now) }
+    ensures texts { MatchResult result
+        (λ table. (text : List ℕ) → R.remaining input.entry.reader ≡ Some text → IsSideOf options.now text input.entry.name.now table)
+        (λ error. (left_text right_text : List ℕ) → R.remaining input.entry.reader ≡ Some (text_on side left_text right_text) → IsDocumentFault options.now left_text right_text error) }
+{
+    let name = Vec::from_slice(alloc, input.name)?;
+    match read_documents(alloc, input.reader, options.keys) {
+        Ok(Documents { table, lines }) => Ok(Table { name, table, lines }),
+        Err(cause) => Err(DocumentError::Read { side, cause }),
+    }
+}

@@ -1,0 +1,11 @@
+//! Compares two inputs of JSON documents by key, and writes what differs.
+#![tactic(auto)]
+
+pub mod error;
+mod found;
+mod inputs;
+pub mod options;
+mod report;
+pub mod run;
+mod sides;
+mod unique;

@@ -1,0 +1,25 @@
+//! How documents are compared, and how the comparison is reported.
+
+ghost use Rattle.std.specs.Prelude.{◌≡◌, length};
+
+use diff_run::options::Format;
+use json_paths::path::Path;
+
+/// How documents are compared, and how the comparison is reported.
+#[derive(Clone, Copy)]
+pub struct DocumentOptions<'a> {
+    /// The paths to the parts that name a document. Without one documents are compared by
+    /// position.
+    pub keys: &'a [Path],
+    /// The name of each of these paths in the report.
+    pub names: &'a [&'a [u8]],
+    /// The most differences that have a line of their own.
+    pub limit: usize,
+    /// Whether a key that comes twice in an input is an error.
+    pub unique: bool,
+    /// The form of the report.
+    pub format: Format,
+    /// Whether a report in text has colours for a terminal.
+    pub colored: bool,
+    ghost named: { length names.now ≡ length keys.now },
+}

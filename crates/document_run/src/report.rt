@@ -1,0 +1,75 @@
+//! The report of two sides.
+
+ghost use Rattle.std.specs.Prelude.{◌≡◌, IfOk, MatchResult};
+ghost use Rattle.document_run.specs.Faults.{IsRowsFault};
+ghost use Rattle.document_run.specs.Run.{format_text, outcome_of};
+ghost use Rattle.document_run.specs.Sides.{AreComparable, IsFoundOn, IsReportOn};
+
+use crate::error::DocumentError;
+use crate::found::{Found, found_on};
+use crate::options::DocumentOptions;
+use diff_run::options::Format;
+use diff_run::report::Outcome;
+use document_report::objects::push_document_json;
+use document_report::report::push_document_report;
+use document_words::sides::DocumentSides;
+use std::alloc::{AllocError, Global};
+
+/// The report of two sides, and what it comes to.
+#[derive(Drop)]
+pub(crate) struct Report {
+    pub(crate) text: Vec<u8>,
+    pub(crate) outcome: Outcome,
+}
+
+/// Returns the text of a report.
+fn text_of(
+    alloc: Global,
+    sides: &DocumentSides,
+    found: &Found,
+    options: &DocumentOptions<'_>,
+) -> Result<Vec<u8>, AllocError>
+    requires sides { AreComparable options.now sides.now }
+    requires found { IsFoundOn options.now sides.now found.now }
+    ensures { IfOk result (λ text. text.items ≡ format_text options.now.format sides.now found.now.matching found.now.changed.items options.now.limit) }
+{
+    let (matching, changed) = (&found.matching, &found.changed);
+    let mut text = Vec::new(alloc);
+    match options.format {
+        Format::Text => {
+            push_document_report(alloc, &mut text, sides, matching, changed, options.limit)?;
+        }
+        Format::Json => {
+            push_document_json(alloc, &mut text, sides, matching, changed, options.limit)?;
+        }
+    }
+    Ok(text)
+}
+
+/// Returns whether all documents have a partner that is the same.
+fn outcome_of(found: &Found) -> Outcome
+    ensures { result ≡ outcome_of found.now.matching found.now.changed.items }
+{
+    let matching = &found.matching;
+    if found.changed.is_empty() && matching.removed.is_empty() && matching.added.is_empty() {
+        return Outcome::Same;
+    }
+    Outcome::Different
+}
+
+/// Returns the report of two sides.
+pub(crate) fn report_of(
+    alloc: Global,
+    sides: &DocumentSides,
+    options: &DocumentOptions<'_>,
+) -> Result<Report, DocumentError>
+    requires { AreComparable options.now sides.now }
+    ensures { MatchResult result
+        (λ report. IsReportOn options.now sides.now report.text.items report.outcome)
+        (IsRowsFault options.now sides.now) }
+{
+    let found = found_on(alloc, sides, options)?;
+    let text = text_of(alloc, sides, &found, options)?;
+    let outcome = outcome_of(&found);
+    Ok(Report { text, outcome })
+}

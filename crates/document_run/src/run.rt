@@ -1,0 +1,51 @@
+//! The whole comparison of documents, from two readers to a writer.
+
+ghost use Rattle.std.specs.Prelude.{◌≡◌, ◌⊎◌, ℕ, List, Some, IfErr, IfOk, MatchResult};
+ghost use Rattle.std.specs.Io.KnownBytes.{Appends};
+ghost use Rattle.document_run.specs.Faults.{IsDocumentFault, IsWrite};
+ghost use Rattle.document_run.specs.Run.{IsDocumentReportOf};
+
+use crate::error::DocumentError;
+use crate::options::DocumentOptions;
+use crate::report::{Report, report_of};
+use crate::sides::sides_of;
+use diff_run::report::Outcome;
+use diff_run::run::Input;
+use std::alloc::Global;
+use std::io::{Read, Write};
+
+/// Returns the report of two inputs.
+fn report_on<L: Read + Drop, R: Read + Drop>(
+    alloc: Global,
+    left: Input<'_, L>,
+    right: Input<'_, R>,
+    options: &DocumentOptions<'_>,
+) -> Result<Report, DocumentError>
+    ensures { MatchResult result
+        (λ report. (left_text right_text : List ℕ) → L.remaining left.entry.reader ≡ Some left_text → R.remaining right.entry.reader ≡ Some right_text → IsDocumentReportOf options.now left_text right_text left.entry.name.now right.entry.name.now report.text.items report.outcome)
+        (λ error. (left_text right_text : List ℕ) → L.remaining left.entry.reader ≡ Some left_text → R.remaining right.entry.reader ≡ Some right_text → IsDocumentFault options.now left_text right_text error) }
+{
+    let sides = sides_of(alloc, left, right, options)?;
+    let report = report_of(alloc, &sides, options)?;
+    Ok(report)
+}
+
+/// Compares two inputs of documents, and writes the report. Nothing is written where an input can't
+/// be read, a line is no document, an input has too many of them, or an allocation fails.
+pub fn run_documents<L: Read + Drop, R: Read + Drop, W: Write>(
+    alloc: Global,
+    left: Input<'_, L>,
+    right: Input<'_, R>,
+    out: &mut W,
+    options: &DocumentOptions<'_>,
+) -> Result<Outcome, DocumentError>
+    ensures report { IfOk result (λ outcome. (left_text right_text : List ℕ) → L.remaining left.entry.reader ≡ Some left_text → R.remaining right.entry.reader ≡ Some right_text → (written : List ℕ) × Appends (W.contents out.old) (W.contents out.new) written × IsDocumentReportOf options.now left_text right_text left.entry.name.now right.entry.name.now written outcome) }
+    ensures fault { IfErr result (λ error. (left_text right_text : List ℕ) → L.remaining left.entry.reader ≡ Some left_text → R.remaining right.entry.reader ≡ Some right_text → IsDocumentFault options.now left_text right_text error) }
+    ensures nothing_written { IfErr result (λ error. (out.new ≡ out.old) ⊎ IsWrite error) }
+{
+    let report = report_on(alloc, left, right, options)?;
+    match out.write_all(&report.text) {
+        Ok(()) => Ok(report.outcome),
+        Err(cause) => Err(DocumentError::Write { cause }),
+    }
+}

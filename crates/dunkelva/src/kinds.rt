@@ -1,0 +1,56 @@
+//! What the files hold, as their names and the words of the command line say.
+
+use anyhow::{Result, anyhow};
+use clap::ArgMatches;
+
+/// The options that only tables have, and that take a value.
+const TABLE_VALUES: [&str; 4] = ["only", "ignore", "null", "delimiter"];
+
+/// The options that only tables have, and that take none.
+const TABLE_SWITCHES: [&str; 2] = ["common", "no-header"];
+
+/// Returns whether a file of this name holds documents.
+fn names_documents(name: &str) -> bool {
+    name.ends_with(".ndjson") || name.ends_with(".jsonl")
+}
+
+/// Returns whether the two files hold documents, and not tables.
+pub(crate) fn hold_documents(matches: &ArgMatches<'_>, left: &str, right: &str) -> Result<bool> {
+    match matches.get_str("input") {
+        Some(input) => Ok(input == "ndjson"),
+        None => {
+            let documents = names_documents(left);
+            if documents != names_documents(right) {
+                return Err(anyhow!(
+                    "one of {left} and {right} is NDJSON by its name: give --input"
+                ));
+            }
+            Ok(documents)
+        }
+    }
+}
+
+/// Refuses the options that only tables have.
+pub(crate) fn refuse_table_options(matches: &ArgMatches<'_>) -> Result<()> {
+    for option in &TABLE_VALUES {
+        if matches.contains_id(option) {
+            return Err(anyhow!("--{option} goes with CSV files"));
+        }
+    }
+    for option in &TABLE_SWITCHES {
+        if matches.get_flag(option) {
+            return Err(anyhow!("--{option} goes with CSV files"));
+        }
+    }
+    Ok(())
+}
+
+/// Returns the byte that stands between fields where no word says it: a tab in files whose names
+/// end in `.tsv`, and else a comma.
+pub(crate) fn usual_delimiter(left: &str, right: &str) -> Result<u8> {
+    let has_tabs = left.ends_with(".tsv");
+    if has_tabs != right.ends_with(".tsv") {
+        return Err(anyhow!("one of {left} and {right} is .tsv by its name: give --delimiter"));
+    }
+    if has_tabs { Ok(b'\t') } else { Ok(b',') }
+}
