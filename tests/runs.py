@@ -24,7 +24,9 @@ def options(doc, name, number=1_000_000, what="inputs"):
     parser.add_argument("--jobs", type=int, default=2, help="how many processes (2)")
     parser.add_argument("--program", default=str(ROOT / "crates" / name / "out" / name), help="the built program")
     parser.add_argument("--keep", help="the file that failing inputs are written to (/tmp/SCRIPT.failed)")
+    parser.add_argument("named", nargs="?", metavar="PROGRAM", help="the same as --program")
     chosen = parser.parse_args()
+    chosen.program = chosen.named or chosen.program
     if not pathlib.Path(chosen.program).exists():
         parser.error(f"{chosen.program} is not built: `rt run < /dev/null` in crates/{name}")
     # a run may be in another folder
@@ -84,13 +86,17 @@ def keep(failures, path):
 
 
 def end(script, chosen, try_part, parts):
-    """Tries all parts, prints what was counted, and returns the status: 1 where anything failed."""
+    """Tries all parts, prints what was counted, and returns the status: 1 where anything failed. Where parts count what
+    passed, the last line says how many passed and failed."""
     began = time.monotonic()
     print(f"{script}: {chosen.number} with seed {chosen.seed}, {chosen.jobs} processes", flush=True)
     counts, failures = try_all(try_part, parts, chosen.jobs)
+    passed = counts.pop("passed", None)
     for what in sorted(counts):
         print(f"{counts[what]:>12,} {what}")
     if failures:
         keep(failures, chosen.keep or f"/tmp/{script}.failed")
     print(f"{script}: {len(failures)} failed, in {time.monotonic() - began:.0f} seconds")
+    if passed is not None:
+        print(f"{passed} passed, {len(failures)} failed")
     return 1 if failures else 0

@@ -1,0 +1,245 @@
+"""Lines and files of JSON documents with what `dunkelva diff` has to do with them, by RFC 8259 and by its own rules."""
+
+WIDE = "1" + "0" * 30
+NO_JSON, TWICE = "is no JSON", "has an object with a name twice"
+NO_OBJECT, NO_ID = "is no JSON object", "has no id"
+TOO_WIDE = "has a number whose exponent has more than 30 digits"
+
+
+def nested(depth, inside=b""):
+    """Returns a document that nests so deep, by arrays and objects in turn."""
+    text, ends = b'{"id":1,"a":', b"}"
+    for level in range(1, depth):
+        text, ends = text + (b"[", b'{"b":')[level % 2], (b"]", b"}")[level % 2] + ends
+    # an object that stays empty has no name either
+    if inside or depth == 1:
+        return text + (inside or b"0") + ends
+    return (text.removesuffix(b'"b":')) + ends
+
+
+def members(count, *more):
+    """Returns a document with so many members, and more."""
+    return b'{"id":1,%s}' % b",".join([*(b'"m%d":%d' % (n, n) for n in range(count)), *more])
+
+
+# values that are no JSON, each the value of a member
+BAD_VALUES = (b"", b"NaN", b"Infinity", b"-Infinity", b"nan", b"01", b"-01", b"00", b"1.", b".5", b"-.5", b"1.e5",
+              b"1e", b"1e+", b"1E-", b"1e1.5", b"+1", b"-", b"--1", b"- 1", b"0x10", b"1_0", b"1e5e5", b"1 2", b"1a",
+              b"\xef\xbc\x91", b"True", b"TRUE", b"nul", b"nulll", b"None", b"undefined", b"truefalse", b"'a'", b"a",
+              b"[1,]", b"[,]", b"[,1]", b"[1,,2]", b"[1 2]", b"[1}", b"[", b"]", b"[1", b"{", b"}", b'{"a"}',
+              b'{"a":}', b'{"a":1,}', b'{,}', b'{,"a":1}', b'{"a":1,,"b":2}', b'{"a":1 "b":2}', b'{"a":1;"b":2}',
+              b'{"a",1}', b"{1:2}", b"{null:2}", b"{a:1}", b"{'a':1}", b'{"a":1]', b'"', b'"a', b'"a\\"', b'"\\"',
+              b'"\\a"', b'"\\x41"', b'"\\0"', b"\"\\'\"", b'"\\U0041"', b'"\\u"', b'"\\u12"', b'"\\u123"',
+              b'"\\u12G4"', b'"\\u+123"', b'"\\u 123"', b'"\\u-001"', b'"\\u00_1"', b'"\\ud800"', b'"\\udbff"',
+              b'"\\udc00"', b'"\\udfff"', b'"\\uD800a"', b'"\\ud800\\u0041"', b'"\\ud800\\n"', b'"\\ud800\\"',
+              b'"\\ud800\\ud800\\udc00"', b'"\\udc00\\ud800"', b'"\\ud83d\\ude00\\ude00"', b'{"\\ud800":1}',
+              b"1 // one", b"1 /* one */", b"# one", b"\x0b1", b"\x0c1", b"\xc2\xa01", b"\xe2\x80\xa81",
+              b"\xef\xbb\xbf1", b"\0", b"1\0", b'"a""b"', b'"a" "b"', b"[1]2", b"{}{}",
+              *(b'"%c"' % byte for byte in range(32) if byte != 10), b'{"\t":1}', b'"\\\t"', b'"\x80"', b'"\xbf"',
+              b'"\xff"', b'"\xfe"', b'"\xc0\x80"', b'"\xc1\xbf"', b'"\xc2"', b'"\xe0\x80\x80"', b'"\xe0\x9f\xbf"',
+              b'"\xed\xa0\x80"', b'"\xed\xbf\xbf"', b'"\xed\xa0\xbd\xed\xb8\x80"', b'"\xe6\x97"',
+              b'"\xf0\x8f\xbf\xbf"', b'"\xf4\x90\x80\x80"', b'"\xf5\x80\x80\x80"', b'"\xf0\x9f\x98"', b'"\\u00\xff1"')
+
+# lines that are no document with the key id, and what is said of them behind their number
+FAULTS = (
+    *((b'{"id":1,"a":%s}' % value, NO_JSON) for value in BAD_VALUES),
+    *((line, NO_JSON) for line in (
+        b"", b" ", b"\r", b"\t \r", b"{", b"}", b'{"id":1', b'"id":1', b'{"id":1}}', b'{"id":1},', b'{"id":1};',
+        b'{"id":1}x', b'{"id":1}{"id":2}', b'{"id":1} {"id":2}', b'{"id":1}\0', b'\0{"id":1}', b'{"id":1}\x1a',
+        b'\xef\xbb\xbf{"id":1}', b'{"id":1}\xef\xbb\xbf', b'\xff\xfe{\0', b'\x1e{"id":1}', b'{"id":1,}', b'{,"id":1}',
+        b'{"id" 1}', b'{"id"::1}', b'{"id":1}\x0c', b'\xc2\x85{"id":1}', b'{"id":1}\xff', b'[{"id":1}', b"id",
+        b"// a", b'{"id":1\x0b}', b'{"id"\0:1}', nested(129), nested(129, b"1"), nested(130), nested(10_000),
+        b'{"id":' + b"[" * 100_000, b"[" * 129 + b"]" * 129, b'{"a":' * 50_000, members(70, b"0"))),
+    *((line, NO_OBJECT) for line in (
+        b"[]", b"1", b'"id"', b"null", b"true", b'[{"id":1}]', b" -0.5e3 ", b"[" * 128 + b"]" * 128)),
+    *((line, TWICE) for line in (
+        b'{"id":1,"id":1}', b'{"id":1,"id":2}', b'{"a":1,"id":1,"a":1}', b'{"id":1,"a":{"b":1,"c":2,"b":1}}',
+        b'{"id":1,"a":[0,{"b":1,"b":null}]}', b'{"id":1,"a":1,"\\u0061":2}', b'{"id":1,"\\u0069d":1}',
+        b'{"id":1,"":1,"":2}', b'{"id":1,"\xf0\x9f\x98\x80":1,"\\uD83D\\ude00":1}', b'{"id":1,"\\n":1,"\\u000a":1}',
+        b'{"id":1,"/":1,"\\/":1}', b'{"id":1,"\\u0000":1,"\\u0000":1}', b'{"id":1,"\xc3\xa9":1,"\\u00E9":1}',
+        b'{"id":{"a":1,"a":1}}', nested(127, b'{"c":1,"c":1}'), members(70, b'"m3":0'),
+        members(1000, b'"m\\u0035":0'), members(64, b'"m0":0'))),
+    *((line, TOO_WIDE) for line in (
+        *(b'{"id":1,"a":%s}' % it.encode() for it in (
+            f"1e{WIDE}", f"1e+{WIDE}", f"-1.5E-{WIDE}", f"0e{WIDE}", f"-0.0e-{WIDE}", f"1e000{WIDE}", "1e" + "9" * 31,
+            "1e" + "1" * 5000, f'[{{"b":1e{WIDE}}}]')), b'{"id":1e%s}' % WIDE.encode())),
+    *((line, NO_ID) for line in (
+        b"{}", b" { } ", b'{"a":{"id":1}}', b'{"ID":1}', b'{"id ":1}', b'{"":1}', b'{"i":{"d":1}}', b'{"id\\u0000":1}',
+        b'{"\\"id\\"":1}')),
+)
+
+# lines that are documents
+GOOD = (
+    b'{"id":1}', b' \t\r{ \t\r"id" \t\r: \t\r1 \t\r} \t\r', b'{"id":null}', b'{"id":{}}', b'{"id":[]}',
+    b'{"i\\u0064":1}', nested(127), nested(128), nested(127, b"[]"), nested(128, b"1"), nested(128, b'"a"'),
+    members(70), members(1000), b'{"id":1e%s}' % (b"9" * 30), b'{"id":-1.5E-%s}' % (b"9" * 30),
+    b'{"id":0e%s%s}' % (b"0" * 50, b"9" * 30), b'{"id":1e%s}' % (b"0" * 5000), b'{"id":%s}' % (b"9" * 5000),
+    b'{"id":0.%s1}' % (b"0" * 5000), b'{"id":-0}', b'{"id":-0.0e-0}', b'{"id":0E+00}',
+    b'{"id":"\\u0000\\u001F\\u007f\x7f\xc2\x80"}', b'{"id":"\\"\\\\\\/\\b\\f\\n\\r\\t/"}',
+    b'{"id":"\\uDBFF\\uDFFF\xf4\x8f\xbf\xbf\\ud800\\udc00\\uFFFF\xef\xbf\xbf\xef\xbf\xbe\\uE000"}',
+    b'{"id":1,"\xc3\xa9":1,"e\xcc\x81":1}', b'{"id":1,"a":1,"A":1,"":1," ":1,"\\u0000":1,"\\u0000\\u0000":1}',
+    b'{"id":1,"a":{"id":1,"a":{"id":1}},"b":[{"id":1},{"id":1}]}', b'{"id":"\xef\xbb\xbf"}',
+    b'{"id":"%s"}' % (b"a" * 100_000), b'{"id":[[],{},"",0,null,true,false]}', b'{"id":"\\ud83d\\ude00"}',
+    b'{"id":"\xe2\x80\xa8\xe2\x80\xa9"}',
+)
+
+# values that are the same
+SAME = (
+    (b"1", b"1.0"), (b"1", b"1e0"), (b"1", b"10E-1"), (b"1", b"0.1e+1"), (b"1", b"0.0001e00004"), (b"100", b"1e2"),
+    (b"0", b"-0"), (b"0", b"-0.000e-5"), (b"0", b"0e%s" % (b"9" * 30)), (b"-1.50", b"-15E-1"),
+    (b"1e%s" % (b"9" * 30), b"10e%s8" % (b"9" * 29)), (b"10e%s" % (b"9" * 29), b"1e1" + b"0" * 29),
+    (b"9" * 400 + b"0", b"9." + b"9" * 399 + b"e400"), (b"1e-3", b"0.001"), (b"1e5", b"1e%s5" % (b"0" * 100)),
+    (b'"a"', b'"\\u0061"'), (b'"/"', b'"\\/"'), (b'"\\n"', b'"\\u000A"'),
+    (b'"\\ud83d\\ude00"', b'"\xf0\x9f\x98\x80"'), (b'"\\u00E9"', b'"\xc3\xa9"'), (b'"\x7f"', b'"\\u007F"'),
+    (b'{"a":1,"b":2}', b'{"b":2,"a":1.0}'), (b'{"a":1,"\\u0062":2}', b' {\t"b" : 2 , "\\u0061" : 1 }\r'),
+    (b"[]", b"[ ]"), (b"{}", b"{\r\t }"), (b'[{"a":[1]},-0]', b'[ {"a" : [1.0] } , 0 ]'),
+)
+
+# values that differ, and what is told of a member a with them
+DIFFERENT = (
+    (b"1", b'"1"', 'a 1 -> "1"'), (b"0", b"null", "a 0 -> null"), (b"0", b"false", "a 0 -> false"),
+    (b'""', b"null", 'a "" -> null'), (b"[]", b"{}", "a [] -> {}"), (b"[]", b"null", "a [] -> null"),
+    (b"[0]", b'{"0":0}', 'a [0] -> {"0":0}'), (b"1", b"[1]", "a 1 -> [1]"), (b"1.0", b"-1.0", "a 1.0 -> -1.0"),
+    (b"true", b'"true"', 'a true -> "true"'),
+    (b"9007199254740992", b"9007199254740993", "a 9007199254740992 -> 9007199254740993"),
+    (b"0.1", b"0.1000000000000000055511151231257827", "a 0.1 -> 0.1000000000000000055511151231257827"),
+    (b"1e400", b"1e401", "a 1e400 -> 1e401"), (b"1e-400", b"0", "a 1e-400 -> 0"),
+    (b"1E+0", b"10E+00", "a 1E+0 -> 10E+00"),
+    (b"1e%s" % (b"9" * 30), b"2e%s" % (b"9" * 30), f"a 1e{'9' * 30} -> 2e{'9' * 30}"),
+    (b'"a"', b'"A"', 'a "a" -> "A"'), (b'"\xc3\xa9"', b'"e\xcc\x81"', 'a "é" -> "e\u0301"'),
+    (b'"a"', b'"a "', 'a "a" -> "a "'), (b'"a"', b'"a\\u0000"', 'a "a" -> "a\\u0000"'),
+    (b'"\\/\\u0041"', b'"\\/"', 'a "/A" -> "/"'), (b'"\x7f"', b'"\xc2\x9b"', 'a "\\u007f" -> "\\u009b"'),
+    (b'"\xc2\xa0"', b'"\\u009F"', 'a "\xa0" -> "\\u009f"'),
+    (b'"\\b\\f\\n\\r\\t\\u0001\\u001F\\"\\\\"', b"1", r'a "\b\f\n\r\t\u0001\u001f\"\\" -> 1'),
+    (b'"\\ud83d\\ude00"', b'"\\u0022"', 'a "😀" -> "\\""'), (b"[1,2,3]", b"[1,3]", "a[1] 2 -> 3, a[2] 3 -> missing"),
+    (b"[]", b"[null]", "a[0] missing -> null"), (b"[1]", b"[1,[ ],{ }]", "a[1] missing -> [], a[2] missing -> {}"),
+    (b"[[1]]", b"[[2]]", "a[0][0] 1 -> 2"), (b'{"b":null}', b"{}", "a.b null -> missing"),
+    (b"{}", b'{"b":null}', "a.b missing -> null"),
+    (b'{"x":1,"b":2,"c":3}', b'{"d":4,"c":5,"B":6}',
+     "a.x 1 -> missing, a.b 2 -> missing, a.c 3 -> 5, a.d missing -> 4, a.B missing -> 6"),
+    (b'{"b":{"c":{"d":[{"e":1}]}}}', b'{"b":{"c":{"d":[{"e":2}]}}}', "a.b.c.d[0].e 1 -> 2"),
+    (b'{"":1}', b'{"":2}', 'a."" 1 -> 2'), (b'{"b.c":1}', b'{"b.c":2}', 'a."b.c" 1 -> 2'),
+    (b'{"[0]":1}', b'{"[0]":2}', 'a."[0]" 1 -> 2'), (b'{"\\"":1}', b'{"\\"":2}', r'a."\"" 1 -> 2'),
+    (b'{"\\\\":1}', b'{"\\\\":2}', r'a."\\" 1 -> 2'), (b'{"\\u0000":1}', b'{"\\u0000":2}', r'a."\u0000" 1 -> 2'),
+    (b'{"\x7f":1}', b'{"\x7f":2}', r'a."\u007f" 1 -> 2'),
+    (b'{"\xc2\x9b":1}', b'{"\xc2\x9b":2}', r'a."\u009b" 1 -> 2'),
+    (b'{"\xc3\xa9":1}', b'{"\xc3\xa9":2}', 'a."é" 1 -> 2'),
+    (b'{"\xc3\xa9":1}', b'{"e\xcc\x81":1}', 'a."é" 1 -> missing, a."e\u0301" missing -> 1'),
+    (b'{" ":1}', b'{" ":2}', 'a." " 1 -> 2'), (b'{"A-z_0":1}', b'{"A-z_0":2}', "a.A-z_0 1 -> 2"),
+    (b'{"0":1}', b'{"0":2}', "a.0 1 -> 2"), (b'{"-":1}', b'{"-":2}', "a.- 1 -> 2"),
+    (b'{"\\u0062":{ "c" : [ 1.50 , "\\u0041" ] }}', b"{}", 'a.b {"c":[1.50,"A"]} -> missing'),
+    (b'{"z":{"y":1,"x":-0.0}}', b'{"z":0}', 'a.z {"y":1,"x":-0.0} -> 0'),
+)
+
+# options, both files, the status, and what is printed, or said with status 2
+FILES = (
+    ([], b"", b"", 0, "0 changed, 0 removed, 0 added, 0 the same."),
+    (["--key", "id"], b"", b'{"id":1}', 1, "+ id=1  right.ndjson line 1\n0 changed, 0 removed, 1 added, 0 the same."),
+    ([], b"", b'{"id":1}', 1, "+ row 1  right.ndjson line 1\n0 changed, 0 removed, 1 added, 0 the same."),
+    ([], b'{"id":1}', b'{"id":1}\n', 0, "0 changed, 0 removed, 0 added, 1 the same."),
+    ([], b'{"id":1}\r\n{}\r\n', b'{"id":1}\n{}', 0, "0 changed, 0 removed, 0 added, 2 the same."),
+    ([], b"{}\n{}\n", b"{}\n", 1, "- row 2  left.ndjson line 2\n0 changed, 1 removed, 0 added, 1 the same."),
+    ([], b'{"a":1}\n{"a":2}\n', b'{"a":2}\n{"a":1}\n', 1,
+     "~ row 1  a 1 -> 2\n~ row 2  a 2 -> 1\n2 changed, 0 removed, 0 added, 0 the same."),
+    ([], b"\n", b"", 2, "left.ndjson: line 1 is no JSON"),
+    ([], b"{}\n\n", b"{}\n", 2, "left.ndjson: line 2 is no JSON"),
+    ([], b"{}\n", b"{}\n\n{}\n", 2, "right.ndjson: line 2 is no JSON"),
+    ([], b"{}\n", b"{}\r\n\r\n", 2, "right.ndjson: line 2 is no JSON"),
+    ([], b"{}\r{}\n", b"", 2, "left.ndjson: line 1 is no JSON"),
+    ([], b'{"a":\n1}\n', b"", 2, "left.ndjson: line 1 is no JSON"),
+    ([], b"\xef\xbb\xbf", b"", 2, "left.ndjson: line 1 is no JSON"),
+    ([], b"{}\n{}\0", b"", 2, "left.ndjson: line 2 is no JSON"),
+    (["--key", "id"], b'{"id":1.0,"a":1}\n{"id":"1","a":2}\n{"id":null,"a":3}\n',
+     b'{"id":null,"a":3}\n{"id":"1","a":0}\n{"id":1e0,"a":1}', 1,
+     '~ id="1"  a 2 -> 0\n1 changed, 0 removed, 0 added, 2 the same.'),
+    (["--key", "id"], b'{"id":1200}\n{"id":1.50}\n{"id":-0.0}\n{"id":9.5}\n{"id":-0.05}\n{"id":12e-1}\n', b"", 1,
+     "".join(f"- id={it}  left.ndjson line {n}\n"
+             for n, it in enumerate(("12e2", "15e-1", "0", "95e-1", "-5e-2", "12e-1"), 1))
+     + "0 changed, 6 removed, 0 added, 0 the same."),
+    (["--key", "id"], b'{"id":{"b":[1.0,"\\u0041"],"a":null,"":{ }}}\n',
+     b'{"id":{"":{},"a":null,"b":[1,"A"]},"n":1}\n', 1,
+     '~ id={"":{},"a":null,"b":[1,"A"]}  n missing -> 1\n1 changed, 0 removed, 0 added, 0 the same.'),
+    (["--key", "id"], b'{"id":{"\xf4\x8f\xbf\xbf":1,"\xee\x80\x80":{"b":[ ],"B":-0},"Z":"\\u009f"}}\n', b"", 1,
+     '- id={"Z":"\\u009f","\ue000":{"B":0,"b":[]},"\U0010ffff":1}  left.ndjson line 1\n'
+     "0 changed, 1 removed, 0 added, 0 the same."),
+    (["--key", "id"], b'{"id":1,"a":1}\n{"id":1,"a":2}\n{"id":1.0,"a":3}\n', b'{"id":1,"a":1}\n{"id":10e-1,"a":3}\n', 1,
+     "~ id=1  a 2 -> 3\n- id=1  left.ndjson line 3\n1 changed, 1 removed, 0 added, 1 the same."),
+    (["--key", "id"], b'{"id":2,"a":1}\n{"id":5}\n{"id":1,"a":1}\n{"id":4}\n',
+     b'{"id":7}\n{"id":1,"a":2}\n{"id":6}\n{"id":2,"a":2}\n', 1,
+     "~ id=2  a 1 -> 2\n~ id=1  a 1 -> 2\n- id=5  left.ndjson line 2\n- id=4  left.ndjson line 4\n"
+     "+ id=7  right.ndjson line 1\n+ id=6  right.ndjson line 3\n2 changed, 2 removed, 2 added, 0 the same."),
+    (["--key", "id", "--limit", "1"], b'{"id":1,"a":1}\n{"id":2}\n', b'{"id":1,"a":2}\n{"id":3}\n', 1,
+     "~ id=1  a 1 -> 2\n.. and 2 more\n1 changed, 1 removed, 1 added, 0 the same."),
+    (["--limit", "1"], b'{"a":1}\n{"a":2}\n{"a":3}\n', b'{"a":0}\n{"a":0}\n', 1,
+     "~ row 1  a 1 -> 0\n.. and 2 more\n2 changed, 1 removed, 0 added, 0 the same."),
+    ([], b"{}\n" * 25, b"", 1, "".join(f"- row {n}  left.ndjson line {n}\n" for n in range(1, 21))
+     + ".. and 5 more\n0 changed, 25 removed, 0 added, 0 the same."),
+    (["--limit", "0"], b"", b"{}\n" * 25, 1, "".join(f"+ row {n}  right.ndjson line {n}\n" for n in range(1, 26))
+     + "0 changed, 0 removed, 25 added, 0 the same."),
+    (["--format", "json", "--limit", "2"], b'{"\x7f":1}\n{"\xc2\x9b":2}\n{"a":3}\n', b"{}\n{}\n{}\n", 1,
+     '{"kind":"changed","key":{},"left_line":1,"right_line":1,"changes":[{"path":".\\"\\u007f\\"","left":1}]}\n'
+     '{"kind":"changed","key":{},"left_line":2,"right_line":2,"changes":[{"path":".\\"\\u009b\\"","left":2}]}\n'
+     '{"kind":"counts","changed":3,"removed":0,"added":0,"same":0,"not_shown":1}'),
+    (["--key", "order.id,k[1]"], b'{"order":{"id":"x"},"k":[0,true]}\n', b"", 1,
+     '- order.id="x",k[1]=true  left.ndjson line 1\n0 changed, 1 removed, 0 added, 0 the same.'),
+    (["--key", "order.id", "--key", '."a.b"'], b'{"order":{"id":"\xc2\x9b"},"a.b":"\x7f,="}\n', b"", 1,
+     r'- order.id="\u009b",".\"a.b\""="\u007f,="  left.ndjson line 1' "\n0 changed, 1 removed, 0 added, 0 the same."),
+    (["--key", r'."a\u002cb"'], b'{"a,b":1.0}\n', b"", 1,
+     r'- ".\"a\\u002cb\""=1  left.ndjson line 1' "\n0 changed, 1 removed, 0 added, 0 the same."),
+    (["--key", "a.b"], b'{"a.b":1}\n', b"", 2, "left.ndjson: line 1 has no a.b"),
+    (["--key", "a[1]"], b'{"a":[1]}\n', b"", 2, "left.ndjson: line 1 has no a[1]"),
+    (["--key", "a[0]"], b'{"a":{"0":1}}\n', b"", 2, "left.ndjson: line 1 has no a[0]"),
+    (["--key", "a.b"], b'{"a":{"b":1}}\n{"a":[1]}\n', b"", 2, "left.ndjson: line 2 has no a.b"),
+    (["--key", "a,b"], b'{"a":1,"b":1}\n', b'{"a":1,"b":1}\n{"a":1}', 2, "right.ndjson: line 2 has no b"),
+    (["--unique", "--key", "id"], b'{"id":1}\n{"id":2}\n', b'{"id":2}\n{"id":1}\n', 0,
+     "0 changed, 0 removed, 0 added, 2 the same."),
+    (["--unique", "--key", "id"], b'{"id":1}\n{"id":2}\n{"id":1.0}\n', b"", 2,
+     "left.ndjson: the rows at lines 1 and 3 have one key"),
+    (["--unique", "--key", "id"], b'{"id":1}\n', b'{"id":{"a":1,"b":2}}\n{"id":{"b":2,"a":1}}\n{"id":1}\n{"id":1}', 2,
+     "right.ndjson: the rows at lines 1 and 2 have one key"),
+    (["--color", "always", "--key", "id"], b'{"id":1,"a":1}\n{"id":2}\n', b'{"id":1,"b":2}\n{"id":3}\n', 1,
+     "\x1b[33m~ id=1\x1b[0m  a \x1b[31m1\x1b[0m -> \x1b[32mmissing\x1b[0m, "
+     "b \x1b[31mmissing\x1b[0m -> \x1b[32m2\x1b[0m\n"
+     "\x1b[31m- id=2  left.ndjson line 2\x1b[0m\n\x1b[32m+ id=3  right.ndjson line 2\x1b[0m\n"
+     "1 changed, 1 removed, 1 added, 0 the same."),
+    (["--format", "json", "--key", "order.id"],
+     b'{"order":{"id":"A-7"},"items":[0,1,{"price":9.5}],"tags":[1,"new"]}\n{"order":{"id":2.0}}\n',
+     b'{"order":{"id":3}}\n{"order":{"id":"A-7"},"items":[0,1.0,{"price":9.750}],"tags":[1],"n":null}\n', 1,
+     '{"kind":"changed","key":{"order.id":"A-7"},"left_line":1,"right_line":2,'
+     '"changes":[{"path":"items[2].price","left":9.5,"right":9.750},'
+     '{"path":"tags[1]","left":"new"},{"path":"n","right":null}]}\n{"kind":"removed","key":{"order.id":2},"line":2}\n'
+     '{"kind":"added","key":{"order.id":3},"line":1}\n'
+     '{"kind":"counts","changed":1,"removed":1,"added":1,"same":0,"not_shown":0}'),
+    (["--format", "json", "--limit", "1"], b'{"a":1}\n{"a\\u007f":1}\n', b'{"a":1e1}\n', 1,
+     '{"kind":"changed","key":{},"left_line":1,"right_line":1,"changes":[{"path":"a","left":1,"right":1e1}]}\n'
+     '{"kind":"counts","changed":1,"removed":1,"added":0,"same":0,"not_shown":1}'),
+)
+
+# words, and what standard error has to have: the files of these are those of `NAMED`
+TROUBLES = (
+    (["missing.ndjson", "good.ndjson"], "missing.ndjson: "),
+    (["good.ndjson", "missing.jsonl"], "missing.jsonl: "),
+    (["--input", "ndjson", "-", "-"], "only one of the two can be standard input"),
+    (["good.ndjson", "table.csv"], "dunkelva: "),
+    (["table.csv", "good.jsonl"], "dunkelva: "),
+    (["--input", "xml", "good.ndjson", "good.ndjson"], "xml"),
+    (["--input", "ndjson", "good.ndjson", "table.csv"], "table.csv: line 1 is no JSON"),
+    (["--input", "csv", "--key", "nope", "good.ndjson", "good.ndjson"], "no column is named nope"),
+    (["--limit", "many", "good.ndjson", "good.ndjson"], "many"),
+    (["--format", "xml", "good.ndjson", "good.ndjson"], "xml"),
+    (["--color", "sometimes", "good.ndjson", "good.ndjson"], "sometimes"),
+    (["--unique", "good.ndjson", "good.ndjson"], "--key"),
+    (["--nope", "good.ndjson", "good.ndjson"], "--nope"),
+    (["good.ndjson"], "RIGHT"),
+    (["good.ndjson", b"\xff.ndjson"], "invalid data"),
+    *((["--key", path, "good.ndjson", "good.ndjson"], "") for path in (
+        "", ".", "id.", "..id", "id..a", "id[", "id[]", "id[a]", "id[-1]", "id]", '."id', '."id"a', '."\\ud800"',
+        "id[0]a", "id[1 ]")),
+)
+# words of runs that have to end with status 0
+GOOD_WORDS = (["good.ndjson", "good.jsonl"], ["--input", "ndjson", "good.ndjson", "good.txt"],
+              ["--input", "ndjson", "-", "good.ndjson"], ["--input", "ndjson", "good.ndjson", "-"],
+              ["--input", "csv", "table.csv", "table.ndjson"], ["table.csv", "table.csv"],
+              ["--key", "id", "--unique", "good.jsonl", "good.jsonl"], ["--key=.id", "good.jsonl", "good.jsonl"])
+NAMED = {"good.ndjson": b'{"id":1}\n', "good.jsonl": b'{"id":1.0}', "good.txt": b'{"id":1}\n', "table.csv": b"id\n1\n",
+         "table.ndjson": b"id\n1\n"}
