@@ -14,20 +14,17 @@ fn names_documents(name: &str) -> bool {
     name.ends_with(".ndjson") || name.ends_with(".jsonl")
 }
 
-/// Returns whether the two files hold documents, and not tables.
+/// Returns whether the two files hold documents, and not tables. Standard input holds what the
+/// other file does.
 pub(crate) fn hold_documents(matches: &ArgMatches<'_>, left: &str, right: &str) -> Result<bool> {
-    match matches.get_str("input") {
-        Some(input) => Ok(input == "ndjson"),
-        None => {
-            let documents = names_documents(left);
-            if documents != names_documents(right) {
-                return Err(anyhow!(
-                    "one of {left} and {right} is NDJSON by its name: give --input"
-                ));
-            }
-            Ok(documents)
-        }
+    if let Some(input) = matches.get_str("input") {
+        return Ok(input == "ndjson");
     }
+    let (in_left, in_right) = (names_documents(left), names_documents(right));
+    if in_left != in_right && left != "-" && right != "-" {
+        return Err(anyhow!("one of {left} and {right} is NDJSON by its name: give --input"));
+    }
+    Ok(in_left || in_right)
 }
 
 /// Refuses the options that only tables have.
@@ -46,11 +43,15 @@ pub(crate) fn refuse_table_options(matches: &ArgMatches<'_>) -> Result<()> {
 }
 
 /// Returns the byte that stands between fields where no word says it: a tab in files whose names
-/// end in `.tsv`, and else a comma.
+/// end in `.tsv`, and else a comma. Standard input has what the other file has.
 pub(crate) fn usual_delimiter(left: &str, right: &str) -> Result<u8> {
-    let has_tabs = left.ends_with(".tsv");
-    if has_tabs != right.ends_with(".tsv") {
+    let (in_left, in_right) = (left.ends_with(".tsv"), right.ends_with(".tsv"));
+    if in_left != in_right && left != "-" && right != "-" {
         return Err(anyhow!("one of {left} and {right} is .tsv by its name: give --delimiter"));
     }
-    if has_tabs { Ok(b'\t') } else { Ok(b',') }
+    if in_left || in_right {
+        Ok(b'\t')
+    } else {
+        Ok(b',')
+    }
 }
