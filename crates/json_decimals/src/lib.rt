@@ -6,5 +6,3 @@ pub mod error;
 pub mod laws;
 pub mod numbers;
 mod tens;
-#[cfg(test)]
-mod tests;

@@ -4,7 +4,5 @@
 pub mod document;
 pub mod laws;
 mod order;
-#[cfg(test)]
-mod tests;
 pub mod text;
 pub mod write;
