@@ -1,13 +1,15 @@
 -- Worked examples of the definitions.
 use Rattle.std.specs.Fmt.{digits}
-use Rattle.std.specs.Prelude.{◌≡◌, List, [], ◌∷◌, map, Some, None, codes, refl}
+use Rattle.std.specs.Prelude.{◌≡◌, true, false, List, [], ◌∷◌, map, Some, None, codes, refl}
 use Rattle.fast_float.specs.Text.{scan}
 use Rattle.json.specs.Json.{Json, null, number, string, array, object, no_items, item, no_members, member}
 use Rattle.json.specs.Print.{escape_byte, print_from}
 use Rattle.json_decimals.specs.Decimals.{normal_of, decimal_of}
 use Rattle.json_decimals.specs.Texts.{digits_text, tens_text, number_text, normal_number}
 use Rattle.json_paths.specs.Paths.{name, place}
+use Rattle.json_paths.specs.Patterns.{Pattern, exactly}
 use Rattle.json_changes.specs.Differences.{Difference, differences}
+use Rattle.json_changes.specs.Rules.{differences_told, is_told}
 use Rattle.json_changes.specs.Texts.{path_text, told}
 
 abbrev cheap : Json
@@ -59,3 +61,64 @@ longer = refl
 -- an array and a scalar differ as a whole
 whole : differences (array (item null no_items)) null ≡ record { path = []; left = Some (array (item null no_items)); right = Some null } ∷ []
 whole = refl
+
+-- ---- under rules
+
+abbrev one : Json
+one = number (codes "1")
+
+abbrev two : Json
+two = number (codes "2")
+
+-- {"id": 1, "at": {"day": 1}, "note": null}
+abbrev before : Json
+before = object (member (codes "id") one (member (codes "at") (object (member (codes "day") one no_members)) (member (codes "note") null no_members)))
+
+-- {"id": 2, "at": {"day": 2}}
+abbrev after : Json
+after = object (member (codes "id") two (member (codes "at") (object (member (codes "day") two no_members)) no_members))
+
+abbrev id : Pattern
+id = exactly (name (codes "id")) ∷ []
+
+abbrev at : Pattern
+at = exactly (name (codes "at")) ∷ []
+
+abbrev day : Pattern
+day = exactly (name (codes "at")) ∷ exactly (name (codes "day")) ∷ []
+
+abbrev day_alone : List Difference
+day_alone = record { path = name (codes "at") ∷ name (codes "day") ∷ []; left = Some one; right = Some two } ∷ []
+
+-- id is ignored, and a missing note counts as null
+told-ignored : differences_told (record { ignored = id ∷ []; only = []; missing_is_null = true }) before after ≡ day_alone
+unfolding normal_number number_text digits_text tens_text normal_of decimal_of scan
+told-ignored = refl
+
+-- only at is asked for, or a part of it
+told-only : differences_told (record { ignored = []; only = at ∷ []; missing_is_null = false }) before after ≡ day_alone
+unfolding normal_number number_text digits_text tens_text normal_of decimal_of scan
+told-only = refl
+
+told-only-within : differences_told (record { ignored = []; only = day ∷ []; missing_is_null = false }) before after ≡ day_alone
+unfolding normal_number number_text digits_text tens_text normal_of decimal_of scan
+told-only-within = refl
+
+-- what one side alone has is told as a whole where a part of it is asked for, and where a part of it is ignored
+missing-around : is_told (record { ignored = []; only = day ∷ []; missing_is_null = false }) (record { path = name (codes "at") ∷ []; left = Some (object no_members); right = None }) ≡ true
+missing-around = refl
+
+ignored-within : is_told (record { ignored = day ∷ []; only = []; missing_is_null = false }) (record { path = name (codes "at") ∷ []; left = Some (object no_members); right = None }) ≡ true
+ignored-within = refl
+
+-- a part within one that is ignored
+ignored-around : is_told (record { ignored = at ∷ []; only = []; missing_is_null = false }) (record { path = name (codes "at") ∷ name (codes "day") ∷ []; left = Some one; right = Some two }) ≡ false
+ignored-around = refl
+
+-- null against a number is told where a missing part counts as null
+null-one : is_told (record { ignored = []; only = []; missing_is_null = true }) (record { path = []; left = Some null; right = Some one }) ≡ true
+null-one = refl
+
+-- and so is a missing number
+missing-one : is_told (record { ignored = []; only = []; missing_is_null = true }) (record { path = name (codes "a") ∷ []; left = None; right = Some one }) ≡ true
+missing-one = refl

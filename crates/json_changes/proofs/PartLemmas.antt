@@ -4,13 +4,13 @@ use Rattle.std.proofs.lemmas.Bool.{cases_order}
 use Rattle.std.proofs.lemmas.List.{drop_more, length-append}
 use Rattle.std.specs.Borrow.{Bor}
 use Rattle.json.specs.Find.{get_member}
-use Rattle.json.specs.Json.{Items, no_items, item, Members}
+use Rattle.json.specs.Json.{Json, Items, no_items, item, Members}
 use Rattle.json.specs.Tree.{json_tokens, members_tokens, HasNumbers, ItemsHaveNumbers, MembersHaveNumbers}
 use Rattle.json.specs.Value.{value_view, items_view, members_view}
 use Rattle.json.specs.declared.value.Value.{Value}
 use Rattle.json_normal.specs.Narrow.{HasNarrowNumbers, ItemsHaveNarrowNumbers, MembersHaveNarrowNumbers}
 use Rattle.json_paths.specs.Paths.{name, place}
-use Rattle.json_changes.specs.Differences.{inside, alone_items, added_member, added_members, beside, differences, item_differences, member_differences, only_left, only_right}
+use Rattle.json_changes.specs.Differences.{Difference, inside, alone_items, added_member, added_members, beside, differences, item_differences, member_differences, only_left, only_right}
 
 abbrev pub Pair : Type 0 → Type 0
 Pair A = Bor (List ℕ) × Value A
@@ -48,6 +48,13 @@ two_smaller (m ∷ ms) zero d h = omega (arith, length-append (json_tokens (valu
 two_smaller (m ∷ ms) (suc i) d h = omega (arith, length-append (json_tokens (value_view m.1)) (members_tokens (members_view ms)), two_smaller ms i d (omega arith))
 
 -- ---- how differences go on
+
+pub alone_step : {A : Type 0} → (alone : Json → Difference) (xs : List (Value A)) (i : ℕ) (d : Value A) → i < length xs
+    → alone_items alone i (items_view (drop i xs)) ≡ inside (place i) (alone (value_view (get_or xs i d))) ∷ alone_items alone (i + 1) (items_view (drop (i + 1) xs))
+alone_step alone xs i d h =
+    let up : suc i ≡ i + 1 = omega arith in
+    ap (λ ys. alone_items alone i (items_view ys)) (drop_more xs i d h)
+    ∙ ap (λ n. inside (place i) (alone (value_view (get_or xs i d))) ∷ alone_items alone n (items_view (drop (i + 1) xs))) up
 
 pub added_step : {A : Type 0} → (ms : Members) (ns : List (Pair A)) (i : ℕ) (d : Pair A) → i < length ns
     → added_members ms (members_view (drop i ns))

@@ -1,11 +1,12 @@
 -- Laws of differences.
-use Rattle.std.specs.List.{All, AllPairs}
+use Rattle.std.specs.List.{All, Contains, AllPairs}
 use Rattle.std.specs.Prelude.{◌≡◌, ◌↔◌, ◌⊎◌, List, [], ◌∷◌, Option, Some, None, ⊤}
 use Rattle.json.specs.Json.{Json, array, object}
 use Rattle.json.specs.Strict.{HasUniqueKeys}
 use Rattle.json_normal.specs.Same.{AreSame}
 use Rattle.json_paths.specs.Paths.{Path, part_at}
 use Rattle.json_changes.specs.Differences.{Difference, differences}
+use Rattle.json_changes.specs.Rules.{Rules, differences_told, no_rules}
 
 -- there is no difference where two values are the same, and only there
 abbrev pub NoneWhereSame : Type 0
@@ -63,3 +64,15 @@ NoneIsMissed = (j k : Json) (p : Path) → ¬ PartsAreSame (part_at p j) (part_a
 -- no path of a difference goes on from that of another
 abbrev pub PathsPart : Type 0
 PathsPart = (j k : Json) → HasUniqueKeys j → HasUniqueKeys k → AllPairs (λ d e. ¬ IsAlong d.path e.path) (differences j k)
+
+-- with no rules each difference is told
+abbrev pub AllToldWithoutRules : Type 0
+AllToldWithoutRules = (j k : Json) → differences_told no_rules j k ≡ differences j k
+
+-- what is told under rules is told without them
+abbrev pub ToldAreDifferences : Type 0
+ToldAreDifferences = (rules : Rules) (j k : Json) → All (Contains (differences j k)) (differences_told rules j k)
+
+-- where two values are the same nothing is told
+abbrev pub NothingToldWhereSame : Type 0
+NothingToldWhereSame = (rules : Rules) (j k : Json) → HasUniqueKeys k → AreSame j k → differences_told rules j k ≡ []

@@ -2,4 +2,5 @@ pub mod Differences
 pub mod Errors
 pub mod Laws
 pub mod Names
+pub mod Rules
 pub mod Texts

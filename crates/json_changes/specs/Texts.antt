@@ -4,16 +4,22 @@
 -- quotes, with a dot before it in the front too: ."a.b"[0].c and items[2]."".
 use Rattle.std.specs.Char.{is_ascii_alphanumeric}
 use Rattle.std.specs.Fmt.{decimal}
-use Rattle.std.specs.List.{fold, list_all}
-use Rattle.std.specs.Prelude.{ℕ, ◌==◌, Bool, not, ◌&&◌, ◌||◌, if◌then◌else◌, List, [], ◌∷◌, ◌++◌, length, Option, option_map}
+use Rattle.std.specs.List.{filter, fold, list_all}
+use Rattle.std.specs.Prelude.{ℕ, ◌==◌, Bool, not, ◌&&◌, ◌||◌, if◌then◌else◌, List, [], ◌∷◌, ◌++◌, length, map, Option, option_map}
 use Rattle.json.specs.Json.{Json}
 use Rattle.json.specs.Print.{quoted, print}
 use Rattle.json.specs.Tree.{json_tokens}
+use Rattle.json_paths.specs.PatternViews.{patterns_view}
 use Rattle.json_paths.specs.Paths.{Step, name, place, Path}
+use Rattle.json_paths.specs.Views.{step_view}
+use Rattle.json_paths.specs.declared.path.Step as paths
 use Rattle.json_changes.specs.Differences.{Difference, only_left, only_right}
+use Rattle.json_changes.specs.Rules as specs
+use Rattle.json_changes.specs.Rules.{is_told}
 use Rattle.json_changes.specs.declared.parts.Change.{Change}
 use Rattle.json_changes.specs.declared.parts.Side.{Side}
 use Rattle.json_changes.specs.declared.parts.Side.TheVariants.{Left, Right}
+use Rattle.json_changes.specs.declared.rules.Rules.{Rules}
 
 -- a letter or a digit of ASCII, `_` or `-`
 abbrev pub is_plain_byte : ℕ → Bool
@@ -50,13 +56,17 @@ pub record Told : Type 0 where
   pub left : Option (List ℕ)
   pub right : Option (List ℕ)
 
--- the texts of a difference whose path goes on from another
-abbrev pub told_from : List ℕ → Difference → Told
-told_from text d = record { path = path_from text d.path; left = option_map part_text d.left; right = option_map part_text d.right }
-
 -- the texts of a difference
 abbrev pub told : Difference → Told
-told = told_from []
+told d = record { path = path_text d.path; left = option_map part_text d.left; right = option_map part_text d.right }
+
+-- a difference between two parts that lie at a path
+abbrev pub at_path : Path → Difference → Difference
+at_path path d = record { path = path ++ d.path; left = d.left; right = d.right }
+
+-- the texts of those differences that are told under rules, between parts that lie at a path
+abbrev pub told_at : specs.Rules → Path → List Difference → List Told
+told_at rules path ds = map told (filter (is_told rules) (map (at_path path) ds))
 
 -- the texts that a change holds
 abbrev pub change_view : Change → Told
@@ -66,3 +76,11 @@ change_view c = record { path = c.path.items; left = option_map (λ v. v.items) 
 abbrev pub only_in : Side → Json → Difference
 only_in Left = only_left
 only_in Right = only_right
+
+-- the rules that a value stands for
+abbrev pub rules_view : Rules → specs.Rules
+rules_view rules = record { ignored = patterns_view rules.ignored.items; only = patterns_view rules.only.items; missing_is_null = rules.missing_is_null }
+
+-- the path that steps stand for
+abbrev pub trail_view : List paths.Step → Path
+trail_view steps = map step_view steps

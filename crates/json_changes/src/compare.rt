@@ -7,21 +7,24 @@ ghost use Rattle.json.specs.Value.{value_view, items_view, members_view};
 ghost use Rattle.json_changes.specs.Differences.{added_member, added_members, alone_items, beside, differences};
 ghost use Rattle.json_changes.specs.Errors.{IsFaultOf};
 ghost use Rattle.json_changes.specs.Names.{seen};
-ghost use Rattle.json_changes.specs.Texts.{change_view, only_in, told_from};
+ghost use Rattle.json_changes.specs.Texts.{change_view, only_in, rules_view, told_at, trail_view};
 
 use crate::leaves::compare_leaves;
 use crate::members::{items_of, members_of};
 use crate::names::find_all;
 use crate::parts::{Change, Side, push_alone};
-use crate::paths::{push_name, push_place};
+use crate::rules::Rules;
+use crate::trail::{push_item_step, push_member_step};
 use json::Value;
 use json_decimals::error::NumberError;
+use json_paths::path::Step;
 use std::alloc::{AllocError, Global};
 
-/// Appends the items that one side alone has, which are those from a place on.
+/// Appends the changes of the items that one side alone has, which are those from a place on.
 fn push_items(
     alloc: Global,
-    path: &mut Vec<u8>,
+    rules: &Rules,
+    trail: &mut Vec<Step>,
     changes: &mut Vec<Change>,
     side: Side,
     items: &Vec<Value<'_>>,
@@ -29,15 +32,16 @@ fn push_items(
 ) -> Result<(), AllocError>
     requires { HasNumbers (array (items_view items.now.items)) }
     ensures told { OnOk result (map change_view changes.new.items
-        ≡ map change_view changes.old.items ++ map (told_from path.old.items)
+        ≡ map change_view changes.old.items
+        ++ told_at (rules_view rules.now) (trail_view trail.old.items)
         (alone_items (only_in side) from (items_view (drop from items.now.items)))) }
-    ensures path { OnOk result (path.new.items ≡ path.old.items) }
+    ensures trail { OnOk result (trail.new.items ≡ trail.old.items) }
 {
     for i in from..items.len() {
-        let end = path.len();
-        push_place(path, i)?;
-        push_alone(alloc, path, changes, side, &items[i])?;
-        path.truncate(end);
+        let end = trail.len();
+        push_item_step(trail, i)?;
+        push_alone(alloc, rules, trail, changes, side, &items[i])?;
+        trail.truncate(end);
     }
     Ok(())
 }
@@ -45,45 +49,49 @@ fn push_items(
 /// Appends a member of the right side, where none was found for it on the left side.
 fn push_added_member(
     alloc: Global,
-    path: &mut Vec<u8>,
+    rules: &Rules,
+    trail: &mut Vec<Step>,
     changes: &mut Vec<Change>,
     found: Option<&Value<'_>>,
     added: &(&str, Value<'_>),
 ) -> Result<(), AllocError>
     requires { HasNumbers (value_view added.now.1) }
     ensures told { OnOk result (map change_view changes.new.items
-        ≡ map change_view changes.old.items ++ map (told_from path.old.items)
+        ≡ map change_view changes.old.items
+        ++ told_at (rules_view rules.now) (trail_view trail.old.items)
         (added_member added.now.0.now (value_view added.now.1)
         (seen found.entry))) }
-    ensures path { OnOk result (path.new.items ≡ path.old.items) }
+    ensures trail { OnOk result (trail.new.items ≡ trail.old.items) }
 {
     if found.is_some() {
         return Ok(());
     }
-    let end = path.len();
-    push_name(alloc, path, added.0)?;
-    push_alone(alloc, path, changes, Side::Right, &added.1)?;
-    path.truncate(end);
+    let end = trail.len();
+    push_member_step(alloc, trail, added.0)?;
+    push_alone(alloc, rules, trail, changes, Side::Right, &added.1)?;
+    trail.truncate(end);
     Ok(())
 }
 
 /// Appends the members of the right side whose names the left side has not.
 fn push_added_members<'a, 'b>(
     alloc: Global,
-    path: &mut Vec<u8>,
+    rules: &Rules,
+    trail: &mut Vec<Step>,
     changes: &mut Vec<Change>,
     own: &Vec<(&'a str, Value<'a>)>,
     other: &Vec<(&'b str, Value<'b>)>,
 ) -> Result<(), AllocError>
     requires { HasNumbers (object (members_view other.now.items)) }
     ensures told { OnOk result (map change_view changes.new.items
-        ≡ map change_view changes.old.items ++ map (told_from path.old.items)
+        ≡ map change_view changes.old.items
+        ++ told_at (rules_view rules.now) (trail_view trail.old.items)
         (added_members (members_view own.now.items) (members_view other.now.items))) }
-    ensures path { OnOk result (path.new.items ≡ path.old.items) }
+    ensures trail { OnOk result (trail.new.items ≡ trail.old.items) }
 {
     let found = find_all(alloc, other, own)?;
     for i in 0..other.len() {
-        push_added_member(alloc, path, changes, found[i], &other[i])?;
+        push_added_member(alloc, rules, trail, changes, found[i], &other[i])?;
     }
     Ok(())
 }
@@ -94,7 +102,8 @@ fn push_added_members<'a, 'b>(
 #[cycle(compare)]
 pub(crate) fn compare<'a, 'b>(
     alloc: Global,
-    path: &mut Vec<u8>,
+    rules: &Rules,
+    trail: &mut Vec<Step>,
     changes: &mut Vec<Change>,
     left: &Value<'a>,
     right: &Value<'b>,
@@ -102,25 +111,27 @@ pub(crate) fn compare<'a, 'b>(
     requires left_numbers { HasNumbers (value_view left.now) }
     requires right_numbers { HasNumbers (value_view right.now) }
     ensures told { OnOk result (map change_view changes.new.items
-        ≡ map change_view changes.old.items ++ map (told_from path.old.items)
+        ≡ map change_view changes.old.items
+        ++ told_at (rules_view rules.now) (trail_view trail.old.items)
         (differences (value_view left.now) (value_view right.now))) }
-    ensures path { OnOk result (path.new.items ≡ path.old.items) }
+    ensures trail { OnOk result (trail.new.items ≡ trail.old.items) }
     ensures fault { IfErr result (λ e. IsFaultOf (value_view left.now) (value_view right.now) e) }
 {
     if let (Some(own), Some(other)) = (items_of(left), items_of(right)) {
-        return compare_items(alloc, path, changes, own, other);
+        return compare_items(alloc, rules, trail, changes, own, other);
     }
     if let (Some(own), Some(other)) = (members_of(left), members_of(right)) {
-        return compare_members(alloc, path, changes, own, other);
+        return compare_members(alloc, rules, trail, changes, own, other);
     }
-    compare_leaves(alloc, path, changes, left, right)
+    compare_leaves(alloc, rules, trail, changes, left, right)
 }
 
 /// Appends the changes between the items of two arrays.
 #[cycle(compare)]
 fn compare_items<'a, 'b>(
     alloc: Global,
-    path: &mut Vec<u8>,
+    rules: &Rules,
+    trail: &mut Vec<Step>,
     changes: &mut Vec<Change>,
     own: &Vec<Value<'a>>,
     other: &Vec<Value<'b>>,
@@ -128,21 +139,22 @@ fn compare_items<'a, 'b>(
     requires left_numbers { HasNumbers (array (items_view own.now.items)) }
     requires right_numbers { HasNumbers (array (items_view other.now.items)) }
     ensures told { OnOk result (map change_view changes.new.items
-        ≡ map change_view changes.old.items ++ map (told_from path.old.items)
+        ≡ map change_view changes.old.items
+        ++ told_at (rules_view rules.now) (trail_view trail.old.items)
         (differences (array (items_view own.now.items)) (array (items_view other.now.items)))) }
-    ensures path { OnOk result (path.new.items ≡ path.old.items) }
+    ensures trail { OnOk result (trail.new.items ≡ trail.old.items) }
     ensures fault { IfErr result (λ e. IsFaultOf (array (items_view own.now.items))
         (array (items_view other.now.items)) e) }
 {
     let shared = own.len().min(other.len());
     for i in 0..shared {
-        let end = path.len();
-        push_place(path, i)?;
-        compare(alloc, path, changes, &own[i], &other[i])?;
-        path.truncate(end);
+        let end = trail.len();
+        push_item_step(trail, i)?;
+        compare(alloc, rules, trail, changes, &own[i], &other[i])?;
+        trail.truncate(end);
     }
-    push_items(alloc, path, changes, Side::Left, own, shared)?;
-    push_items(alloc, path, changes, Side::Right, other, shared)?;
+    push_items(alloc, rules, trail, changes, Side::Left, own, shared)?;
+    push_items(alloc, rules, trail, changes, Side::Right, other, shared)?;
     Ok(())
 }
 
@@ -150,7 +162,8 @@ fn compare_items<'a, 'b>(
 #[cycle(compare)]
 fn compare_found<'a, 'b>(
     alloc: Global,
-    path: &mut Vec<u8>,
+    rules: &Rules,
+    trail: &mut Vec<Step>,
     changes: &mut Vec<Change>,
     left: &Value<'a>,
     found: Option<&Value<'b>>,
@@ -158,17 +171,18 @@ fn compare_found<'a, 'b>(
     requires left_numbers { HasNumbers (value_view left.now) }
     requires right_numbers { IfSome found (λ v. HasNumbers (value_view v.now)) }
     ensures told { OnOk result (map change_view changes.new.items
-        ≡ map change_view changes.old.items ++ map (told_from path.old.items)
+        ≡ map change_view changes.old.items
+        ++ told_at (rules_view rules.now) (trail_view trail.old.items)
         (beside (value_view left.now) (λ k. differences (value_view left.now) k)
         (seen found.entry))) }
-    ensures path { OnOk result (path.new.items ≡ path.old.items) }
+    ensures trail { OnOk result (trail.new.items ≡ trail.old.items) }
     ensures fault { IfErr result (λ e. MatchOption found.entry (e ≡ NumberError.Memory)
         (λ v. IsFaultOf (value_view left.now) (value_view v.now) e)) }
 {
     match found {
-        Some(right) => compare(alloc, path, changes, left, right),
+        Some(right) => compare(alloc, rules, trail, changes, left, right),
         None => {
-            push_alone(alloc, path, changes, Side::Left, left)?;
+            push_alone(alloc, rules, trail, changes, Side::Left, left)?;
             Ok(())
         }
     }
@@ -178,7 +192,8 @@ fn compare_found<'a, 'b>(
 #[cycle(compare)]
 fn compare_members<'a, 'b>(
     alloc: Global,
-    path: &mut Vec<u8>,
+    rules: &Rules,
+    trail: &mut Vec<Step>,
     changes: &mut Vec<Change>,
     own: &Vec<(&'a str, Value<'a>)>,
     other: &Vec<(&'b str, Value<'b>)>,
@@ -186,21 +201,22 @@ fn compare_members<'a, 'b>(
     requires left_numbers { HasNumbers (object (members_view own.now.items)) }
     requires right_numbers { HasNumbers (object (members_view other.now.items)) }
     ensures told { OnOk result (map change_view changes.new.items
-        ≡ map change_view changes.old.items ++ map (told_from path.old.items)
+        ≡ map change_view changes.old.items
+        ++ told_at (rules_view rules.now) (trail_view trail.old.items)
         (differences (object (members_view own.now.items))
         (object (members_view other.now.items)))) }
-    ensures path { OnOk result (path.new.items ≡ path.old.items) }
+    ensures trail { OnOk result (trail.new.items ≡ trail.old.items) }
     ensures fault { IfErr result (λ e. IsFaultOf (object (members_view own.now.items))
         (object (members_view other.now.items)) e) }
 {
     let found = find_all(alloc, own, other)?;
     for i in 0..own.len() {
         let member = &own[i];
-        let end = path.len();
-        push_name(alloc, path, member.0)?;
-        compare_found(alloc, path, changes, &member.1, found[i])?;
-        path.truncate(end);
+        let end = trail.len();
+        push_member_step(alloc, trail, member.0)?;
+        compare_found(alloc, rules, trail, changes, &member.1, found[i])?;
+        trail.truncate(end);
     }
-    push_added_members(alloc, path, changes, own, other)?;
+    push_added_members(alloc, rules, trail, changes, own, other)?;
     Ok(())
 }

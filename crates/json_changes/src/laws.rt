@@ -1,6 +1,6 @@
 //! Laws of differences.
 
-ghost use Rattle.json_changes.specs.Laws.{EachIsReal, EachIsSmallest, NoneIsMissed, NoneWhereSame, PathsLead, PathsPart};
+ghost use Rattle.json_changes.specs.Laws.{AllToldWithoutRules, EachIsReal, EachIsSmallest, NoneIsMissed, NoneWhereSame, NothingToldWhereSame, PathsLead, PathsPart, ToldAreDifferences};
 
 /// Says that only values that differ have differences, where the path of a difference leads, that
 /// its parts differ and are the smallest, that none is missed, and that none is told twice.
@@ -11,4 +11,12 @@ pub fn change_laws()
     ensures each_is_smallest { EachIsSmallest }
     ensures none_is_missed { NoneIsMissed }
     ensures paths_part { PathsPart }
+{}
+
+/// Says that each difference is told with no rules, that rules add none, and that nothing is told
+/// where two values are the same.
+pub fn rule_laws()
+    ensures all_told { AllToldWithoutRules }
+    ensures told_are_differences { ToldAreDifferences }
+    ensures nothing_where_same { NothingToldWhereSame }
 {}

@@ -8,12 +8,14 @@ ghost use Rattle.json.specs.Value.{value_view};
 ghost use Rattle.json_decimals.specs.Texts.{normal_number};
 ghost use Rattle.json_changes.specs.Differences.{leaf_differences, is_same_leaf};
 ghost use Rattle.json_changes.specs.Errors.{IsFaultOf};
-ghost use Rattle.json_changes.specs.Texts.{change_view, told_from};
+ghost use Rattle.json_changes.specs.Texts.{change_view, rules_view, told_at, trail_view};
 
 use crate::parts::{Change, push_change};
+use crate::rules::Rules;
 use json::Value;
 use json_decimals::error::NumberError;
 use json_decimals::numbers::push_normal_number;
+use json_paths::path::Step;
 use std::alloc::Global;
 
 /// Returns whether two texts write the same number.
@@ -47,10 +49,11 @@ fn are_same(alloc: Global, left: &Value<'_>, right: &Value<'_>) -> Result<bool, 
     }
 }
 
-/// Appends the change of two values, where they are not the same.
+/// Appends the change of two values, where they are not the same and it is told.
 pub(crate) fn compare_leaves(
     alloc: Global,
-    path: &Vec<u8>,
+    rules: &Rules,
+    trail: &Vec<Step>,
     changes: &mut Vec<Change>,
     left: &Value<'_>,
     right: &Value<'_>,
@@ -58,13 +61,14 @@ pub(crate) fn compare_leaves(
     requires left_numbers { HasNumbers (value_view left.now) }
     requires right_numbers { HasNumbers (value_view right.now) }
     ensures told { OnOk result (map change_view changes.new.items
-        ≡ map change_view changes.old.items ++ map (told_from path.now.items)
+        ≡ map change_view changes.old.items
+        ++ told_at (rules_view rules.now) (trail_view trail.now.items)
         (leaf_differences (value_view left.now) (value_view right.now))) }
     ensures fault { IfErr result (λ e. IsFaultOf (value_view left.now) (value_view right.now) e) }
 {
     if are_same(alloc, left, right)? {
         return Ok(());
     }
-    push_change(alloc, path, changes, Some(left), Some(right))?;
+    push_change(alloc, rules, trail, changes, Some(left), Some(right))?;
     Ok(())
 }

@@ -9,3 +9,5 @@ mod members;
 mod names;
 mod parts;
 mod paths;
+pub mod rules;
+mod trail;

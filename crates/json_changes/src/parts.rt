@@ -5,9 +5,12 @@ ghost use Rattle.std.specs.Prelude.{◌≡◌, ◌++◌, ◌∷◌, [], IfOk, If
 ghost use Rattle.json.specs.Tree.{HasNumbers};
 ghost use Rattle.json.specs.Value.{value_view};
 ghost use Rattle.json_changes.specs.Differences.{apart};
-ghost use Rattle.json_changes.specs.Texts.{change_view, only_in, part_text, told_from};
+ghost use Rattle.json_changes.specs.Texts.{change_view, only_in, part_text, rules_view, told_at, trail_view};
 
+use crate::paths::text_of_path;
+use crate::rules::Rules;
 use json::{Value, to_vec};
+use json_paths::path::Step;
 use std::alloc::{AllocError, Global};
 
 /// A difference between two values, in texts.
@@ -40,10 +43,11 @@ fn text_of(alloc: Global, part: Option<&Value<'_>>) -> Result<Option<Vec<u8>>, A
     }
 }
 
-/// Appends the change of two parts at a path.
+/// Appends the change of two parts at a path, where it is told.
 pub(crate) fn push_change(
     alloc: Global,
-    path: &Vec<u8>,
+    rules: &Rules,
+    trail: &Vec<Step>,
     changes: &mut Vec<Change>,
     left: Option<&Value<'_>>,
     right: Option<&Value<'_>>,
@@ -51,21 +55,26 @@ pub(crate) fn push_change(
     requires left_numbers { IfSome left (λ v. HasNumbers (value_view v.now)) }
     requires right_numbers { IfSome right (λ v. HasNumbers (value_view v.now)) }
     ensures { OnOk result (map change_view changes.new.items
-        ≡ map change_view changes.old.items ++ told_from path.now.items (apart
+        ≡ map change_view changes.old.items
+        ++ told_at (rules_view rules.now) (trail_view trail.now.items) (apart
         (option_map (λ v. value_view v.now) left.entry)
-        (option_map (λ v. value_view v.now) right.entry)) ∷ []) }
+        (option_map (λ v. value_view v.now) right.entry) ∷ [])) }
 {
+    if !rules.tell(trail, left, right) {
+        return Ok(());
+    }
     let left = text_of(alloc, left)?;
     let right = text_of(alloc, right)?;
-    let path = Vec::from_slice(alloc, path.as_slice())?;
+    let path = text_of_path(alloc, trail)?;
     changes.push(Change { path, left, right })?;
     Ok(())
 }
 
-/// Appends the change of a part that one side alone has.
+/// Appends the change of a part that one side alone has, where it is told.
 pub(crate) fn push_alone(
     alloc: Global,
-    path: &Vec<u8>,
+    rules: &Rules,
+    trail: &Vec<Step>,
     changes: &mut Vec<Change>,
     side: Side,
     part: &Value<'_>,
@@ -73,10 +82,11 @@ pub(crate) fn push_alone(
     requires { HasNumbers (value_view part.now) }
     ensures { OnOk result (map change_view changes.new.items
         ≡ map change_view changes.old.items
-        ++ told_from path.now.items (only_in side (value_view part.now)) ∷ []) }
+        ++ told_at (rules_view rules.now) (trail_view trail.now.items)
+        (only_in side (value_view part.now) ∷ [])) }
 {
     match side {
-        Side::Left => push_change(alloc, path, changes, Some(part), None),
-        Side::Right => push_change(alloc, path, changes, None, Some(part)),
+        Side::Left => push_change(alloc, rules, trail, changes, Some(part), None),
+        Side::Right => push_change(alloc, rules, trail, changes, None, Some(part)),
     }
 }

@@ -1,13 +1,15 @@
 //! The texts of paths.
 
 ghost use Rattle.std.specs.List.{list_all};
-ghost use Rattle.std.specs.Prelude.{◌≡◌, ◌++◌, OnOk};
+ghost use Rattle.std.specs.Prelude.{◌≡◌, ◌++◌, IfOk, OnOk};
 ghost use Rattle.json.specs.Print.{quoted};
 ghost use Rattle.json_paths.specs.Paths.{name, place};
-ghost use Rattle.json_changes.specs.Texts.{is_plain, is_plain_byte, with_step};
+ghost use Rattle.json_paths.specs.Views.{step_view};
+ghost use Rattle.json_changes.specs.Texts.{is_plain, is_plain_byte, path_text, trail_view, with_step};
 
 use itoa::Buffer;
 use json::{Value, to_vec};
+use json_paths::path::Step;
 use std::alloc::{AllocError, Global};
 
 /// Returns whether each byte needs no quotes.
@@ -37,7 +39,7 @@ fn push_quoted(alloc: Global, path: &mut Vec<u8>, name: &str) -> Result<(), Allo
 }
 
 /// Appends the step to the member of a name.
-pub(crate) fn push_name(alloc: Global, path: &mut Vec<u8>, key: &str) -> Result<(), AllocError>
+fn push_name(alloc: Global, path: &mut Vec<u8>, key: &str) -> Result<(), AllocError>
     ensures { OnOk result (path.new.items ≡ with_step path.old.items (name key.now)) }
 {
     if !is_plain(key) {
@@ -52,7 +54,7 @@ pub(crate) fn push_name(alloc: Global, path: &mut Vec<u8>, key: &str) -> Result<
 }
 
 /// Appends the step to the item at a place.
-pub(crate) fn push_place(path: &mut Vec<u8>, i: usize) -> Result<(), AllocError>
+fn push_place(path: &mut Vec<u8>, i: usize) -> Result<(), AllocError>
     ensures { OnOk result (path.new.items ≡ with_step path.old.items (place i)) }
 {
     let mut buffer = Buffer::new();
@@ -60,4 +62,25 @@ pub(crate) fn push_place(path: &mut Vec<u8>, i: usize) -> Result<(), AllocError>
     path.extend_from_slice(buffer.format(i).as_bytes())?;
     path.push(b']')?;
     Ok(())
+}
+
+/// Appends a step.
+fn push_step(alloc: Global, path: &mut Vec<u8>, step: &Step) -> Result<(), AllocError>
+    ensures { OnOk result (path.new.items ≡ with_step path.old.items (step_view step.now)) }
+{
+    match step {
+        Step::Name(name) => push_name(alloc, path, name.as_str()),
+        Step::Place(place) => push_place(path, *place),
+    }
+}
+
+/// Returns the text of a path.
+pub(crate) fn text_of_path(alloc: Global, trail: &[Step]) -> Result<Vec<u8>, AllocError>
+    ensures { IfOk result (λ text. text.items ≡ path_text (trail_view trail.now)) }
+{
+    let mut path = Vec::new(alloc);
+    for i in 0..trail.len() {
+        push_step(alloc, &mut path, &trail[i])?;
+    }
+    Ok(path)
 }

@@ -4,3 +4,4 @@
 pub mod error;
 pub mod parse;
 pub mod path;
+pub mod pattern;

@@ -4,12 +4,16 @@
 //! within brackets. The dot before the first name may be left out where this has no quotes. In
 //! `a.b[0]` are the names `a` and `b` and the place 0, and in `."a.b"` is one name. Within quotes
 //! are the escapes of JSON, and without them stand neither dots, brackets nor quotes.
+//!
+//! A pattern is written as a path is, and in it `[]` is the step to any item: `items[].price`.
 
 ghost use Rattle.std.specs.Prelude.{◌+◌, ◌≢◌, ◌<◌, ◌≤◌, [], length, IfOk, IfSome};
+ghost use Rattle.json_paths.specs.PatternViews.{pattern_view};
 ghost use Rattle.json_paths.specs.Views.{path_view};
 
 use crate::error::PathError;
 use crate::path::{Path, Step};
+use crate::pattern::{Pattern, PatternStep};
 use json::{Error, Scratch, Value};
 use std::alloc::Global;
 use std::str::from_utf8;
@@ -18,6 +22,13 @@ use std::str::from_utf8;
 #[derive(Drop)]
 struct Found {
     step: Step,
+    end: usize,
+}
+
+/// A step of a pattern, and the place behind its text.
+#[derive(Drop)]
+struct FoundPattern {
+    step: PatternStep,
     end: usize,
 }
 
@@ -168,4 +179,42 @@ pub fn parse_path(alloc: Global, text: &str) -> Result<Path, PathError>
         steps.push(found.step)?;
     }
     Ok(Path { steps })
+}
+
+/// Reads the step of a pattern that begins at a place.
+fn pattern_step_at(alloc: Global, bytes: &[u8], start: usize) -> Result<FoundPattern, PathError>
+    requires { start < length bytes.now }
+    ensures { IfOk result (λ found. (start < found.end) × (found.end ≤ length bytes.now)) }
+{
+    if bytes[start] == b'[' && bytes.get(start + 1) == Some(&b']') {
+        return Ok(FoundPattern {
+            step: PatternStep::AnyItem,
+            end: start + 2,
+        });
+    }
+    let found = step_at(alloc, bytes, start)?;
+    Ok(FoundPattern {
+        step: PatternStep::Exactly(found.step),
+        end: found.end,
+    })
+}
+
+/// Returns the pattern that a text writes. It has a step at least.
+pub fn parse_pattern(alloc: Global, text: &str) -> Result<Pattern, PathError>
+    ensures { IfOk result (λ pattern. pattern_view pattern ≢ []) }
+{
+    let bytes = text.as_bytes();
+    if bytes.is_empty() {
+        return Err(PathError::Invalid);
+    }
+    let first = pattern_step_at(alloc, bytes, 0)?;
+    let mut end = first.end;
+    let mut steps = Vec::new(alloc);
+    steps.push(first.step)?;
+    while end < bytes.len() {
+        let found = pattern_step_at(alloc, bytes, end)?;
+        end = found.end;
+        steps.push(found.step)?;
+    }
+    Ok(Pattern { steps })
 }

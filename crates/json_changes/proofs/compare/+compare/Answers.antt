@@ -1,4 +1,4 @@
-use Rattle.std.proofs.Common.{◌≡◌, ◌+◌, ◌<◌, ◌++◌, ℕ, List, suc, drop, length, map, take, IfSome, ap, sym, ◌∙◌, subst, arith, rules, Global}
+use Rattle.std.proofs.Common.{◌≡◌, ◌+◌, ◌<◌, ◌++◌, ℕ, List, [], ◌∷◌, suc, drop, length, map, IfSome, ap, sym, ◌∙◌, subst, arith, rules, Global}
 use Rattle.json.proofs.Trees.{item_smaller}
 use Rattle.json.specs.Find.{get_member}
 use Rattle.json.specs.Json.{Json, array, object}
@@ -7,14 +7,15 @@ use Rattle.json.specs.Value.{value_view, items_view, members_view}
 use Rattle.json.specs.declared.value.Value.{Value}
 use Rattle.json_normal.specs.Narrow.{HasNarrowNumbers}
 use Rattle.json_paths.specs.Paths.{name, place}
+use Rattle.json_paths.specs.declared.path.Step as declared
 use Rattle.json_changes.specs.Differences.{Difference, alone_items, beside, differences, inside, item_differences, member_differences, only_left, only_right}
 use Rattle.json_changes.specs.Errors.{IsFaultOf}
 use Rattle.json_changes.specs.Names.{seen}
-use Rattle.json_changes.specs.Texts.{change_view, told_from, with_step}
+use Rattle.json_changes.specs.Texts.{change_view, rules_view, told_at, trail_view}
 use Rattle.json_changes.proofs.FoundLemmas.{fault_found, fault_within, if_seen, numbers_found}
 use Rattle.json_changes.proofs.PartLemmas.{Pair, items_end, items_step, member_narrow_at, member_numbers_at, members_step, narrow_at, numbers_at, two_smaller}
 use Rattle.json_changes.proofs.TableLemmas.{found_at}
-use Rattle.json_changes.proofs.TextLemmas.{cut, stepped, twice}
+use Rattle.json_changes.proofs.TextLemmas.{cut, stepped, told_deep, twice}
 use Rattle.json_changes.proofs.compare.+compare.Goals as goal
 
 pub compare_items-compare-requires : goal.compare_items-compare-requires
@@ -50,39 +51,39 @@ compare_items-loop-i-preserved t c =
     let i = c.loop-i.i in
     let x = c.index.result.now in
     let y = c.index-in-loop-i.result.now in
-    let text : List ℕ = c.args.path.now.items in
-    let here : c.push_place.new.path.items ≡ with_step text (place i) = c.in_ok-push_place.ensures ∙ ap (λ p. with_step p (place i)) c.loop-i.invariant.1 in
-    let told : map change_view c.compare.new.changes.items ≡ map change_view c.loop-i.changes.items ++ map (told_from (with_step text (place i))) (differences (value_view x) (value_view y)) =
-    c.in_ok-compare.ensures.told ∙ ap (λ p. map change_view c.loop-i.changes.items ++ map (told_from p) (differences (value_view x) (value_view y))) here in
+    let rules = rules_view c.args.rules.now in
+    let trail : List declared.Step = c.args.trail.now.items in
+    let told : map change_view c.compare.new.changes.items ≡ map change_view c.loop-i.changes.items ++ told_at rules (trail_view trail ++ place i ∷ []) (differences (value_view x) (value_view y)) =
+    told_deep rules trail c.loop-i.trail.items c.push_item_step.new.trail.items (place i) (map change_view c.loop-i.changes.items) (map change_view c.compare.new.changes.items) (differences (value_view x) (value_view y)) c.loop-i.invariant.1
+    c.in_ok-push_item_step.ensures.path c.in_ok-compare.ensures.told in
     let more : item_differences i (items_view (drop i xs)) (items_view (drop i ys))
     ≡ map (inside (place i)) (differences (value_view x) (value_view y)) ++ item_differences (i + 1) (items_view (drop (i + 1) xs)) (items_view (drop (i + 1) ys)) =
     items_step xs ys i x y (omega arith) (omega arith)
     ∙ (λ s. map (inside (place i)) (differences (value_view (sym c.index.ensures s)) (value_view (sym c.index-in-loop-i.ensures s))) ++ item_differences (i + 1) (items_view (drop (i + 1) xs)) (items_view (drop (i + 1) ys))) in
-    let long : length c.loop-i.path.items ≡ length text = ap length c.loop-i.invariant.1 in
-    let end : c.len-end.result ≡ length text = omega arith in
-    let longer : c.compare.new.path.items ≡ with_step text (place i) = c.in_ok-compare.ensures.path ∙ here in (
-      stepped text (place i) (map change_view c.loop-i.changes.items) (map change_view c.compare.new.changes.items) (differences (value_view x) (value_view y))
+    let end : c.len-end.result ≡ length c.loop-i.trail.items = omega arith in (
+      stepped rules (trail_view trail) (place i) (map change_view c.loop-i.changes.items) (map change_view c.compare.new.changes.items) (differences (value_view x) (value_view y))
           (item_differences (i + 1) (items_view (drop (i + 1) xs)) (items_view (drop (i + 1) ys))) (item_differences i (items_view (drop i xs)) (items_view (drop i ys))) told more ∙ c.loop-i.invariant.0,
-      c.truncate.ensures.items ∙ (λ s. take (end s) (longer s)) ∙ cut text (place i),
+      cut trail c.loop-i.trail.items c.push_item_step.new.trail.items c.compare.new.trail.items c.truncate.new.self.items c.len-end.result c.loop-i.invariant.1 end c.in_ok-push_item_step.ensures.front c.in_ok-compare.ensures.trail c.truncate.ensures.items,
     )
 
 pub compare_items-returns-clause-told : goal.compare_items-returns-clause-told
 compare_items-returns-clause-told t c =
     let xs = c.args.own.now.items in
     let ys = c.args.other.now.items in
-    let text : List ℕ = c.args.path.now.items in
+    let rules = rules_view c.args.rules.now in
+    let trail : List declared.Step = c.args.trail.now.items in
     let shared : ℕ = c.min-shared.result in
     let lefts = alone_items only_left shared (items_view (drop shared xs)) in
     let rights = alone_items only_right shared (items_view (drop shared ys)) in
     let at : c.loop-i.i ≡ shared = omega arith in
-    let first : map change_view c.push_items.new.changes.items ≡ map change_view c.loop-i.changes.items ++ map (told_from text) lefts =
-    c.in_ok-push_items.ensures.told ∙ ap (λ p. map change_view c.loop-i.changes.items ++ map (told_from p) lefts) c.loop-i.invariant.1 in
-    let second : map change_view c.push_items-2.new.changes.items ≡ map change_view c.push_items.new.changes.items ++ map (told_from text) rights =
-    c.in_ok-push_items-2.ensures.told ∙ ap (λ p. map change_view c.push_items.new.changes.items ++ map (told_from p) rights) (c.in_ok-push_items.ensures.path ∙ c.loop-i.invariant.1) in
+    let first : map change_view c.push_items.new.changes.items ≡ map change_view c.loop-i.changes.items ++ told_at rules (trail_view trail) lefts =
+    c.in_ok-push_items.ensures.told ∙ ap (λ p. map change_view c.loop-i.changes.items ++ told_at rules (trail_view p) lefts) c.loop-i.invariant.1 in
+    let second : map change_view c.push_items-2.new.changes.items ≡ map change_view c.push_items.new.changes.items ++ told_at rules (trail_view trail) rights =
+    c.in_ok-push_items-2.ensures.told ∙ ap (λ p. map change_view c.push_items.new.changes.items ++ told_at rules (trail_view p) rights) (c.in_ok-push_items.ensures.trail ∙ c.loop-i.invariant.1) in
     let both : item_differences shared (items_view (drop shared xs)) (items_view (drop shared ys)) ≡ lefts ++ rights = items_end xs ys shared (omega arith) in
-    twice text (map change_view c.loop-i.changes.items) (map change_view c.push_items.new.changes.items) (map change_view c.push_items-2.new.changes.items) lefts rights
+    twice rules (trail_view trail) (map change_view c.loop-i.changes.items) (map change_view c.push_items.new.changes.items) (map change_view c.push_items-2.new.changes.items) lefts rights
     (item_differences shared (items_view (drop shared xs)) (items_view (drop shared ys))) first second both
-    ∙ ap (λ n. map change_view c.loop-i.changes.items ++ map (told_from text) (item_differences n (items_view (drop n xs)) (items_view (drop n ys)))) (sym at) ∙ c.loop-i.invariant.0
+    ∙ ap (λ n. map change_view c.loop-i.changes.items ++ told_at rules (trail_view trail) (item_differences n (items_view (drop n xs)) (items_view (drop n ys)))) (sym at) ∙ c.loop-i.invariant.0
 
 pub compare_members-compare_found-requires : goal.compare_members-compare_found-requires
 compare_members-compare_found-requires t c =
@@ -121,19 +122,18 @@ compare_members-loop-i-preserved t c =
     let m = c.index-member.result.now in
     let found : seen c.index.result.now ≡ get_member m.0.now ns =
     ap seen c.index.ensures ∙ found_at ms c.in_ok-found.found.items ns i c.index.result.now m c.in_ok-found.ensures (omega arith) ∙ ap (λ (n : Pair Global). get_member n.0.now ns) (sym c.index-member.ensures) in
-    let text : List ℕ = c.args.path.now.items in
+    let rules = rules_view c.args.rules.now in
+    let trail : List declared.Step = c.args.trail.now.items in
     let key : List ℕ = m.0.now in
     let between : Json → List Difference = λ k. differences (value_view m.1) k in
-    let here : c.push_name.new.path.items ≡ with_step text (name key) = c.in_ok-push_name.ensures ∙ ap (λ p. with_step p (name key)) c.loop-i.invariant.1 in
-    let told : map change_view c.compare_found.new.changes.items ≡ map change_view c.loop-i.changes.items ++ map (told_from (with_step text (name key))) (beside (value_view m.1) between (get_member key ns)) =
-    c.in_ok-compare_found.ensures.told ∙ (λ s. map change_view c.loop-i.changes.items ++ map (told_from (here s)) (beside (value_view m.1) between (found s))) in
+    let told : map change_view c.compare_found.new.changes.items ≡ map change_view c.loop-i.changes.items ++ told_at rules (trail_view trail ++ name key ∷ []) (beside (value_view m.1) between (get_member key ns)) =
+    told_deep rules trail c.loop-i.trail.items c.push_member_step.new.trail.items (name key) (map change_view c.loop-i.changes.items) (map change_view c.compare_found.new.changes.items) (beside (value_view m.1) between (get_member key ns)) c.loop-i.invariant.1
+    c.in_ok-push_member_step.ensures.path (c.in_ok-compare_found.ensures.told ∙ ap (λ o. map change_view c.loop-i.changes.items ++ told_at rules (trail_view c.push_member_step.new.trail.items) (beside (value_view m.1) between o)) found) in
     let more : member_differences (members_view (drop i ms)) ns ≡ map (inside (name key)) (beside (value_view m.1) between (get_member key ns)) ++ member_differences (members_view (drop (i + 1) ms)) ns =
     members_step ms ns i m (omega arith)
     ∙ ap (λ (n : Pair Global). map (inside (name n.0.now)) (beside (value_view n.1) (λ k. differences (value_view n.1) k) (get_member n.0.now ns)) ++ member_differences (members_view (drop (i + 1) ms)) ns) (sym c.index-member.ensures) in
-    let long : length c.loop-i.path.items ≡ length text = ap length c.loop-i.invariant.1 in
-    let end : c.len-end.result ≡ length text = omega arith in
-    let longer : c.compare_found.new.path.items ≡ with_step text (name key) = c.in_ok-compare_found.ensures.path ∙ here in (
-      stepped text (name key) (map change_view c.loop-i.changes.items) (map change_view c.compare_found.new.changes.items) (beside (value_view m.1) between (get_member key ns))
+    let end : c.len-end.result ≡ length c.loop-i.trail.items = omega arith in (
+      stepped rules (trail_view trail) (name key) (map change_view c.loop-i.changes.items) (map change_view c.compare_found.new.changes.items) (beside (value_view m.1) between (get_member key ns))
           (member_differences (members_view (drop (i + 1) ms)) ns) (member_differences (members_view (drop i ms)) ns) told more ∙ c.loop-i.invariant.0,
-      c.truncate.ensures.items ∙ (λ s. take (end s) (longer s)) ∙ cut text (name key),
+      cut trail c.loop-i.trail.items c.push_member_step.new.trail.items c.compare_found.new.trail.items c.truncate.new.self.items c.len-end.result c.loop-i.invariant.1 end c.in_ok-push_member_step.ensures.front c.in_ok-compare_found.ensures.trail c.truncate.ensures.items,
     )

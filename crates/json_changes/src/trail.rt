@@ -1,0 +1,33 @@
+//! The steps to the parts that are compared.
+
+ghost use Rattle.std.specs.Prelude.{◌≡◌, ◌++◌, ◌∷◌, [], OnOk, length, take};
+ghost use Rattle.json_paths.specs.Paths.{name, place};
+ghost use Rattle.json_changes.specs.Texts.{trail_view};
+
+use json_paths::path::Step;
+use std::alloc::{AllocError, Global};
+
+/// Appends the step to the member of a name.
+pub(crate) fn push_member_step(
+    alloc: Global,
+    trail: &mut Vec<Step>,
+    key: &str,
+) -> Result<(), AllocError>
+    ensures path { OnOk result
+        (trail_view trail.new.items ≡ trail_view trail.old.items ++ name key.now ∷ []) }
+    ensures front { OnOk result (take (length trail.old.items) trail.new.items ≡ trail.old.items) }
+{
+    let name = String::from_str(alloc, key)?;
+    trail.push(Step::Name(name))?;
+    Ok(())
+}
+
+/// Appends the step to the item at a place.
+pub(crate) fn push_item_step(trail: &mut Vec<Step>, i: usize) -> Result<(), AllocError>
+    ensures path { OnOk result
+        (trail_view trail.new.items ≡ trail_view trail.old.items ++ place i ∷ []) }
+    ensures front { OnOk result (take (length trail.old.items) trail.new.items ≡ trail.old.items) }
+{
+    trail.push(Step::Place(i))?;
+    Ok(())
+}
