@@ -5,7 +5,7 @@ ghost use Rattle.std.specs.Prelude.{◌≡◌, length};
 use diff_run::options::Format;
 use json_paths::path::Path;
 
-/// How documents are compared, and how the comparison is reported.
+/// Options of a comparison of documents, and of its report.
 #[derive(Clone, Copy)]
 pub struct DocumentOptions<'a> {
     /// The paths to the parts that name a document. Without one documents are compared by
