@@ -5,4 +5,4 @@ mod digits;
 pub mod error;
 pub mod laws;
 pub mod numbers;
-mod tens;
+pub mod tens;

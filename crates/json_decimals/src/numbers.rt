@@ -12,7 +12,7 @@ use fast_float::Numeral;
 use std::alloc::AllocError;
 
 /// Returns whether a number's text begins with a minus.
-fn is_negative(text: &[u8]) -> bool
+pub fn is_negative(text: &[u8]) -> bool
     ensures { result ≡ is_negative text.now }
 {
     match text.first() {
@@ -22,7 +22,7 @@ fn is_negative(text: &[u8]) -> bool
 }
 
 /// Returns the numeral of a number's text, which stands behind its sign.
-fn numeral_of(text: &[u8]) -> Numeral<'_>
+pub fn numeral_of(text: &[u8]) -> Numeral<'_>
     ensures { result ≡ parts_of text.now }
 {
     if is_negative(text) {

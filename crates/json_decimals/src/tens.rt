@@ -12,9 +12,11 @@ use std::alloc::AllocError;
 
 /// Powers of ten beside a coefficient: those that it is multiplied by, and those that divide it.
 #[derive(Clone, Copy, Drop)]
-pub(crate) struct Tens {
-    pub(crate) up: u128,
-    pub(crate) down: u128,
+pub struct Tens {
+    /// The tens that the coefficient is multiplied by.
+    pub up: u128,
+    /// The tens that divide it.
+    pub down: u128,
 }
 
 impl Tens {
@@ -48,7 +50,7 @@ fn value_of(digits: &[u8]) -> Option<u128>
 }
 
 /// Returns the tens of a numeral, where its exponent has at most 30 digits behind its zeros.
-pub(crate) fn tens_of(numeral: &Numeral<'_>) -> Option<Tens>
+pub fn tens_of(numeral: &Numeral<'_>) -> Option<Tens>
     ensures tens { MatchOption result (10 ^ 30 ≤ digits_value 10 numeral.now.exponent)
         (λ t. (t.up ≡ tens_up numeral.now) × (t.down ≡ tens_down numeral.now)) }
     ensures narrow { MatchOption result (10 ^ 30 ≤ digits_value 10 numeral.now.exponent)

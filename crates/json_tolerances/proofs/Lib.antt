@@ -1,0 +1,4 @@
+mod Examples
+pub mod ClosenessLemmas
+pub mod SumLemmas
+pub mod TermLemmas

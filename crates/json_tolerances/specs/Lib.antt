@@ -1,0 +1,3 @@
+pub mod Closeness
+pub mod Errors
+pub mod Laws

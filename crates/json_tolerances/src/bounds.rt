@@ -1,0 +1,88 @@
+//! Bounds of how far apart two numbers may lie.
+
+ghost use Rattle.std.specs.Prelude.{◌≡◌, ◌+◌, ◌^◌, ◌<◌, false, IfErr, IfOk};
+ghost use Rattle.json.specs.Print.{IsNumber};
+ghost use Rattle.json_decimals.specs.Decimals.{decimal_of};
+ghost use Rattle.json_tolerances.specs.Errors.{IsFaultOf};
+
+use crate::error::BoundError;
+use crate::numbers::Number;
+use json::is_number;
+use json_decimals::tens::Tens;
+use std::marker::Model;
+
+/// A bound of how far apart two numbers may lie: a decimal of at most 18 digits that is not
+/// negative.
+#[derive(Debug, Drop)]
+pub struct Bound {
+    coefficient: u64,
+    up: u128,
+    down: u128,
+}
+
+impl Model for Bound {
+    ghost use Rattle.std.specs.Prelude.{◌+◌, ◌^◌, ◌<◌, false};
+    ghost use Rattle.json_decimals.specs.Decimals.{Decimal};
+
+    ghost Value = { Decimal };
+
+    ghost view = { λ b. record {
+      negative = false;
+      coefficient = b.coefficient;
+      up = b.up;
+      down = b.down;
+    } };
+
+    ghost invariant = { λ b. b.up + b.down < 10 ^ 31 };
+}
+
+impl Bound {
+    /// Returns the bound that a text writes.
+    ///
+    /// Fails with `NotANumber` for a text that is no number of JSON, and otherwise with `Negative`
+    /// for one that begins with a minus, with `WideExponent`, or with `TooLong` for more than 18
+    /// digits, leading zeros not counted.
+    pub fn read(text: &str) -> Result<Bound, BoundError>
+        ensures bound { IfOk result (λ bound. bound ≡ decimal_of text.now) }
+        ensures number { IfOk result (λ _. IsNumber text.now) }
+        ensures fault { IfErr result (IsFaultOf text.now) }
+    {
+        if !is_number(text) {
+            return Err(BoundError::NotANumber);
+        }
+        let Some(number) = Number::read(text) else {
+            return Err(BoundError::WideExponent);
+        };
+        if number.is_negative() {
+            return Err(BoundError::Negative);
+        }
+        let Some(coefficient) = number.coefficient() else {
+            return Err(BoundError::TooLong);
+        };
+        let tens = number.tens();
+        Ok(Bound {
+            coefficient,
+            up: tens.up,
+            down: tens.down,
+        })
+    }
+
+    /// Returns the digits, as a number.
+    pub(crate) fn coefficient(&self) -> u64
+        ensures { result ≡ self.now.coefficient }
+    {
+        self.coefficient
+    }
+
+    /// Returns the tens that the digits are multiplied by, and those that divide them.
+    pub(crate) fn tens(&self) -> Tens
+        ensures up { result.up ≡ self.now.up }
+        ensures down { result.down ≡ self.now.down }
+        ensures bound { result.up + result.down < 10 ^ 31 }
+    {
+        Tens {
+            up: self.up,
+            down: self.down,
+        }
+    }
+}

@@ -1,0 +1,20 @@
+//! Why a text is no bound.
+
+use thiserror::Error;
+
+/// The reason why a text is no bound.
+#[derive(Clone, Copy, Debug, Drop, Error, PartialEq, Eq)]
+pub enum BoundError {
+    /// The text is not a number of JSON.
+    #[error("is not a number")]
+    NotANumber,
+    /// The number begins with a minus.
+    #[error("is negative")]
+    Negative,
+    /// The exponent has more than 30 digits, its leading zeros not counted.
+    #[error("has an exponent of more than 30 digits")]
+    WideExponent,
+    /// The number has more than 18 digits, its leading zeros not counted.
+    #[error("has more than 18 digits")]
+    TooLong,
+}

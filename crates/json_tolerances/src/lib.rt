@@ -1,0 +1,10 @@
+//! Numbers that lie close together, in exact decimals.
+#![tactic(auto)]
+
+pub mod bounds;
+pub mod closeness;
+pub mod error;
+pub mod laws;
+mod numbers;
+mod sums;
+mod terms;
