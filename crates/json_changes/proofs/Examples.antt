@@ -4,12 +4,13 @@ use Rattle.std.specs.Prelude.{◌≡◌, true, false, List, [], ◌∷◌, map, 
 use Rattle.fast_float.specs.Text.{scan}
 use Rattle.json.specs.Json.{Json, null, number, string, array, object, no_items, item, no_members, member}
 use Rattle.json.specs.Print.{escape_byte, print_from}
-use Rattle.json_decimals.specs.Decimals.{normal_of, decimal_of}
+use Rattle.json_decimals.specs.Decimals.{Decimal, normal_of, decimal_of}
 use Rattle.json_decimals.specs.Texts.{digits_text, tens_text, number_text, normal_number}
 use Rattle.json_paths.specs.Paths.{name, place}
 use Rattle.json_paths.specs.Patterns.{Pattern, exactly}
+use Rattle.json_tolerances.specs.declared.closeness.Margin.TheVariants.{Absolute}
 use Rattle.json_changes.specs.Differences.{Difference, differences}
-use Rattle.json_changes.specs.Rules.{differences_told, is_told}
+use Rattle.json_changes.specs.Rules.{Rules, differences_told, is_told}
 use Rattle.json_changes.specs.Texts.{path_text, told}
 
 abbrev cheap : Json
@@ -91,34 +92,56 @@ abbrev day_alone : List Difference
 day_alone = record { path = name (codes "at") ∷ name (codes "day") ∷ []; left = Some one; right = Some two } ∷ []
 
 -- id is ignored, and a missing note counts as null
-told-ignored : differences_told (record { ignored = id ∷ []; only = []; missing_is_null = true }) before after ≡ day_alone
+told-ignored : differences_told (record { ignored = id ∷ []; only = []; missing_is_null = true; tolerances = [] }) before after ≡ day_alone
 unfolding normal_number number_text digits_text tens_text normal_of decimal_of scan
 told-ignored = refl
 
 -- only at is asked for, or a part of it
-told-only : differences_told (record { ignored = []; only = at ∷ []; missing_is_null = false }) before after ≡ day_alone
+told-only : differences_told (record { ignored = []; only = at ∷ []; missing_is_null = false; tolerances = [] }) before after ≡ day_alone
 unfolding normal_number number_text digits_text tens_text normal_of decimal_of scan
 told-only = refl
 
-told-only-within : differences_told (record { ignored = []; only = day ∷ []; missing_is_null = false }) before after ≡ day_alone
+told-only-within : differences_told (record { ignored = []; only = day ∷ []; missing_is_null = false; tolerances = [] }) before after ≡ day_alone
 unfolding normal_number number_text digits_text tens_text normal_of decimal_of scan
 told-only-within = refl
 
 -- what one side alone has is told as a whole where a part of it is asked for, and where a part of it is ignored
-missing-around : is_told (record { ignored = []; only = day ∷ []; missing_is_null = false }) (record { path = name (codes "at") ∷ []; left = Some (object no_members); right = None }) ≡ true
+missing-around : is_told (record { ignored = []; only = day ∷ []; missing_is_null = false; tolerances = [] }) (record { path = name (codes "at") ∷ []; left = Some (object no_members); right = None }) ≡ true
 missing-around = refl
 
-ignored-within : is_told (record { ignored = day ∷ []; only = []; missing_is_null = false }) (record { path = name (codes "at") ∷ []; left = Some (object no_members); right = None }) ≡ true
+ignored-within : is_told (record { ignored = day ∷ []; only = []; missing_is_null = false; tolerances = [] }) (record { path = name (codes "at") ∷ []; left = Some (object no_members); right = None }) ≡ true
 ignored-within = refl
 
 -- a part within one that is ignored
-ignored-around : is_told (record { ignored = at ∷ []; only = []; missing_is_null = false }) (record { path = name (codes "at") ∷ name (codes "day") ∷ []; left = Some one; right = Some two }) ≡ false
+ignored-around : is_told (record { ignored = at ∷ []; only = []; missing_is_null = false; tolerances = [] }) (record { path = name (codes "at") ∷ name (codes "day") ∷ []; left = Some one; right = Some two }) ≡ false
 ignored-around = refl
 
 -- null against a number is told where a missing part counts as null
-null-one : is_told (record { ignored = []; only = []; missing_is_null = true }) (record { path = []; left = Some null; right = Some one }) ≡ true
+null-one : is_told (record { ignored = []; only = []; missing_is_null = true; tolerances = [] }) (record { path = []; left = Some null; right = Some one }) ≡ true
 null-one = refl
 
 -- and so is a missing number
-missing-one : is_told (record { ignored = []; only = []; missing_is_null = true }) (record { path = name (codes "a") ∷ []; left = None; right = Some one }) ≡ true
+missing-one : is_told (record { ignored = []; only = []; missing_is_null = true; tolerances = [] }) (record { path = name (codes "a") ∷ []; left = None; right = Some one }) ≡ true
 missing-one = refl
+
+-- ---- with tolerances
+
+-- the numeral 1, which is its own decimal
+abbrev unit : Decimal
+unit = decimal_of (codes "1")
+
+abbrev near_id : Rules
+near_id = record { ignored = []; only = []; missing_is_null = false; tolerances = record { pattern = id; margin = Absolute unit } ∷ [] }
+
+-- an id that differs by 1 is not told
+told-near : differences_told near_id before after
+    ≡ record { path = name (codes "at") ∷ name (codes "day") ∷ []; left = Some one; right = Some two } ∷ record { path = name (codes "note") ∷ []; left = Some null; right = None } ∷ []
+unfolding normal_number number_text digits_text tens_text normal_of decimal_of scan
+told-near = refl
+
+-- a text that looks like a number is none, and a missing number is not close to any
+text-against : is_told near_id (record { path = name (codes "id") ∷ []; left = Some one; right = Some (string (codes "1")) }) ≡ true
+text-against = refl
+
+missing-against : is_told near_id (record { path = name (codes "id") ∷ []; left = Some one; right = None }) ≡ true
+missing-against = refl

@@ -9,3 +9,4 @@ pub mod RealLemmas
 pub mod SameLemmas
 pub mod TableLemmas
 pub mod TextLemmas
+pub mod ToleranceLemmas

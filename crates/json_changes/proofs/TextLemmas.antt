@@ -1,8 +1,10 @@
 -- Texts of paths and of differences, step by step.
-use Rattle.std.proofs.Common.{◌≡◌, ℕ, true, false, if◌then◌else◌, List, [], ◌∷◌, ◌++◌, length, map, take, Option, ap, ap₂, sym, ◌∙◌, refl, append-nil, append_assoc}
+use Rattle.std.proofs.Common.{◌≡◌, ◌<◌, ◌↔◌, ℕ, arith, Bool, true, false, if◌then◌else◌, List, [], ◌∷◌, ◌++◌, length, map, take, Option, ap, ap₂, sym, ◌∙◌, refl, append-nil, append_assoc}
+use Rattle.std.proofs.lemmas.Bool.Decides.{nat_tests}
 use Rattle.std.proofs.lemmas.List.{map-append}
 use Rattle.std.proofs.lemmas.List.Elements.{filter-append}
 use Rattle.std.specs.List.{filter}
+use Rattle.std.specs.Prelude.{◌==◌, IsTrue}
 use Rattle.json.specs.Json.{Json, string}
 use Rattle.json.specs.Print.{print, print_from, quoted}
 use Rattle.json.specs.Tree.{json_tokens}
@@ -10,7 +12,8 @@ use Rattle.json_paths.specs.Paths.{Path, Step}
 use Rattle.json_paths.specs.declared.path.Step as declared
 use Rattle.json_changes.specs.Differences.{Difference, apart, differences, inside}
 use Rattle.json_changes.specs.Rules.{Rules, differences_told, is_told, no_rules}
-use Rattle.json_changes.specs.Texts.{Told, at_path, told, told_at, trail_view}
+use Rattle.json_changes.specs.Texts.{Told, at_path, change_view, told, told_at, trail_view}
+use Rattle.json_changes.specs.declared.parts.Change.{Change}
 
 -- the text of a string
 pub printed_string : (s : List ℕ) → print (json_tokens (string s)) ≡ quoted s
@@ -86,3 +89,13 @@ kept (d ∷ ds) = ap (λ es. d ∷ es) (kept ds)
 
 pub all_told : (j k : Json) → differences_told no_rules j k ≡ differences j k
 all_told j k = kept (differences j k)
+
+not_none : (n : ℕ) → 0 < n → (n == 0) ≡ false
+not_none n h = grind (arith, nat_tests)
+
+-- no change is listed just where none is told
+pub none_listed : (changes : List Change) (ds : List Difference) (b : Bool) → map change_view changes ≡ map told ds → b ≡ (length changes == 0) → IsTrue b ↔ (ds ≡ [])
+none_listed [] [] b all e = (λ _. refl, λ _. e)
+none_listed [] (d ∷ ds) b all e = absurd (cc)
+none_listed (c ∷ cs) [] b all e = absurd (cc)
+none_listed (c ∷ cs) (d ∷ ds) b all e = (λ is. absurd (let some : b ≡ false = e ∙ not_none (length (c ∷ cs)) (omega arith) in cc), λ is. absurd (cc))

@@ -1,12 +1,12 @@
 -- Laws of differences.
 use Rattle.std.specs.List.{All, Contains, AllPairs}
-use Rattle.std.specs.Prelude.{◌≡◌, ◌↔◌, ◌⊎◌, List, [], ◌∷◌, Option, Some, None, ⊤}
-use Rattle.json.specs.Json.{Json, array, object}
+use Rattle.std.specs.Prelude.{◌≡◌, ◌↔◌, ◌⊎◌, List, [], ◌∷◌, Option, Some, None, ⊤, IsTrue}
+use Rattle.json.specs.Json.{Json, number, array, object}
 use Rattle.json.specs.Strict.{HasUniqueKeys}
 use Rattle.json_normal.specs.Same.{AreSame}
 use Rattle.json_paths.specs.Paths.{Path, part_at}
 use Rattle.json_changes.specs.Differences.{Difference, differences}
-use Rattle.json_changes.specs.Rules.{Rules, differences_told, no_rules}
+use Rattle.json_changes.specs.Rules.{Rules, Tolerance, differences_told, is_tolerated, no_rules}
 
 -- there is no difference where two values are the same, and only there
 abbrev pub NoneWhereSame : Type 0
@@ -76,3 +76,20 @@ ToldAreDifferences = (rules : Rules) (j k : Json) → All (Contains (differences
 -- where two values are the same nothing is told
 abbrev pub NothingToldWhereSame : Type 0
 NothingToldWhereSame = (rules : Rules) (j k : Json) → HasUniqueKeys k → AreSame j k → differences_told rules j k ≡ []
+
+-- two parts are numbers
+abbrev pub AreNumbers : Option Json → Option Json → Type 0
+AreNumbers (Some (number s)) (Some (number t)) = ⊤
+AreNumbers o p = ⊥
+
+-- what tolerances allow are differences between two numbers
+abbrev pub OnlyNumbersTolerated : Type 0
+OnlyNumbersTolerated = (ts : List Tolerance) (d : Difference) → IsTrue (is_tolerated ts d) → AreNumbers d.left d.right
+
+-- rules without their tolerances
+abbrev pub strict : Rules → Rules
+strict rules = record rules { tolerances = [] }
+
+-- what is told under rules is told where they have no tolerances
+abbrev pub TolerancesAddNone : Type 0
+TolerancesAddNone = (rules : Rules) (j k : Json) → All (Contains (differences_told (strict rules) j k)) (differences_told rules j k)

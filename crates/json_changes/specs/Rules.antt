@@ -2,24 +2,35 @@
 --
 -- Between {"id": 1, "at": {"day": 3}, "note": null} and {"id": 2, "at": {"day": 4}} are three differences. Where id is
 -- ignored and a missing part counts as null, at.day is told alone. Where only at is asked for, at.day is told too, and
--- where only at.day is asked for, so is an at that one side alone has.
+-- where only at.day is asked for, so is an at that one side alone has. Where a tolerance of 1 is set at id, only at.day
+-- and note are told.
 use Rattle.std.specs.List.{filter, list_any}
-use Rattle.std.specs.Prelude.{Bool, true, false, not, ◌&&◌, ◌||◌, List, [], ◌∷◌, Option, Some, None}
-use Rattle.json.specs.Json.{Json, null}
+use Rattle.std.specs.Prelude.{Bool, true, false, not, ◌&&◌, ◌||◌, List, [], ◌∷◌, Option, Some, None, IfSome, ⊤}
+use Rattle.json.specs.Json.{Json, null, number}
+use Rattle.json_decimals.specs.Decimals.{decimal_of}
+use Rattle.json_decimals.specs.Texts.{HasWideExponent}
 use Rattle.json_paths.specs.Paths.{Path}
 use Rattle.json_paths.specs.Patterns.{Pattern, begins, leads_to}
+use Rattle.json_tolerances.specs.Closeness.{is_close}
+use Rattle.json_tolerances.specs.declared.closeness.Margin.{Margin}
 use Rattle.json_changes.specs.Differences.{Difference, differences}
 
--- the parts whose differences are never told, the parts whose differences alone are told, and whether a missing part is
--- the same as null
+-- how far apart the numbers may lie that a pattern names
+pub record Tolerance : Type 0 where
+  pub pattern : Pattern
+  pub margin : Margin
+
+-- the parts whose differences are never told, the parts whose differences alone are told, whether a missing part is the
+-- same as null, and how far apart numbers may lie
 pub record Rules : Type 0 where
   pub ignored : List Pattern
   pub only : List Pattern
   pub missing_is_null : Bool
+  pub tolerances : List Tolerance
 
 -- no rules: each difference is told
 abbrev pub no_rules : Rules
-no_rules = record { ignored = []; only = []; missing_is_null = false }
+no_rules = record { ignored = []; only = []; missing_is_null = false; tolerances = [] }
 
 -- a path leads to a part that one of some patterns names, or into one
 abbrev pub is_named : List Pattern → Path → Bool
@@ -40,11 +51,33 @@ is_nothing None = true
 is_nothing (Some null) = true
 is_nothing (Some j) = false
 
+-- two parts are numbers that lie within a margin
+abbrev pub are_close : Margin → Option Json → Option Json → Bool
+are_close m (Some (number s)) (Some (number t)) = is_close m (decimal_of s) (decimal_of t)
+are_close m left right = false
+
+-- a difference is one that a tolerance allows
+abbrev pub allows : Tolerance → Difference → Bool
+allows t d = begins t.pattern d.path && are_close t.margin d.left d.right
+
+-- a difference is one that one of some tolerances allows
+abbrev pub is_tolerated : List Tolerance → Difference → Bool
+is_tolerated ts d = list_any (λ t. allows t d) ts
+
 -- a difference is told under rules
 abbrev pub is_told : Rules → Difference → Bool
 is_told rules d =
-    not (is_named rules.ignored d.path) && is_asked_for rules.only d.path && not (rules.missing_is_null && is_nothing d.left && is_nothing d.right)
+    not (is_named rules.ignored d.path) && is_asked_for rules.only d.path && not (rules.missing_is_null && is_nothing d.left && is_nothing d.right) && not (is_tolerated rules.tolerances d)
 
 -- the differences between two values that are told under rules
 abbrev pub differences_told : Rules → Json → Json → List Difference
 differences_told rules j k = filter (is_told rules) (differences j k)
+
+-- of two numbers neither has a wide exponent
+abbrev pub AreNarrow : Json → Json → Type 0
+AreNarrow (number s) (number t) = (¬ HasWideExponent s) × (¬ HasWideExponent t)
+AreNarrow j k = ⊤
+
+-- of two parts that are numbers neither has a wide exponent
+abbrev pub PartsAreNarrow : Option Json → Option Json → Type 0
+PartsAreNarrow left right = IfSome left (λ j. IfSome right (λ k. AreNarrow j k))

@@ -9,7 +9,7 @@ use Rattle.std.specs.Prelude.{ℕ, ◌==◌, Bool, not, ◌&&◌, ◌||◌, if�
 use Rattle.json.specs.Json.{Json}
 use Rattle.json.specs.Print.{quoted, print}
 use Rattle.json.specs.Tree.{json_tokens}
-use Rattle.json_paths.specs.PatternViews.{patterns_view}
+use Rattle.json_paths.specs.PatternViews.{pattern_view, patterns_view}
 use Rattle.json_paths.specs.Paths.{Step, name, place, Path}
 use Rattle.json_paths.specs.Views.{step_view}
 use Rattle.json_paths.specs.declared.path.Step as paths
@@ -20,6 +20,7 @@ use Rattle.json_changes.specs.declared.parts.Change.{Change}
 use Rattle.json_changes.specs.declared.parts.Side.{Side}
 use Rattle.json_changes.specs.declared.parts.Side.TheVariants.{Left, Right}
 use Rattle.json_changes.specs.declared.rules.Rules.{Rules}
+use Rattle.json_changes.specs.declared.rules.Tolerance.{Tolerance}
 
 -- a letter or a digit of ASCII, `_` or `-`
 abbrev pub is_plain_byte : ℕ → Bool
@@ -77,9 +78,13 @@ abbrev pub only_in : Side → Json → Difference
 only_in Left = only_left
 only_in Right = only_right
 
+-- the tolerance that a value stands for
+abbrev pub tolerance_view : Tolerance → specs.Tolerance
+tolerance_view t = record { pattern = pattern_view t.pattern; margin = t.margin }
+
 -- the rules that a value stands for
 abbrev pub rules_view : Rules → specs.Rules
-rules_view rules = record { ignored = patterns_view rules.ignored.items; only = patterns_view rules.only.items; missing_is_null = rules.missing_is_null }
+rules_view rules = record { ignored = patterns_view rules.ignored.items; only = patterns_view rules.only.items; missing_is_null = rules.missing_is_null; tolerances = map tolerance_view rules.tolerances.items }
 
 -- the path that steps stand for
 abbrev pub trail_view : List paths.Step → Path

@@ -1,6 +1,6 @@
 //! The changes from one value to another.
 
-ghost use Rattle.std.specs.Prelude.{◌≡◌, IfErr, IfOk, map};
+ghost use Rattle.std.specs.Prelude.{◌≡◌, ◌↔◌, [], IfErr, IfOk, IsTrue, map};
 ghost use Rattle.json.specs.Strict.{HasUniqueKeys};
 ghost use Rattle.json.specs.Tree.{HasNumbers};
 ghost use Rattle.json.specs.Value.{value_view};
@@ -11,7 +11,7 @@ ghost use Rattle.json_changes.specs.Texts.{change_view, rules_view, told};
 
 use crate::compare::compare;
 pub use crate::parts::Change;
-pub use crate::rules::Rules;
+pub use crate::rules::{Rules, Tolerance};
 use json::Value;
 use json_decimals::error::NumberError;
 use std::alloc::Global;
@@ -58,4 +58,26 @@ pub fn changes_under(
     let mut changes = Vec::new(alloc);
     compare(alloc, rules, &mut trail, &mut changes, left, right)?;
     Ok(changes)
+}
+
+/// Returns whether two values are the same under rules: whether no difference between them is told.
+///
+/// Fails with `WideExponent` only where the exponent of a number has more than 30 digits, its
+/// leading zeros not counted.
+pub fn are_same_under(
+    alloc: Global,
+    left: &Value<'_>,
+    right: &Value<'_>,
+    rules: &Rules,
+) -> Result<bool, NumberError>
+    requires left_unique { HasUniqueKeys (value_view left.now) }
+    requires right_unique { HasUniqueKeys (value_view right.now) }
+    requires left_numbers { HasNumbers (value_view left.now) }
+    requires right_numbers { HasNumbers (value_view right.now) }
+    ensures same { IfOk result (λ b. IsTrue b ↔ (differences_told (rules_view rules.now)
+        (value_view left.now) (value_view right.now) ≡ [])) }
+    ensures fault { IfErr result (λ e. IsFaultOf (value_view left.now) (value_view right.now) e) }
+{
+    let changes = changes_under(alloc, left, right, rules)?;
+    Ok(changes.is_empty())
 }

@@ -1,6 +1,6 @@
 //! Laws of differences.
 
-ghost use Rattle.json_changes.specs.Laws.{AllToldWithoutRules, EachIsReal, EachIsSmallest, NoneIsMissed, NoneWhereSame, NothingToldWhereSame, PathsLead, PathsPart, ToldAreDifferences};
+ghost use Rattle.json_changes.specs.Laws.{AllToldWithoutRules, EachIsReal, EachIsSmallest, NoneIsMissed, NoneWhereSame, NothingToldWhereSame, OnlyNumbersTolerated, PathsLead, PathsPart, ToldAreDifferences, TolerancesAddNone};
 
 /// Says that only values that differ have differences, where the path of a difference leads, that
 /// its parts differ and are the smallest, that none is missed, and that none is told twice.
@@ -13,10 +13,12 @@ pub fn change_laws()
     ensures paths_part { PathsPart }
 {}
 
-/// Says that each difference is told with no rules, that rules add none, and that nothing is told
-/// where two values are the same.
+/// Says that each difference is told with no rules, that rules add none, that nothing is told where
+/// two values are the same, and that tolerances add none and take out only those between numbers.
 pub fn rule_laws()
     ensures all_told { AllToldWithoutRules }
     ensures told_are_differences { ToldAreDifferences }
     ensures nothing_where_same { NothingToldWhereSame }
+    ensures only_numbers_tolerated { OnlyNumbersTolerated }
+    ensures tolerances_add_none { TolerancesAddNone }
 {}

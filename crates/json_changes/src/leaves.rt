@@ -1,6 +1,6 @@
 //! Comparing two values that have no parts to compare.
 
-ghost use Rattle.std.specs.Prelude.{◌≡◌, ◌++◌, IfErr, IfOk, OnOk, map};
+ghost use Rattle.std.specs.Prelude.{◌≡◌, ◌++◌, false, IfErr, IfOk, OnOk, map};
 ghost use Rattle.std.specs.Str.{bytes_eq};
 ghost use Rattle.json.specs.Json.{number};
 ghost use Rattle.json.specs.Tree.{HasNumbers};
@@ -8,6 +8,7 @@ ghost use Rattle.json.specs.Value.{value_view};
 ghost use Rattle.json_decimals.specs.Texts.{normal_number};
 ghost use Rattle.json_changes.specs.Differences.{leaf_differences, is_same_leaf};
 ghost use Rattle.json_changes.specs.Errors.{IsFaultOf};
+ghost use Rattle.json_changes.specs.Rules.{AreNarrow};
 ghost use Rattle.json_changes.specs.Texts.{change_view, rules_view, told_at, trail_view};
 
 use crate::parts::{Change, push_change};
@@ -22,6 +23,8 @@ use std::alloc::Global;
 fn are_same_numbers(alloc: Global, left: &str, right: &str) -> Result<bool, NumberError>
     ensures same { IfOk result
         (λ b. b ≡ bytes_eq (normal_number left.now) (normal_number right.now)) }
+    ensures narrow { IfOk result
+        (λ b. b ≡ false → AreNarrow (number left.now) (number right.now)) }
     ensures fault { IfErr result (λ e. IsFaultOf (number left.now) (number right.now) e) }
 {
     if left == right {
@@ -38,6 +41,8 @@ fn are_same_numbers(alloc: Global, left: &str, right: &str) -> Result<bool, Numb
 fn are_same(alloc: Global, left: &Value<'_>, right: &Value<'_>) -> Result<bool, NumberError>
     ensures same { IfOk result
         (λ b. b ≡ is_same_leaf (value_view left.now) (value_view right.now)) }
+    ensures narrow { IfOk result
+        (λ b. b ≡ false → AreNarrow (value_view left.now) (value_view right.now)) }
     ensures fault { IfErr result (λ e. IsFaultOf (value_view left.now) (value_view right.now) e) }
 {
     match (left, right) {

@@ -5,6 +5,7 @@ ghost use Rattle.std.specs.Prelude.{◌≡◌, ◌++◌, ◌∷◌, [], IfOk, If
 ghost use Rattle.json.specs.Tree.{HasNumbers};
 ghost use Rattle.json.specs.Value.{value_view};
 ghost use Rattle.json_changes.specs.Differences.{apart};
+ghost use Rattle.json_changes.specs.Rules.{PartsAreNarrow};
 ghost use Rattle.json_changes.specs.Texts.{change_view, only_in, part_text, rules_view, told_at, trail_view};
 
 use crate::paths::text_of_path;
@@ -54,6 +55,8 @@ pub(crate) fn push_change(
 ) -> Result<(), AllocError>
     requires left_numbers { IfSome left (λ v. HasNumbers (value_view v.now)) }
     requires right_numbers { IfSome right (λ v. HasNumbers (value_view v.now)) }
+    requires narrow { PartsAreNarrow (option_map (λ v. value_view v.now) left)
+        (option_map (λ v. value_view v.now) right) }
     ensures { OnOk result (map change_view changes.new.items
         ≡ map change_view changes.old.items
         ++ told_at (rules_view rules.now) (trail_view trail.now.items) (apart

@@ -5,13 +5,26 @@ ghost use Rattle.std.specs.Option.{option_map};
 ghost use Rattle.std.specs.Prelude.{◌≡◌, map};
 ghost use Rattle.json.specs.Value.{value_view};
 ghost use Rattle.json_paths.specs.PatternViews.{pattern_view};
-ghost use Rattle.json_changes.specs.Rules.{has_named, is_asked_for, is_named, is_nothing, is_told, no_rules};
-ghost use Rattle.json_changes.specs.Texts.{rules_view, trail_view};
+ghost use Rattle.json_decimals.specs.Decimals.{decimal_of};
+ghost use Rattle.json_decimals.specs.Texts.{HasWideExponent};
+ghost use Rattle.json_tolerances.specs.Closeness.{is_close};
+ghost use Rattle.json_changes.specs.Rules.{PartsAreNarrow, allows, are_close, has_named, is_asked_for, is_named, is_nothing, is_told, is_tolerated, no_rules};
+ghost use Rattle.json_changes.specs.Texts.{rules_view, tolerance_view, trail_view};
 
 use json::Value;
 use json_paths::path::Step;
 use json_paths::pattern::Pattern;
+use json_tolerances::closeness::Margin;
 use std::alloc::Global;
+
+/// How far apart the numbers may lie that a pattern names.
+#[derive(Debug, Drop)]
+pub struct Tolerance {
+    /// The numbers, and the parts that have them.
+    pub pattern: Pattern,
+    /// How far apart they may lie.
+    pub margin: Margin,
+}
 
 /// Rules that say which differences between two values are told.
 #[derive(Debug, Drop)]
@@ -22,6 +35,9 @@ pub struct Rules {
     pub only: Vec<Pattern>,
     /// Whether a missing part is the same as null.
     pub missing_is_null: bool,
+    /// How far apart numbers may lie. Each tolerance stands for itself: one that allows a
+    /// difference is enough.
+    pub tolerances: Vec<Tolerance>,
 }
 
 /// Returns whether a path leads to a part that one of some patterns names, or into one.
@@ -61,6 +77,67 @@ fn is_nothing(part: Option<&Value<'_>>) -> bool
     matches!(part, None | Some(Value::Null))
 }
 
+/// Returns whether two numbers lie within a margin.
+fn is_within(margin: &Margin, left: &str, right: &str) -> bool
+    requires left { ¬ HasWideExponent left.now }
+    requires right { ¬ HasWideExponent right.now }
+    ensures { result ≡ is_close margin.now (decimal_of left.now) (decimal_of right.now) }
+{
+    match margin.allows(left, right) {
+        Ok(is_close) => is_close,
+        Err(_) => unreachable!(),
+    }
+}
+
+/// Returns whether two parts are numbers that lie within a margin.
+fn are_close(margin: &Margin, left: Option<&Value<'_>>, right: Option<&Value<'_>>) -> bool
+    requires { PartsAreNarrow (option_map (λ v. value_view v.now) left)
+        (option_map (λ v. value_view v.now) right) }
+    ensures { result ≡ are_close margin.now (option_map (λ v. value_view v.now) left.entry)
+        (option_map (λ v. value_view v.now) right.entry) }
+{
+    match (left, right) {
+        (Some(Value::Number(a)), Some(Value::Number(b))) => is_within(margin, a, b),
+        _ => false,
+    }
+}
+
+impl Tolerance {
+    /// Returns whether this allows the difference between two parts at a path.
+    fn allows(&self, path: &[Step], left: Option<&Value<'_>>, right: Option<&Value<'_>>) -> bool
+        requires { PartsAreNarrow (option_map (λ v. value_view v.now) left)
+            (option_map (λ v. value_view v.now) right) }
+        ensures { result ≡ allows (tolerance_view self.now) (record {
+          path = trail_view path.now;
+          left = option_map (λ v. value_view v.now) left.entry;
+          right = option_map (λ v. value_view v.now) right.entry;
+        }) }
+    {
+        self.pattern.begins(path) && are_close(&self.margin, left, right)
+    }
+}
+
+/// Returns whether one of some tolerances allows the difference between two parts at a path.
+fn is_tolerated(
+    tolerances: &[Tolerance],
+    path: &[Step],
+    left: Option<&Value<'_>>,
+    right: Option<&Value<'_>>,
+) -> bool
+    requires { PartsAreNarrow (option_map (λ v. value_view v.now) left)
+        (option_map (λ v. value_view v.now) right) }
+    ensures { result ≡ is_tolerated (map tolerance_view tolerances.now) (record {
+      path = trail_view path.now;
+      left = option_map (λ v. value_view v.now) left.entry;
+      right = option_map (λ v. value_view v.now) right.entry;
+    }) }
+{
+    let Some((tolerance, rest)) = tolerances.split_first() else {
+        return false;
+    };
+    tolerance.allows(path, left, right) || is_tolerated(rest, path, left, right)
+}
+
 impl Rules {
     /// Returns no rules: each difference is told.
     pub fn none(alloc: Global) -> Rules
@@ -70,6 +147,7 @@ impl Rules {
             ignored: Vec::new(alloc),
             only: Vec::new(alloc),
             missing_is_null: false,
+            tolerances: Vec::new(alloc),
         }
     }
 
@@ -80,6 +158,8 @@ impl Rules {
         left: Option<&Value<'_>>,
         right: Option<&Value<'_>>,
     ) -> bool
+        requires { PartsAreNarrow (option_map (λ v. value_view v.now) left)
+            (option_map (λ v. value_view v.now) right) }
         ensures { result ≡ is_told (rules_view self.now) (record {
           path = trail_view path.now;
           left = option_map (λ v. value_view v.now) left.entry;
@@ -89,5 +169,6 @@ impl Rules {
         !is_named(&self.ignored, path)
             && is_asked_for(&self.only, path)
             && !(self.missing_is_null && is_nothing(left) && is_nothing(right))
+            && !is_tolerated(&self.tolerances, path, left, right)
     }
 }
