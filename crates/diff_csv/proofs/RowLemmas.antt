@@ -1,7 +1,7 @@
 -- Rows of cells, as they are appended and as a table cuts them.
 use Rattle.std.proofs.Common.{◌≡◌, ◌<◌, ◌+◌, ◌*◌, ◌∙◌, Bool, true, false, Option, ℕ, suc, List, [], ◌∷◌, ◌++◌, length, get_or, map, take, drop, refl, ap, sym, arith, length-append, subst}
 use Rattle.std.proofs.Math.Seq.{take-append_seam, drop-append_seam}
-use Rattle.std.proofs.lemmas.List.{append_assoc, length-map, map_more}
+use Rattle.std.proofs.lemmas.List.{length-map}
 use Rattle.std.specs.List.{flat_map}
 use Rattle.diff_tables.specs.Keys.{cells_at}
 use Rattle.diff_tables.specs.Tables.{cut_rows}
@@ -13,13 +13,6 @@ use Rattle.diff_csv.specs.declared.options.CsvOptions.{CsvOptions}
 use Rattle.diff_csv.specs.declared.reading.Records.{Records}
 use Rattle.diff_csv.specs.declared.rows.Rows.{Rows}
 use Rattle.diff_csv.specs.declared.source.CsvTable.{CsvTable}
-
--- one cell more
-pub one_cell : (all fields : List (List ℕ)) (columns : List ℕ) (i j : ℕ) (x : List ℕ) → i < length columns → j ≡ i + 1
-    → x ≡ get_or fields (get_or columns i 0) []
-    → (all ++ cells_at (take i columns) fields) ++ x ∷ [] ≡ all ++ cells_at (take j columns) fields
-one_cell all fields columns i j x within next is =
-    rw (next, is, map_more (λ (c : ℕ). get_or fields c []) columns i 0 within, append_assoc) refl
 
 -- each row has a cell for each column
 pub cells_count : (columns : List ℕ) (fields : List (List ℕ)) → length (cells_at columns fields) ≡ length columns

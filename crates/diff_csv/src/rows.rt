@@ -7,6 +7,7 @@ ghost use Rattle.diff_tables.specs.Strings.{AreStrings};
 ghost use Rattle.diff_csv.specs.Rows.{HoldsRows};
 
 use csv::ByteRecord;
+use diff_tables::string_list::StringList;
 use diff_tables::strings::Strings;
 use std::alloc::{AllocError, Global};
 
@@ -27,13 +28,32 @@ fn cell(row: &ByteRecord, column: usize) -> &[u8]
     }
 }
 
+/// A record's cells in some columns.
+#[derive(Clone, Copy)]
+struct Cells<'a> {
+    row: &'a ByteRecord,
+    columns: &'a [usize],
+}
+
+impl<'a> StringList for Cells<'a> {
+    ghost strings = { λ c. cells_at c.columns.now (fields_of c.row.now) };
+
+    fn count(&self) -> usize {
+        self.columns.len()
+    }
+
+    #[inline(always)]
+    fn string(&self, i: usize) -> &[u8] {
+        cell(self.row, self.columns[i])
+    }
+}
+
 /// Appends a record's cells in these columns.
 fn push_cells(cells: &mut Strings, row: &ByteRecord, columns: &[usize]) -> Result<(), AllocError>
     ensures { OnOk result ((all : List (List ℕ)) → AreStrings cells.old all → AreStrings cells.new (all ++ cells_at columns.now (fields_of row.now))) }
 {
-    for column in columns {
-        cells.push(cell(row, *column))?;
-    }
+    let row_cells = Cells { row, columns };
+    cells.push_all(&row_cells)?;
     Ok(())
 }
 

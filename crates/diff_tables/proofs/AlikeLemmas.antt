@@ -1,5 +1,5 @@
 -- The bytes of strings that lie one behind another, and the pairs of rows that are not stored alike.
-use Rattle.std.proofs.Common.{◌≡◌, ◌<◌, ◌≤◌, ◌+◌, ◌-◌, ◌*◌, ℕ, zero, suc, List, [], ◌∷◌, ◌++◌, Option, Some, None, length, get_or, take, drop, map, arith, ap, sym, subst, ◌∙◌, refl, ◌⊎◌, inl, inr, ◌≢◌, add-one}
+use Rattle.std.proofs.Common.{◌≡◌, ◌<◌, ◌≤◌, ◌+◌, ◌-◌, ◌*◌, ℕ, zero, suc, Bool, true, false, List, [], ◌∷◌, ◌++◌, Option, Some, None, length, get_or, take, drop, map, arith, ap, sym, subst, ◌∙◌, refl, ◌⊎◌, inl, inr, ◌≢◌, add-one}
 use Rattle.std.proofs.Math.Seq.{drop-append_seam, drop-cons, take-add, take-append_seam}
 use Rattle.std.proofs.lemmas.Bool.{cases_eq}
 use Rattle.std.proofs.lemmas.Grind.{common_steps}
@@ -164,6 +164,17 @@ same_windows n at from ls rs left right bytes lens =
 
     long_right : length (window from n rs) ≡ n
     long_right = length-window from n rs right
+
+-- one flag more
+pub flag_push : (P : ℕ → Type 0) (flags : List Bool) (flag : Bool) → ((k : ℕ) → k < length flags → get_or flags k false ≡ true → P k)
+    → (flag ≡ true → P (length flags)) → (k : ℕ) → k < length (flags ++ flag ∷ []) → get_or (flags ++ flag ∷ []) k false ≡ true → P k
+flag_push P flags flag old new k within set = at (cases_eq k (length flags))
+  where
+    at : (k ≡ length flags) ⊎ (k ≢ length flags) → P k
+    at (inl here) = subst P (sym here) (new (sym (get_or_push flags flag false k (sym here)) ∙ set))
+    at (inr apart) =
+        let below : k < suc (length flags) = grind (arith, common_steps, within) in
+        old k (omega (arith, below, apart)) (sym (get_or_append_left flags (flag ∷ []) false k (omega (arith, below, apart))) ∙ set)
 
 pub none_but : (P : ℕ → Type 0) → ListsAllBut P 0 []
 none_but P = record {

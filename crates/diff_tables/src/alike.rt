@@ -1,12 +1,11 @@
 //! Strings that are stored alike.
 
-ghost use Rattle.std.specs.Prelude.{◌≡◌, ◌+◌, ◌<◌, ◌≤◌, ℕ, [], true, length, get_or, IfOk};
+ghost use Rattle.std.specs.Prelude.{◌≡◌, ◌+◌, ◌<◌, ◌≤◌, true, length, IfOk, OnOk};
 ghost use Rattle.polars_arrays_bytes.specs.OffsetStrings.{offset_strings};
 ghost use Rattle.polars_arrays_flat.specs.Validity.{window};
-ghost use Rattle.diff_tables.specs.Alike.{AreSameCells, ListsAllBut, NameRowsOf, all_bytes};
+ghost use Rattle.diff_tables.specs.Alike.{AreAsLong, AreSameCells, ListsAllBut, NameRowsOf, TellLengths, all_bytes};
 
 use polars_arrays_bytes::binary::BinaryArray;
-use polars_arrays_bytes::lent_strings::LentStrings;
 use polars_arrays_flat::byte_rows::ByteRows;
 use polars_arrays_numbers::offset::Offset;
 use std::alloc::{AllocError, Global};
@@ -34,7 +33,7 @@ fn are_as_long<L: ByteRows, R: ByteRows>(
 ) -> bool
     requires left { at + n ≤ length (L.strings left.now) }
     requires right { from + n ≤ length (R.strings right.now) }
-    ensures { result ≡ true → (c : ℕ) → c < n → length (get_or (L.strings left.now) (at + c) []) ≡ length (get_or (R.strings right.now) (from + c) []) }
+    ensures { result ≡ true → AreAsLong n at (L.strings left.now) from (R.strings right.now) }
 {
     // The places below are less than these numbers, and so fit a `usize`.
     let (_left, _right) = (left.count(), right.count());
@@ -47,22 +46,103 @@ fn are_as_long<L: ByteRows, R: ByteRows>(
 }
 
 /// Returns whether `n` strings from string `at` on are stored like `n` others from string `from`
-/// on: as long, and with the same bytes. They are then the same.
+/// on: as long, as `as_long` says, and with the same bytes. They are then the same.
 fn are_alike<L: Offset, R: Offset>(
-    left: &LentStrings<'_, L>,
+    left: &BinaryArray<L>,
     at: usize,
-    right: &LentStrings<'_, R>,
+    right: &BinaryArray<R>,
     from: usize,
     n: usize,
+    as_long: bool,
 ) -> bool
-    requires left { at + n ≤ length (offset_strings L.value left.now.array.now) }
-    requires right { from + n ≤ length (offset_strings R.value right.now.array.now) }
-    ensures { result ≡ true → window at n (offset_strings L.value left.now.array.now) ≡ window from n (offset_strings R.value right.now.array.now) }
+    requires left { at + n ≤ length (offset_strings L.value left.now) }
+    requires right { from + n ≤ length (offset_strings R.value right.now) }
+    requires as_long { as_long ≡ true → AreAsLong n at (offset_strings L.value left.now) from (offset_strings R.value right.now) }
+    ensures { result ≡ true → window at n (offset_strings L.value left.now) ≡ window from n (offset_strings R.value right.now) }
 {
-    if bytes_from(left.array, at, n) != bytes_from(right.array, from, n) {
+    if !as_long {
         return false;
     }
-    are_as_long(left, at, right, from, n)
+    bytes_from(left, at, n) == bytes_from(right, from, n)
+}
+
+/// Returns for each pair from `start` up to `end` whether its rows' strings are as long, each as the
+/// one at its place.
+fn lengths_agree<L: Offset, R: Offset>(
+    alloc: Global,
+    left: &BinaryArray<L>,
+    left_rows: &[u32],
+    right: &BinaryArray<R>,
+    right_rows: &[u32],
+    width: usize,
+    start: usize,
+    end: usize,
+) -> Result<Vec<bool>, AllocError>
+    requires one_length { length left_rows.now ≡ length right_rows.now }
+    requires left { NameRowsOf width (offset_strings L.value left.now) left_rows.now }
+    requires right { NameRowsOf width (offset_strings R.value right.now) right_rows.now }
+    requires rise { start ≤ end }
+    requires within { end ≤ length left_rows.now }
+    ensures { IfOk result (λ flags. TellLengths width (offset_strings L.value left.now) (offset_strings R.value right.now) left_rows.now right_rows.now start end flags.items) }
+{
+    // The places below are at most these numbers, and so fit a `usize`.
+    let (_left, _right) = (left.count(), right.count());
+    let (left, right) = (left.lent(), right.lent());
+    let mut flags = Vec::with_capacity(alloc, end - start)?;
+    for p in start..end {
+        let at = width * left_rows[p] as usize;
+        let from = width * right_rows[p] as usize;
+        flags.push(are_as_long(&left, at, &right, from, width))?;
+    }
+    Ok(flags)
+}
+
+/// Appends the pairs from `start` up to `end` that are not stored alike. `as_long` has for each of
+/// them whether its rows' strings are as long.
+fn push_unlike<L: Offset, R: Offset>(
+    places: &mut Vec<usize>,
+    left: &BinaryArray<L>,
+    left_rows: &[u32],
+    right: &BinaryArray<R>,
+    right_rows: &[u32],
+    width: usize,
+    start: usize,
+    end: usize,
+    as_long: &[bool],
+) -> Result<(), AllocError>
+    requires one_length { length left_rows.now ≡ length right_rows.now }
+    requires left { NameRowsOf width (offset_strings L.value left.now) left_rows.now }
+    requires right { NameRowsOf width (offset_strings R.value right.now) right_rows.now }
+    requires rise { start ≤ end }
+    requires within { end ≤ length left_rows.now }
+    requires as_long { TellLengths width (offset_strings L.value left.now) (offset_strings R.value right.now) left_rows.now right_rows.now start end as_long.now }
+    ensures { OnOk result (ListsAllBut (AreSameCells width (offset_strings L.value left.now) (offset_strings R.value right.now) left_rows.now right_rows.now) start places.old.items → ListsAllBut (AreSameCells width (offset_strings L.value left.now) (offset_strings R.value right.now) left_rows.now right_rows.now) end places.new.items) }
+{
+    // The places below are at most these numbers, and so fit a `usize`.
+    let (_left, _right) = (left.count(), right.count());
+    for p in start..end {
+        let at = width * left_rows[p] as usize;
+        let from = width * right_rows[p] as usize;
+        if !are_alike(left, at, right, from, width, as_long[p - start]) {
+            places.push(p)?;
+        }
+    }
+    Ok(())
+}
+
+/// The most pairs whose lengths are compared before the bytes of any of them are.
+const BLOCK: usize = 256;
+
+/// Returns where the block of pairs ends that begins at `start`.
+fn block_end(start: usize, count: usize) -> usize
+    requires { start < count }
+    ensures some { start < result }
+    ensures within { result ≤ count }
+{
+    if count - start <= BLOCK {
+        return count;
+    }
+    start + BLOCK
 }
 
 /// Lists the pairs of rows of `width` strings each that are not stored alike.
@@ -79,16 +159,24 @@ pub(crate) fn unlike_pairs<L: Offset, R: Offset>(
     requires right { NameRowsOf width (offset_strings R.value right.now) right_rows.now }
     ensures { IfOk result (λ places. ListsAllBut (AreSameCells width (offset_strings L.value left.now) (offset_strings R.value right.now) left_rows.now right_rows.now) (length left_rows.now) places.items) }
 {
-    // The places below are at most these numbers, and so fit a `usize`.
-    let (_left, _right) = (left.count(), right.count());
-    let (left, right) = (left.lent(), right.lent());
     let mut places = Vec::new(alloc);
-    for p in 0..left_rows.len() {
-        let at = width * left_rows[p] as usize;
-        let from = width * right_rows[p] as usize;
-        if !are_alike(&left, at, &right, from, width) {
-            places.push(p)?;
-        }
+    let mut start = 0;
+    // A block's ends are all read before its bytes, so that few reads wait for others.
+    while start < left_rows.len() {
+        let end = block_end(start, left_rows.len());
+        let as_long = lengths_agree(alloc, left, left_rows, right, right_rows, width, start, end)?;
+        push_unlike(
+            &mut places,
+            left,
+            left_rows,
+            right,
+            right_rows,
+            width,
+            start,
+            end,
+            &as_long,
+        )?;
+        start = end;
     }
     Ok(places)
 }

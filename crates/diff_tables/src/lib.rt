@@ -6,5 +6,6 @@ mod cells;
 pub mod compare;
 mod escaped;
 pub mod keys;
+pub mod string_list;
 pub mod strings;
 pub mod table;

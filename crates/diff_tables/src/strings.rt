@@ -1,12 +1,13 @@
 //! Byte strings that are appended one after another.
 
-ghost use Rattle.std.specs.Prelude.{◌≡◌, ◌++◌, ◌∷◌, [], ℕ, List, None, map, pos, IfOk, OnOk, MatchResult};
+ghost use Rattle.std.specs.Prelude.{◌≡◌, ◌≤◌, ◌<◌, ◌+◌, ◌++◌, ◌∷◌, [], ℕ, List, None, map, pos, vec_capacity, vec_len, IfOk, OnOk, MatchResult};
 ghost use Rattle.polars_arrays_bits.specs.Errors.{IsMemory};
 ghost use Rattle.polars_arrays_bytes.specs.OffsetStrings.{offset_strings};
 ghost use Rattle.diff_tables.specs.Groups.{AreGroups};
 ghost use Rattle.diff_tables.specs.Strings.{AreStrings};
 
 use crate::cells::{Cells, all_ends};
+use crate::string_list::StringList;
 use polars_arrays_bits::buffer::Buffer;
 use polars_arrays_bits::error::ComputeError;
 use polars_arrays_bytes::binary::BinaryArray;
@@ -53,15 +54,19 @@ impl Strings {
         })
     }
 
-    /// Appends a string.
-    pub fn push(&mut self, string: &[u8]) -> Result<(), AllocError>
-        ensures { OnOk result ((all : List (List ℕ)) → AreStrings self.old all → AreStrings self.new (all ++ string.now ∷ [])) }
+    /// Appends a string, where there is room for its end.
+    #[inline(always)]
+    fn push_within(&mut self, string: &[u8]) -> Result<(), AllocError>
+        requires { vec_len self.old.ends < vec_capacity self.old.ends }
+        ensures pushed { OnOk result ((all : List (List ℕ)) → AreStrings self.old all → AreStrings self.new (all ++ string.now ∷ [])) }
+        ensures ends { vec_len self.new.ends ≤ vec_len self.old.ends + 1 }
+        ensures capacity { vec_capacity self.new.ends ≡ vec_capacity self.old.ends }
     {
         self.bytes.extend_from_slice(string)?;
         let len = self.bytes.len();
         if self.far_ends.is_empty() {
             if let Ok(end) = i32::try_from(len) {
-                self.ends.push(end)?;
+                self.ends.push_reserved(end);
                 return Ok(());
             }
         }
@@ -69,6 +74,27 @@ impl Strings {
         match i64::try_from(len) {
             Ok(end) => self.far_ends.push(end)?,
             Err(_) => return Err(AllocError),
+        }
+        Ok(())
+    }
+
+    /// Appends a string.
+    pub fn push(&mut self, string: &[u8]) -> Result<(), AllocError>
+        ensures { OnOk result ((all : List (List ℕ)) → AreStrings self.old all → AreStrings self.new (all ++ string.now ∷ [])) }
+    {
+        self.ends.reserve(1)?;
+        self.push_within(string)?;
+        Ok(())
+    }
+
+    /// Appends the strings of a list.
+    pub fn push_all<S: StringList>(&mut self, strings: &S) -> Result<(), AllocError>
+        ensures { OnOk result ((all : List (List ℕ)) → AreStrings self.old all → AreStrings self.new (all ++ S.strings strings.now)) }
+    {
+        let count = strings.count();
+        self.ends.reserve(count)?;
+        for i in 0..count {
+            self.push_within(strings.string(i))?;
         }
         Ok(())
     }

@@ -6,7 +6,7 @@ use Rattle.diff_tables.proofs.alike.are_alike.Goals as goal
 
 pub returns : goal.returns
 returns g c =
-    λ long.
-    let same : c.bytes_from.result.now ≡ c.bytes_from-2.result.now = (bytes_eq-Decides c.bytes_from.result.now c.bytes_from-2.result.now).0 (search rules) in
-    same_windows c.args.n c.args.at c.args.from (offset_strings g.L.Number.value c.args.left.now.array.now) (offset_strings g.R.Number.value c.args.right.now.array.now)
-    c.requires.left c.requires.right (sym c.bytes_from.ensures ∙ (same ∙ c.bytes_from-2.ensures)) (c.are_as_long.ensures long)
+    λ alike.
+    let same : c.bytes_from.result.now ≡ c.bytes_from-2.result.now = (bytes_eq-Decides c.bytes_from.result.now c.bytes_from-2.result.now).0 (search (alike, rules)) in
+    same_windows c.args.n c.args.at c.args.from (offset_strings g.L.Number.value c.args.left.now) (offset_strings g.R.Number.value c.args.right.now)
+    c.requires.left c.requires.right (sym c.bytes_from.ensures ∙ (same ∙ c.bytes_from-2.ensures)) (c.requires.as_long (search rules))

@@ -1,0 +1,18 @@
+//! Lists of byte strings.
+
+ghost use Rattle.std.specs.Prelude.{◌≡◌, ◌<◌, ℕ, List, [], length, get_or};
+
+/// A list of byte strings, which are asked for by their places.
+pub trait StringList {
+    // The strings, the first one first.
+    ghost strings: { Self → List (List ℕ) };
+
+    /// Returns how many strings there are.
+    fn count(&self) -> usize
+        ensures { result ≡ length (strings self.now) };
+
+    /// Returns string `i`.
+    fn string(&self, i: usize) -> &[u8]
+        requires { i < length (strings self.now) }
+        ensures { result.now ≡ get_or (strings self.now) i [] };
+}
