@@ -43,11 +43,11 @@ key-of-a-row : key_members by_id (codes "NA" ∷ codes "Oslo" ∷ []) ≡ codes 
 unfolding listed json_string char_text encode_utf8 computing
 key-of-a-row = refl
 
-one-change : change_members by_id (codes "7" ∷ codes "NA" ∷ []) (codes "7" ∷ codes "Bergen" ∷ []) ≡ codes "\"city\":{\"left\":null,\"right\":\"Bergen\"}"
+one-change : change_members by_id (1 ∷ []) (codes "7" ∷ codes "NA" ∷ []) (codes "7" ∷ codes "Bergen" ∷ []) ≡ codes "\"city\":{\"left\":null,\"right\":\"Bergen\"}"
 unfolding listed json_cell json_string char_text encode_utf8 computing
 one-change = refl
 
-line-of-a-pair : pair_object by_id 4 6 (codes "4411" ∷ codes "Oslo" ∷ []) 6 8 (codes "4411" ∷ codes "Bergen" ∷ [])
+line-of-a-pair : pair_object by_id (1 ∷ []) 4 6 (codes "4411" ∷ codes "Oslo" ∷ []) 6 8 (codes "4411" ∷ codes "Bergen" ∷ [])
     ≡ codes "{\"kind\":\"changed\",\"key\":{\"id\":\"4411\"},\"left_row\":5,\"right_row\":7,\"left_line\":6,\"right_line\":8,\"changes\":{\"city\":{\"left\":\"Oslo\",\"right\":\"Bergen\"}}}\n"
 unfolding pair_object listed json_cell json_string char_text encode_utf8 computing digits
 line-of-a-pair = refl

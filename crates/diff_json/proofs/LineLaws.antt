@@ -14,7 +14,6 @@ use Rattle.diff_columns.specs.declared.error.Side.TheVariants.{Left, Right}
 use Rattle.diff_tables.specs.declared.compare.Comparison.{Comparison}
 use Rattle.diff_words.specs.Cells.{is_null}
 use Rattle.diff_report.specs.Naming.{Naming}
-use Rattle.diff_report.specs.Pairs.{columns_apart}
 use Rattle.diff_report.specs.Summary.{columns_counted}
 use Rattle.diff_json.specs.Cells.{json_cell}
 use Rattle.diff_json.specs.Changes.{change_member, change_members}
@@ -130,20 +129,19 @@ change_reads n left right column =
     (record { name = codes "left"; label = codes "\"left\""; text = json_cell n.null old; value = cell_value n.null old; named = refl; spelt = refl; reads = cell_reads n.null old })
     (record { name = codes "right"; label = codes "\"right\""; text = json_cell n.null new; value = cell_value n.null new; named = refl; spelt = refl; reads = cell_reads n.null new } ∷ [])
 
-changes_read : (n : Naming) (left right : List (List ℕ)) → Reads (123 ∷ change_members n left right ++ 125 ∷ []) (changes_value n left right)
-changes_read n left right =
-    let columns = columns_apart (length n.names) left right in
+changes_read : (n : Naming) (columns : List ℕ) (left right : List (List ℕ)) → Reads (123 ∷ change_members n columns left right ++ 125 ∷ []) (changes_value n columns left right)
+changes_read n columns left right =
     let text = λ (column : ℕ). cells_text (json_cell n.null (get_or left column [])) (json_cell n.null (get_or right column [])) in
     let same : map (member_text (λ column. get_or n.names column []) text) columns ≡ map (change_member n left right) columns =
     map_same (member_text (λ column. get_or n.names column []) text) (change_member n left right)
     (λ column. sym (change_text (json_string (get_or n.names column [])) (json_cell n.null (get_or left column [])) (json_cell n.null (get_or right column [])))) columns in
-    subst (λ ls. Reads (123 ∷ listed (codes ",") ls ++ 125 ∷ []) (changes_value n left right)) same
+    subst (λ ls. Reads (123 ∷ listed (codes ",") ls ++ 125 ∷ []) (changes_value n columns left right)) same
     (object_reads (λ column. get_or n.names column []) text (change_value n left right) (change_reads n left right) columns)
 
-changes_shallow : (n : Naming) (left right : List (List ℕ)) → depth (changes_value n left right) ≤ 2
-changes_shallow n left right =
+changes_shallow : (n : Naming) (columns : List ℕ) (left right : List (List ℕ)) → depth (changes_value n columns left right) ≤ 2
+changes_shallow n columns left right =
     let flat = depth_within (λ column. get_or n.names column []) (change_value n left right) 1
-    (λ column. omega (arith, cell_flat n.null (get_or left column []), cell_flat n.null (get_or right column []))) (columns_apart (length n.names) left right) in
+    (λ column. omega (arith, cell_flat n.null (get_or left column []), cell_flat n.null (get_or right column []))) columns in
     omega (arith, flat)
 
 pair_text : (K a b c d C : List ℕ)
@@ -264,12 +262,12 @@ counts_read a b c d e M columns low_a low_b low_c low_d low_e read_columns shall
 
 -- ---- the lines of a report
 
-pub pair_law : (n : Naming) (i left_line : ℕ) (left : List (List ℕ)) (j right_line : ℕ) (right : List (List ℕ)) → i + 1 < 2 ^ 64 → left_line < 2 ^ 64 → j + 1 < 2 ^ 64 → right_line < 2 ^ 64
-    → document (pair_object n i left_line left j right_line right) ≡ Some (pair_value n i left_line left j right_line right)
+pub pair_law : (n : Naming) (columns : List ℕ) (i left_line : ℕ) (left : List (List ℕ)) (j right_line : ℕ) (right : List (List ℕ)) → i + 1 < 2 ^ 64 → left_line < 2 ^ 64 → j + 1 < 2 ^ 64 → right_line < 2 ^ 64
+    → document (pair_object n columns i left_line left j right_line right) ≡ Some (pair_value n columns i left_line left j right_line right)
 unfolding pair_object
-pair_law n i left_line left j right_line right low_i low_left low_j low_right =
-    pair_reads (key_members n left) (change_members n left right) (key_value n left) (changes_value n left right) (i + 1) (j + 1) left_line right_line
-    (key_reads n left) (changes_read n left right) (key_shallow n left) (changes_shallow n left right) low_i low_j low_left low_right
+pair_law n columns i left_line left j right_line right low_i low_left low_j low_right =
+    pair_reads (key_members n left) (change_members n columns left right) (key_value n left) (changes_value n columns left right) (i + 1) (j + 1) left_line right_line
+    (key_reads n left) (changes_read n columns left right) (key_shallow n left) (changes_shallow n columns left right) low_i low_j low_left low_right
 
 row_law : (kind : List ℕ) → Reads (34 ∷ kind ++ 34 ∷ []) (string kind) → (n : Naming) (i line : ℕ) (cells : List (List ℕ)) → i + 1 < 2 ^ 64 → line < 2 ^ 64
     → document (row_object kind n i line cells) ≡ Some (row_value kind n i line cells)

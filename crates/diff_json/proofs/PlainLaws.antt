@@ -20,7 +20,6 @@ use Rattle.diff_words.specs.Cells.{is_null}
 use Rattle.diff_words.specs.Lists.{listed}
 use Rattle.diff_words.specs.Quoted.{is_control}
 use Rattle.diff_report.specs.Naming.{Naming}
-use Rattle.diff_report.specs.Pairs.{columns_apart}
 use Rattle.diff_report.specs.Summary.{columns_counted}
 use Rattle.diff_json.specs.Cells.{json_cell}
 use Rattle.diff_json.specs.Changes.{change_member, change_members}
@@ -154,8 +153,8 @@ numbered before n h e low = both (both h (tested before e)) (record { all = deci
 ended : {text : List ℕ} (end : List ℕ) → Plain text → list_all (λ b. not (is_control b)) end ≡ true → IsLine (text ++ (end ++ 10 ∷ []))
 ended {text = text} end h e = line_of text end h.all (plain_text end e)
 
-changes_plain : (n : Naming) (left right : List (List ℕ)) → IsPlain (change_members n left right)
-changes_plain n left right = list_plain (change_member n left right) each (columns_apart (length n.names) left right)
+changes_plain : (n : Naming) (columns : List ℕ) (left right : List (List ℕ)) → IsPlain (change_members n columns left right)
+changes_plain n columns left right = list_plain (change_member n left right) each columns
   where
     each : (column : ℕ) → IsPlain (change_member n left right column)
     each column =
@@ -167,8 +166,8 @@ changes_plain n left right = list_plain (change_member n left right) each (colum
 key_part : (n : Naming) (cells : List (List ℕ)) → Plain (key_members n cells)
 key_part n cells = record { all = key_plain n cells }
 
-changes_part : (n : Naming) (left right : List (List ℕ)) → Plain (change_members n left right)
-changes_part n left right = record { all = changes_plain n left right }
+changes_part : (n : Naming) (columns : List ℕ) (left right : List (List ℕ)) → Plain (change_members n columns left right)
+changes_part n columns left right = record { all = changes_plain n columns left right }
 
 columns_part : (n : Naming) (counts : List ℕ) → ((column : ℕ) → slice_index counts column < 2 ^ 64) → Plain (column_members n counts)
 columns_part n counts low = record {
@@ -177,14 +176,14 @@ columns_part n counts low = record {
       (one_plain 58 (decimal (slice_index counts column)) refl (decimal_plain (slice_index counts column) (low column)))) (columns_counted counts);
 }
 
-pub pair_line : (n : Naming) (i left_line : ℕ) (left : List (List ℕ)) (j right_line : ℕ) (right : List (List ℕ)) → i + 1 < 2 ^ 64 → left_line < 2 ^ 64 → j + 1 < 2 ^ 64 → right_line < 2 ^ 64
-    → IsLine (pair_object n i left_line left j right_line right)
+pub pair_line : (n : Naming) (columns : List ℕ) (i left_line : ℕ) (left : List (List ℕ)) (j right_line : ℕ) (right : List (List ℕ)) → i + 1 < 2 ^ 64 → left_line < 2 ^ 64 → j + 1 < 2 ^ 64 → right_line < 2 ^ 64
+    → IsLine (pair_object n columns i left_line left j right_line right)
 unfolding pair_object
-pair_line n i left_line left j right_line right low_i low_left low_j low_right =
+pair_line n columns i left_line left j right_line right low_i low_left low_j low_right =
     let key = both (tested (codes "{\"kind\":\"changed\",\"key\":{") refl) (key_part n left) in
     let rows = numbered (codes ",\"right_row\":") (j + 1) (numbered (codes "},\"left_row\":") (i + 1) key refl low_i) refl low_j in
     let lines = numbered (codes ",\"right_line\":") right_line (numbered (codes ",\"left_line\":") left_line rows refl low_left) refl low_right in
-    let changes = both (both lines (tested (codes ",\"changes\":{") refl)) (changes_part n left right) in
+    let changes = both (both lines (tested (codes ",\"changes\":{") refl)) (changes_part n columns left right) in
     ended (codes "}}") changes refl
 
 row_line : (kind : List ℕ) → Plain kind → (n : Naming) (i line : ℕ) (cells : List (List ℕ)) → i + 1 < 2 ^ 64 → line < 2 ^ 64 → IsLine (row_object kind n i line cells)

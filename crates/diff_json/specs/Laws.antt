@@ -10,7 +10,6 @@ use Rattle.diff_columns.specs.declared.error.Side.{Side}
 use Rattle.diff_tables.specs.declared.compare.Comparison.{Comparison}
 use Rattle.diff_words.specs.Cells.{is_null}
 use Rattle.diff_report.specs.Naming.{Naming}
-use Rattle.diff_report.specs.Pairs.{columns_apart}
 use Rattle.diff_report.specs.Summary.{columns_counted}
 use Rattle.diff_json.specs.Counts.{difference_count}
 
@@ -35,16 +34,16 @@ key_value n cells = object (members_of (λ column. get_or n.names column []) (λ
 abbrev pub change_value : Naming → List (List ℕ) → List (List ℕ) → ℕ → Json
 change_value n left right column = object (member (codes "left") (cell_value n.null (get_or left column [])) (member (codes "right") (cell_value n.null (get_or right column [])) no_members))
 
--- the columns in which two rows differ, with the cells in them
-abbrev pub changes_value : Naming → List (List ℕ) → List (List ℕ) → Json
-changes_value n left right = object (members_of (λ column. get_or n.names column []) (change_value n left right) (columns_apart (length n.names) left right))
+-- some columns, with the cells of two rows in them
+abbrev pub changes_value : Naming → List ℕ → List (List ℕ) → List (List ℕ) → Json
+changes_value n columns left right = object (members_of (λ column. get_or n.names column []) (change_value n left right) columns)
 
--- two rows that differ
-abbrev pub pair_value : Naming → ℕ → ℕ → List (List ℕ) → ℕ → ℕ → List (List ℕ) → Json
-pair_value n i left_line left j right_line right = object (member (codes "kind") (string (codes "changed")) (member (codes "key") (key_value n left)
+-- two rows that differ in some columns
+abbrev pub pair_value : Naming → List ℕ → ℕ → ℕ → List (List ℕ) → ℕ → ℕ → List (List ℕ) → Json
+pair_value n columns i left_line left j right_line right = object (member (codes "kind") (string (codes "changed")) (member (codes "key") (key_value n left)
     (member (codes "left_row") (number_value (i + 1)) (member (codes "right_row") (number_value (j + 1))
     (member (codes "left_line") (number_value left_line) (member (codes "right_line") (number_value right_line)
-    (member (codes "changes") (changes_value n left right) no_members)))))))
+    (member (codes "changes") (changes_value n columns left right) no_members)))))))
 
 -- a row that only one side has
 abbrev pub row_value : List ℕ → Naming → ℕ → ℕ → List (List ℕ) → Json

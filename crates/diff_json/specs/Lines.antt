@@ -6,24 +6,26 @@ use Rattle.std.specs.Fmt.{decimal}
 use Rattle.std.specs.Prelude.{ℕ, ◌+◌, List, ◌++◌, slice_index, codes}
 use Rattle.diff_keys.specs.declared.matching.Matching.{Matching}
 use Rattle.diff_report.specs.Naming.{Naming}
-use Rattle.diff_report.specs.Sides.{left_at, naming_of, right_at, row_of}
+use Rattle.diff_report.specs.Pairs.{columns_of}
+use Rattle.diff_report.specs.Sides.{naming_of, row_of}
 use Rattle.diff_report.specs.declared.sides.Side.{Side}
 use Rattle.diff_report.specs.declared.sides.Sides.{Sides}
 use Rattle.diff_json.specs.Changes.{change_members}
 use Rattle.diff_json.specs.Keys.{key_members}
 
--- the line of left row i and right row j, which differ
-unfoldable pub pair_object : Naming → ℕ → ℕ → List (List ℕ) → ℕ → ℕ → List (List ℕ) → List ℕ
-pair_object n i left_line left j right_line right = codes "{\"kind\":\"changed\",\"key\":{" ++ key_members n left ++ codes "},\"left_row\":" ++ decimal (i + 1)
+-- the line of left row i and right row j, which differ in some columns
+unfoldable pub pair_object : Naming → List ℕ → ℕ → ℕ → List (List ℕ) → ℕ → ℕ → List (List ℕ) → List ℕ
+pair_object n columns i left_line left j right_line right = codes "{\"kind\":\"changed\",\"key\":{" ++ key_members n left ++ codes "},\"left_row\":" ++ decimal (i + 1)
     ++ codes ",\"right_row\":" ++ decimal (j + 1) ++ codes ",\"left_line\":" ++ decimal left_line ++ codes ",\"right_line\":" ++ decimal right_line
-    ++ codes ",\"changes\":{" ++ change_members n left right ++ codes "}}\n"
+    ++ codes ",\"changes\":{" ++ change_members n columns left right ++ codes "}}\n"
+
+-- the line of left row i and right row j
+abbrev pub object_of : Sides → ℕ → ℕ → List ℕ
+object_of s i j = pair_object (naming_of s) (columns_of s i j) i (slice_index s.left.lines.items i) (row_of s.left i) j (slice_index s.right.lines.items j) (row_of s.right j)
 
 -- the line of the pair at place k of the matched rows
 unfoldable pub changed_object : Sides → Matching → ℕ → List ℕ
-changed_object s m k =
-    let i = slice_index m.left_rows.items k in
-    let j = slice_index m.right_rows.items k in
-    pair_object (naming_of s) i (slice_index s.left.lines.items i) (left_at s m k) j (slice_index s.right.lines.items j) (right_at s m k)
+changed_object s m k = object_of s (slice_index m.left_rows.items k) (slice_index m.right_rows.items k)
 
 -- the line of row i, which only one side has
 unfoldable pub row_object : List ℕ → Naming → ℕ → ℕ → List (List ℕ) → List ℕ

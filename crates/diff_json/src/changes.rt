@@ -2,7 +2,7 @@
 
 ghost use Rattle.std.specs.Prelude.{◌≡◌, ◌<◌, ◌+◌, ◌++◌, [], if◌then◌else◌, length, codes, IfOk, OnOk};
 ghost use Rattle.diff_words.specs.Lists.{gap};
-ghost use Rattle.diff_report.specs.Pairs.{differ_at};
+ghost use Rattle.diff_report.specs.Pairs.{columns_of, is_apart};
 ghost use Rattle.diff_report.specs.Sides.{AreSides, naming_of, row_of};
 ghost use Rattle.diff_json.specs.Changes.{change_member, change_members};
 
@@ -51,11 +51,11 @@ fn push_if_changed(
     requires right { j < length sides.now.right.table.rows }
     requires column { column < length (naming_of sides.now).names }
     requires room { written < usize.MAX }
-    ensures text { OnOk result (out.new.items ≡ out.old.items ++ (if differ_at (row_of sides.now.left i) (row_of sides.now.right j) column
+    ensures text { OnOk result (out.new.items ≡ out.old.items ++ (if is_apart sides.now i j column
         then gap (codes ",") written ++ change_member (naming_of sides.now) (row_of sides.now.left i) (row_of sides.now.right j) column else [])) }
-    ensures count { IfOk result (λ n. n ≡ written + (if differ_at (row_of sides.now.left i) (row_of sides.now.right j) column then 1 else 0)) }
+    ensures count { IfOk result (λ n. n ≡ written + (if is_apart sides.now i j column then 1 else 0)) }
 {
-    if sides.left.table.cell(i, column) == sides.right.table.cell(j, column) {
+    if sides.compared_left().cell(i, column) == sides.compared_right().cell(j, column) {
         return Ok(written);
     }
     push_gap(out, b",", written)?;
@@ -73,7 +73,7 @@ pub(crate) fn push_changes(
     requires sides { AreSides sides.now }
     requires left { i < length sides.now.left.table.rows }
     requires right { j < length sides.now.right.table.rows }
-    ensures { OnOk result (out.new.items ≡ out.old.items ++ change_members (naming_of sides.now) (row_of sides.now.left i) (row_of sides.now.right j)) }
+    ensures { OnOk result (out.new.items ≡ out.old.items ++ change_members (naming_of sides.now) (columns_of sides.now i j) (row_of sides.now.left i) (row_of sides.now.right j)) }
 {
     let mut written = 0;
     for column in 0..sides.left.table.width() {

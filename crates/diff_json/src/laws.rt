@@ -12,12 +12,13 @@ ghost use Rattle.diff_json.specs.Laws.{column_value, counts_value, pair_value, r
 ghost use Rattle.diff_json.specs.Lines.{pair_object, row_object};
 ghost use Rattle.diff_json.specs.Plain.{IsLine};
 
-/// Law: the line of two rows that differ is one line, which is read back as its members.
+/// Law: the line of two rows that differ in some columns is one line, which is read back as its
+/// members.
 pub fn law_pair()
-    ensures read { (n : Naming) (i left_line : ℕ) (left : List (List ℕ)) (j right_line : ℕ) (right : List (List ℕ)) → i + 1 < 2 ^ 64 → left_line < 2 ^ 64 → j + 1 < 2 ^ 64 → right_line < 2 ^ 64
-        → document (pair_object n i left_line left j right_line right) ≡ Some (pair_value n i left_line left j right_line right) }
-    ensures line { (n : Naming) (i left_line : ℕ) (left : List (List ℕ)) (j right_line : ℕ) (right : List (List ℕ)) → i + 1 < 2 ^ 64 → left_line < 2 ^ 64 → j + 1 < 2 ^ 64 → right_line < 2 ^ 64
-        → IsLine (pair_object n i left_line left j right_line right) }
+    ensures read { (n : Naming) (columns : List ℕ) (i left_line : ℕ) (left : List (List ℕ)) (j right_line : ℕ) (right : List (List ℕ)) → i + 1 < 2 ^ 64 → left_line < 2 ^ 64 → j + 1 < 2 ^ 64 → right_line < 2 ^ 64
+        → document (pair_object n columns i left_line left j right_line right) ≡ Some (pair_value n columns i left_line left j right_line right) }
+    ensures line { (n : Naming) (columns : List ℕ) (i left_line : ℕ) (left : List (List ℕ)) (j right_line : ℕ) (right : List (List ℕ)) → i + 1 < 2 ^ 64 → left_line < 2 ^ 64 → j + 1 < 2 ^ 64 → right_line < 2 ^ 64
+        → IsLine (pair_object n columns i left_line left j right_line right) }
 {}
 
 /// Law: the line of a row that only one side has is one line, which is read back as its members.

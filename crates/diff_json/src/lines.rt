@@ -1,9 +1,9 @@
 //! The lines of differences.
 
 ghost use Rattle.std.specs.List.{flat_map};
-ghost use Rattle.std.specs.Prelude.{◌≡◌, ◌<◌, ◌++◌, All, length, slice_index, take, OnOk};
-ghost use Rattle.diff_report.specs.Sides.{AreSides, IsSide, NamesRows, naming_of, row_of};
-ghost use Rattle.diff_json.specs.Lines.{changed_object, pair_object, side_object};
+ghost use Rattle.std.specs.Prelude.{◌≡◌, ◌<◌, ◌++◌, All, length, take, OnOk};
+ghost use Rattle.diff_report.specs.Sides.{AreSides, IsSide, NamesRows, naming_of};
+ghost use Rattle.diff_json.specs.Lines.{changed_object, object_of, side_object};
 
 use crate::changes::push_changes;
 use crate::keys::push_keys;
@@ -17,8 +17,7 @@ fn push_pair(out: &mut Vec<u8>, sides: &Sides, i: usize, j: usize) -> Result<(),
     requires sides { AreSides sides.now }
     requires left { i < length sides.now.left.table.rows }
     requires right { j < length sides.now.right.table.rows }
-    ensures { OnOk result (out.new.items ≡ out.old.items ++ pair_object (naming_of sides.now) i (slice_index sides.now.left.lines.items i) (row_of sides.now.left i)
-        j (slice_index sides.now.right.lines.items j) (row_of sides.now.right j)) }
+    ensures { OnOk result (out.new.items ≡ out.old.items ++ object_of sides.now i j) }
 {
     out.extend_from_slice(br#"{"kind":"changed","key":{"#)?;
     push_keys(out, sides, &sides.left, i)?;

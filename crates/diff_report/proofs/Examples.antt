@@ -31,7 +31,7 @@ row-by-number = refl
 one-apart : columns_apart 3 (codes "4411" ∷ codes "mon" ∷ codes "Oslo" ∷ []) (codes "4411" ∷ codes "mon" ∷ codes "Bergen" ∷ []) ≡ 2 ∷ []
 one-apart = refl
 
-line-of-pair : pair_line by_two 5 (codes "4411" ∷ codes "mon" ∷ codes "Oslo" ∷ []) (codes "4411" ∷ codes "mon" ∷ [] ∷ []) ≡ codes "~ id=4411,day=mon  city \"Oslo\" -> null\n"
+line-of-pair : pair_line by_two (2 ∷ []) 5 (codes "4411" ∷ codes "mon" ∷ codes "Oslo" ∷ []) (codes "4411" ∷ codes "mon" ∷ [] ∷ []) ≡ codes "~ id=4411,day=mon  city \"Oslo\" -> null\n"
 unfolding row_text listed word_text cell_text quoted byte_text painted color_text
 line-of-pair = refl
 

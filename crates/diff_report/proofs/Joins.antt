@@ -4,3 +4,9 @@ use Rattle.std.proofs.lemmas.List.{append_assoc}
 
 pub joined_three : (old a b c : List ℕ) → ((old ++ a) ++ b) ++ c ≡ old ++ ((a ++ b) ++ c)
 joined_three old a b c = simp append_assoc
+
+-- the seven parts of the line of a pair
+pub joined_pair : (old a b c d e f g first second third fourth fifth sixth last : List ℕ)
+    → first ≡ old ++ a → second ≡ first ++ b → third ≡ second ++ c → fourth ≡ third ++ d → fifth ≡ fourth ++ e → sixth ≡ fifth ++ f → last ≡ sixth ++ g
+    → last ≡ old ++ (((((a ++ (b ++ c)) ++ d) ++ e) ++ f) ++ g)
+joined_pair old a b c d e f g first second third fourth fifth sixth last p q r s t u v = rw (v, u, t, s, r, q, p) (simp append_assoc)

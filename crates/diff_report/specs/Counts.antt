@@ -4,13 +4,13 @@
 use Rattle.std.specs.List.{count_by, range_with_len}
 use Rattle.std.specs.Prelude.{◌≡◌, ◌<◌, ◌+◌, ℕ, Bool, if◌then◌else◌, List, length, map, slice_index}
 use Rattle.diff_keys.specs.declared.matching.Matching.{Matching}
-use Rattle.diff_report.specs.Pairs.{differ_at}
-use Rattle.diff_report.specs.Sides.{left_at, naming_of, right_at}
+use Rattle.diff_report.specs.Pairs.{is_apart}
+use Rattle.diff_report.specs.Sides.{naming_of}
 use Rattle.diff_report.specs.declared.sides.Sides.{Sides}
 
 -- how many of the pairs at these places differ in a column
 abbrev pub count_at : Sides → Matching → List ℕ → ℕ → ℕ
-count_at s m places column = count_by (λ k. differ_at (left_at s m k) (right_at s m k) column) places
+count_at s m places column = count_by (λ k. is_apart s (slice_index m.left_rows.items k) (slice_index m.right_rows.items k) column) places
 
 -- the same for each column
 abbrev pub column_counts : Sides → Matching → List ℕ → List ℕ

@@ -4,7 +4,7 @@
 -- - id=77  old.csv line 78
 -- In colours ~ id=4411 is yellow, the left cell and the line of id=77 are red, and the right cell is green.
 use Rattle.std.specs.Fmt.{decimal}
-use Rattle.std.specs.Prelude.{ℕ, ◌==◌, if◌then◌else◌, List, [], ◌∷◌, ◌++◌, length, map, slice_index, codes}
+use Rattle.std.specs.Prelude.{ℕ, ◌==◌, if◌then◌else◌, List, [], ◌∷◌, ◌++◌, map, slice_index, codes}
 use Rattle.diff_keys.specs.declared.matching.Matching.{Matching}
 use Rattle.diff_words.specs.Colors.{painted}
 use Rattle.diff_words.specs.Lists.{listed}
@@ -12,19 +12,23 @@ use Rattle.diff_words.specs.Words.{word_text}
 use Rattle.diff_words.specs.declared.colors.Color.{Color}
 use Rattle.diff_words.specs.declared.colors.Color.TheVariants.{Red, Green, Yellow}
 use Rattle.diff_report.specs.Naming.{Naming}
-use Rattle.diff_report.specs.Pairs.{change_text, columns_apart}
+use Rattle.diff_report.specs.Pairs.{change_text, columns_of}
 use Rattle.diff_report.specs.Rows.{row_text}
-use Rattle.diff_report.specs.Sides.{left_at, naming_of, right_at, row_of}
+use Rattle.diff_report.specs.Sides.{naming_of, row_of}
 use Rattle.diff_report.specs.declared.sides.Side.{Side}
 use Rattle.diff_report.specs.declared.sides.Sides.{Sides}
 
--- the line of two rows that differ: what left row i is named by, and each column that differs
-abbrev pub pair_line : Naming → ℕ → List (List ℕ) → List (List ℕ) → List ℕ
-pair_line n i left right = painted n.colored Yellow (codes "~ " ++ row_text n i left) ++ codes "  " ++ listed (codes ", ") (map (change_text n left right) (columns_apart (length n.names) left right)) ++ 10 ∷ []
+-- the line of two rows that differ in some columns: what left row i is named by, and each of these columns
+abbrev pub pair_line : Naming → List ℕ → ℕ → List (List ℕ) → List (List ℕ) → List ℕ
+pair_line n columns i left right = painted n.colored Yellow (codes "~ " ++ row_text n i left) ++ codes "  " ++ listed (codes ", ") (map (change_text n left right) columns) ++ 10 ∷ []
+
+-- the line of left row i and right row j
+abbrev pub line_of : Sides → ℕ → ℕ → List ℕ
+line_of s i j = pair_line (naming_of s) (columns_of s i j) i (row_of s.left i) (row_of s.right j)
 
 -- the line of the pair at place k of the matched rows
 unfoldable pub changed_line : Sides → Matching → ℕ → List ℕ
-changed_line s m k = pair_line (naming_of s) (slice_index m.left_rows.items k) (left_at s m k) (right_at s m k)
+changed_line s m k = line_of s (slice_index m.left_rows.items k) (slice_index m.right_rows.items k)
 
 -- the colour of a line with this mark: red behind a minus, and else green
 abbrev pub mark_color : ℕ → Color

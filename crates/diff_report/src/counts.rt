@@ -3,8 +3,8 @@
 ghost use Rattle.std.specs.Prelude.{◌≡◌, ◌<◌, ◌-◌, ◌^◌, All, length, IfOk};
 ghost use Rattle.diff_tables.specs.Comparison.{IsComparison};
 ghost use Rattle.diff_report.specs.Counts.{AddsWhere, column_counts};
-ghost use Rattle.diff_report.specs.Pairs.{differ_at};
-ghost use Rattle.diff_report.specs.Sides.{AreSides, NamesRows, naming_of, row_of};
+ghost use Rattle.diff_report.specs.Pairs.{is_apart};
+ghost use Rattle.diff_report.specs.Sides.{AreSides, NamesRows, compared_left, compared_right, naming_of};
 
 use crate::pairs::differ_at;
 use crate::sides::Sides;
@@ -18,7 +18,7 @@ fn count_pair(counts: &mut Vec<usize>, sides: &Sides, i: usize, j: usize)
     requires right { j < length sides.now.right.table.rows }
     requires columns { length counts.old.items ≡ length (naming_of sides.now).names }
     requires room { All (λ n. n < 2 ^ 64 - 1) counts.old.items }
-    ensures { AddsWhere (differ_at (row_of sides.now.left i) (row_of sides.now.right j)) counts.old.items counts.new.items }
+    ensures { AddsWhere (is_apart sides.now i j) counts.old.items counts.new.items }
 {
     for column in 0..counts.len() {
         counts[column] += usize::from(differ_at(sides, i, j, column));
@@ -52,7 +52,7 @@ pub fn count_by_column(
     comparison: &Comparison,
 ) -> Result<Vec<usize>, AllocError>
     requires sides { AreSides sides.now }
-    requires comparison { IsComparison sides.now.keys.items sides.now.left.table.rows sides.now.right.table.rows comparison.now }
+    requires comparison { IsComparison sides.now.keys.items (compared_left sides.now) (compared_right sides.now) comparison.now }
     ensures counts { IfOk result (λ counts. counts.items ≡ column_counts sides.now comparison.now.matching comparison.now.changed.items) }
     ensures as_many { IfOk result (λ counts. length counts.items ≡ length (naming_of sides.now).names) }
 {

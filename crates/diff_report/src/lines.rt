@@ -3,6 +3,7 @@
 ghost use Rattle.std.specs.List.{flat_map};
 ghost use Rattle.std.specs.Prelude.{◌≡◌, ◌<◌, ◌++◌, All, length, take, OnOk};
 ghost use Rattle.diff_report.specs.Lines.{changed_line, mark_color, pair_line, side_line, side_text};
+ghost use Rattle.diff_report.specs.Pairs.{columns_of};
 ghost use Rattle.diff_report.specs.Sides.{AreSides, IsSide, NamesRows, naming_of, row_of};
 
 use crate::pairs::push_changes;
@@ -20,7 +21,7 @@ fn push_pair_line(out: &mut Vec<u8>, sides: &Sides, i: usize, j: usize) -> Resul
     requires sides { AreSides sides.now }
     requires left { i < length sides.now.left.table.rows }
     requires right { j < length sides.now.right.table.rows }
-    ensures { OnOk result (out.new.items ≡ out.old.items ++ pair_line (naming_of sides.now) i (row_of sides.now.left i) (row_of sides.now.right j)) }
+    ensures { OnOk result (out.new.items ≡ out.old.items ++ pair_line (naming_of sides.now) (columns_of sides.now i j) i (row_of sides.now.left i) (row_of sides.now.right j)) }
 {
     push_color(out, sides.colored, Color::Yellow)?;
     out.extend_from_slice(b"~ ")?;

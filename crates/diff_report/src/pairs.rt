@@ -2,7 +2,7 @@
 
 ghost use Rattle.std.specs.Prelude.{◌≡◌, ◌<◌, ◌+◌, ◌++◌, [], if◌then◌else◌, length, map, codes, IfOk, OnOk};
 ghost use Rattle.diff_words.specs.Lists.{gap, listed};
-ghost use Rattle.diff_report.specs.Pairs.{change_text, columns_apart, differ_at};
+ghost use Rattle.diff_report.specs.Pairs.{change_text, columns_of, is_apart};
 ghost use Rattle.diff_report.specs.Sides.{AreSides, naming_of, row_of};
 
 use crate::sides::Sides;
@@ -13,15 +13,16 @@ use diff_words::words::push_word;
 use polars_arrays_flat::byte_rows::ByteRows;
 use std::alloc::AllocError;
 
-/// Returns whether left row `i` and right row `j` differ in a column.
+/// Returns whether left row `i` and right row `j` differ in a column, by what their cells are
+/// compared by.
 pub(crate) fn differ_at(sides: &Sides, i: usize, j: usize, column: usize) -> bool
     requires sides { AreSides sides.now }
     requires left { i < length sides.now.left.table.rows }
     requires right { j < length sides.now.right.table.rows }
     requires column { column < length (naming_of sides.now).names }
-    ensures { result ≡ differ_at (row_of sides.now.left i) (row_of sides.now.right j) column }
+    ensures { result ≡ is_apart sides.now i j column }
 {
-    sides.left.table.cell(i, column) != sides.right.table.cell(j, column)
+    sides.compared_left().cell(i, column) != sides.compared_right().cell(j, column)
 }
 
 /// Appends the name of a column, and the two cells in it.
@@ -63,9 +64,9 @@ fn push_if_changed(
     requires right { j < length sides.now.right.table.rows }
     requires column { column < length (naming_of sides.now).names }
     requires room { written < usize.MAX }
-    ensures text { OnOk result (out.new.items ≡ out.old.items ++ (if differ_at (row_of sides.now.left i) (row_of sides.now.right j) column
+    ensures text { OnOk result (out.new.items ≡ out.old.items ++ (if is_apart sides.now i j column
         then gap (codes ", ") written ++ change_text (naming_of sides.now) (row_of sides.now.left i) (row_of sides.now.right j) column else [])) }
-    ensures count { IfOk result (λ n. n ≡ written + (if differ_at (row_of sides.now.left i) (row_of sides.now.right j) column then 1 else 0)) }
+    ensures count { IfOk result (λ n. n ≡ written + (if is_apart sides.now i j column then 1 else 0)) }
 {
     if !differ_at(sides, i, j, column) {
         return Ok(written);
@@ -87,7 +88,7 @@ pub(crate) fn push_changes(
     requires right { j < length sides.now.right.table.rows }
     ensures { OnOk result (out.new.items ≡ out.old.items ++ listed (codes ", ")
         (map (change_text (naming_of sides.now) (row_of sides.now.left i) (row_of sides.now.right j))
-        (columns_apart (length (naming_of sides.now).names) (row_of sides.now.left i) (row_of sides.now.right j)))) }
+        (columns_of sides.now i j))) }
 {
     let mut written = 0;
     for column in 0..sides.left.table.width() {

@@ -4,7 +4,7 @@ ghost use Rattle.std.specs.List.{concat};
 ghost use Rattle.std.specs.Prelude.{◌≡◌, ◌++◌, length, take, OnOk};
 ghost use Rattle.diff_tables.specs.Comparison.{IsComparison};
 ghost use Rattle.diff_report.specs.Report.{difference_lines, report_text};
-ghost use Rattle.diff_report.specs.Sides.{AreSides, NamesRows, naming_of};
+ghost use Rattle.diff_report.specs.Sides.{AreSides, NamesRows, compared_left, compared_right, naming_of};
 
 use crate::lines::{push_changed_lines, push_side_lines};
 use crate::sides::Sides;
@@ -43,7 +43,7 @@ pub fn push_report(
     limit: usize,
 ) -> Result<(), AllocError>
     requires sides { AreSides sides.now }
-    requires comparison { IsComparison sides.now.keys.items sides.now.left.table.rows sides.now.right.table.rows comparison.now }
+    requires comparison { IsComparison sides.now.keys.items (compared_left sides.now) (compared_right sides.now) comparison.now }
     requires counts { length counts.now ≡ length (naming_of sides.now).names }
     ensures { OnOk result (out.new.items ≡ out.old.items ++ report_text sides.now comparison.now counts.now limit) }
 {

@@ -1,5 +1,8 @@
 //! Two tables, with what a report of them names.
 
+ghost use Rattle.std.specs.Prelude.{◌≡◌, length};
+ghost use Rattle.diff_report.specs.Sides.{AreSides, compared_left, compared_right, naming_of};
+
 use diff_tables::table::Table;
 use polars_arrays_bytes::binary::BinaryArray;
 
@@ -14,11 +17,20 @@ pub struct Side {
     pub lines: Vec<u64>,
 }
 
+/// Two tables of cells that stand for those of two others, place by place, where rows are compared.
+#[derive(Drop)]
+pub struct Comparables {
+    pub left: Table,
+    pub right: Table,
+}
+
 /// Two tables of the same columns.
 #[derive(Drop)]
 pub struct Sides {
     pub left: Side,
     pub right: Side,
+    /// What the cells are compared by, where they are not compared by themselves.
+    pub comparables: Option<Comparables>,
     /// The names of the columns.
     pub names: BinaryArray<i64>,
     /// The columns that name a row. Without one a row is named by its number.
@@ -27,4 +39,32 @@ pub struct Sides {
     pub null: Option<Vec<u8>>,
     /// Whether the report has colours for a terminal.
     pub colored: bool,
+}
+
+impl Sides {
+    /// Returns the table that the left rows are compared by.
+    pub fn compared_left(&self) -> &Table
+        requires { AreSides self.now }
+        ensures rows { result.now.rows ≡ compared_left self.now }
+        ensures count { length result.now.rows ≡ length self.now.left.table.rows }
+        ensures width { result.now.width ≡ length (naming_of self.now).names }
+    {
+        match &self.comparables {
+            Some(tables) => &tables.left,
+            None => &self.left.table,
+        }
+    }
+
+    /// Returns the table that the right rows are compared by.
+    pub fn compared_right(&self) -> &Table
+        requires { AreSides self.now }
+        ensures rows { result.now.rows ≡ compared_right self.now }
+        ensures count { length result.now.rows ≡ length self.now.right.table.rows }
+        ensures width { result.now.width ≡ length (naming_of self.now).names }
+    {
+        match &self.comparables {
+            Some(tables) => &tables.right,
+            None => &self.right.table,
+        }
+    }
 }

@@ -1,17 +1,22 @@
 -- Sides that are made of matched columns.
-use Rattle.std.proofs.Common.{◌≡◌, ◌∙◌, ◌<◌, ℕ, List, length, get_or, [], true, ap, sym, subst, refl}
+use Rattle.std.proofs.Common.{◌≡◌, ◌∙◌, ◌<◌, ℕ, List, length, get_or, [], true, Option, ap, sym, subst, refl}
 use Rattle.std.proofs.lemmas.List.{length-map}
-use Rattle.std.specs.Prelude.{All}
+use Rattle.std.specs.Prelude.{All, IfSome}
 use Rattle.polars_arrays_bytes.specs.OffsetStrings.{offset_strings}
 use Rattle.diff_columns.specs.Layout.{IsLayout}
 use Rattle.diff_columns.specs.LayoutLaws.{keys_within}
-use Rattle.diff_columns.specs.Names.{Names}
+use Rattle.diff_columns.specs.Names.{Names, names_of}
+use Rattle.diff_columns.specs.declared.error.Side.{Side}
 use Rattle.diff_columns.specs.declared.error.Side.TheVariants.{Left, Right}
 use Rattle.diff_columns.specs.declared.layout.Layout.{Layout}
 use Rattle.diff_csv.specs.Tables.{HasShape, IsTableOf}
-use Rattle.diff_report.specs.Sides.{AreSides}
+use Rattle.diff_csv.specs.declared.source.CsvTable.{CsvTable}
+use Rattle.diff_numbers.specs.Columns.{number_columns}
+use Rattle.diff_report.specs.Sides.{AreAsLarge, AreSides, compared_left, compared_right}
+use Rattle.diff_report.specs.declared.sides.Comparables.{Comparables}
 use Rattle.diff_report.specs.declared.sides.Sides.{Sides}
-use Rattle.diff_run.specs.Faults.{IsRowsFault, IsRunFault, IsSideFault}
+use Rattle.diff_run.specs.Comparables.{AreComparables, HasNamedColumns, HasWideNumber, IsComparedFault, table_on}
+use Rattle.diff_run.specs.Faults.{IsRowsFault, IsRunFault, IsSideFault, IsWideFault, rows_on}
 use Rattle.diff_run.specs.Heads.{AreHeadsOf, IsFrameOf}
 use Rattle.diff_run.specs.Inputs.{AreBothOf}
 use Rattle.diff_run.specs.Run.{AreSidesOf}
@@ -24,10 +29,11 @@ use Rattle.diff_run.specs.declared.sides.Frame.{Frame}
 use Rattle.diff_tables.specs.Keys.{cells_at}
 
 -- the sides that a frame and the rows of both inputs make
-abbrev pub made_of : Options → Frame → Both → Sides
-made_of options f b = record {
+abbrev pub made_of : Options → Frame → Both → Option Comparables → Sides
+made_of options f b by = record {
   left = record { name = f.left; table = b.left.table; lines = b.left.lines };
   right = record { name = f.right; table = b.right.table; lines = b.right.lines };
+  comparables = by;
   names = f.names;
   keys = f.keys;
   null = f.null;
@@ -39,10 +45,11 @@ pub length_names : (columns : List ℕ) (names : Names) → length (cells_at col
 length_names columns names = length-map columns (λ c. get_or names c [])
 
 -- sides of matched columns have these columns, and the keys are some of them
-pub sides_fit : (options : Options) (h : Heads) (left right : List ℕ) (f : Frame) (b : Both)
+pub sides_fit : (options : Options) (h : Heads) (left right : List ℕ) (f : Frame) (b : Both) (by : Option Comparables)
     → IsLayout (offset_strings (λ x. x) h.left_names) (offset_strings (λ x. x) h.right_names) options.choice h.layout → IsFrameOf options h left right f
-    → HasShape h.layout.left.items b.left → HasShape h.layout.right.items b.right → AreSides (made_of options f b)
-sides_fit options h left right f b laid frame l r = record {
+    → HasShape h.layout.left.items b.left → HasShape h.layout.right.items b.right → IfSome by (AreAsLarge b.left.table b.right.table) → AreSides (made_of options f b by)
+sides_fit options h left right f b by laid frame l r large = record {
+  comparables = large;
   left = record { width = l.width ∙ sym count; lines = l.lines };
   right = record { width = r.width ∙ (sym laid.same_names.one_length ∙ sym count); lines = r.lines };
   keys = subst (λ ks. All (λ column. column < length (offset_strings (λ x. x) f.names)) ks) (sym frame.keys)
@@ -53,10 +60,11 @@ sides_fit options h left right f b laid frame l r = record {
     count = ap length frame.column_names ∙ length_names h.layout.left.items (offset_strings (λ x. x) h.left_names)
 
 -- the sides of two texts, whose names are those of the columns that were matched
-pub sides_are : (options : Options) (left_text right_text left right : List ℕ) (h : Heads) (f : Frame) (b : Both) → AreHeadsOf options left_text right_text h
+pub sides_are : (options : Options) (left_text right_text left right : List ℕ) (h : Heads) (f : Frame) (b : Both) (by : Option Comparables) → AreHeadsOf options left_text right_text h
     → IsLayout (offset_strings (λ x. x) h.left_names) (offset_strings (λ x. x) h.right_names) options.choice h.layout → IsFrameOf options h left right f
-    → AreBothOf options left_text right_text h.layout b → AreSidesOf options left_text right_text left right h.layout (made_of options f b)
-sides_are options left_text right_text left right h f b heads laid frame both =
+    → AreBothOf options left_text right_text h.layout b → AreComparables options (offset_strings (λ x. x) f.names) b by
+    → AreSidesOf options left_text right_text left right h.layout (made_of options f b by)
+sides_are options left_text right_text left right h f b by heads laid frame both compared =
     let l = both.left in
     let r = both.right in
     let el = heads.left_names l.records l.all in
@@ -74,6 +82,8 @@ sides_are options left_text right_text left right h f b heads laid frame both =
       laid_out = rw (el, er) at laid;
       left = record { named = frame.left_named; width = l.table.width; rows = l.table.rows; lines = l.table.lines };
       right = record { named = frame.right_named; width = r.table.width; rows = r.table.rows; lines = r.table.lines };
+      left_compared = compared.left;
+      right_compared = compared.right;
       column_names = rw el at frame.column_names;
       keys = frame.keys;
       null = frame.null;
@@ -101,23 +111,76 @@ rows_fault options left_text right_text left right layout s (error.KeyTwice side
   twice = fault.1;
   asked = fault.0;
 }
+rows_fault options left_text right_text left right layout s (error.WideExponent side line name) sides fault = absurd fault
 rows_fault options left_text right_text left right layout s (error.Csv side cause) sides fault = absurd fault
 rows_fault options left_text right_text left right layout s (error.Columns cause) sides fault = absurd fault
 rows_fault options left_text right_text left right layout s (error.Write cause) sides fault = absurd fault
 
 -- a fault of a side is one of both
-pub left_fault : (options : Options) (s : Sides) (e : RunError) → options.unique ≡ true → IsSideFault s.left s.keys.items Left e → IsRowsFault options s e
+pub left_fault : (options : Options) (s : Sides) (e : RunError) → options.unique ≡ true → IsSideFault (compared_left s) s.keys.items Left e → IsRowsFault options s e
 left_fault options s error.Memory asked fault = fault
 left_fault options s error.TooManyRows asked fault = absurd fault
 left_fault options s (error.KeyTwice side first again) asked (is, twice) = (asked, rw is twice)
+left_fault options s (error.WideExponent side line name) asked fault = absurd fault
 left_fault options s (error.Csv side cause) asked fault = absurd fault
 left_fault options s (error.Columns cause) asked fault = absurd fault
 left_fault options s (error.Write cause) asked fault = absurd fault
 
-pub right_fault : (options : Options) (s : Sides) (e : RunError) → options.unique ≡ true → IsSideFault s.right s.keys.items Right e → IsRowsFault options s e
+pub right_fault : (options : Options) (s : Sides) (e : RunError) → options.unique ≡ true → IsSideFault (compared_right s) s.keys.items Right e → IsRowsFault options s e
 right_fault options s error.Memory asked fault = fault
 right_fault options s error.TooManyRows asked fault = absurd fault
 right_fault options s (error.KeyTwice side first again) asked (is, twice) = (asked, rw is twice)
+right_fault options s (error.WideExponent side line name) asked fault = absurd fault
 right_fault options s (error.Csv side cause) asked fault = absurd fault
 right_fault options s (error.Columns cause) asked fault = absurd fault
 right_fault options s (error.Write cause) asked fault = absurd fault
+
+-- inputs of matched columns have the columns that are named
+pub named_left : (options : Options) (h : Heads) (left right : List ℕ) (f : Frame) (t : CsvTable) → IsFrameOf options h left right f
+    → HasShape h.layout.left.items t → HasNamedColumns (offset_strings (λ x. x) f.names) t
+named_left options h left right f t frame shape = record {
+  width = shape.width ∙ sym (ap length frame.column_names ∙ length_names h.layout.left.items (offset_strings (λ x. x) h.left_names));
+  lines = shape.lines;
+}
+
+pub named_right : (options : Options) (h : Heads) (left right : List ℕ) (f : Frame) (t : CsvTable)
+    → IsLayout (offset_strings (λ x. x) h.left_names) (offset_strings (λ x. x) h.right_names) options.choice h.layout → IsFrameOf options h left right f
+    → HasShape h.layout.right.items t → HasNamedColumns (offset_strings (λ x. x) f.names) t
+named_right options h left right f t laid frame shape = record {
+  width = shape.width ∙ (sym laid.same_names.one_length ∙ sym (ap length frame.column_names ∙ length_names h.layout.left.items (offset_strings (λ x. x) h.left_names)));
+  lines = shape.lines;
+}
+
+-- the rows on a side are those that were read
+rows_read : (options : Options) (left_text right_text : List ℕ) (layout : Layout) (b : Both) (both : AreBothOf options left_text right_text layout b) (side : Side)
+    → (table_on side b).table.rows ≡ rows_on side options.csv.has_header layout both.left.records both.right.records
+rows_read options left_text right_text layout b both Left = both.left.table.rows
+rows_read options left_text right_text layout b both Right = both.right.table.rows
+
+-- a number that can't be compared is one of the two texts
+pub number_fault : (options : Options) (left_text right_text left right : List ℕ) (h : Heads) (f : Frame) (b : Both) (e : RunError) → AreHeadsOf options left_text right_text h
+    → IsLayout (offset_strings (λ x. x) h.left_names) (offset_strings (λ x. x) h.right_names) options.choice h.layout → IsFrameOf options h left right f
+    → AreBothOf options left_text right_text h.layout b → IsComparedFault options (offset_strings (λ x. x) f.names) b e → IsRunFault options left_text right_text e
+number_fault options left_text right_text left right h f b error.Memory heads laid frame both fault = tt
+number_fault options left_text right_text left right h f b (error.WideExponent side line name) heads laid frame both fault =
+    let el = heads.left_names both.left.records both.left.all in
+    let er = heads.right_names both.right.records both.right.all in
+    record {
+      left_records = both.left.records;
+      right_records = both.right.records;
+      left_all = both.left.all;
+      right_all = both.right.all;
+      layout = h.layout;
+      laid_out = rw (el, er) at laid;
+      texts = fault.texts;
+      asked = fault.asked;
+      names = offset_strings (λ x. x) f.names;
+      names_are = rw el at frame.column_names;
+      wide = subst (λ rows. HasWideNumber (number_columns (names_of fault.texts.now) (offset_strings (λ x. x) f.names)) (offset_strings (λ x. x) f.names) rows name.items)
+          (rows_read options left_text right_text h.layout b both side) fault.fault;
+    }
+number_fault options left_text right_text left right h f b error.TooManyRows heads laid frame both fault = absurd fault.fault
+number_fault options left_text right_text left right h f b (error.KeyTwice side first again) heads laid frame both fault = absurd fault.fault
+number_fault options left_text right_text left right h f b (error.Csv side cause) heads laid frame both fault = absurd fault.fault
+number_fault options left_text right_text left right h f b (error.Columns cause) heads laid frame both fault = absurd fault.fault
+number_fault options left_text right_text left right h f b (error.Write cause) heads laid frame both fault = absurd fault.fault

@@ -1,3 +1,4 @@
+pub mod Comparables
 pub mod Faults
 pub mod Heads
 pub mod Inputs

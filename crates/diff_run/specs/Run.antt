@@ -17,7 +17,9 @@ use Rattle.diff_json.specs.Report.{json_text}
 use Rattle.diff_keys.specs.Unique.{AllDiffer}
 use Rattle.diff_report.specs.Counts.{column_counts}
 use Rattle.diff_report.specs.Report.{report_text}
+use Rattle.diff_report.specs.Sides.{compared_left, compared_right}
 use Rattle.diff_report.specs.declared.sides.Sides.{Sides}
+use Rattle.diff_run.specs.Comparables.{rows_by}
 use Rattle.diff_run.specs.Inputs.{IsSideWith}
 use Rattle.diff_run.specs.Lone.{alone_lines}
 use Rattle.diff_run.specs.declared.options.Format.{Format}
@@ -53,9 +55,9 @@ differences_text Json sides comparison counts limit = json_text sides comparison
 
 -- no key comes twice on either side
 abbrev pub HaveUniqueKeys : Sides → Type 0
-HaveUniqueKeys sides = AllDiffer (row_keys sides.keys.items sides.left.table.rows) × AllDiffer (row_keys sides.keys.items sides.right.table.rows)
+HaveUniqueKeys sides = AllDiffer (row_keys sides.keys.items (compared_left sides)) × AllDiffer (row_keys sides.keys.items (compared_right sides))
 
--- the sides are the rows of two texts in the columns that are compared
+-- the sides are the rows of two texts in the columns that are compared, and what these rows are compared by
 pub record AreSidesOf (options : Options) (left_text right_text left_name right_name : List ℕ) (layout : Layout) (sides : Sides) : Type 0 where
   pub left_records : List (List (List ℕ))
   pub right_records : List (List (List ℕ))
@@ -69,6 +71,8 @@ pub record AreSidesOf (options : Options) (left_text right_text left_name right_
   pub laid_out : IsLayout (csv.names_of options.csv.has_header left_records) (csv.names_of options.csv.has_header right_records) options.choice layout
   pub left : IsSideWith options.csv.has_header left_records layout.left.items left_name sides.left
   pub right : IsSideWith options.csv.has_header right_records layout.right.items right_name sides.right
+  pub left_compared : compared_left sides ≡ rows_by options.numbers (offset_strings (λ x. x) sides.names) sides.left.table.rows
+  pub right_compared : compared_right sides ≡ rows_by options.numbers (offset_strings (λ x. x) sides.names) sides.right.table.rows
   pub column_names : offset_strings (λ x. x) sides.names ≡ cells_at layout.left.items (csv.names_of options.csv.has_header left_records)
   pub keys : sides.keys.items ≡ layout.keys.items
   pub null : option_map (λ v. v.items) sides.null ≡ option_map (λ v. v.now) options.null
@@ -80,7 +84,7 @@ pub record IsReportOf (options : Options) (left_text right_text left_name right_
   pub sides : Sides
   pub comparison : Comparison
   pub sides_are : AreSidesOf options left_text right_text left_name right_name layout sides
-  pub compared : IsComparison sides.keys.items sides.left.table.rows sides.right.table.rows comparison
+  pub compared : IsComparison sides.keys.items (compared_left sides) (compared_right sides) comparison
   pub unique : options.unique ≡ true → HaveUniqueKeys sides
   pub text : written ≡ columns_text options left_name right_name (csv.names_of options.csv.has_header sides_are.left_records) (csv.names_of options.csv.has_header sides_are.right_records) layout
       ++ differences_text options.format sides comparison (column_counts sides comparison.matching comparison.changed.items) options.limit

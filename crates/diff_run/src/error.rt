@@ -20,17 +20,36 @@ pub enum RunError {
     TooManyRows,
     /// An input can't be read as CSV.
     #[error("{cause}")]
-    Csv { side: Side, cause: CsvError },
+    Csv {
+        side: Side,
+        cause: CsvError,
+    },
     /// Two rows of a table have one key, where keys have to be unique. `first` and `again` are the
     /// lines at which they begin.
     #[error("the rows at lines {first} and {again} have one key")]
-    KeyTwice { side: Side, first: u64, again: u64 },
+    KeyTwice {
+        side: Side,
+        first: u64,
+        again: u64,
+    },
+    /// A number has an exponent of more than 30 digits, its leading zeros not counted, and is to be
+    /// compared by what it is worth. `line` is where its row begins, and `name` is that of its column.
+    #[error("the number at line {line} has an exponent of more than 30 digits")]
+    WideExponent {
+        side: Side,
+        line: u64,
+        name: Vec<u8>,
+    },
     /// The columns can't be matched.
     #[error("{cause}")]
-    Columns { cause: ColumnError },
+    Columns {
+        cause: ColumnError,
+    },
     /// A write failed. A beginning of the report may have been written.
     #[error("{cause}")]
-    Write { cause: io::Error },
+    Write {
+        cause: io::Error,
+    },
 }
 
 impl From<AllocError> for RunError {

@@ -19,6 +19,9 @@ pub struct Options<'a> {
     pub choice: Choice<'a>,
     /// How the inputs are read.
     pub csv: CsvOptions,
+    /// The columns that are compared as texts, where in all others numbers are compared by what they
+    /// are worth. Without it all cells are compared as texts.
+    pub numbers: Option<&'a [&'a [u8]]>,
     /// The cell that stands for no value, where there is one.
     pub null: Option<&'a [u8]>,
     /// The most differences that have a line of their own.

@@ -4,7 +4,7 @@ ghost use Rattle.std.specs.Prelude.{◌≡◌, ◌++◌, ℕ, List, IfOk, MatchR
 ghost use Rattle.polars_arrays_bytes.specs.OffsetStrings.{offset_strings};
 ghost use Rattle.diff_columns.specs.Layout.{IsLayout};
 ghost use Rattle.diff_report.specs.Counts.{column_counts};
-ghost use Rattle.diff_report.specs.Sides.{AreSides};
+ghost use Rattle.diff_report.specs.Sides.{AreSides, compared_left, compared_right};
 ghost use Rattle.diff_run.specs.Faults.{IsRowsFault, IsRunFault};
 ghost use Rattle.diff_run.specs.Heads.{AreHeadsOf};
 ghost use Rattle.diff_run.specs.Run.{AreSidesOf, HaveUniqueKeys, IsReportOf, columns_text, differences_text, outcome_of};
@@ -80,9 +80,10 @@ fn columns_text(
 /// Compares the rows of two sides.
 fn compared(alloc: Global, sides: &Sides) -> Result<Comparison, RunError>
     requires { AreSides sides.now }
-    ensures { MatchResult result (IsComparison sides.now.keys.items sides.now.left.table.rows sides.now.right.table.rows) (λ error. (options : Options) → IsRowsFault options sides.now error) }
+    ensures { MatchResult result (IsComparison sides.now.keys.items (compared_left sides.now) (compared_right sides.now)) (λ error. (options : Options) → IsRowsFault options sides.now error) }
 {
-    match compare_tables(alloc, &sides.left.table, &sides.right.table, &sides.keys) {
+    let (left, right) = (sides.compared_left(), sides.compared_right());
+    match compare_tables(alloc, left, right, &sides.keys) {
         Ok(comparison) => Ok(comparison),
         Err(MatchError::Memory) => Err(RunError::Memory),
         Err(MatchError::TooManyRows) => Err(RunError::TooManyRows),
@@ -98,7 +99,7 @@ fn push_all(
     options: &Options<'_>,
 ) -> Result<(), AllocError>
     requires sides { AreSides sides.now }
-    requires comparison { IsComparison sides.now.keys.items sides.now.left.table.rows sides.now.right.table.rows comparison.now }
+    requires comparison { IsComparison sides.now.keys.items (compared_left sides.now) (compared_right sides.now) comparison.now }
     ensures { IfOk result (λ _. out.new.items ≡ out.old.items ++ differences_text options.now.format sides.now comparison.now (column_counts sides.now comparison.now.matching comparison.now.changed.items) options.now.limit) }
 {
     let counts = count_by_column(alloc, sides, comparison)?;

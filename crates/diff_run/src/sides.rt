@@ -10,6 +10,7 @@ ghost use Rattle.diff_run.specs.Faults.{IsMemory, IsRunFault};
 ghost use Rattle.diff_run.specs.Heads.{AreHeadsOf, IsFrameOf};
 ghost use Rattle.diff_run.specs.Run.{AreSidesOf};
 
+use crate::comparables::compared_by;
 use crate::error::RunError;
 use crate::heads::Heads;
 use crate::inputs::{Both, read_both};
@@ -86,10 +87,11 @@ pub(crate) fn sides_of<L: Read + Drop, R: Read + Drop>(
     ensures sides { IfOk result AreSides }
     ensures texts { MatchResult result
         (λ sides. (left_text right_text : List ℕ) → IsOpen L.remaining options.now.csv left_text left → IsOpen R.remaining options.now.csv right_text right → AreHeadsOf options.now left_text right_text heads.now → AreSidesOf options.now left_text right_text files.entry.left.now files.entry.right.now heads.now.layout sides)
-        (λ error. (left_text right_text : List ℕ) → IsOpen L.remaining options.now.csv left_text left → IsOpen R.remaining options.now.csv right_text right → IsRunFault options.now left_text right_text error) }
+        (λ error. (left_text right_text : List ℕ) → IsOpen L.remaining options.now.csv left_text left → IsOpen R.remaining options.now.csv right_text right → AreHeadsOf options.now left_text right_text heads.now → IsRunFault options.now left_text right_text error) }
 {
     let frame = frame_of(alloc, heads, files, options)?;
     let both = read_both(alloc, left, right, &heads.layout)?;
+    let comparables = compared_by(alloc, &frame.names, &both, options)?;
     Ok(Sides {
         left: Side {
             name: frame.left,
@@ -101,6 +103,7 @@ pub(crate) fn sides_of<L: Read + Drop, R: Read + Drop>(
             table: both.right.table,
             lines: both.right.lines,
         },
+        comparables,
         names: frame.names,
         keys: frame.keys,
         null: frame.null,

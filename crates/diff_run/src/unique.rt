@@ -11,35 +11,44 @@ use crate::error::RunError;
 use crate::options::Options;
 use diff_columns::error::Side;
 use diff_keys::unique::Twice;
-use diff_report::sides::{Side as Table, Sides};
+use diff_report::sides::Sides;
 use diff_tables::compare::key_twice;
+use diff_tables::table::Table;
 use std::alloc::Global;
 
-/// Tests that no two rows of a table have one key.
-fn test_side(alloc: Global, table: &Table, keys: &[usize], side: Side) -> Result<(), RunError>
-    requires columns { All (λ c. c < table.now.table.width) keys.now }
-    requires lines { length table.now.lines.items ≡ length table.now.table.rows }
-    ensures { MatchResult result (λ _. AllDiffer (row_keys keys.now table.now.table.rows)) (IsSideFault table.now keys.now side) }
+/// Tests that no two rows of a table have one key. `lines` are those at which its rows begin.
+fn test_side(
+    alloc: Global,
+    table: &Table,
+    lines: &[u64],
+    keys: &[usize],
+    side: Side,
+) -> Result<(), RunError>
+    requires columns { All (λ c. c < table.now.width) keys.now }
+    requires lines { length lines.now ≡ length table.now.rows }
+    ensures { MatchResult result (λ _. AllDiffer (row_keys keys.now table.now.rows)) (IsSideFault table.now.rows keys.now side) }
 {
-    match key_twice(alloc, &table.table, keys) {
+    match key_twice(alloc, table, keys) {
         Ok(None) => Ok(()),
         Ok(Some(Twice { first, again })) => Err(RunError::KeyTwice {
             side,
-            first: table.lines[first],
-            again: table.lines[again],
+            first: lines[first],
+            again: lines[again],
         }),
         Err(_) => Err(RunError::Memory),
     }
 }
 
-/// Tests that no two rows of a side have one key, where keys have to be unique.
+/// Tests that no two rows of a side have one key, by what they are compared by, where keys have to
+/// be unique.
 pub(crate) fn test_keys(alloc: Global, sides: &Sides, options: &Options<'_>) -> Result<(), RunError>
     requires { AreSides sides.now }
     ensures { MatchResult result (λ _. options.now.unique ≡ true → HaveUniqueKeys sides.now) (IsRowsFault options.now sides.now) }
 {
     if options.unique {
-        test_side(alloc, &sides.left, &sides.keys, Side::Left)?;
-        test_side(alloc, &sides.right, &sides.keys, Side::Right)?;
+        let (left, right) = (sides.compared_left(), sides.compared_right());
+        test_side(alloc, left, &sides.left.lines, &sides.keys, Side::Left)?;
+        test_side(alloc, right, &sides.right.lines, &sides.keys, Side::Right)?;
     }
     Ok(())
 }

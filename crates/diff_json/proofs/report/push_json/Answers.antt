@@ -8,10 +8,10 @@ use Rattle.diff_json.specs.Report.{difference_objects, json_text}
 use Rattle.diff_json.proofs.report.push_json.Goals as goal
 
 pub push_lines-requires-clause-rows : goal.push_lines-requires-clause-rows
-push_lines-requires-clause-rows c = rows_named c.args.sides.now c.args.comparison.now c.requires.comparison
+push_lines-requires-clause-rows c = rows_named c.args.sides.now c.args.comparison.now c.requires.sides c.requires.comparison
 
 pub push_counts-requires-clause-few : goal.push_counts-requires-clause-few
-push_counts-requires-clause-few c = let named : NamesRows c.args.sides.now c.args.comparison.now = rows_named c.args.sides.now c.args.comparison.now c.requires.comparison in named.few
+push_counts-requires-clause-few c = let named : NamesRows c.args.sides.now c.args.comparison.now = rows_named c.args.sides.now c.args.comparison.now c.requires.sides c.requires.comparison in named.few
 
 pub returns : goal.returns
 unfolding json_text

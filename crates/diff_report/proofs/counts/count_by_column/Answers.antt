@@ -6,7 +6,7 @@ use Rattle.diff_report.proofs.NamedLemmas.{rows_named}
 use Rattle.diff_report.proofs.counts.count_by_column.Goals as goal
 
 pub counts_of-requires-clause-rows : goal.counts_of-requires-clause-rows
-counts_of-requires-clause-rows c = rows_named c.args.sides.now c.args.comparison.now c.requires.comparison
+counts_of-requires-clause-rows c = rows_named c.args.sides.now c.args.comparison.now c.requires.sides c.requires.comparison
 
 pub returns-clause-as_many : goal.returns-clause-as_many
 returns-clause-as_many c =

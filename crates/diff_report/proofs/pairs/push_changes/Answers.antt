@@ -3,7 +3,7 @@ use Rattle.std.proofs.lemmas.List.{append-nil}
 use Rattle.std.specs.Prelude.{codes}
 use Rattle.diff_words.specs.Lists.{listed}
 use Rattle.diff_words.proofs.ListLemmas.{kept_count, kept_within, kept_written}
-use Rattle.diff_report.specs.Pairs.{change_text, differ_at}
+use Rattle.diff_report.specs.Pairs.{change_text, is_apart}
 use Rattle.diff_report.specs.Sides.{naming_of, row_of}
 use Rattle.diff_report.proofs.pairs.push_changes.Goals as goal
 
@@ -12,24 +12,21 @@ unfolding listed
 loop-column-init c = record { text = sym (append-nil c.args.out.now.items); count = refl }
 
 pub push_if_changed-requires : goal.push_if_changed-requires
-push_if_changed-requires c =
-    let left = row_of c.args.sides.now.left c.args.i in
-    let right = row_of c.args.sides.now.right c.args.j in
-    record {
-      sides = c.requires.sides;
-      left = c.requires.left;
-      right = c.requires.right;
-      column = omega (arith, c.requires.sides.left.width);
-      room = omega (arith, kept_within (differ_at left right) c.loop-column.column, c.loop-column.invariant.count);
-    }
+push_if_changed-requires c = record {
+  sides = c.requires.sides;
+  left = c.requires.left;
+  right = c.requires.right;
+  column = omega (arith, c.requires.sides.left.width);
+  room = omega (arith, kept_within (is_apart c.args.sides.now c.args.i c.args.j) c.loop-column.column, c.loop-column.invariant.count);
+}
 
 pub loop-column-preserved : goal.loop-column-preserved
 loop-column-preserved c =
     let left = row_of c.args.sides.now.left c.args.i in
     let right = row_of c.args.sides.now.right c.args.j in
     record {
-      text = kept_written (codes ", ") (change_text (naming_of c.args.sides.now) left right) (differ_at left right) c.args.out.now.items _ _ c.loop-column.column _
+      text = kept_written (codes ", ") (change_text (naming_of c.args.sides.now) left right) (is_apart c.args.sides.now c.args.i c.args.j) c.args.out.now.items _ _ c.loop-column.column _
           c.loop-column.invariant.count c.loop-column.invariant.text c.in_ok-written.ensures.text;
       count = c.in_ok-written.ensures.count
-          ∙ (ap (λ n. n + cond (differ_at left right c.loop-column.column) 1 0) c.loop-column.invariant.count ∙ sym (kept_count (differ_at left right) c.loop-column.column));
+          ∙ (ap (λ n. n + cond (is_apart c.args.sides.now c.args.i c.args.j c.loop-column.column) 1 0) c.loop-column.invariant.count ∙ sym (kept_count (is_apart c.args.sides.now c.args.i c.args.j) c.loop-column.column));
     }

@@ -1,7 +1,8 @@
 use Rattle.std.proofs.Common.{◌≡◌, ◌++◌, length, map}
+use Rattle.std.specs.List.{filter, range_with_len}
 use Rattle.std.specs.Prelude.{codes}
 use Rattle.diff_words.specs.Lists.{listed}
-use Rattle.diff_report.specs.Pairs.{change_text, columns_apart}
+use Rattle.diff_report.specs.Pairs.{change_text, is_apart}
 use Rattle.diff_report.specs.Sides.{naming_of, row_of}
 use Rattle.diff_report.proofs.pairs.push_changes.Given as goal
 
@@ -9,7 +10,8 @@ abbrev pub invariant-loop-column : goal.invariant-loop-column
 invariant-loop-column l =
     let left = row_of l.sides.left l.i in
     let right = row_of l.sides.right l.j in
+    let apart = filter (is_apart l.sides l.i l.j) (range_with_len 0 l.column) in
     record {
-      text : l.out.items ≡ l.fn.out.items ++ listed (codes ", ") (map (change_text (naming_of l.sides) left right) (columns_apart l.column left right));
-      count : l.written ≡ length (columns_apart l.column left right);
+      text : l.out.items ≡ l.fn.out.items ++ listed (codes ", ") (map (change_text (naming_of l.sides) left right) apart);
+      count : l.written ≡ length apart;
     }

@@ -10,10 +10,10 @@ use Rattle.diff_report.proofs.NamedLemmas.{rows_named}
 use Rattle.diff_report.proofs.report.push_report.Goals as goal
 
 pub push_lines-requires-clause-rows : goal.push_lines-requires-clause-rows
-push_lines-requires-clause-rows c = rows_named c.args.sides.now c.args.comparison.now c.requires.comparison
+push_lines-requires-clause-rows c = rows_named c.args.sides.now c.args.comparison.now c.requires.sides c.requires.comparison
 
 pub push_summary-requires-clause-few : goal.push_summary-requires-clause-few
-push_summary-requires-clause-few c = let named : NamesRows c.args.sides.now c.args.comparison.now = rows_named c.args.sides.now c.args.comparison.now c.requires.comparison in named.few
+push_summary-requires-clause-few c = let named : NamesRows c.args.sides.now c.args.comparison.now = rows_named c.args.sides.now c.args.comparison.now c.requires.sides c.requires.comparison in named.few
 
 pub returns : goal.returns
 unfolding report_text

@@ -19,7 +19,10 @@ returns-in_err-heads g c =
 pub returns-in_err-sides : goal.returns-in_err-sides
 returns-in_err-sides g c =
     let p = err_from_is_err_and c.from_residual-in_err-sides.result c.from_residual-in_err-sides.ensures.1 in
-    rw (p.1, p.2) (λ left_text right_text el er. c.in_err-sides.ensures.texts left_text right_text (c.in_ok-left.ensures left_text el) (c.in_ok-right.ensures right_text er))
+    rw (p.1, p.2) (λ left_text right_text el er.
+    let left = c.in_ok-left.ensures left_text el in
+    let right = c.in_ok-right.ensures right_text er in
+    c.in_err-sides.ensures.texts left_text right_text left right (c.in_ok-heads.ensures.texts left_text right_text left right))
 
 pub returns-in_err-report : goal.returns-in_err-report
 returns-in_err-report g c =

@@ -1,0 +1,4 @@
+mod Examples
+pub mod AsciiLemmas
+pub mod CellLemmas
+pub mod RowLemmas

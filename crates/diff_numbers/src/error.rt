@@ -1,0 +1,34 @@
+//! Why a table has no table to compare by.
+
+ghost use Rattle.diff_numbers.specs.Errors.{IsMemory};
+
+use polars_arrays_bits::error::ComputeError;
+use std::alloc::AllocError;
+use thiserror::Error;
+
+/// The reason why a table has no table to compare by.
+#[derive(Clone, Copy, Debug, Drop, Error, PartialEq, Eq)]
+pub enum ComparableError {
+    /// An allocation failed.
+    #[error("out of memory")]
+    Memory,
+    /// A cell is a number whose exponent has more than 30 digits, its leading zeros not counted.
+    #[error("the number in row {row}, column {column} has an exponent of more than 30 digits")]
+    WideExponent { row: usize, column: usize },
+}
+
+impl From<AllocError> for ComparableError {
+    ghost from_gives = { λ _ r. IsMemory r };
+
+    fn from(_failed: AllocError) -> ComparableError {
+        ComparableError::Memory
+    }
+}
+
+impl From<ComputeError> for ComparableError {
+    ghost from_gives = { λ _ r. IsMemory r };
+
+    fn from(_failed: ComputeError) -> ComparableError {
+        ComparableError::Memory
+    }
+}

@@ -1,0 +1,50 @@
+//! Tables of what cells are compared by.
+
+ghost use Rattle.std.specs.List.{flat_map};
+ghost use Rattle.std.specs.Prelude.{◌≡◌, length, MatchResult};
+ghost use Rattle.diff_numbers.specs.Errors.{IsCellFault};
+ghost use Rattle.diff_numbers.specs.Rows.{IsComparableTable, comparable_row};
+ghost use Rattle.diff_tables.specs.Strings.{AreStrings};
+
+use crate::error::ComparableError;
+use crate::rows::push_row;
+use diff_tables::strings::Strings;
+use diff_tables::table::Table;
+use std::alloc::Global;
+
+/// Returns what all cells of a table are compared by, one row's cells after another's.
+fn comparable_cells(
+    alloc: Global,
+    table: &Table,
+    numeric: &[bool],
+) -> Result<Strings, ComparableError>
+    requires { length numeric.now ≡ table.now.width }
+    ensures { MatchResult result (λ cells. AreStrings cells (flat_map (comparable_row numeric.now) table.now.rows)) (IsCellFault numeric.now table.now.rows) }
+{
+    let mut cells = Strings::new(alloc)?;
+    let mut room = Vec::new(alloc);
+    for row in 0..table.count() {
+        push_row(&mut cells, &mut room, table, row, numeric)?;
+    }
+    Ok(cells)
+}
+
+/// Returns the table that a table is compared by: of each row what its cells are compared by, where
+/// `numeric` says for each column whether numbers count.
+///
+/// Fails where a number that counts has an exponent of more than 30 digits, and else for want of
+/// memory alone.
+pub fn comparable_table(
+    alloc: Global,
+    table: &Table,
+    numeric: &[bool],
+) -> Result<Table, ComparableError>
+    requires { length numeric.now ≡ table.now.width }
+    ensures { MatchResult result (IsComparableTable numeric.now table.now) (IsCellFault numeric.now table.now.rows) }
+{
+    let cells = comparable_cells(alloc, table, numeric)?;
+    match Table::new(alloc, table.width(), table.count(), cells) {
+        Ok(made) => Ok(made),
+        Err(_) => Err(ComparableError::Memory),
+    }
+}
