@@ -6,6 +6,7 @@ use Rattle.std.proofs.Math.Seq.{get_or-append_seam}
 use Rattle.diff_tables.specs.Tables.{TableRows}
 use Rattle.document_rows.specs.Documents.{IsDocument, cell_of, document_row, key_cells, tree_of}
 use Rattle.document_rows.specs.Tables.{HoldsDocuments, line_at}
+use Rattle.document_rows.specs.declared.reading.Reading.{Reading}
 use Rattle.json_paths.specs.Paths.{Path, part_at}
 
 -- the last cell of a document's row is its line
@@ -16,22 +17,23 @@ last_cell keys line n e =
     ap (λ k. get_or (parts ++ line ∷ []) k []) size ∙ get_or-append_seam parts line [] []
 
 -- the line of each row of a table of documents is a document
-pub document_at : (t : TableRows) (i : ℕ) → HoldsDocuments t → i < length t.rows → (keys : List Path) × IsDocument keys (line_at t i)
+pub document_at : (t : TableRows) (i : ℕ) → HoldsDocuments t → i < length t.rows → (reading : Reading) × (keys : List Path) × IsDocument reading keys (line_at t i)
 document_at t i h within =
-    let keys = h.0 in
-    let lines = h.1 in
-    let rows = h.2 in
+    let reading = h.0 in
+    let keys = h.1 in
+    let lines = h.2 in
+    let rows = h.3 in
     let count : length t.rows ≡ length lines = ap length rows.rows ∙ length-map lines (document_row keys) in
     let inside : i < length lines = omega (arith, within, count) in
     let row : get_or t.rows i [] ≡ document_row keys (get_or lines i []) = ap (λ l. get_or l i []) rows.rows ∙ get_or-map (document_row keys) lines i [] [] inside in
     let place : t.width - 1 ≡ length keys = omega (arith, rows.width) in
     let line : line_at t i ≡ get_or lines i [] = ap (λ r. get_or r (t.width - 1) []) row ∙ last_cell keys (get_or lines i []) (t.width - 1) place in
-    (keys, subst (IsDocument keys) (sym line) (All-get_or (IsDocument keys) lines i [] inside rows.documents))
+    (reading, keys, subst (IsDocument reading keys) (sym line) (All-get_or (IsDocument reading keys) lines i [] inside rows.documents))
 
 -- so is the cell behind those of the keys
-pub document_in : (t : TableRows) (i n : ℕ) (cell : List ℕ) → HoldsDocuments t → i < length t.rows → t.width ≡ suc n → cell ≡ get_or (get_or t.rows i []) n [] → (keys : List Path) × IsDocument keys cell
+pub document_in : (t : TableRows) (i n : ℕ) (cell : List ℕ) → HoldsDocuments t → i < length t.rows → t.width ≡ suc n → cell ≡ get_or (get_or t.rows i []) n [] → (reading : Reading) × (keys : List Path) × IsDocument reading keys cell
 document_in t i n cell h within width read =
     let place : n ≡ t.width - 1 = omega (arith, width) in
     let same : cell ≡ line_at t i = read ∙ ap (λ k. get_or (get_or t.rows i []) k []) place in
     let found = document_at t i h within in
-    (found.0, subst (IsDocument found.0) (sym same) found.1)
+    (found.0, found.1, subst (IsDocument found.0 found.1) (sym same) found.2)

@@ -3,15 +3,16 @@
 ghost use Rattle.std.specs.Prelude.{◌≡◌, ◌<◌, ℕ, List, length, map, IfOk};
 ghost use Rattle.document_words.specs.Sides.{AreDocumentSides};
 ghost use Rattle.document_rows.specs.Documents.{IsDocument, tree_of};
+ghost use Rattle.document_rows.specs.declared.reading.Reading.{Reading};
 ghost use Rattle.document_report.specs.Documents.{HoldDocuments, IsTree, changes_at, changes_between};
 ghost use Rattle.json.specs.Value.{value_view};
-ghost use Rattle.json_changes.specs.Differences.{differences};
-ghost use Rattle.json_changes.specs.Texts.{change_view, told};
+ghost use Rattle.json_changes.specs.Rules.{differences_told};
+ghost use Rattle.json_changes.specs.Texts.{change_view, rules_view, told};
 ghost use Rattle.json_paths.specs.Paths.{Path};
 
 use document_words::sides::DocumentSides;
 use json::{Error, Scratch, Value};
-use json_changes::changes::{Change, changes_of};
+use json_changes::changes::{Change, Rules, changes_under};
 use json_decimals::error::NumberError;
 use std::alloc::{AllocError, Global};
 
@@ -21,7 +22,7 @@ fn read_tree<'a>(
     line: &'a [u8],
     scratch: &'a mut Scratch,
 ) -> Result<Value<'a>, AllocError>
-    requires { (keys : List Path) × IsDocument keys line.now }
+    requires { (reading : Reading) × (keys : List Path) × IsDocument reading keys line.now }
     ensures tree { IfOk result (λ v. value_view v ≡ tree_of line.now) }
     ensures document { IfOk result (λ v. IsTree (value_view v)) }
 {
@@ -32,38 +33,52 @@ fn read_tree<'a>(
     }
 }
 
-/// Lists what differs between two trees of documents. The one error is that memory is short.
-fn changes_in(alloc: Global, left: &Value<'_>, right: &Value<'_>) -> Result<Vec<Change>, AllocError>
+/// Lists the differences between two trees of documents that rules tell. The one error is that
+/// memory is short.
+fn changes_in(
+    alloc: Global,
+    left: &Value<'_>,
+    right: &Value<'_>,
+    rules: &Rules,
+) -> Result<Vec<Change>, AllocError>
     requires left { IsTree (value_view left.now) }
     requires right { IsTree (value_view right.now) }
-    ensures { IfOk result (λ v. map change_view v.items ≡ map told (differences (value_view left.now) (value_view right.now))) }
+    ensures { IfOk result (λ v. map change_view v.items ≡ map told (differences_told
+        (rules_view rules.now) (value_view left.now) (value_view right.now))) }
 {
-    match changes_of(alloc, left, right) {
+    match changes_under(alloc, left, right, rules) {
         Ok(changes) => Ok(changes),
         Err(NumberError::Memory) => Err(AllocError),
         Err(NumberError::WideExponent) => unreachable!(),
     }
 }
 
-/// Lists what differs between two documents. The one error is that memory is short.
-fn changes_between(alloc: Global, left: &[u8], right: &[u8]) -> Result<Vec<Change>, AllocError>
-    requires left { (keys : List Path) × IsDocument keys left.now }
-    requires right { (keys : List Path) × IsDocument keys right.now }
-    ensures { IfOk result (λ v. map change_view v.items ≡ changes_between left.now right.now) }
+/// Lists the differences between two documents that rules tell. The one error is that memory is
+/// short.
+fn changes_between(
+    alloc: Global,
+    left: &[u8],
+    right: &[u8],
+    rules: &Rules,
+) -> Result<Vec<Change>, AllocError>
+    requires left { (reading : Reading) × (keys : List Path) × IsDocument reading keys left.now }
+    requires right { (reading : Reading) × (keys : List Path) × IsDocument reading keys right.now }
+    ensures { IfOk result (λ v. map change_view v.items
+        ≡ changes_between (rules_view rules.now) left.now right.now) }
 {
     let mut left_scratch = Scratch::new(alloc);
     let mut right_scratch = Scratch::new(alloc);
     let left = read_tree(alloc, left, &mut left_scratch)?;
     let right = read_tree(alloc, right, &mut right_scratch)?;
-    let changes = changes_in(alloc, &left, &right)?;
+    let changes = changes_in(alloc, &left, &right, rules)?;
     Ok(changes)
 }
 
-/// Lists what differs between the documents of left row `i` and right row `j`. The one error is
-/// that memory is short.
+/// Lists the differences between the documents of left row `i` and right row `j` that are told. The
+/// one error is that memory is short.
 pub(crate) fn changes_at(
     alloc: Global,
-    sides: &DocumentSides,
+    sides: &DocumentSides<'_>,
     i: usize,
     j: usize,
 ) -> Result<Vec<Change>, AllocError>
@@ -76,6 +91,6 @@ pub(crate) fn changes_at(
     let place = sides.keys.len();
     let left = sides.left.table.cell(i, place);
     let right = sides.right.table.cell(j, place);
-    let changes = changes_between(alloc, left, right)?;
+    let changes = changes_between(alloc, left, right, sides.rules)?;
     Ok(changes)
 }

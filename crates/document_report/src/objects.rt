@@ -18,7 +18,7 @@ use std::alloc::{AllocError, Global};
 fn push_objects(
     alloc: Global,
     out: &mut Vec<u8>,
-    sides: &DocumentSides,
+    sides: &DocumentSides<'_>,
     matching: &Matching,
     changed: &[usize],
     limit: usize,
@@ -42,7 +42,7 @@ fn push_objects(
 pub fn push_document_json(
     alloc: Global,
     out: &mut Vec<u8>,
-    sides: &DocumentSides,
+    sides: &DocumentSides<'_>,
     matching: &Matching,
     changed: &[usize],
     limit: usize,

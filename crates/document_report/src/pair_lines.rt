@@ -33,7 +33,7 @@ fn push_changes(out: &mut Vec<u8>, colored: bool, changes: &[Change]) -> Result<
 fn push_differences(
     alloc: Global,
     out: &mut Vec<u8>,
-    sides: &DocumentSides,
+    sides: &DocumentSides<'_>,
     i: usize,
     j: usize,
 ) -> Result<(), AllocError>
@@ -53,7 +53,7 @@ fn push_differences(
 fn push_pair_line(
     alloc: Global,
     out: &mut Vec<u8>,
-    sides: &DocumentSides,
+    sides: &DocumentSides<'_>,
     i: usize,
     j: usize,
 ) -> Result<(), AllocError>
@@ -77,7 +77,7 @@ fn push_pair_line(
 pub(crate) fn push_changed_lines(
     alloc: Global,
     out: &mut Vec<u8>,
-    sides: &DocumentSides,
+    sides: &DocumentSides<'_>,
     matching: &Matching,
     changed: &[usize],
     limit: usize,

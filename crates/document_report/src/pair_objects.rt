@@ -33,7 +33,7 @@ fn push_changes(out: &mut Vec<u8>, changes: &[Change]) -> Result<(), AllocError>
 fn push_differences(
     alloc: Global,
     out: &mut Vec<u8>,
-    sides: &DocumentSides,
+    sides: &DocumentSides<'_>,
     i: usize,
     j: usize,
 ) -> Result<(), AllocError>
@@ -53,7 +53,7 @@ fn push_differences(
 fn push_pair_object(
     alloc: Global,
     out: &mut Vec<u8>,
-    sides: &DocumentSides,
+    sides: &DocumentSides<'_>,
     i: usize,
     j: usize,
 ) -> Result<(), AllocError>
@@ -79,7 +79,7 @@ fn push_pair_object(
 pub(crate) fn push_changed_objects(
     alloc: Global,
     out: &mut Vec<u8>,
-    sides: &DocumentSides,
+    sides: &DocumentSides<'_>,
     matching: &Matching,
     changed: &[usize],
     limit: usize,

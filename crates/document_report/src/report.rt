@@ -18,7 +18,7 @@ use std::alloc::{AllocError, Global};
 fn push_lines(
     alloc: Global,
     out: &mut Vec<u8>,
-    sides: &DocumentSides,
+    sides: &DocumentSides<'_>,
     matching: &Matching,
     changed: &[usize],
     limit: usize,
@@ -42,7 +42,7 @@ fn push_lines(
 pub fn push_document_report(
     alloc: Global,
     out: &mut Vec<u8>,
-    sides: &DocumentSides,
+    sides: &DocumentSides<'_>,
     matching: &Matching,
     changed: &[usize],
     limit: usize,

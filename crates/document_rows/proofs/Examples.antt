@@ -27,8 +27,8 @@ nothing = refl
 abbrev order : Json
 order = object (member (codes "order") (object (member (codes "id") (string (codes "A")) no_members)) no_members)
 
--- order.id, and what is not there
-cells : key_cells ((name (codes "order") ∷ name (codes "id") ∷ []) ∷ (name (codes "n") ∷ []) ∷ []) order ≡ codes "\"A\"" ∷ [] ∷ []
+-- order.id, and a part that is not there
+cells : key_cells ((name (codes "order") ∷ name (codes "id") ∷ []) ∷ (name (codes "n") ∷ []) ∷ []) order ≡ codes "\"A\"" ∷ codes "null" ∷ []
 unfolding print_from escape_byte
 cells = refl
 

@@ -1,6 +1,8 @@
-mod DocumentLemmas
+pub mod DocumentLemmas
 mod Examples
+mod KnownLemmas
 mod LineLemmas
+mod NarrowLemmas
 mod PairLemmas
 mod PartLemmas
 mod RowLemmas

@@ -1,9 +1,9 @@
--- Pairs of rows whose documents are not the same, as they are listed.
-use Rattle.std.proofs.Common.{◌≡◌, ◌<◌, ◌≤◌, ◌+◌, ◌-◌, ◌∙◌, ℕ, zero, suc, List, [], ◌∷◌, ◌++◌, length, refl, sym, arith, subst, ◌⊎◌, inl, inr}
+-- Pairs of rows between whose documents a difference is told, as they are listed.
+use Rattle.std.proofs.Common.{◌≡◌, ◌<◌, ◌≤◌, ◌+◌, ◌-◌, ◌∙◌, ℕ, zero, suc, List, [], ◌∷◌, ◌++◌, length, refl, ap, sym, arith, subst, ◌⊎◌, inl, inr}
 use Rattle.std.proofs.lemmas.Bool.{cases_lt}
 use Rattle.std.proofs.lemmas.List.{get_or_default}
 use Rattle.std.proofs.lemmas.List.Elements.{Contains-get_or}
-use Rattle.std.specs.List.{Contains}
+use Rattle.std.specs.List.{Contains, filter}
 use Rattle.std.specs.Prelude.{slice_index}
 use Rattle.diff_keys.specs.Rising.{ListsRising}
 use Rattle.diff_keys.specs.RisingLaws.{none_listed, one_listed, one_passed}
@@ -11,10 +11,13 @@ use Rattle.diff_tables.specs.Comparison.{IsComparison, IsDifferent}
 use Rattle.diff_tables.proofs.CompareLemmas.{pairs_within}
 use Rattle.diff_tables.specs.Tables.{TableRows}
 use Rattle.diff_tables.specs.declared.compare.Comparison.{Comparison}
-use Rattle.json_normal.specs.Same.{AreSame}
-use Rattle.document_rows.specs.Documents.{tree_of}
+use Rattle.json_changes.proofs.SameLemmas.{none_values}
+use Rattle.json_changes.specs.Rules.{Rules, differences_told, is_told}
+use Rattle.json_paths.specs.Paths.{Path}
+use Rattle.document_rows.specs.Documents.{IsDocument, tree_of}
 use Rattle.document_rows.specs.Tables.{HoldsDocuments, IsOtherDocument, line_at}
-use Rattle.document_rows.proofs.DocumentLemmas.{row_of, same_line, same_tree}
+use Rattle.document_rows.specs.declared.reading.Reading.{Reading}
+use Rattle.document_rows.proofs.DocumentLemmas.{row_of, same_line, same_tree, tree_unique}
 
 -- rising numbers rise from each to each later one
 rising_to : (rows : List ℕ) → ((k : ℕ) → suc k < length rows → slice_index rows k < slice_index rows (suc k))
@@ -173,17 +176,21 @@ pub changed_named : (columns : List ℕ) (left right : TableRows) (c : Compariso
 changed_named columns left right c h i inside =
     named columns left right c h (slice_index c.changed.items i) (((h.changed.all (slice_index c.changed.items i)).0 (Contains-get_or c.changed.items i 0 inside)).0)
 
--- documents that are not the same stand in rows that differ
-pub kinds_of : (columns : List ℕ) (left right : TableRows) (c : Comparison) → HoldsDocuments left → HoldsDocuments right → IsComparison columns left.rows right.rows c
-    → AreKinds (IsDifferent left.rows right.rows c.matching.left_rows.items c.matching.right_rows.items) (IsOtherDocument left right c.matching.left_rows.items c.matching.right_rows.items)
+-- nothing is told between a document and itself
+none_told : (rules : Rules) (reading : Reading) (keys : List Path) (line : List ℕ) → IsDocument reading keys line → differences_told rules (tree_of line) (tree_of line) ≡ []
+none_told rules reading keys line d = ap (filter (is_told rules)) (none_values (tree_of line) (tree_of line) (tree_unique reading keys line d) (same_tree reading keys line d))
+
+-- documents between which a difference is told stand in rows that differ
+pub kinds_of : (rules : Rules) (columns : List ℕ) (left right : TableRows) (c : Comparison) → HoldsDocuments left → HoldsDocuments right → IsComparison columns left.rows right.rows c
+    → AreKinds (IsDifferent left.rows right.rows c.matching.left_rows.items c.matching.right_rows.items) (IsOtherDocument rules left right c.matching.left_rows.items c.matching.right_rows.items)
     (length c.matching.left_rows.items) c.changed.items
-kinds_of columns left right c from_left from_right h = record {
+kinds_of rules columns left right c from_left from_right h = record {
   listed = h.changed;
   differ = λ k inside other same.
       let rows = named columns left right c h k inside in
       let l = row_of left from_left (slice_index c.matching.left_rows.items k) rows.left_row in
       let r = row_of right from_right (slice_index c.matching.right_rows.items k) rows.right_row in
       let line = same_line left right (slice_index c.matching.left_rows.items k) (slice_index c.matching.right_rows.items k) l r same in
-      other (subst (λ t. AreSame (tree_of (line_at left (slice_index c.matching.left_rows.items k))) (tree_of t)) line
-      (same_tree l.keys (line_at left (slice_index c.matching.left_rows.items k)) l.document));
+      other (subst (λ t. differences_told rules (tree_of (line_at left (slice_index c.matching.left_rows.items k))) (tree_of t) ≡ []) line
+      (none_told rules l.reading l.keys (line_at left (slice_index c.matching.left_rows.items k)) l.document));
 }

@@ -5,18 +5,20 @@ use Rattle.std.proofs.lemmas.Bool.{cases_lt}
 use Rattle.std.proofs.lemmas.List.{append_assoc, append-nil, flat_map_more, get_or-map, get_or_append_left, get_or_push, length-map, take_all, take_more}
 use Rattle.std.proofs.lemmas.List.Elements.{All-push}
 use Rattle.std.specs.List.{flat_map}
-use Rattle.std.specs.Prelude.{All, IsSome, slice_index, unwrap_or}
+use Rattle.std.specs.Prelude.{All, IsSome, codes, false, slice_index, unwrap_or}
 use Rattle.std.specs.Str.{IsUtf8}
 use Rattle.diff_tables.specs.Strings.{AreStrings}
 use Rattle.diff_tables.specs.Tables.{cut_rows}
 use Rattle.json.specs.Json.{Json, null, document}
 use Rattle.json.specs.Strict.{HasUniqueKeys}
+use Rattle.json.specs.Print.{print_from}
 use Rattle.json_normal.specs.Narrow.{HasNarrowNumbers}
+use Rattle.json_normal.specs.Normal.{normal_text}
 use Rattle.json_paths.specs.Paths as paths
 use Rattle.json_paths.specs.Paths.{part_at}
 use Rattle.json_paths.specs.Views.{path_view, paths_view}
 use Rattle.json_paths.specs.declared.path.Path.{Path}
-use Rattle.document_rows.specs.Documents.{HasParts, IsDocument, cell_of, document_row, key_cells, tree_of}
+use Rattle.document_rows.specs.Documents.{HasKeys, HasParts, IsDocument, cell_of, document_row, key_cells, tree_of}
 use Rattle.document_rows.specs.Errors.{IsObject, IsReadFault, IsStop}
 use Rattle.document_rows.specs.Lines.{lines_of}
 use Rattle.document_rows.specs.Reading.{IsFaultAt, IsPartTrouble, IsTrouble}
@@ -25,6 +27,7 @@ use Rattle.document_rows.specs.declared.cells.Rows.{Rows}
 use Rattle.document_rows.specs.declared.error.LineFault.TheVariants as fault
 use Rattle.document_rows.specs.declared.error.ReadError.{ReadError}
 use Rattle.document_rows.specs.declared.error.ReadError.TheVariants as error
+use Rattle.document_rows.specs.declared.reading.Reading.{Reading}
 use Rattle.document_rows.specs.declared.values.Trouble.{Trouble}
 use Rattle.document_rows.specs.declared.values.Trouble.TheVariants as trouble
 
@@ -56,37 +59,53 @@ one_part ks j k p within is there before =
     subst (λ (l : List paths.Path). HasParts l j) (sym (ap paths_view (key_more ks k p within is) ∙ views_more (take k ks) p))
     (All-push (λ (q : paths.Path). IsSome (part_at q j)) (paths_view (take k ks)) (path_view p) before there)
 
+-- the keys up to one more, where this one has a part unless it may be null
+pub one_key : (reading : Reading) (ks : List Path) (j : Json) (k : ℕ) (p : Path) → k < length ks → p ≡ get_or ks k p → (reading.null_keys ≡ false → IsSome (part_at (path_view p) j))
+    → HasKeys reading (paths_view (take k ks)) j → HasKeys reading (paths_view (take (k + 1) ks)) j
+one_key reading ks j k p within is there before = λ strict. one_part ks j k p within is (there strict) (before strict)
+
+-- the normal text of null
+pub null_text : normal_text null ≡ codes "null"
+unfolding print_from
+null_text = refl
+
+-- what is not there is none
+pub not_some : (o : Option Json) → ¬ IsSome o → o ≡ None
+not_some None h = refl
+not_some (Some x) h = absurd (h refl)
+
 -- the cells of all keys
 pub all_cells_kept : (ks : List Path) (k : ℕ) → length ks ≤ k → take k ks ≡ ks
 all_cells_kept ks k end = take_all k ks end
 
 -- a key that leads nowhere
-pub no_part : (ks : List Path) (j : Json) (k : ℕ) (p : Path) → k < length ks → p ≡ get_or ks k p → part_at (path_view p) j ≡ None
-    → IsPartTrouble (paths_view ks) j (trouble.Fault (fault.NoPart k))
-no_part ks j k p within is none = (
+pub no_part : (reading : Reading) (ks : List Path) (j : Json) (k : ℕ) (p : Path) → reading.null_keys ≡ false → k < length ks → p ≡ get_or ks k p → part_at (path_view p) j ≡ None
+    → IsPartTrouble reading (paths_view ks) j (trouble.Fault (fault.NoPart k))
+no_part reading ks j k p strict within is none = (
+  strict,
   let count : length (paths_view ks) ≡ length ks = length-map ks path_view in omega (arith, within, count),
   ap (λ (q : paths.Path). part_at q j) (get_or-map path_view ks k p [] within ∙ ap path_view (sym is)) ∙ none,
 )
 
 -- a key that leads nowhere in the value of a line
-pub part_trouble : (keys : List paths.Path) (line : List ℕ) (j : Json) (t : Trouble) → document line ≡ Some j → IsPartTrouble keys j t → IsTrouble keys line t
-part_trouble keys line j trouble.Memory is h = tt
-part_trouble keys line j (trouble.Fault fault.Invalid) is h = absurd h
-part_trouble keys line j (trouble.Fault fault.RepeatedName) is h = absurd h
-part_trouble keys line j (trouble.Fault fault.WideExponent) is h = absurd h
-part_trouble keys line j (trouble.Fault fault.NoObject) is h = absurd h
-part_trouble keys line j (trouble.Fault (fault.NoPart k)) is h = (h.0, rw is h.1)
+pub part_trouble : (reading : Reading) (keys : List paths.Path) (line : List ℕ) (j : Json) (t : Trouble) → document line ≡ Some j → IsPartTrouble reading keys j t → IsTrouble reading keys line t
+part_trouble reading keys line j trouble.Memory is h = tt
+part_trouble reading keys line j (trouble.Fault fault.Invalid) is h = absurd h
+part_trouble reading keys line j (trouble.Fault fault.RepeatedName) is h = absurd h
+part_trouble reading keys line j (trouble.Fault fault.WideExponent) is h = absurd h
+part_trouble reading keys line j (trouble.Fault fault.NoObject) is h = absurd h
+part_trouble reading keys line j (trouble.Fault (fault.NoPart k)) is h = (h.0, h.1, rw is h.2)
 
 -- a line whose value was checked is a document
-pub document_from : (keys : List paths.Path) (line : List ℕ) (j : Json) → IsUtf8 line → document line ≡ Some j → IsObject j → HasUniqueKeys j → HasNarrowNumbers j → HasParts keys j
-    → IsDocument keys line
-document_from keys line j utf8 json (members, is) unique narrow parts = record {
+pub document_from : (reading : Reading) (keys : List paths.Path) (line : List ℕ) (j : Json) → IsUtf8 line → document line ≡ Some j → IsObject j → HasUniqueKeys j → HasNarrowNumbers j → HasKeys reading keys j
+    → IsDocument reading keys line
+document_from reading keys line j utf8 json (members, is) unique narrow there = record {
   utf8 = utf8;
   members = members;
   json = json ∙ ap Some is;
   unique = subst HasUniqueKeys is unique;
   narrow = subst HasNarrowNumbers is narrow;
-  parts = subst (HasParts keys) is parts;
+  keys_there = subst (HasKeys reading keys) is there;
 }
 
 -- the cells of one document more
@@ -98,7 +117,7 @@ row_more keys all line j is =
     ∙ (ap (λ (t : Json). flat_map (document_row keys) all ++ (key_cells keys t ++ line ∷ [])) tree ∙ flat_map_more (document_row keys) [] all line)
 
 -- the number of one line more
-number_more : (numbers : List ℕ) (all : List (List ℕ)) (line : List ℕ) → length numbers ≡ length all → ((i : ℕ) → i < length all → slice_index numbers i ≡ suc i)
+pub number_more : (numbers : List ℕ) (all : List (List ℕ)) (line : List ℕ) → length numbers ≡ length all → ((i : ℕ) → i < length all → slice_index numbers i ≡ suc i)
     → (i : ℕ) → i < length (all ++ line ∷ []) → slice_index (numbers ++ suc (length numbers) ∷ []) i ≡ suc i
 number_more numbers all line count before i within = at (cases_lt i (length numbers)) (omega (arith, within, length-append all (line ∷ []), count))
   where
@@ -109,11 +128,11 @@ number_more numbers all line count before i within = at (cases_lt i (length numb
         get_or_push numbers (suc (length numbers)) 0 i here ∙ ap suc here
 
 -- one row more
-pub row_kept : (keys : List paths.Path) (all : List (List ℕ)) (line : List ℕ) (j : Json) (old new : Rows) → document line ≡ Some j → IsDocument keys line → HoldsRows keys all old
+pub row_kept : (reading : Reading) (keys : List paths.Path) (all : List (List ℕ)) (line : List ℕ) (j : Json) (old new : Rows) → document line ≡ Some j → IsDocument reading keys line → HoldsRows reading keys all old
     → ((strings : List (List ℕ)) → AreStrings old.cells strings → AreStrings new.cells ((strings ++ key_cells keys j) ++ line ∷ []))
-    → new.lines.items ≡ old.lines.items ++ suc (length old.lines.items) ∷ [] → HoldsRows keys (all ++ line ∷ []) new
-row_kept keys all line j old new is doc h cells numbers = record {
-  documents = All-push (IsDocument keys) all line h.documents doc;
+    → new.lines.items ≡ old.lines.items ++ suc (length old.lines.items) ∷ [] → HoldsRows reading keys (all ++ line ∷ []) new
+row_kept reading keys all line j old new is doc h cells numbers = record {
+  documents = All-push (IsDocument reading keys) all line h.documents doc;
   cells = subst (AreStrings new.cells) (row_more keys all line j is) (cells (flat_map (document_row keys) all) h.cells);
   lines = let grown = ap length numbers in let one = length-append old.lines.items (suc (length old.lines.items) ∷ []) in let more = length-append all (line ∷ []) in omega (arith, grown, one, more, h.lines);
   numbers = subst (λ ns. (i : ℕ) → i < length (all ++ line ∷ []) → slice_index ns i ≡ suc i) (sym numbers) (number_more old.lines.items all line h.lines h.numbers);
@@ -139,11 +158,11 @@ cut_kept f w size (r ∷ rs) =
     ∙ (ap (λ l. f r ∷ cut_rows w (length rs) l) others ∙ ap (λ l. f r ∷ l) (cut_kept f w size rs))
 
 -- lines up to one that is not kept
-pub line_fault : (keys : List paths.Path) (text : List ℕ) (all : List (List ℕ)) (line after : List ℕ) (number : ℕ) (e : ReadError) → lines_of text ≡ all ++ line ∷ lines_of after
-    → All (IsDocument keys) all → number ≡ suc (length all) → IsFaultAt keys line number e → IsReadFault text keys e
-line_fault keys text all line after number error.Memory lines docs count h = tt
-line_fault keys text all line after number (error.Read cause) lines docs count h = tt
-line_fault keys text all line after number (error.Line n what) lines docs count h = record {
+pub line_fault : (reading : Reading) (keys : List paths.Path) (text : List ℕ) (all : List (List ℕ)) (line after : List ℕ) (number : ℕ) (e : ReadError) → lines_of text ≡ all ++ line ∷ lines_of after
+    → All (IsDocument reading keys) all → number ≡ suc (length all) → IsFaultAt reading keys line number e → IsReadFault text reading keys e
+line_fault reading keys text all line after number error.Memory lines docs count h = tt
+line_fault reading keys text all line after number (error.Read cause) lines docs count h = tt
+line_fault reading keys text all line after number (error.Line n column what) lines docs count h = record {
   before = all;
   line = line;
   after = lines_of after;
@@ -154,10 +173,10 @@ line_fault keys text all line after number (error.Line n what) lines docs count 
 }
 
 -- a failure of the reader
-pub stop_fault : (keys : List paths.Path) (text : List ℕ) (e : ReadError) → IsStop e → IsReadFault text keys e
-stop_fault keys text error.Memory h = tt
-stop_fault keys text (error.Read cause) h = tt
-stop_fault keys text (error.Line n what) h = absurd h
+pub stop_fault : (reading : Reading) (keys : List paths.Path) (text : List ℕ) (e : ReadError) → IsStop e → IsReadFault text reading keys e
+stop_fault reading keys text error.Memory h = tt
+stop_fault reading keys text (error.Read cause) h = tt
+stop_fault reading keys text (error.Line n column what) h = absurd h
 
 -- nothing has no line
 pub no_lines : (all : List (List ℕ)) (rest : List ℕ) → rest ≡ [] → all ++ lines_of rest ≡ all
@@ -165,8 +184,8 @@ unfolding lines_of
 no_lines all rest is = ap (λ r. all ++ lines_of r) is ∙ append-nil all
 
 -- some lines of a text are read, and are kept
-pub record IsProgress {R : Type 0} (remaining : R → Option (List ℕ)) (keys : List paths.Path) (start reader : R) (n : ℕ) (r : Rows) : Type 0 where
+pub record IsProgress {R : Type 0} (remaining : R → Option (List ℕ)) (reading : Reading) (keys : List paths.Path) (start reader : R) (n : ℕ) (r : Rows) : Type 0 where
   pub all : List (List ℕ)
-  pub held : HoldsRows keys all r
+  pub held : HoldsRows reading keys all r
   pub count : n ≡ length all
-  pub reading : (text : List ℕ) → remaining start ≡ Some text → (rest : List ℕ) × (remaining reader ≡ Some rest) × (lines_of text ≡ all ++ lines_of rest)
+  pub so_far : (text : List ℕ) → remaining start ≡ Some text → (rest : List ℕ) × (remaining reader ≡ Some rest) × (lines_of text ≡ all ++ lines_of rest)

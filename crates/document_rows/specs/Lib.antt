@@ -1,5 +1,6 @@
 pub mod Documents
 pub mod Errors
+pub mod Known
 pub mod Lines
 pub mod Reading
 pub mod Rows

@@ -6,9 +6,11 @@ use Rattle.json.specs.Json.{Json}
 use Rattle.json_paths.specs.Paths.{Path, part_at}
 use Rattle.document_rows.specs.Errors.{IsLineFault}
 use Rattle.document_rows.specs.Lines.{lines_of}
+use Rattle.document_rows.specs.declared.error.LineFault.{LineFault}
 use Rattle.document_rows.specs.declared.error.LineFault.TheVariants as fault
 use Rattle.document_rows.specs.declared.error.ReadError.{ReadError}
 use Rattle.document_rows.specs.declared.error.ReadError.TheVariants as error
+use Rattle.document_rows.specs.declared.reading.Reading.{Reading}
 use Rattle.document_rows.specs.declared.values.Trouble.{Trouble}
 use Rattle.document_rows.specs.declared.values.Trouble.TheVariants as trouble
 
@@ -22,21 +24,27 @@ abbrev pub IsTroubleMemory : Trouble → Type 0
 IsTroubleMemory t = t ≡ trouble.Memory
 
 -- why a line is not kept: an allocation failed, or it is no document
-abbrev pub IsTrouble : List Path → List ℕ → Trouble → Type 0
-IsTrouble keys line trouble.Memory = ⊤
-IsTrouble keys line (trouble.Fault what) = IsLineFault keys line what
+abbrev pub IsTrouble : Reading → List Path → List ℕ → Trouble → Type 0
+IsTrouble reading keys line trouble.Memory = ⊤
+IsTrouble reading keys line (trouble.Fault what) = IsLineFault reading keys line what
 
--- why the parts of a value are not kept: an allocation failed, or a key leads nowhere
-abbrev pub IsPartTrouble : List Path → Json → Trouble → Type 0
-IsPartTrouble keys j trouble.Memory = ⊤
-IsPartTrouble keys j (trouble.Fault fault.Invalid) = ⊥
-IsPartTrouble keys j (trouble.Fault fault.RepeatedName) = ⊥
-IsPartTrouble keys j (trouble.Fault fault.WideExponent) = ⊥
-IsPartTrouble keys j (trouble.Fault fault.NoObject) = ⊥
-IsPartTrouble keys j (trouble.Fault (fault.NoPart key)) = (key < length keys) × (part_at (get_or keys key []) j ≡ None)
+-- why the parts of a value are not kept: an allocation failed, or a key leads nowhere and may not be null
+abbrev pub IsPartTrouble : Reading → List Path → Json → Trouble → Type 0
+IsPartTrouble reading keys j trouble.Memory = ⊤
+IsPartTrouble reading keys j (trouble.Fault fault.Invalid) = ⊥
+IsPartTrouble reading keys j (trouble.Fault fault.RepeatedName) = ⊥
+IsPartTrouble reading keys j (trouble.Fault fault.WideExponent) = ⊥
+IsPartTrouble reading keys j (trouble.Fault fault.NoObject) = ⊥
+IsPartTrouble reading keys j (trouble.Fault (fault.NoPart key)) = (reading.null_keys ≡ false) × (key < length keys) × (part_at (get_or keys key []) j ≡ None)
+
+-- a line of a number is at fault, or an allocation failed
+abbrev pub IsFault : ℕ → LineFault → ReadError → Type 0
+IsFault number what error.Memory = ⊤
+IsFault number what (error.Read cause) = ⊥
+IsFault number what (error.Line n column w) = (n ≡ number) × (w ≡ what)
 
 -- why the line of a number is not kept: an allocation failed, or it is no document
-abbrev pub IsFaultAt : List Path → List ℕ → ℕ → ReadError → Type 0
-IsFaultAt keys line number error.Memory = ⊤
-IsFaultAt keys line number (error.Read cause) = ⊥
-IsFaultAt keys line number (error.Line n what) = (n ≡ number) × IsLineFault keys line what
+abbrev pub IsFaultAt : Reading → List Path → List ℕ → ℕ → ReadError → Type 0
+IsFaultAt reading keys line number error.Memory = ⊤
+IsFaultAt reading keys line number (error.Read cause) = ⊥
+IsFaultAt reading keys line number (error.Line n column what) = (n ≡ number) × IsLineFault reading keys line what

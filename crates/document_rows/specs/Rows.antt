@@ -9,16 +9,17 @@ use Rattle.json_paths.specs.Paths.{Path}
 use Rattle.document_rows.specs.Documents.{IsDocument, document_row}
 use Rattle.document_rows.specs.Lines.{lines_of}
 use Rattle.document_rows.specs.declared.cells.Rows.{Rows}
+use Rattle.document_rows.specs.declared.reading.Reading.{Reading}
 
 -- these lines are documents, and are kept, each with its cells and its number
-pub record HoldsRows (keys : List Path) (all : List (List ℕ)) (r : Rows) : Type 0 where
-  pub documents : All (IsDocument keys) all
+pub record HoldsRows (reading : Reading) (keys : List Path) (all : List (List ℕ)) (r : Rows) : Type 0 where
+  pub documents : All (IsDocument reading keys) all
   pub cells : AreStrings r.cells (flat_map (document_row keys) all)
   pub lines : length r.lines.items ≡ length all
   pub numbers : (i : ℕ) → i < length all → slice_index r.lines.items i ≡ suc i
 
 -- lines are read to the end, and kept; where the reader's bytes are known they are all its lines
-pub record ReadsAll {R : Type 0} (remaining : R → Option (List ℕ)) (keys : List Path) (reader : R) (r : Rows) : Type 0 where
+pub record ReadsAll {R : Type 0} (remaining : R → Option (List ℕ)) (reading : Reading) (keys : List Path) (reader : R) (r : Rows) : Type 0 where
   pub lines : List (List ℕ)
-  pub held : HoldsRows keys lines r
+  pub held : HoldsRows reading keys lines r
   pub all : (text : List ℕ) → remaining reader ≡ Some text → lines ≡ lines_of text

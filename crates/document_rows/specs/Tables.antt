@@ -1,46 +1,47 @@
 -- Tables of documents.
 --
 -- With the key id the text of the lines {"id": 7} and {"id": 8, "n": 1} has the rows 7 {"id": 7} and 8 {"id": 8, "n": 1},
--- whose lines are 1 and 2.
-use Rattle.std.specs.Prelude.{◌≡◌, ◌<◌, ◌-◌, ℕ, suc, All, List, [], get_or, length, map, slice_index}
+-- whose lines are 1 and 2. Another text, of the line {"id": 8, "n": 2}, has another document for 8, and none where n is ignored.
+use Rattle.std.specs.Prelude.{◌≡◌, ◌≢◌, ◌<◌, ◌-◌, ℕ, suc, All, List, [], get_or, length, map, slice_index}
 use Rattle.diff_tables.specs.Tables.{TableRows}
-use Rattle.json_normal.specs.Same.{AreSame}
+use Rattle.json_changes.specs.Rules.{Rules, differences_told}
 use Rattle.json_paths.specs.Paths.{Path}
 use Rattle.document_rows.specs.Documents.{IsDocument, document_row, tree_of}
 use Rattle.document_rows.specs.Lines.{lines_of}
 use Rattle.document_rows.specs.declared.read.Documents.{Documents}
+use Rattle.document_rows.specs.declared.reading.Reading.{Reading}
 
 -- the table has a row for each of these lines, which are documents
-pub record AreRowsOf (keys : List Path) (lines : List (List ℕ)) (t : TableRows) : Type 0 where
-  pub documents : All (IsDocument keys) lines
+pub record AreRowsOf (reading : Reading) (keys : List Path) (lines : List (List ℕ)) (t : TableRows) : Type 0 where
+  pub documents : All (IsDocument reading keys) lines
   pub width : t.width ≡ suc (length keys)
   pub rows : t.rows ≡ map (document_row keys) lines
 
 -- these lines are documents, the table has a row for each, and the rows' lines are numbered from 1 on
-pub record AreDocumentsWith (keys : List Path) (all : List (List ℕ)) (d : Documents) : Type 0 where
-  pub table : AreRowsOf keys all d.table
+pub record AreDocumentsWith (reading : Reading) (keys : List Path) (all : List (List ℕ)) (d : Documents) : Type 0 where
+  pub table : AreRowsOf reading keys all d.table
   pub lines : length d.lines.items ≡ length all
   pub numbers : (i : ℕ) → i < length all → slice_index d.lines.items i ≡ suc i
 
 -- all lines of the text are documents, and the table has a row for each
-abbrev pub AreDocumentsOf : List ℕ → List Path → Documents → Type 0
-AreDocumentsOf text keys d = AreDocumentsWith keys (lines_of text) d
+abbrev pub AreDocumentsOf : List ℕ → Reading → List Path → Documents → Type 0
+AreDocumentsOf text reading keys d = AreDocumentsWith reading keys (lines_of text) d
 
 -- the table has a row for each of some documents, and as many line numbers
-pub record HaveDocuments (keys : List Path) (d : Documents) : Type 0 where
+pub record HaveDocuments (reading : Reading) (keys : List Path) (d : Documents) : Type 0 where
   pub all : List (List ℕ)
-  pub table : AreRowsOf keys all d.table
+  pub table : AreRowsOf reading keys all d.table
   pub lines : length d.lines.items ≡ length all
 
 -- a table of documents
 abbrev pub HoldsDocuments : TableRows → Type 0
-HoldsDocuments t = (keys : List Path) × (lines : List (List ℕ)) × AreRowsOf keys lines t
+HoldsDocuments t = (reading : Reading) × (keys : List Path) × (lines : List (List ℕ)) × AreRowsOf reading keys lines t
 
 -- the line that row i of a table of documents was read from: its last cell
 abbrev pub line_at : TableRows → ℕ → List ℕ
 line_at t i = get_or (get_or t.rows i []) (t.width - 1) []
 
--- at place k of two lists of row numbers the documents that they name are not the same
-abbrev pub IsOtherDocument : TableRows → TableRows → List ℕ → List ℕ → ℕ → Type 0
-IsOtherDocument left right left_rows right_rows k =
-    ¬ AreSame (tree_of (line_at left (slice_index left_rows k))) (tree_of (line_at right (slice_index right_rows k)))
+-- at place k of two lists of row numbers rules tell a difference between the documents that they name
+abbrev pub IsOtherDocument : Rules → TableRows → TableRows → List ℕ → List ℕ → ℕ → Type 0
+IsOtherDocument rules left right left_rows right_rows k =
+    differences_told rules (tree_of (line_at left (slice_index left_rows k))) (tree_of (line_at right (slice_index right_rows k))) ≢ []

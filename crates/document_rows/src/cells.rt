@@ -1,20 +1,27 @@
 //! The cells of documents that are appended one after another.
 
-ghost use Rattle.std.specs.Prelude.{◌≡◌, ◌++◌, ◌∷◌, [], ℕ, suc, List, IfOk, OnOk, MatchResult, length};
+ghost use Rattle.std.specs.Prelude.{◌≡◌, ◌↔◌, ◌<◌, ◌++◌, ◌∷◌, [], ℕ, suc, IsSome, IsTrue, List, IfOk, OnOk, MatchResult, length, get_or};
 ghost use Rattle.diff_tables.specs.Strings.{AreStrings};
 ghost use Rattle.json.specs.Strict.{HasUniqueKeys};
 ghost use Rattle.json.specs.Value.{value_view};
 ghost use Rattle.json_normal.specs.Narrow.{HasNarrowNumbers};
 ghost use Rattle.json_normal.specs.Normal.{normal_text};
 ghost use Rattle.json_paths.specs.Paths as paths;
-ghost use Rattle.json_paths.specs.Views.{paths_view};
-ghost use Rattle.document_rows.specs.Documents.{HasParts, key_cells};
+ghost use Rattle.json_paths.specs.Paths.{part_at};
+ghost use Rattle.json_paths.specs.Views.{path_view, paths_view};
+ghost use Rattle.document_rows.specs.Documents.{HasKeys, cell_of, key_cells};
 ghost use Rattle.document_rows.specs.Reading.{IsPartTrouble, IsTrouble};
+ghost use Rattle.document_rows.specs.Known.{HoldsDocumentsOf};
 ghost use Rattle.document_rows.specs.Rows.{HoldsRows};
+ghost use Rattle.document_rows.specs.Tables.{HoldsDocuments, line_at};
+ghost use Rattle.document_rows.specs.declared.reading.Reading.{Reading};
 
 use crate::error::LineFault;
+use crate::place::column_of;
+use crate::reading::Reading;
 use crate::values::{Trouble, object_of};
 use diff_tables::strings::Strings;
+use diff_tables::table::Table;
 use json::{Scratch, Value, Writer};
 use json_decimals::error::NumberError;
 use json_normal::write::write_normal;
@@ -67,24 +74,51 @@ fn push_cell(
     Ok(())
 }
 
-/// Appends the normal text of a document's part at each key.
+/// Appends the normal text of a document's part at a key, and that of null where there is none.
+/// Returns whether there is one.
+fn push_part(
+    alloc: Global,
+    cells: &mut Strings,
+    room: &mut Room,
+    value: &Value<'_>,
+    key: &Path,
+) -> Result<bool, AllocError>
+    requires unique { HasUniqueKeys (value_view value.now) }
+    requires narrow { HasNarrowNumbers (value_view value.now) }
+    ensures found { IfOk result (λ found. IsTrue found ↔ IsSome (part_at (path_view key.now) (value_view value.now))) }
+    ensures cell { OnOk result ((all : List (List ℕ)) → AreStrings cells.old all → AreStrings cells.new (all ++ cell_of (part_at (path_view key.now) (value_view value.now)) ∷ [])) }
+{
+    match key.part_of(value) {
+        Some(part) => {
+            push_cell(alloc, cells, room, part)?;
+            Ok(true)
+        }
+        None => {
+            cells.push(b"null")?;
+            Ok(false)
+        }
+    }
+}
+
+/// Appends the cells of a document's keys.
 fn push_parts(
     alloc: Global,
     cells: &mut Strings,
     room: &mut Room,
     value: &Value<'_>,
     keys: &[Path],
+    reading: Reading,
 ) -> Result<(), Trouble>
     requires unique { HasUniqueKeys (value_view value.now) }
     requires narrow { HasNarrowNumbers (value_view value.now) }
-    ensures parts { MatchResult result (λ _. HasParts (paths_view keys.now) (value_view value.now)) (IsPartTrouble (paths_view keys.now) (value_view value.now)) }
+    ensures parts { MatchResult result (λ _. HasKeys reading (paths_view keys.now) (value_view value.now)) (IsPartTrouble reading (paths_view keys.now) (value_view value.now)) }
     ensures cells { OnOk result ((all : List (List ℕ)) → AreStrings cells.old all → AreStrings cells.new (all ++ key_cells (paths_view keys.now) (value_view value.now))) }
 {
     for key in 0..keys.len() {
-        let Some(part) = keys[key].part_of(value) else {
+        let found = push_part(alloc, cells, room, value, &keys[key])?;
+        if !found && !reading.null_keys {
             return Err(Trouble::Fault(LineFault::NoPart { key }));
-        };
-        push_cell(alloc, cells, room, part)?;
+        }
     }
     Ok(())
 }
@@ -98,6 +132,28 @@ impl Rooms {
         let room = Room { number, text };
         Ok(Rooms { scratch, room })
     }
+
+    /// Returns the column of a fault in a line, where it has one.
+    pub(crate) fn column_of(
+        &mut self,
+        alloc: Global,
+        line: &[u8],
+        fault: LineFault,
+    ) -> Result<Option<u64>, AllocError> {
+        column_of(alloc, line, fault, &mut self.scratch, &mut self.room.number)
+    }
+}
+
+/// Appends the cells of a row.
+fn push_cells(cells: &mut Strings, table: &Table, row: usize) -> Result<(), AllocError>
+    requires row { row < length table.now.rows }
+    requires width { length (get_or table.now.rows row []) ≡ table.now.width }
+    ensures { OnOk result ((all : List (List ℕ)) → AreStrings cells.old all → AreStrings cells.new (all ++ get_or table.now.rows row [])) }
+{
+    for column in 0..table.width() {
+        cells.push(table.cell(row, column))?;
+    }
+    Ok(())
 }
 
 /// Appends the number of the next line.
@@ -112,28 +168,40 @@ fn push_number(lines: &mut Vec<u64>) -> Result<(), AllocError>
 impl Rows {
     /// Returns no rows.
     pub(crate) fn new(alloc: Global) -> Result<Rows, AllocError>
-        ensures { IfOk result (λ rows. (keys : List paths.Path) → HoldsRows keys [] rows) }
+        ensures { IfOk result (λ rows. (reading : Reading) (keys : List paths.Path) → HoldsRows reading keys [] rows) }
     {
         let cells = Strings::new(alloc)?;
         let lines = Vec::new(alloc);
         Ok(Rows { cells, lines })
     }
 
-    /// Appends the row of a document: the normal text of the part at each key, and the line.
+    /// Appends a row that is one of a table.
+    pub(crate) fn push_copy(&mut self, table: &Table, row: usize) -> Result<(), AllocError>
+        requires documents { HoldsDocuments table.now }
+        requires row { row < length table.now.rows }
+        ensures { OnOk result ((reading : Reading) (keys : List paths.Path) (lines : List (List ℕ)) → HoldsDocumentsOf reading keys table.now → HoldsRows reading keys lines self.old → HoldsRows reading keys (lines ++ line_at table.now row ∷ []) self.new) }
+    {
+        push_cells(&mut self.cells, table, row)?;
+        push_number(&mut self.lines)?;
+        Ok(())
+    }
+
+    /// Appends the row of a document: the cells of the keys, and the line.
     pub(crate) fn push(
         &mut self,
         alloc: Global,
         line: &[u8],
         keys: &[Path],
+        reading: Reading,
         rooms: &mut Rooms,
     ) -> Result<(), Trouble>
         ensures { MatchResult result
-            (λ _. (lines : List (List ℕ)) → HoldsRows (paths_view keys.now) lines self.old → HoldsRows (paths_view keys.now) (lines ++ line.now ∷ []) self.new)
-            (IsTrouble (paths_view keys.now) line.now) }
+            (λ _. (lines : List (List ℕ)) → HoldsRows reading (paths_view keys.now) lines self.old → HoldsRows reading (paths_view keys.now) (lines ++ line.now ∷ []) self.new)
+            (IsTrouble reading (paths_view keys.now) line.now) }
     {
         let Rooms { scratch, room } = rooms;
         let value = object_of(alloc, line, scratch, &mut room.number)?;
-        push_parts(alloc, &mut self.cells, room, &value, keys)?;
+        push_parts(alloc, &mut self.cells, room, &value, keys, reading)?;
         self.cells.push(line)?;
         push_number(&mut self.lines)?;
         Ok(())

@@ -2,6 +2,7 @@
 
 ghost use Rattle.std.specs.Prelude.{◌≡◌, ◌<◌, length, IfOk};
 ghost use Rattle.json.specs.Strict.{HasUniqueKeys};
+ghost use Rattle.json.specs.Tree.{HasNumbers};
 ghost use Rattle.json.specs.Value.{value_view};
 ghost use Rattle.json_normal.specs.Narrow.{HasNarrowNumbers};
 ghost use Rattle.document_rows.specs.Documents.{tree_of};
@@ -33,6 +34,7 @@ pub fn document_of<'a>(
     ensures value { IfOk result (λ v. value_view v ≡ tree_of (line_at table.now row)) }
     ensures unique { IfOk result (λ v. HasUniqueKeys (value_view v)) }
     ensures narrow { IfOk result (λ v. HasNarrowNumbers (value_view v)) }
+    ensures numbers { IfOk result (λ v. HasNumbers (value_view v)) }
 {
     let Ok(text) = from_utf8(line_of(table, row)) else {
         unreachable!();

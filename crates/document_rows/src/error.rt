@@ -10,7 +10,7 @@ use thiserror::Error;
 #[derive(Clone, Copy, Debug, Drop, Error, PartialEq, Eq)]
 pub enum LineFault {
     /// The line is no UTF-8 or no JSON, or arrays and objects nest deeper than 128.
-    #[error("no JSON, or nested deeper than 128")]
+    #[error("no JSON")]
     Invalid,
     /// An object has a name twice.
     #[error("an object has a name twice")]
@@ -19,7 +19,7 @@ pub enum LineFault {
     #[error("an exponent has more than 30 digits")]
     WideExponent,
     /// The line is JSON, but no object.
-    #[error("no object")]
+    #[error("no JSON object")]
     NoObject,
     /// The document has no part where a key's path leads. `key` is the key's place, the first
     /// being 0.
@@ -35,10 +35,17 @@ pub enum ReadError {
     Memory,
     /// A read failed.
     #[error("{cause}")]
-    Read { cause: io::Error },
-    /// A line is no document. `line` is its number, from 1 on.
+    Read {
+        cause: io::Error,
+    },
+    /// A line is no document. `line` is its number, from 1 on, and `column` where in it the fault
+    /// is, if it is at a place: how many characters stand before that, and 1.
     #[error("line {line}: {fault}")]
-    Line { line: u64, fault: LineFault },
+    Line {
+        line: u64,
+        column: Option<u64>,
+        fault: LineFault,
+    },
 }
 
 impl From<AllocError> for ReadError {

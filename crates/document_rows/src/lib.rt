@@ -4,8 +4,11 @@
 mod cells;
 pub mod document;
 pub mod error;
+mod known;
 mod lines;
 mod narrow;
 pub mod pairs;
+mod place;
 pub mod read;
+pub mod reading;
 mod values;

@@ -8,10 +8,17 @@ use json::Value;
 use json_decimals::error::NumberError;
 use json_decimals::numbers::push_normal_number;
 
-/// Checks that a number's exponent is narrow. `room` holds its normal text on the way.
-fn check_number(room: &mut Vec<u8>, text: &str) -> Result<(), NumberError>
+/// The most digits of an exponent that is narrow, its leading zeros not counted.
+const MOST_DIGITS: usize = 30;
+
+/// Checks that a number's exponent is narrow. `room` holds its normal text on the way, unless all
+/// its digits are few.
+pub(crate) fn check_number(room: &mut Vec<u8>, text: &str) -> Result<(), NumberError>
     ensures { TellsNarrow result (¬ HasWideExponent text.now) }
 {
+    if text.len() <= MOST_DIGITS {
+        return Ok(());
+    }
     room.clear();
     push_normal_number(room, text)?;
     Ok(())

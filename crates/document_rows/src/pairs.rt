@@ -1,9 +1,10 @@
-//! Pairs of documents that are not the same.
+//! Pairs of documents between which rules tell a difference.
 
-ghost use Rattle.std.specs.Prelude.{◌≡◌, ◌<◌, ◌↔◌, ℕ, IsTrue, List, length, IfOk};
+ghost use Rattle.std.specs.Prelude.{◌≡◌, ◌<◌, ◌↔◌, ℕ, IsTrue, List, [], length, IfOk};
 ghost use Rattle.diff_keys.specs.Rising.{ListsRising};
 ghost use Rattle.diff_tables.specs.Comparison.{ArePairs, IsComparison};
-ghost use Rattle.json_normal.specs.Same.{AreSame};
+ghost use Rattle.json_changes.specs.Rules.{differences_told};
+ghost use Rattle.json_changes.specs.Texts.{rules_view};
 ghost use Rattle.document_rows.specs.Documents.{tree_of};
 ghost use Rattle.document_rows.specs.Tables.{HoldsDocuments, IsOtherDocument, line_at};
 
@@ -12,8 +13,8 @@ use diff_keys::matching::Matching;
 use diff_tables::compare::Comparison;
 use diff_tables::table::Table;
 use json::Scratch;
+use json_changes::changes::{Rules, are_same_under};
 use json_decimals::error::NumberError;
-use json_normal::text::are_same;
 use std::alloc::{AllocError, Global};
 
 /// Room for two documents, kept from pair to pair.
@@ -33,69 +34,77 @@ impl Scratches {
     }
 }
 
-/// Returns whether the documents of two rows are the same.
+/// Returns whether no difference between the documents of two rows is told.
 fn are_same_documents(
     alloc: Global,
     left: &Table,
     left_row: usize,
     right: &Table,
     right_row: usize,
+    rules: &Rules,
     scratches: &mut Scratches,
 ) -> Result<bool, AllocError>
     requires left { HoldsDocuments left.now }
     requires right { HoldsDocuments right.now }
     requires left_row { left_row < length left.now.rows }
     requires right_row { right_row < length right.now.rows }
-    ensures { IfOk result (λ same. IsTrue same ↔ AreSame (tree_of (line_at left.now left_row)) (tree_of (line_at right.now right_row))) }
+    ensures { IfOk result (λ same. IsTrue same ↔ (differences_told (rules_view rules.now)
+        (tree_of (line_at left.now left_row)) (tree_of (line_at right.now right_row)) ≡ [])) }
 {
     let left = document_of(alloc, left, left_row, &mut scratches.left)?;
     let right = document_of(alloc, right, right_row, &mut scratches.right)?;
-    match are_same(alloc, &left, &right) {
+    match are_same_under(alloc, &left, &right, rules) {
         Ok(same) => Ok(same),
         Err(NumberError::Memory) => Err(AllocError),
         Err(NumberError::WideExponent) => unreachable!(),
     }
 }
 
-/// Returns whether the documents of the two rows at a place among matched rows are not the same.
+/// Returns whether a difference is told between the documents of the two rows at a place among
+/// matched rows.
 fn is_other_pair(
     alloc: Global,
     left: &Table,
     right: &Table,
     matching: &Matching,
     place: usize,
+    rules: &Rules,
     scratches: &mut Scratches,
 ) -> Result<bool, AllocError>
     requires left { HoldsDocuments left.now }
     requires right { HoldsDocuments right.now }
     requires pairs { ArePairs left.now.rows right.now.rows matching.now.left_rows.items matching.now.right_rows.items }
     requires place { place < length matching.now.left_rows.items }
-    ensures { IfOk result (λ other. IsTrue other ↔ IsOtherDocument left.now right.now matching.now.left_rows.items matching.now.right_rows.items place) }
+    ensures { IfOk result (λ other. IsTrue other ↔ IsOtherDocument (rules_view rules.now)
+        left.now right.now matching.now.left_rows.items matching.now.right_rows.items place) }
 {
     let left_row = matching.left_rows[place] as usize;
     let right_row = matching.right_rows[place] as usize;
-    let same = are_same_documents(alloc, left, left_row, right, right_row, scratches)?;
+    let same = are_same_documents(alloc, left, left_row, right, right_row, rules, scratches)?;
     Ok(!same)
 }
 
-/// Lists the places among the partners of a comparison where the two documents are not the same,
-/// in rising order.
+/// Lists the places among the partners of a comparison where rules tell a difference between the
+/// two documents, in rising order.
 pub fn differing_pairs(
     alloc: Global,
     left: &Table,
     right: &Table,
     comparison: &Comparison,
+    rules: &Rules,
 ) -> Result<Vec<usize>, AllocError>
     requires left { HoldsDocuments left.now }
     requires right { HoldsDocuments right.now }
     requires comparison { (columns : List ℕ) × IsComparison columns left.now.rows right.now.rows comparison.now }
-    ensures { IfOk result (λ pairs. ListsRising (IsOtherDocument left.now right.now comparison.now.matching.left_rows.items comparison.now.matching.right_rows.items) (length comparison.now.matching.left_rows.items) pairs.items) }
+    ensures { IfOk result (λ pairs. ListsRising (IsOtherDocument (rules_view rules.now)
+        left.now right.now comparison.now.matching.left_rows.items comparison.now.matching.right_rows.items)
+        (length comparison.now.matching.left_rows.items) pairs.items) }
 {
     let mut scratches = Scratches::new(alloc)?;
     let matching = &comparison.matching;
     let mut differing = Vec::new(alloc);
     for place in &comparison.changed {
-        if is_other_pair(alloc, left, right, matching, *place, &mut scratches)? {
+        if is_other_pair(alloc, left, right, matching, *place, rules, &mut scratches)? {
             differing.push(*place)?;
         }
     }

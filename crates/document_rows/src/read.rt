@@ -4,17 +4,21 @@ ghost use Rattle.std.specs.Io.Buffered.{reader_remaining};
 ghost use Rattle.std.specs.Prelude.{◌≡◌, ◌++◌, ◌∷◌, [], ℕ, List, Some, IfErr, IfOk, MatchResult};
 ghost use Rattle.json_paths.specs.Views.{paths_view};
 ghost use Rattle.document_rows.specs.Errors.{IsMemory, IsReadFault, IsStop};
-ghost use Rattle.document_rows.specs.Reading.{IsFaultAt, TakesLine};
+ghost use Rattle.document_rows.specs.Known.{HoldsDocumentsOf, KnowsLines};
+ghost use Rattle.document_rows.specs.Reading.{IsFault, IsFaultAt, TakesLine};
 ghost use Rattle.document_rows.specs.Rows.{HoldsRows, ReadsAll};
 ghost use Rattle.document_rows.specs.Tables.{AreDocumentsOf, AreDocumentsWith, HaveDocuments};
+ghost use Rattle.document_rows.specs.declared.reading.Reading.{Reading};
 
 use crate::cells::{Rooms, Rows};
-use crate::error::ReadError;
+use crate::error::{LineFault, ReadError};
+use crate::known::Known;
 use crate::lines::read_line;
+use crate::reading::Reading;
 use crate::values::Trouble;
 use diff_tables::table::Table;
 use json_paths::path::Path;
-use std::alloc::Global;
+use std::alloc::{AllocError, Global};
 use std::io;
 use std::io::{BufRead, BufReader, ErrorKind, Read};
 
@@ -48,26 +52,50 @@ fn next_line<B: BufRead>(reader: &mut B, line: &mut Vec<u8>) -> Result<bool, Rea
     }
 }
 
-/// Keeps the document of a line. `number` is the line's, from 1 on.
+/// Returns what is said of a line that is no document. `number` is the line's, from 1 on.
+fn fault_in(
+    alloc: Global,
+    line: &[u8],
+    number: u64,
+    fault: LineFault,
+    rooms: &mut Rooms,
+) -> ReadError
+    ensures { IsFault number fault result }
+{
+    match rooms.column_of(alloc, line, fault) {
+        Ok(column) => ReadError::Line {
+            line: number,
+            column,
+            fault,
+        },
+        Err(AllocError) => ReadError::Memory,
+    }
+}
+
+/// Keeps the document of a line, which is read unless the line is known. `number` is the line's,
+/// from 1 on.
 fn keep_line(
     alloc: Global,
     rows: &mut Rows,
     line: &[u8],
     number: u64,
     keys: &[Path],
+    reading: Reading,
+    known: &Known<'_>,
     rooms: &mut Rooms,
 ) -> Result<(), ReadError>
+    requires { KnowsLines reading (paths_view keys.now) known.now }
     ensures { MatchResult result
-        (λ _. (all : List (List ℕ)) → HoldsRows (paths_view keys.now) all rows.old → HoldsRows (paths_view keys.now) (all ++ line.now ∷ []) rows.new)
-        (IsFaultAt (paths_view keys.now) line.now number) }
+        (λ _. (all : List (List ℕ)) → HoldsRows reading (paths_view keys.now) all rows.old → HoldsRows reading (paths_view keys.now) (all ++ line.now ∷ []) rows.new)
+        (IsFaultAt reading (paths_view keys.now) line.now number) }
 {
-    match rows.push(alloc, line, keys, rooms) {
+    if known.push_row(rows, line)? {
+        return Ok(());
+    }
+    match rows.push(alloc, line, keys, reading, rooms) {
         Ok(()) => Ok(()),
         Err(Trouble::Memory) => Err(ReadError::Memory),
-        Err(Trouble::Fault(fault)) => Err(ReadError::Line {
-            line: number,
-            fault,
-        }),
+        Err(Trouble::Fault(fault)) => Err(fault_in(alloc, line, number, fault, rooms)),
     }
 }
 
@@ -76,10 +104,13 @@ fn read_rows<B: BufRead + Drop>(
     alloc: Global,
     mut reader: B,
     keys: &[Path],
+    reading: Reading,
+    known: &Known<'_>,
 ) -> Result<Rows, ReadError>
+    requires { KnowsLines reading (paths_view keys.now) known.now }
     ensures { MatchResult result
-        (ReadsAll B.remaining (paths_view keys.now) reader)
-        (λ error. (text : List ℕ) → B.remaining reader ≡ Some text → IsReadFault text (paths_view keys.now) error) }
+        (ReadsAll B.remaining reading (paths_view keys.now) reader)
+        (λ error. (text : List ℕ) → B.remaining reader ≡ Some text → IsReadFault text reading (paths_view keys.now) error) }
 {
     let mut rows = Rows::new(alloc)?;
     let mut rooms = Rooms::new(alloc)?;
@@ -88,7 +119,16 @@ fn read_rows<B: BufRead + Drop>(
         if !next_line(&mut reader, &mut line)? {
             return Ok(rows);
         }
-        keep_line(alloc, &mut rows, &line, before + 1, keys, &mut rooms)?;
+        keep_line(
+            alloc,
+            &mut rows,
+            &line,
+            before + 1,
+            keys,
+            reading,
+            known,
+            &mut rooms,
+        )?;
     }
     // No memory holds so many rows.
     Err(ReadError::Memory)
@@ -96,8 +136,8 @@ fn read_rows<B: BufRead + Drop>(
 
 /// Returns the table of rows, which have a cell for each key and one for the line.
 fn table_of(alloc: Global, rows: Rows, keys: &[Path]) -> Result<Documents, ReadError>
-    requires { (lines : List (List ℕ)) × HoldsRows (paths_view keys.now) lines rows }
-    ensures { MatchResult result (λ documents. (lines : List (List ℕ)) → HoldsRows (paths_view keys.now) lines rows → AreDocumentsWith (paths_view keys.now) lines documents) IsMemory }
+    requires { (reading : Reading) × (lines : List (List ℕ)) × HoldsRows reading (paths_view keys.now) lines rows }
+    ensures { MatchResult result (λ documents. (reading : Reading) (lines : List (List ℕ)) → HoldsRows reading (paths_view keys.now) lines rows → AreDocumentsWith reading (paths_view keys.now) lines documents) IsMemory }
 {
     let Rows { cells, lines } = rows;
     match Table::new(alloc, keys.len() + 1, lines.len(), cells) {
@@ -116,20 +156,61 @@ fn buffered<R: Read + Drop>(alloc: Global, reader: R) -> Result<BufReader<R>, Re
     }
 }
 
-/// Reads the documents of an input, each of which has a part at each key. Fails with `Line` only
-/// where a line is no such document, with `Read` where the reader fails, and else with `Memory`.
+/// Reads the documents of an input, but for those of lines that are known.
+fn read_unknown<R: Read + Drop>(
+    alloc: Global,
+    reader: R,
+    keys: &[Path],
+    reading: Reading,
+    known: &Known<'_>,
+) -> Result<Documents, ReadError>
+    requires { KnowsLines reading (paths_view keys.now) known.now }
+    ensures shape { IfOk result (HaveDocuments reading (paths_view keys.now)) }
+    ensures documents { MatchResult result
+        (λ documents. (text : List ℕ) → R.remaining reader ≡ Some text → AreDocumentsOf text reading (paths_view keys.now) documents)
+        (λ error. (text : List ℕ) → R.remaining reader ≡ Some text → IsReadFault text reading (paths_view keys.now) error) }
+{
+    let buffered = buffered(alloc, reader)?;
+    let rows = read_rows(alloc, buffered, keys, reading, known)?;
+    let documents = table_of(alloc, rows, keys)?;
+    Ok(documents)
+}
+
+/// Reads the documents of an input, each of which has a part at each key, or null where there is
+/// none if `reading` says so. Fails with `Line` only where a line is no such document, with `Read`
+/// where the reader fails, and else with `Memory`.
 pub fn read_documents<R: Read + Drop>(
     alloc: Global,
     reader: R,
     keys: &[Path],
+    reading: Reading,
 ) -> Result<Documents, ReadError>
-    ensures shape { IfOk result (HaveDocuments (paths_view keys.now)) }
+    ensures shape { IfOk result (HaveDocuments reading (paths_view keys.now)) }
     ensures documents { MatchResult result
-        (λ documents. (text : List ℕ) → R.remaining reader ≡ Some text → AreDocumentsOf text (paths_view keys.now) documents)
-        (λ error. (text : List ℕ) → R.remaining reader ≡ Some text → IsReadFault text (paths_view keys.now) error) }
+        (λ documents. (text : List ℕ) → R.remaining reader ≡ Some text → AreDocumentsOf text reading (paths_view keys.now) documents)
+        (λ error. (text : List ℕ) → R.remaining reader ≡ Some text → IsReadFault text reading (paths_view keys.now) error) }
 {
-    let buffered = buffered(alloc, reader)?;
-    let rows = read_rows(alloc, buffered, keys)?;
-    let documents = table_of(alloc, rows, keys)?;
+    let known = Known::none(alloc);
+    let documents = read_unknown(alloc, reader, keys, reading, &known)?;
+    Ok(documents)
+}
+
+/// Reads documents as `read_documents` does, and beside a table of documents, which have parts at
+/// the same keys: a line that one of its rows was read from is not parsed again.
+pub fn read_documents_beside<R: Read + Drop>(
+    alloc: Global,
+    reader: R,
+    keys: &[Path],
+    reading: Reading,
+    table: &Table,
+) -> Result<Documents, ReadError>
+    requires { HoldsDocumentsOf reading (paths_view keys.now) table.now }
+    ensures shape { IfOk result (HaveDocuments reading (paths_view keys.now)) }
+    ensures documents { MatchResult result
+        (λ documents. (text : List ℕ) → R.remaining reader ≡ Some text → AreDocumentsOf text reading (paths_view keys.now) documents)
+        (λ error. (text : List ℕ) → R.remaining reader ≡ Some text → IsReadFault text reading (paths_view keys.now) error) }
+{
+    let known = Known::of(alloc, table)?;
+    let documents = read_unknown(alloc, reader, keys, reading, &known)?;
     Ok(documents)
 }

@@ -9,6 +9,7 @@ ghost use Rattle.json_normal.specs.Narrow.{HasNarrowNumbers};
 ghost use Rattle.document_rows.specs.Errors.{IsObject};
 ghost use Rattle.json_paths.specs.Paths.{Path};
 ghost use Rattle.document_rows.specs.Reading.{IsTrouble, IsTroubleMemory};
+ghost use Rattle.document_rows.specs.declared.reading.Reading.{Reading};
 
 use crate::error::LineFault;
 use crate::narrow::check_narrow;
@@ -45,7 +46,7 @@ impl<T: Drop> From<AllocFailed<T>> for Trouble {
 fn parsed<'a>(alloc: Global, line: &'a [u8], scratch: &'a mut Scratch) -> Result<Value<'a>, Trouble>
     ensures { MatchResult result
         (λ v. IsUtf8 line.now × (document line.now ≡ Some (value_view v)) × HasUniqueKeys (value_view v))
-        (λ trouble. (keys : List Path) → IsTrouble keys line.now trouble) }
+        (λ trouble. (reading : Reading) (keys : List Path) → IsTrouble reading keys line.now trouble) }
 {
     let Ok(text) = std::str::from_utf8(line) else {
         return Err(Trouble::Fault(LineFault::Invalid));
@@ -68,7 +69,7 @@ pub(crate) fn object_of<'a>(
 ) -> Result<Value<'a>, Trouble>
     ensures utf8 { IfOk result (λ _. IsUtf8 line.now) }
     ensures value { IfOk result (λ v. (document line.now ≡ Some (value_view v)) × IsObject (value_view v) × HasUniqueKeys (value_view v) × HasNarrowNumbers (value_view v)) }
-    ensures trouble { IfErr result (λ trouble. (keys : List Path) → IsTrouble keys line.now trouble) }
+    ensures trouble { IfErr result (λ trouble. (reading : Reading) (keys : List Path) → IsTrouble reading keys line.now trouble) }
 {
     let value = parsed(alloc, line, scratch)?;
     let Value::Object(_) = &value else {

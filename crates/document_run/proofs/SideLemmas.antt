@@ -20,8 +20,9 @@ use Rattle.document_report.specs.Documents.{HoldDocuments}
 use Rattle.document_rows.specs.Documents.{cell_of, document_row, tree_of}
 use Rattle.document_rows.specs.Lines.{lines_of}
 use Rattle.document_rows.specs.Tables.{AreRowsOf, IsOtherDocument, line_at}
+use Rattle.document_rows.specs.declared.reading.Reading.{Reading}
 use Rattle.document_run.specs.Faults.{AreFirstTwice, HasKeyTwice, HaveFewLines, IsDocumentFault, IsRowsFault}
-use Rattle.document_run.specs.Run.{AreSidesOf, HasOthers, IsDocumentReportOf, IsSideOf, document_keys, key_columns, paths_of}
+use Rattle.document_run.specs.Run.{AreSidesOf, HasOthers, IsDocumentReportOf, IsSideOf, document_keys, key_columns, paths_of, rules_of}
 use Rattle.document_run.specs.Sides.{AreComparable, HasDocuments, IsFoundOn, IsKeyed, IsReportOn}
 use Rattle.document_run.specs.declared.error.DocumentError.{DocumentError}
 use Rattle.document_run.specs.declared.error.DocumentError.TheVariants as error
@@ -29,17 +30,17 @@ use Rattle.document_run.specs.declared.found.Found.{Found}
 use Rattle.document_run.specs.declared.options.DocumentOptions.{DocumentOptions}
 use Rattle.document_words.specs.Sides.{AreDocumentSides, IsDocumentSide, NamesDocuments}
 use Rattle.document_words.specs.declared.sides.DocumentSides.{DocumentSides}
-use Rattle.json_normal.specs.Same.{AreSame}
+use Rattle.json_changes.specs.Rules.{differences_told}
 use Rattle.json_paths.specs.Paths.{Path, part_at}
 use Rattle.json_paths.specs.Views.{path_view}
 
 -- as many rows as lines
-pub length_rows : (keys : List Path) (lines : List (List ℕ)) (t : TableRows) → AreRowsOf keys lines t → length t.rows ≡ length lines
-length_rows keys lines t h = ap length h.rows ∙ length-map lines (document_row keys)
+pub length_rows : (reading : Reading) (keys : List Path) (lines : List (List ℕ)) (t : TableRows) → AreRowsOf reading keys lines t → length t.rows ≡ length lines
+length_rows reading keys lines t h = ap length h.rows ∙ length-map lines (document_row keys)
 
 -- the line of a row is its last cell
-pub line_is : (keys : List Path) (lines : List (List ℕ)) (t : TableRows) (i : ℕ) → AreRowsOf keys lines t → i < length lines → line_at t i ≡ get_or lines i []
-line_is keys lines t i h within =
+pub line_is : (reading : Reading) (keys : List Path) (lines : List (List ℕ)) (t : TableRows) (i : ℕ) → AreRowsOf reading keys lines t → i < length lines → line_at t i ≡ get_or lines i []
+line_is reading keys lines t i h within =
     ap (λ cells. get_or cells (t.width - 1) []) row ∙ get_or_push (map cell keys) (get_or lines i []) [] (t.width - 1) (sym place)
   where
     cell : Path → List ℕ
@@ -62,7 +63,7 @@ columns_within k w e = All-from_get_or (λ c. c < w) (range_with_len 0 k) 0 (λ 
 pub is_document_side : (options : DocumentOptions) (side : Table) → HasDocuments options side → IsDocumentSide (length options.keys.now) side
 is_document_side options side h = record {
   width = h.table.width ∙ ap suc (length-map options.keys.now path_view);
-  lines = h.lines ∙ sym (length_rows (paths_of options) h.all side.table h.table);
+  lines = h.lines ∙ sym (length_rows options.reading (paths_of options) h.all side.table h.table);
 }
 
 pub is_keyed : (options : DocumentOptions) (side : Table) → HasDocuments options side → IsKeyed (key_columns options) side
@@ -79,16 +80,16 @@ are_document_sides options s h = record {
 
 pub hold_documents : (options : DocumentOptions) (s : DocumentSides) → AreComparable options s → HoldDocuments s
 hold_documents options s h = record {
-  left = (paths_of options, h.left.all, h.left.table);
-  right = (paths_of options, h.right.all, h.right.table);
+  left = (options.reading, paths_of options, h.left.all, h.left.table);
+  right = (options.reading, paths_of options, h.right.all, h.right.table);
 }
 
 -- what is found names rows of the tables
 pub documents_named : (options : DocumentOptions) (s : DocumentSides) (f : Found) → IsFoundOn options s f → NamesDocuments s f.matching f.changed.items
 documents_named options s f h = record {
   pairs = pairs_within (key_columns options) s.left.table.rows s.right.table.rows f.matching h.matched;
-  changed = listed_all (IsOtherDocument s.left.table s.right.table f.matching.left_rows.items f.matching.right_rows.items) (length f.matching.left_rows.items) f.changed.items h.changed;
-  few = listed_few (IsOtherDocument s.left.table s.right.table f.matching.left_rows.items f.matching.right_rows.items) (length f.matching.left_rows.items) f.changed.items h.changed;
+  changed = listed_all (IsOtherDocument (rules_of options) s.left.table s.right.table f.matching.left_rows.items f.matching.right_rows.items) (length f.matching.left_rows.items) f.changed.items h.changed;
+  few = listed_few (IsOtherDocument (rules_of options) s.left.table s.right.table f.matching.left_rows.items f.matching.right_rows.items) (length f.matching.left_rows.items) f.changed.items h.changed;
   removed = subst (λ n. All (λ i. i < n) f.matching.removed.items) (length-map s.left.table.rows (row_key (key_columns options)))
       (listed_all (IsRemoved (row_keys (key_columns options) s.left.table.rows) (row_keys (key_columns options) s.right.table.rows)) (length (row_keys (key_columns options) s.left.table.rows)) f.matching.removed.items h.matched.removed);
   added = subst (λ n. All (λ j. j < n) f.matching.added.items) (length-map s.right.table.rows (row_key (key_columns options)))
@@ -97,10 +98,12 @@ documents_named options s f h = record {
 
 -- the documents of two rows are those of the lines at their places
 pub same_others : (options : DocumentOptions) (left_text right_text left_name right_name : List ℕ) (s : DocumentSides) (f : Found) → AreSidesOf options left_text right_text left_name right_name s → IsFoundOn options s f
-    → (k : ℕ) → k < length f.matching.left_rows.items → IsOtherDocument s.left.table s.right.table f.matching.left_rows.items f.matching.right_rows.items k ↔ HasOthers left_text right_text f.matching k
+    → (k : ℕ) → k < length f.matching.left_rows.items → IsOtherDocument (rules_of options) s.left.table s.right.table f.matching.left_rows.items f.matching.right_rows.items k ↔ HasOthers (rules_of options) left_text right_text f.matching k
 same_others options left_text right_text left_name right_name s f sides h k within = (
-  λ other same. other (subst (λ line. AreSame (tree_of line) (tree_of (line_at s.right.table j))) (sym el) (subst (λ line. AreSame (tree_of (get_or (lines_of left_text) i [])) (tree_of line)) (sym er) same)),
-  λ other same. other (subst (λ line. AreSame (tree_of line) (tree_of (get_or (lines_of right_text) j []))) el (subst (λ line. AreSame (tree_of (line_at s.left.table i)) (tree_of line)) er same)),
+  λ other none. other (subst (λ line. differences_told (rules_of options) (tree_of line) (tree_of (line_at s.right.table j)) ≡ []) (sym el)
+      (subst (λ line. differences_told (rules_of options) (tree_of (get_or (lines_of left_text) i [])) (tree_of line) ≡ []) (sym er) none)),
+  λ other none. other (subst (λ line. differences_told (rules_of options) (tree_of line) (tree_of (get_or (lines_of right_text) j [])) ≡ []) el
+      (subst (λ line. differences_told (rules_of options) (tree_of (line_at s.left.table i)) (tree_of line) ≡ []) er none)),
 )
   where
     i : ℕ
@@ -109,22 +112,22 @@ same_others options left_text right_text left_name right_name s f sides h k with
     j : ℕ
     j = slice_index f.matching.right_rows.items k
 
-    l : AreRowsOf (paths_of options) (lines_of left_text) s.left.table
+    l : AreRowsOf options.reading (paths_of options) (lines_of left_text) s.left.table
     l = sides.left.documents.table
 
-    r : AreRowsOf (paths_of options) (lines_of right_text) s.right.table
+    r : AreRowsOf options.reading (paths_of options) (lines_of right_text) s.right.table
     r = sides.right.documents.table
 
     el : line_at s.left.table i ≡ get_or (lines_of left_text) i []
     el =
         let pairs = pairs_within (key_columns options) s.left.table.rows s.right.table.rows f.matching h.matched in
-        line_is (paths_of options) (lines_of left_text) s.left.table i l (omega (arith, pairs.left_within k within, length_rows (paths_of options) (lines_of left_text) s.left.table l))
+        line_is options.reading (paths_of options) (lines_of left_text) s.left.table i l (omega (arith, pairs.left_within k within, length_rows options.reading (paths_of options) (lines_of left_text) s.left.table l))
 
     er : line_at s.right.table j ≡ get_or (lines_of right_text) j []
     er =
         let pairs = pairs_within (key_columns options) s.left.table.rows s.right.table.rows f.matching h.matched in
         let there : k < length f.matching.right_rows.items = omega (arith, within, pairs.one_length) in
-        line_is (paths_of options) (lines_of right_text) s.right.table j r (omega (arith, pairs.right_within k there, length_rows (paths_of options) (lines_of right_text) s.right.table r))
+        line_is options.reading (paths_of options) (lines_of right_text) s.right.table j r (omega (arith, pairs.right_within k there, length_rows options.reading (paths_of options) (lines_of right_text) s.right.table r))
 
 -- the report of the sides of two texts is that of the texts
 pub report_is : (options : DocumentOptions) (left_text right_text left_name right_name : List ℕ) (s : DocumentSides) (written : List ℕ) (outcome : Outcome) → AreSidesOf options left_text right_text left_name right_name s
@@ -140,7 +143,7 @@ report_is options left_text right_text left_name right_name s written outcome si
       changed = f.changed.items;
       sides_are = sides;
       matched = rw (l, r) at on.matched;
-      changed_are = listed_as (IsOtherDocument s.left.table s.right.table f.matching.left_rows.items f.matching.right_rows.items) (HasOthers left_text right_text f.matching) (length f.matching.left_rows.items) f.changed.items
+      changed_are = listed_as (IsOtherDocument (rules_of options) s.left.table s.right.table f.matching.left_rows.items f.matching.right_rows.items) (HasOthers (rules_of options) left_text right_text f.matching) (length f.matching.left_rows.items) f.changed.items
           (same_others options left_text right_text left_name right_name s f sides on) on.changed;
       unique = λ asked. let both = on.unique asked in (rw l at both.0, rw r at both.1);
       text = report.text;
@@ -157,7 +160,7 @@ twice_is options text name side first again h (t, twice, first_is, again_is) =
 -- as many keys as lines
 length_keys : (options : DocumentOptions) (text name : List ℕ) (side : Table) → IsSideOf options text name side → length (row_keys (key_columns options) side.table.rows) ≡ length (lines_of text)
 length_keys options text name side h =
-    length-map side.table.rows (row_key (key_columns options)) ∙ length_rows (paths_of options) (lines_of text) side.table h.documents.table
+    length-map side.table.rows (row_key (key_columns options)) ∙ length_rows options.reading (paths_of options) (lines_of text) side.table h.documents.table
 
 -- sides that can't be compared are those of the two texts
 pub rows_fault : (options : DocumentOptions) (left_text right_text left_name right_name : List ℕ) (s : DocumentSides) (e : DocumentError) → AreSidesOf options left_text right_text left_name right_name s

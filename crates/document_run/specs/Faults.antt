@@ -36,7 +36,7 @@ AreFirstTwice keys first again = (t : Twice) × IsFirstTwice keys t × (first �
 abbrev pub IsDocumentFault : DocumentOptions → List ℕ → List ℕ → DocumentError → Type 0
 IsDocumentFault options left_text right_text error.Memory = ⊤
 IsDocumentFault options left_text right_text error.TooManyRows = ¬ (HaveFewLines left_text right_text)
-IsDocumentFault options left_text right_text (error.Read side cause) = IsReadFault (text_on side left_text right_text) (paths_of options) cause
+IsDocumentFault options left_text right_text (error.Read side cause) = IsReadFault (text_on side left_text right_text) options.reading (paths_of options) cause
 IsDocumentFault options left_text right_text (error.KeyTwice side first again) = (options.unique ≡ true) × AreFirstTwice (document_keys options (text_on side left_text right_text)) first again
 IsDocumentFault options left_text right_text (error.Write cause) = ⊤
 

@@ -4,8 +4,9 @@
 -- ~ id=8  n 2 -> 3
 -- - id=7  old.ndjson line 1
 -- 1 changed, 1 removed, 0 added, 0 the same.
+-- Where n is ignored nothing is told of 8, and the last line is 0 changed, 1 removed, 0 added, 1 the same.
 use Rattle.std.specs.List.{range_with_len}
-use Rattle.std.specs.Prelude.{◌≡◌, ◌==◌, ◌&&◌, ℕ, Bool, true, if◌then◌else◌, List, [], get_or, length, map, slice_index}
+use Rattle.std.specs.Prelude.{◌≡◌, ◌≢◌, ◌==◌, ◌&&◌, ℕ, Bool, true, if◌then◌else◌, List, [], get_or, length, map, slice_index}
 use Rattle.diff_columns.specs.Names.{names_of}
 use Rattle.diff_keys.specs.Matching.{IsMatching}
 use Rattle.diff_keys.specs.Rising.{ListsRising}
@@ -26,7 +27,8 @@ use Rattle.document_run.specs.declared.options.DocumentOptions.{DocumentOptions}
 use Rattle.document_words.specs.Sides as words
 use Rattle.document_words.specs.declared.sides.DocumentSides.{DocumentSides}
 use Rattle.json.specs.Json.{Json}
-use Rattle.json_normal.specs.Same.{AreSame}
+use Rattle.json_changes.specs.Rules.{Rules, differences_told}
+use Rattle.json_changes.specs.Texts.{rules_view}
 use Rattle.json_paths.specs.Paths.{Path}
 use Rattle.json_paths.specs.Views.{paths_view}
 
@@ -46,21 +48,27 @@ document_keys options text = row_keys (key_columns options) (map (document_row (
 abbrev pub tree_at : List ℕ → ℕ → Json
 tree_at text i = tree_of (get_or (lines_of text) i [])
 
--- the documents at place k of two lists of line numbers are not the same
-abbrev pub HasOthers : List ℕ → List ℕ → Matching → ℕ → Type 0
-HasOthers left_text right_text m k = ¬ AreSame (tree_at left_text (slice_index m.left_rows.items k)) (tree_at right_text (slice_index m.right_rows.items k))
+-- the rules that say which differences are told
+abbrev pub rules_of : DocumentOptions → Rules
+rules_of options = rules_view options.rules.now
+
+-- rules tell a difference between the documents at place k of two lists of line numbers
+abbrev pub HasOthers : Rules → List ℕ → List ℕ → Matching → ℕ → Type 0
+HasOthers rules left_text right_text m k =
+    differences_told rules (tree_at left_text (slice_index m.left_rows.items k)) (tree_at right_text (slice_index m.right_rows.items k)) ≢ []
 
 -- a side has the documents of a text, and the name of its input
 pub record IsSideOf (options : DocumentOptions) (text name : List ℕ) (side : Side) : Type 0 where
   pub named : side.name.items ≡ name
-  pub documents : AreDocumentsOf text (paths_of options) (record { table = side.table; lines = side.lines })
+  pub documents : AreDocumentsOf text options.reading (paths_of options) (record { table = side.table; lines = side.lines })
 
--- the sides have the documents of two texts, and the names of the keys
+-- the sides have the documents of two texts, the names of the keys, and the rules
 pub record AreSidesOf (options : DocumentOptions) (left_text right_text left_name right_name : List ℕ) (sides : DocumentSides) : Type 0 where
   pub left : IsSideOf options left_text left_name sides.left
   pub right : IsSideOf options right_text right_name sides.right
   pub names : words.names_of sides ≡ names_of options.names.now
   pub colored : sides.colored ≡ options.colored
+  pub rules : sides.rules.now ≡ options.rules.now
 
 -- the lines of the differences, and the counts
 abbrev pub format_text : Format → DocumentSides → Matching → List ℕ → ℕ → List ℕ
@@ -80,14 +88,14 @@ abbrev pub HaveUniqueKeys : DocumentOptions → List ℕ → List ℕ → Type 0
 HaveUniqueKeys options left_text right_text = AllDiffer (document_keys options left_text) × AllDiffer (document_keys options right_text)
 
 -- the report of two texts, and what it comes to: documents of one key are partners, the first with the first; of the
--- partners those are changed that are not the same
+-- partners those are changed between which a difference is told
 pub record IsDocumentReportOf (options : DocumentOptions) (left_text right_text left_name right_name written : List ℕ) (outcome : Outcome) : Type 0 where
   pub sides : DocumentSides
   pub matching : Matching
   pub changed : List ℕ
   pub sides_are : AreSidesOf options left_text right_text left_name right_name sides
   pub matched : IsMatching (document_keys options left_text) (document_keys options right_text) matching
-  pub changed_are : ListsRising (HasOthers left_text right_text matching) (length matching.left_rows.items) changed
+  pub changed_are : ListsRising (HasOthers (rules_of options) left_text right_text matching) (length matching.left_rows.items) changed
   pub unique : options.unique ≡ true → HaveUniqueKeys options left_text right_text
   pub text : written ≡ format_text options.format sides matching changed options.limit
   pub outcome_is : outcome ≡ outcome_of matching changed

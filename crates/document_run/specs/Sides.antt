@@ -7,14 +7,14 @@ use Rattle.diff_report.specs.declared.sides.Side.{Side}
 use Rattle.diff_run.specs.declared.report.Outcome.{Outcome}
 use Rattle.diff_tables.specs.Keys.{row_keys}
 use Rattle.document_rows.specs.Tables.{HaveDocuments, IsOtherDocument}
-use Rattle.document_run.specs.Run.{format_text, key_columns, outcome_of, paths_of}
+use Rattle.document_run.specs.Run.{format_text, key_columns, outcome_of, paths_of, rules_of}
 use Rattle.document_run.specs.declared.found.Found.{Found}
 use Rattle.document_run.specs.declared.options.DocumentOptions.{DocumentOptions}
 use Rattle.document_words.specs.declared.sides.DocumentSides.{DocumentSides}
 
 -- a side has some documents
 abbrev pub HasDocuments : DocumentOptions → Side → Type 0
-HasDocuments options side = HaveDocuments (paths_of options) (record { table = side.table; lines = side.lines })
+HasDocuments options side = HaveDocuments options.reading (paths_of options) (record { table = side.table; lines = side.lines })
 
 -- both sides have documents, and a name for each key
 pub record AreComparable (options : DocumentOptions) (s : DocumentSides) : Type 0 where
@@ -31,10 +31,10 @@ pub record IsKeyed (columns : List ℕ) (side : Side) : Type 0 where
 abbrev pub HaveUniqueRows : List ℕ → DocumentSides → Type 0
 HaveUniqueRows columns s = AllDiffer (row_keys columns s.left.table.rows) × AllDiffer (row_keys columns s.right.table.rows)
 
--- partners have one key, and of them those are changed whose documents are not the same
+-- partners have one key, and of them those are changed between whose documents a difference is told
 pub record IsFoundOn (options : DocumentOptions) (s : DocumentSides) (f : Found) : Type 0 where
   pub matched : IsMatching (row_keys (key_columns options) s.left.table.rows) (row_keys (key_columns options) s.right.table.rows) f.matching
-  pub changed : ListsRising (IsOtherDocument s.left.table s.right.table f.matching.left_rows.items f.matching.right_rows.items) (length f.matching.left_rows.items) f.changed.items
+  pub changed : ListsRising (IsOtherDocument (rules_of options) s.left.table s.right.table f.matching.left_rows.items f.matching.right_rows.items) (length f.matching.left_rows.items) f.changed.items
   pub unique : options.unique ≡ true → HaveUniqueRows (key_columns options) s
 
 -- the report of two sides, and what it comes to

@@ -21,7 +21,7 @@ use std::alloc::{AllocError, Global};
 #[derive(Drop)]
 pub(crate) struct Found {
     pub(crate) matching: Matching,
-    /// The places among the partners where the two documents are not the same.
+    /// The places among the partners where a difference between the two documents is told.
     pub(crate) changed: Vec<usize>,
 }
 
@@ -35,7 +35,7 @@ fn key_columns(alloc: Global, count: usize) -> Result<Vec<usize>, AllocError>
 /// Matches the documents of two sides by their keys.
 fn compared(
     alloc: Global,
-    sides: &DocumentSides,
+    sides: &DocumentSides<'_>,
     options: &DocumentOptions<'_>,
 ) -> Result<Comparison, DocumentError>
     requires { AreComparable options.now sides.now }
@@ -55,14 +55,15 @@ fn compared(
 /// Finds what differs between two sides.
 pub(crate) fn found_on(
     alloc: Global,
-    sides: &DocumentSides,
+    sides: &DocumentSides<'_>,
     options: &DocumentOptions<'_>,
 ) -> Result<Found, DocumentError>
     requires { AreComparable options.now sides.now }
     ensures { MatchResult result (IsFoundOn options.now sides.now) (IsRowsFault options.now sides.now) }
 {
     let comparison = compared(alloc, sides, options)?;
-    let changed = differing_pairs(alloc, &sides.left.table, &sides.right.table, &comparison)?;
+    let (left, right) = (&sides.left.table, &sides.right.table);
+    let changed = differing_pairs(alloc, left, right, &comparison, options.rules)?;
     Ok(Found {
         matching: comparison.matching,
         changed,

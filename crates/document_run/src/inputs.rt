@@ -11,7 +11,7 @@ use crate::options::DocumentOptions;
 use diff_columns::error::Side;
 use diff_report::sides::Side as Table;
 use diff_run::run::Input;
-use document_rows::read::{Documents, read_documents};
+use document_rows::read::{Documents, read_documents, read_documents_beside};
 use std::alloc::Global;
 use std::io::Read;
 
@@ -28,8 +28,37 @@ pub(crate) fn read_side<R: Read + Drop>(
         (λ error. (left_text right_text : List ℕ) → R.remaining input.entry.reader ≡ Some (text_on side left_text right_text) → IsDocumentFault options.now left_text right_text error) }
 {
     let name = Vec::from_slice(alloc, input.name)?;
-    match read_documents(alloc, input.reader, options.keys) {
+    match read_documents(alloc, input.reader, options.keys, options.reading) {
         Ok(Documents { table, lines }) => Ok(Table { name, table, lines }),
         Err(cause) => Err(DocumentError::Read { side, cause }),
+    }
+}
+
+/// Reads the documents of the right input, beside those of the left one.
+pub(crate) fn read_right<R: Read + Drop>(
+    alloc: Global,
+    input: Input<'_, R>,
+    options: &DocumentOptions<'_>,
+    left: &Table,
+) -> Result<Table, DocumentError>
+    requires { HasDocuments options.now left.now }
+    ensures shape { IfOk result (HasDocuments options.now) }
+    ensures texts { MatchResult result
+        (λ table. (text : List ℕ) → R.remaining input.entry.reader ≡ Some text → IsSideOf options.now text input.entry.name.now table)
+        (λ error. (left_text right_text : List ℕ) → R.remaining input.entry.reader ≡ Some right_text → IsDocumentFault options.now left_text right_text error) }
+{
+    let name = Vec::from_slice(alloc, input.name)?;
+    match read_documents_beside(
+        alloc,
+        input.reader,
+        options.keys,
+        options.reading,
+        &left.table,
+    ) {
+        Ok(Documents { table, lines }) => Ok(Table { name, table, lines }),
+        Err(cause) => Err(DocumentError::Read {
+            side: Side::Right,
+            cause,
+        }),
     }
 }

@@ -4,6 +4,7 @@
 pub mod error;
 mod found;
 mod inputs;
+pub mod laws;
 pub mod options;
 mod report;
 pub mod run;

@@ -3,6 +3,8 @@
 ghost use Rattle.std.specs.Prelude.{◌≡◌, length};
 
 use diff_run::options::Format;
+use document_rows::reading::Reading;
+use json_changes::changes::Rules;
 use json_paths::path::Path;
 
 /// Options of a comparison of documents, and of its report.
@@ -13,6 +15,10 @@ pub struct DocumentOptions<'a> {
     pub keys: &'a [Path],
     /// The name of each of these paths in the report.
     pub names: &'a [&'a [u8]],
+    /// How the documents are read.
+    pub reading: Reading,
+    /// The rules that say which differences between two documents are told.
+    pub rules: &'a Rules,
     /// The most differences that have a line of their own.
     pub limit: usize,
     /// Whether a key that comes twice in an input is an error.

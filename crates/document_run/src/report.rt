@@ -25,7 +25,7 @@ pub(crate) struct Report {
 /// Returns the text of a report.
 fn text_of(
     alloc: Global,
-    sides: &DocumentSides,
+    sides: &DocumentSides<'_>,
     found: &Found,
     options: &DocumentOptions<'_>,
 ) -> Result<Vec<u8>, AllocError>
@@ -46,7 +46,7 @@ fn text_of(
     Ok(text)
 }
 
-/// Returns whether all documents have a partner that is the same.
+/// Returns whether all documents have a partner from which no difference is told.
 fn outcome_of(found: &Found) -> Outcome
     ensures { result ≡ outcome_of found.now.matching found.now.changed.items }
 {
@@ -60,7 +60,7 @@ fn outcome_of(found: &Found) -> Outcome
 /// Returns the report of two sides.
 pub(crate) fn report_of(
     alloc: Global,
-    sides: &DocumentSides,
+    sides: &DocumentSides<'_>,
     options: &DocumentOptions<'_>,
 ) -> Result<Report, DocumentError>
     requires { AreComparable options.now sides.now }

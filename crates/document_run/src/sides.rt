@@ -7,7 +7,7 @@ ghost use Rattle.document_run.specs.Run.{AreSidesOf};
 ghost use Rattle.document_run.specs.Sides.{AreComparable};
 
 use crate::error::DocumentError;
-use crate::inputs::read_side;
+use crate::inputs::{read_right, read_side};
 use crate::options::DocumentOptions;
 use diff_columns::error::Side;
 use diff_run::run::Input;
@@ -27,12 +27,12 @@ fn copied(alloc: Global, names: &[&[u8]]) -> Result<Vec<Vec<u8>>, AllocError>
 }
 
 /// Reads the documents of two inputs.
-pub(crate) fn sides_of<L: Read + Drop, R: Read + Drop>(
+pub(crate) fn sides_of<'a, L: Read + Drop, R: Read + Drop>(
     alloc: Global,
     left: Input<'_, L>,
     right: Input<'_, R>,
-    options: &DocumentOptions<'_>,
-) -> Result<DocumentSides, DocumentError>
+    options: &DocumentOptions<'a>,
+) -> Result<DocumentSides<'a>, DocumentError>
     ensures comparable { IfOk result (AreComparable options.now) }
     ensures texts { MatchResult result
         (λ sides. (left_text right_text : List ℕ) → L.remaining left.entry.reader ≡ Some left_text → R.remaining right.entry.reader ≡ Some right_text → AreSidesOf options.now left_text right_text left.entry.name.now right.entry.name.now sides)
@@ -40,11 +40,12 @@ pub(crate) fn sides_of<L: Read + Drop, R: Read + Drop>(
 {
     let keys = copied(alloc, options.names)?;
     let left = read_side(alloc, left, options, Side::Left)?;
-    let right = read_side(alloc, right, options, Side::Right)?;
+    let right = read_right(alloc, right, options, &left)?;
     Ok(DocumentSides {
         left,
         right,
         keys,
         colored: options.colored,
+        rules: options.rules,
     })
 }

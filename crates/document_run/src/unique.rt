@@ -40,7 +40,7 @@ fn test_side(
 /// Tests that no two documents of a side have one key, where keys have to be unique.
 pub(crate) fn test_keys(
     alloc: Global,
-    sides: &DocumentSides,
+    sides: &DocumentSides<'_>,
     columns: &[usize],
     options: &DocumentOptions<'_>,
 ) -> Result<(), DocumentError>

@@ -19,7 +19,7 @@ use std::alloc::AllocError;
 /// Appends the name of key `k`, and its value in a row.
 fn push_key(
     out: &mut Vec<u8>,
-    sides: &DocumentSides,
+    sides: &DocumentSides<'_>,
     side: &Side,
     i: usize,
     k: usize,
@@ -38,7 +38,7 @@ fn push_key(
 /// Appends the names of the keys, and their values in a row.
 fn push_keys(
     out: &mut Vec<u8>,
-    sides: &DocumentSides,
+    sides: &DocumentSides<'_>,
     side: &Side,
     i: usize,
 ) -> Result<(), AllocError>
@@ -57,7 +57,7 @@ fn push_keys(
 #[tactic(auto, unfolding(crate::specs::Keys::document_name))]
 pub fn push_document_name(
     out: &mut Vec<u8>,
-    sides: &DocumentSides,
+    sides: &DocumentSides<'_>,
     side: &Side,
     i: usize,
 ) -> Result<(), AllocError>
@@ -77,7 +77,7 @@ pub fn push_document_name(
 /// Appends the name of key `k` and its value in a row, in JSON.
 fn push_key_member(
     out: &mut Vec<u8>,
-    sides: &DocumentSides,
+    sides: &DocumentSides<'_>,
     side: &Side,
     i: usize,
     k: usize,
@@ -96,7 +96,7 @@ fn push_key_member(
 /// Appends the names of the keys and their values in a row, in JSON.
 pub fn push_key_members(
     out: &mut Vec<u8>,
-    sides: &DocumentSides,
+    sides: &DocumentSides<'_>,
     side: &Side,
     i: usize,
 ) -> Result<(), AllocError>

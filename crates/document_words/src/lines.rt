@@ -32,7 +32,7 @@ fn mark_color(mark: u8) -> Color
 fn push_alone(
     out: &mut Vec<u8>,
     mark: u8,
-    sides: &DocumentSides,
+    sides: &DocumentSides<'_>,
     side: &Side,
     i: usize,
 ) -> Result<(), AllocError>
@@ -55,7 +55,7 @@ fn push_alone(
 fn push_alone_line(
     out: &mut Vec<u8>,
     mark: u8,
-    sides: &DocumentSides,
+    sides: &DocumentSides<'_>,
     side: &Side,
     i: usize,
 ) -> Result<(), AllocError>
@@ -74,7 +74,7 @@ fn push_alone_line(
 pub fn push_alone_lines(
     out: &mut Vec<u8>,
     mark: u8,
-    sides: &DocumentSides,
+    sides: &DocumentSides<'_>,
     side: &Side,
     rows: &[u32],
     limit: usize,
@@ -94,7 +94,7 @@ pub fn push_alone_lines(
 fn push_alone_object(
     out: &mut Vec<u8>,
     kind: &[u8],
-    sides: &DocumentSides,
+    sides: &DocumentSides<'_>,
     side: &Side,
     i: usize,
 ) -> Result<(), AllocError>
@@ -116,7 +116,7 @@ fn push_alone_object(
 pub fn push_alone_objects(
     out: &mut Vec<u8>,
     kind: &[u8],
-    sides: &DocumentSides,
+    sides: &DocumentSides<'_>,
     side: &Side,
     rows: &[u32],
     limit: usize,

@@ -8,9 +8,11 @@ const VERSION: &str = "0.1.0";
 
 /// What `dunkelva diff --help` has behind the options.
 const NOTES: &str = "\
-Files whose names end in .ndjson or .jsonl have a JSON object in each line, and their keys are \
-paths such as order.id or items[0].sku. Others are CSV, with which --only, --ignore, --common, \
---null, --delimiter and --no-header go.
+Files whose names end in .ndjson or .jsonl have a JSON object in each line. There --key takes paths \
+such as order.id or items[0].sku, and --only and --ignore take paths in which [] is every item, such \
+as items[].price, and so do the two tolerances. Others are CSV, with which --common, --numbers, \
+--text, --null, --delimiter and --no-header go, and tolerances, --missing-is-null and \
+--no-key-is-null do not.
 The status is 0 where the files are the same, 1 where they differ, and 2 where they can't be compared.";
 
 /// The words of `--color`.
@@ -29,6 +31,11 @@ fn columns<'a>(alloc: Global, id: &'a str) -> Arg<'a> {
         .value_name("COLUMNS")
         .value_delimiter(',')
         .action(ArgAction::Append)
+}
+
+/// Returns an option that takes a path and a bound, and may be given again.
+fn tolerance<'a>(alloc: Global, id: &'a str) -> Arg<'a> {
+    valued(alloc, id, "PATH=BOUND").action(ArgAction::Append)
 }
 
 /// Returns an option that is given or not.
@@ -52,14 +59,36 @@ fn with_choice<'a>(alloc: Global, command: Command<'a>) -> Result<Command<'a>, A
         .arg(columns(alloc, "key").help(
             "The columns or paths that name a row; without them rows are compared by position",
         ))?
-        .arg(columns(alloc, "only").help("Compare these columns alone, and the key"))?
-        .arg(columns(alloc, "ignore").help("Compare all columns but these"))?
+        .arg(columns(alloc, "only").help("Compare these columns or paths alone, and the key"))?
+        .arg(columns(alloc, "ignore").help("Compare all columns or paths but these"))?
         .arg(
             switch(alloc, "unique")
                 .help("A key that comes twice in a file is an error")
                 .requires_arg("key")?,
         )?
-        .arg(switch(alloc, "common").help("Leave out columns that one file has alone"))
+        .arg(switch(alloc, "common").help("Leave out columns that one file has alone"))?
+        .arg(switch(alloc, "numbers").help(
+            "Compare numbers by what they are worth: 12, 12.00 and 1.2e1 are the same",
+        ))?
+        .arg(
+            columns(alloc, "text")
+                .help("With --numbers, compare these columns as text even so")
+                .requires_arg("numbers")?,
+        )?
+        .arg(switch(alloc, "missing-is-null").help(
+            "In JSON a part that is missing is the same as null",
+        ))
+}
+
+/// Adds the options that say how far apart numbers may lie.
+fn with_tolerances<'a>(alloc: Global, command: Command<'a>) -> Result<Command<'a>, AllocError> {
+    command
+        .arg(tolerance(alloc, "tolerance").help(
+            "In JSON numbers at this path may lie so far apart",
+        ))?
+        .arg(tolerance(alloc, "relative-tolerance").help(
+            "In JSON numbers at this path may lie this part of the larger one apart",
+        ))
 }
 
 /// Adds the options that say how the files are read.
@@ -76,6 +105,9 @@ fn with_reading<'a>(alloc: Global, command: Command<'a>) -> Result<Command<'a>, 
         ))?
         .arg(switch(alloc, "no-header").help(
             "The first record is a row; columns are named 1, 2, 3 ..",
+        ))?
+        .arg(switch(alloc, "no-key-is-null").help(
+            "A document without a part at a key path has the key null there",
         ))
 }
 
@@ -110,6 +142,7 @@ fn diff<'a>(alloc: Global) -> Result<Command<'a>, AllocError> {
         .arg(input(alloc, "left", "LEFT").help("The first file, or - for standard input"))?
         .arg(input(alloc, "right", "RIGHT").help("The second file, or - for standard input"))?;
     let command = with_choice(alloc, command)?;
+    let command = with_tolerances(alloc, command)?;
     let command = with_reading(alloc, command)?;
     with_report(alloc, command)
 }

@@ -4,10 +4,16 @@ use anyhow::{Result, anyhow};
 use clap::ArgMatches;
 
 /// The options that only tables have, and that take a value.
-const TABLE_VALUES: [&str; 4] = ["only", "ignore", "null", "delimiter"];
+const TABLE_VALUES: [&str; 3] = ["text", "null", "delimiter"];
 
 /// The options that only tables have, and that take none.
-const TABLE_SWITCHES: [&str; 2] = ["common", "no-header"];
+const TABLE_SWITCHES: [&str; 3] = ["common", "numbers", "no-header"];
+
+/// The options that only documents have, and that take a value.
+const DOCUMENT_VALUES: [&str; 2] = ["tolerance", "relative-tolerance"];
+
+/// The options that only documents have, and that take none.
+const DOCUMENT_SWITCHES: [&str; 2] = ["missing-is-null", "no-key-is-null"];
 
 /// Returns whether a file of this name holds documents.
 fn names_documents(name: &str) -> bool {
@@ -37,6 +43,21 @@ pub(crate) fn refuse_table_options(matches: &ArgMatches<'_>) -> Result<()> {
     for option in &TABLE_SWITCHES {
         if matches.get_flag(option) {
             return Err(anyhow!("--{option} goes with CSV files"));
+        }
+    }
+    Ok(())
+}
+
+/// Refuses the options that only documents have.
+pub(crate) fn refuse_document_options(matches: &ArgMatches<'_>) -> Result<()> {
+    for option in &DOCUMENT_SWITCHES {
+        if matches.get_flag(option) {
+            return Err(anyhow!("--{option} goes with JSON documents"));
+        }
+    }
+    for option in &DOCUMENT_VALUES {
+        if matches.contains_id(option) {
+            return Err(anyhow!("--{option} goes with JSON documents"));
         }
     }
     Ok(())

@@ -7,20 +7,24 @@ mod files;
 mod keys;
 mod kinds;
 mod progress;
+mod rules;
 mod tasks;
+mod tolerances;
 mod trouble;
 mod words;
 
 use crate::command::command;
 use crate::files::{open, open_beside, total_of};
 use crate::keys::Keys;
-use crate::kinds::{hold_documents, refuse_table_options};
+use crate::kinds::{hold_documents, refuse_document_options, refuse_table_options};
+use crate::rules::rules_of;
 use crate::tasks::{Task, compare};
 use crate::words::{Names, csv_options, format_of, is_colored, limit_of};
 use anyhow::{Result, anyhow};
 use clap::ArgMatches;
 use diff_run::options::Options;
 use diff_run::run::Input;
+use document_rows::reading::Reading;
 use document_run::options::DocumentOptions;
 use std::env;
 use std::process::ExitCode;
@@ -49,10 +53,12 @@ fn compare_named(rt: &HostRuntime, left: &str, right: &str, task: &Task<'_>) -> 
 
 /// Compares two CSV files.
 fn diff_tables(rt: &HostRuntime, matches: &ArgMatches<'_>, left: &str, right: &str) -> Result<u8> {
+    refuse_document_options(matches)?;
     let names = Names::of(rt.alloc(), matches)?;
     let options = Options {
         choice: names.choice(),
         csv: csv_options(matches, left, right)?,
+        numbers: names.texts(),
         null: matches.get_str("null").map(|word| word.as_bytes()),
         limit: limit_of(matches),
         common: matches.get_flag("common"),
@@ -72,9 +78,14 @@ fn diff_documents(
 ) -> Result<u8> {
     refuse_table_options(matches)?;
     let keys = Keys::of(rt.alloc(), matches)?;
+    let rules = rules_of(rt.alloc(), matches)?;
     let options = DocumentOptions {
         keys: &keys.paths,
         names: &keys.names,
+        reading: Reading {
+            null_keys: matches.get_flag("no-key-is-null"),
+        },
+        rules: &rules,
         limit: limit_of(matches),
         unique: matches.get_flag("unique"),
         format: format_of(matches),

@@ -33,6 +33,14 @@ fn one_key(first: u64, again: u64) -> Error {
     anyhow!("the rows at lines {first} and {again} have one key")
 }
 
+/// Returns what is said of a number whose exponent is too wide, in the column of this name.
+fn wide_exponent(line: u64, name: &[u8]) -> Error {
+    anyhow!(
+        "line {line} has a number in column {} whose exponent has more than 30 digits: see --text",
+        str::from_utf8(name).unwrap_or("-")
+    )
+}
+
 /// Returns what is said of an error: what is wrong, and of which file as its context.
 pub(crate) fn table_trouble(
     error: RunError,
@@ -43,6 +51,9 @@ pub(crate) fn table_trouble(
         RunError::Csv { side, cause } => anyhow!("{cause}").context(file_of(files, side)),
         RunError::KeyTwice { side, first, again } => {
             one_key(first, again).context(file_of(files, side))
+        }
+        RunError::WideExponent { side, line, name } => {
+            wide_exponent(line, &name).context(file_of(files, side))
         }
         RunError::Columns {
             cause: ColumnError::NameTwice { side, column },
@@ -59,29 +70,39 @@ pub(crate) fn table_trouble(
     }
 }
 
-/// Returns what is said of a line that is no document.
-fn line_trouble(line: u64, fault: LineFault, options: &DocumentOptions<'_>) -> Error {
+/// Returns what is wrong with a line that is no document.
+fn fault_text(fault: LineFault, options: &DocumentOptions<'_>) -> Error {
     match fault {
-        LineFault::Invalid => anyhow!("line {line} is no JSON"),
-        LineFault::NoObject => anyhow!("line {line} is no JSON object"),
-        LineFault::RepeatedName => anyhow!("line {line} has an object with a name twice"),
-        LineFault::WideExponent => {
-            anyhow!("line {line} has a number whose exponent has more than 30 digits")
-        }
         LineFault::NoPart { key } => match options.names.get(key) {
-            Some(name) => anyhow!(
-                "line {line} has no {}",
-                str::from_utf8(name).unwrap_or("key")
-            ),
-            None => anyhow!("line {line} has no key"),
+            Some(name) => anyhow!("no {}", str::from_utf8(name).unwrap_or("key")),
+            None => anyhow!("no key"),
         },
+        other => anyhow!("{other}"),
+    }
+}
+
+/// Returns what is said of a line that is no document.
+fn line_trouble(
+    line: u64,
+    column: Option<u64>,
+    fault: LineFault,
+    options: &DocumentOptions<'_>,
+) -> Error {
+    let text = fault_text(fault, options);
+    match column {
+        Some(column) => anyhow!("line {line}, column {column}: {text}"),
+        None => anyhow!("line {line}: {text}"),
     }
 }
 
 /// Returns what is said of an input of documents that can't be read.
 fn read_trouble(cause: ReadError, options: &DocumentOptions<'_>) -> Error {
     match cause {
-        ReadError::Line { line, fault } => line_trouble(line, fault, options),
+        ReadError::Line {
+            line,
+            column,
+            fault,
+        } => line_trouble(line, column, fault, options),
         other => anyhow!("{other}"),
     }
 }

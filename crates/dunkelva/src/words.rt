@@ -17,6 +17,7 @@ pub(crate) struct Names<'a> {
     keys: Vec<&'a [u8]>,
     only: Option<Vec<&'a [u8]>>,
     ignored: Vec<&'a [u8]>,
+    texts: Option<Vec<&'a [u8]>>,
 }
 
 /// Returns the bytes of each text.
@@ -35,10 +36,16 @@ impl<'a> Names<'a> {
             Some(texts) => Some(bytes_of(alloc, texts)?),
             None => None,
         };
+        let texts = if matches.get_flag("numbers") {
+            Some(bytes_of(alloc, matches.get_strs("text").unwrap_or(&[]))?)
+        } else {
+            None
+        };
         Ok(Names {
             keys: bytes_of(alloc, matches.get_strs("key").unwrap_or(&[]))?,
             only,
             ignored: bytes_of(alloc, matches.get_strs("ignore").unwrap_or(&[]))?,
+            texts,
         })
     }
 
@@ -49,6 +56,12 @@ impl<'a> Names<'a> {
             only: self.only.as_deref(),
             ignored: &self.ignored,
         }
+    }
+
+    /// Returns the columns that are compared as texts, where numbers are compared by what they are
+    /// worth in all others.
+    pub(crate) fn texts(&self) -> Option<&[&'a [u8]]> {
+        self.texts.as_deref()
     }
 }
 

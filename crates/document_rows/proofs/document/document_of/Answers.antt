@@ -15,16 +15,16 @@ pub returns-in-Ok-parse-clause-unique : goal.returns-in-Ok-parse-clause-unique
 returns-in-Ok-parse-clause-unique c =
     let row = row_of c.args.table.now c.requires.documents c.args.row c.requires.row in
     let line = line_at c.args.table.now c.args.row in
-    subst HasUniqueKeys (tree_read line c.in-Ok.text.now _ (c.in-Ok.ensures.cases.0 ∙ c.line_of.ensures) c.in-Ok-parse.ensures.ok) (tree_unique row.keys line row.document)
+    subst HasUniqueKeys (tree_read line c.in-Ok.text.now _ (c.in-Ok.ensures.cases.0 ∙ c.line_of.ensures) c.in-Ok-parse.ensures.ok) (tree_unique row.reading row.keys line row.document)
 
 pub returns-in-Ok-parse-clause-narrow : goal.returns-in-Ok-parse-clause-narrow
 returns-in-Ok-parse-clause-narrow c =
     let row = row_of c.args.table.now c.requires.documents c.args.row c.requires.row in
     let line = line_at c.args.table.now c.args.row in
-    subst HasNarrowNumbers (tree_read line c.in-Ok.text.now _ (c.in-Ok.ensures.cases.0 ∙ c.line_of.ensures) c.in-Ok-parse.ensures.ok) (tree_narrow row.keys line row.document)
+    subst HasNarrowNumbers (tree_read line c.in-Ok.text.now _ (c.in-Ok.ensures.cases.0 ∙ c.line_of.ensures) c.in-Ok-parse.ensures.ok) (tree_narrow row.reading row.keys line row.document)
 
 pub unreachable-requires-in-Err-Invalid : goal.unreachable-requires-in-Err-Invalid
 unreachable-requires-in-Err-Invalid c =
     let row = row_of c.args.table.now c.requires.documents c.args.row c.requires.row in
-    has_value row.keys (line_at c.args.table.now c.args.row) c.in-Ok.text.now row.document (c.in-Ok.ensures.cases.0 ∙ c.line_of.ensures)
+    has_value row.reading row.keys (line_at c.args.table.now c.args.row) c.in-Ok.text.now row.document (c.in-Ok.ensures.cases.0 ∙ c.line_of.ensures)
     (c.parse.ensures.invalid (c.in-Err-Invalid.is ∙ ap Err c.in-Err-Invalid.field-0-is))

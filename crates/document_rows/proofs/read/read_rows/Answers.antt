@@ -9,9 +9,9 @@ use Rattle.document_rows.proofs.read.read_rows.Goals as goal
 pub loop-before-init : goal.loop-before-init
 loop-before-init g c = record {
   all = [];
-  held = c.in_ok-rows.ensures (paths_view c.args.keys.now);
+  held = c.in_ok-rows.ensures c.args.reading (paths_view c.args.keys.now);
   count = refl;
-  reading = λ text known. (text, known, refl);
+  so_far = λ text known. (text, known, refl);
 }
 
 pub returns-then-not-branch : goal.returns-then-not-branch
@@ -22,7 +22,7 @@ returns-then-not-branch g c =
       lines = before.all;
       held = before.held;
       all = λ text known.
-          let (rest, left, cut) = before.reading text known in
+          let (rest, left, cut) = before.so_far text known in
           sym (cut ∙ no_lines before.all rest (rw none at (c.in_ok-next_line.ensures.told rest left)));
     }
 
@@ -32,9 +32,9 @@ returns-in_err-keep_line g c =
     let some : c.in_ok-next_line.field-0 ≡ true = search rules in
     let p = err_from_is_err_and c.from_residual-in_err-keep_line.result c.from_residual-in_err-keep_line.ensures.1 in
     rw (p.1, p.2) (λ text known.
-    let (rest, left, cut) = before.reading text known in
+    let (rest, left, cut) = before.so_far text known in
     let (after, _, line) = rw some at (c.in_ok-next_line.ensures.told rest left) in
-    line_fault (paths_view c.args.keys.now) text before.all c.next_line.new.line.items after (c.loop-before.before + 1) _ (cut ∙ ap (λ l. before.all ++ l) line) before.held.documents (omega (arith, before.count))
+    line_fault c.args.reading (paths_view c.args.keys.now) text before.all c.next_line.new.line.items after (c.loop-before.before + 1) _ (cut ∙ ap (λ l. before.all ++ l) line) before.held.documents (omega (arith, before.count))
     (rw c.deref.ensures.value at c.in_err-keep_line.ensures))
 
 pub loop-before-preserved : goal.loop-before-preserved
@@ -46,8 +46,8 @@ loop-before-preserved g c =
       all = before.all ++ next ∷ [];
       held = rw c.deref.ensures.value at (c.in_ok-keep_line.ensures before.all before.held);
       count = omega (arith, before.count, length-append before.all (next ∷ []));
-      reading = λ text known.
-          let (rest, left, cut) = before.reading text known in
+      so_far = λ text known.
+          let (rest, left, cut) = before.so_far text known in
           let (after, behind, line) = rw some at (c.in_ok-next_line.ensures.told rest left) in
           (after, behind, cut ∙ (ap (λ l. before.all ++ l) line ∙ sym (append_assoc before.all (next ∷ []) (lines_of after))));
     }

@@ -10,7 +10,7 @@ use Rattle.document_rows.proofs.read.table_of.Goals as goal
 
 pub new-requires : goal.new-requires
 new-requires c =
-    let (lines, h) = c.requires in
+    let (_, lines, h) = c.requires in
     let keys = paths_view c.args.keys.now in
     let width : suc (length keys) ≡ length c.args.keys.now + 1 = omega (arith, length-map c.args.keys.now path_view) in
     let count = all_cells (document_row keys) (suc (length keys)) (row_count keys) lines in
@@ -18,7 +18,7 @@ new-requires c =
     (flat_map (document_row keys) lines, h.cells, count ∙ (ap (λ n. suc (length keys) * n) (sym len) ∙ ap (λ w. w * c.len.result) width))
 
 pub returns-in-Ok : goal.returns-in-Ok
-returns-in-Ok c = λ lines h.
+returns-in-Ok c = λ reading lines h.
     let keys = paths_view c.args.keys.now in
     let all = flat_map (document_row keys) lines in
     let width : suc (length keys) ≡ length c.args.keys.now + 1 = omega (arith, length-map c.args.keys.now path_view) in

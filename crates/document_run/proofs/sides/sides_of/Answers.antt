@@ -26,4 +26,5 @@ returns-clause-texts g c = λ left_text right_text el er. record {
   right = c.in_ok-right.ensures.texts right_text er;
   names = c.in_ok-keys.ensures;
   colored = refl;
+  rules = refl;
 }

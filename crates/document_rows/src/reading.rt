@@ -1,0 +1,8 @@
+//! How documents are read.
+
+/// How the documents of an input are read.
+#[derive(Clone, Copy)]
+pub struct Reading {
+    /// Whether a document that has no part at a key has the key null. Else it is an error.
+    pub null_keys: bool,
+}
