@@ -1,9 +1,9 @@
 """Lines and files of JSON documents with what `dunkelva diff` has to do with them, by RFC 8259 and by its own rules."""
 
 WIDE = "1" + "0" * 30
-NO_JSON, TWICE = "is no JSON", "has an object with a name twice"
-NO_OBJECT, NO_ID = "is no JSON object", "has no id"
-TOO_WIDE = "has a number whose exponent has more than 30 digits"
+NO_JSON, TWICE = "no JSON", "an object has a name twice"
+NO_OBJECT, NO_ID = "no JSON object", "no id"
+TOO_WIDE = "an exponent has more than 30 digits"
 
 
 def nested(depth, inside=b""):
@@ -66,6 +66,21 @@ FAULTS = (
     *((line, NO_ID) for line in (
         b"{}", b" { } ", b'{"a":{"id":1}}', b'{"ID":1}', b'{"id ":1}', b'{"":1}', b'{"i":{"d":1}}', b'{"id\\u0000":1}',
         b'{"\\"id\\"":1}')),
+)
+
+# lines that are no document with the key id, the column of the fault, if it has one, and what is said of it
+COLUMNS = (
+    (b"", 1, NO_JSON), (b"  \r", 4, NO_JSON), (b"{", 2, NO_JSON), (b'{"id":1', 8, NO_JSON), (b'{"id":1,}', 9, NO_JSON),
+    (b'{"id":1,', 9, NO_JSON), (b'{"id":1, ', 10, NO_JSON), (b'{"id":01}', 7, NO_JSON), (b'{"id":1}}', 9, NO_JSON),
+    (b'{"id":1} , {}', 10, NO_JSON), (b'{"id":[1,2}', 11, NO_JSON), (b'{"id":"a\\x"}', 7, NO_JSON),
+    (b'{"id" 1}', 2, NO_JSON), (b'{"id"::1}', 7, NO_JSON), (b'{"id":1 "a":2}', 9, NO_JSON), (b'{"id":1,2}', 9, NO_JSON),
+    (b'{"id":{"a":}}', 12, NO_JSON), (b'{"id":"a":1}', 7, NO_JSON), (b'{"id":["a":1]}', 8, NO_JSON),
+    (b"[1}", 1, NO_JSON), (b"nul", 1, NO_JSON), (b"\xef\xbb\xbf{}", 1, NO_JSON), (b'{"id":"\xff"}', 8, NO_JSON),
+    (b'{"\xc3\xa9\xf0\x9f\x98\x80":}', 7, NO_JSON), (b'{"\xc3\xa9":"\xe6\x97"}', 7, NO_JSON),
+    (nested(129), nested(129).rindex(b"[") + 1, NO_JSON),
+    (b" [1]", 2, NO_OBJECT), (b"1", 1, NO_OBJECT), (b'{"id":1,"\xc3\xa9":2,"id":1,"\xc3\xa9":2}', 15, TWICE),
+    (b'{"id":{"a":1,"b":{"a":1},"\\u0061":1}}', 26, TWICE), (b'{"id":1e1, "a":[2, 1e1%s]}' % (b"0" * 30), 20, TOO_WIDE),
+    (b'{"ID":1}', None, NO_ID),
 )
 
 # lines that are documents
@@ -131,6 +146,114 @@ DIFFERENT = (
     (b'{"z":{"y":1,"x":-0.0}}', b'{"z":0}', 'a.z {"y":1,"x":-0.0} -> 0'),
 )
 
+# options, two numbers, and what is told of them as members a, or None
+CLOSE = (
+    (["--tolerance", "a=0.01"], "0.30", "0.31", False), (["--tolerance", "a=0.01"], "0.31", "0.3", False),
+    (["--tolerance", "a=1e-2"], "-0.30", "-0.31", False), (["--tolerance", "a=0.01"], "0.30", "0.31" + "0" * 40, False),
+    (["--tolerance", "a=0.01"], "0.30", "0.31" + "0" * 40 + "1", True),
+    (["--tolerance", "a=9.9e-3"], "0.3", "0.31", True),
+    (["--tolerance", "a=1"], "9007199254740992", "9007199254740993", False),
+    (["--tolerance", "a=0.9"], "9007199254740992", "9007199254740993", True),
+    (["--tolerance", "a=2"], "1", "-1", False), (["--tolerance", "a=1.99"], "1", "-1", True),
+    (["--tolerance", "a=0"], "1", "1.1", True), (["--tolerance", "a=0.0e9"], "1", "10e-1", False),
+    (["--tolerance", "a=0"], "1e-999", "0", True), (["--tolerance", "a=1e-999"], "1e-999", "0", False),
+    (["--tolerance", "a=1e%s" % ("9" * 30)], "1", "-1e" + "9" * 29 + "8", False),
+    (["--tolerance", "a=1e%s" % ("9" * 30)], "-1", "1e" + "9" * 30, True),
+    (["--tolerance", "a=1e%s" % ("9" * 30)], "1", "1e" + "9" * 30, False),
+    (["--tolerance", "a=1"], "1", "1e" + "9" * 30, True), (["--tolerance", "a=1"], "1", "1e-" + "9" * 30, False),
+    (["--tolerance", "a=1"], "-1e-" + "9" * 30, "1", True),
+    (["--tolerance", "a=1e-%s" % ("9" * 30)], "1e-" + "9" * 30, "2e-" + "9" * 30, False),
+    (["--tolerance", "a=1e-%s" % ("9" * 30)], "1" + "0" * 400, "1" + "0" * 399 + "1", True),
+    (["--tolerance", "a=1"], "1" + "0" * 400, "9" * 400, False),
+    (["--tolerance", "a=1"], "1" + "0" * 400, "9" * 399 + "8", True),
+    (["--tolerance", "a=0.999999999999999999"], "0", "1", True),
+    (["--tolerance", "a=0.999999999999999999"], "0", "0.999999999999999999", False),
+    (["--tolerance", "a=0.1", "--tolerance", "a=0.2"], "1", "1.2", False),
+    (["--tolerance", "a=0.2", "--tolerance", "a=0.1"], "1", "1.2", False),
+    (["--tolerance", "a=0.1", "--tolerance", "b=0.2"], "1", "1.2", True),
+    (["--tolerance", "a=0.1", "--relative-tolerance", "a=0.5"], "1", "2", False),
+    (["--tolerance", "a=1", "--relative-tolerance", "a=0.1"], "1", "2", False),
+    (["--relative-tolerance", "a=0.01"], "99", "100", False), (["--relative-tolerance", "a=0.01"], "100", "99", False),
+    (["--relative-tolerance", "a=0.01"], "-99", "-100", False),
+    (["--relative-tolerance", "a=0.01"], "98.99", "100", True),
+    (["--relative-tolerance", "a=0.01"], "99", "-100", True), (["--relative-tolerance", "a=2"], "1", "-1", False),
+    (["--relative-tolerance", "a=1.99"], "-1", "1", True), (["--relative-tolerance", "a=0.5"], "0", "1e-9", True),
+    (["--relative-tolerance", "a=1"], "0", "1e-9", False), (["--relative-tolerance", "a=1"], "-1e-9", "0", False),
+    (["--relative-tolerance", "a=0.999999999999999999"], "1e99", "0", True),
+    (["--relative-tolerance", "a=1e-9"], "1e400", "1.000000001e400", False),
+    (["--relative-tolerance", "a=1e-9"], "1e400", "1.0000000010000000010e400", False),
+    (["--relative-tolerance", "a=1e-9"], "1e400", "1.0000000010000000011e400", True),
+    (["--relative-tolerance", "a=1e-9"], "1e%s" % ("9" * 30), "1000000001e" + "9" * 28 + "90", False),
+    (["--relative-tolerance", "a=1e-9"], "1e-%s" % ("9" * 30), "1.1e-" + "9" * 30, True),
+)
+# the same, as documents
+TOLERANCES = (
+    *((words, b'{"a":%s}' % left.encode(), b'{"a":%s}' % right.encode(), f"a {left} -> {right}" if told else None)
+      for words, left, right, told in CLOSE),
+    (["--tolerance", "a=1"], b'{"a":1}', b'{"a":"1"}', 'a 1 -> "1"'),
+    (["--tolerance", "a=1"], b'{"a":0}', b'{"a":null}', "a 0 -> null"),
+    (["--tolerance", "a=1"], b'{"a":0}', b"{}", "a 0 -> missing"),
+    (["--tolerance", "a=1", "--missing-is-null"], b'{"a":0}', b"{}", "a 0 -> missing"),
+    (["--tolerance", "a=1"], b'{"a":"1"}', b'{"a":"2"}', 'a "1" -> "2"'),
+    (["--tolerance", "a[].p=0.1"], b'{"a":[{"p":1,"q":1}]}', b'{"a":[{"p":1.1,"q":1.1}]}', "a[0].q 1 -> 1.1"),
+    (["--tolerance", "a=0.1"], b'{"a":[{"p":1},1]}', b'{"a":[{"p":1.1},0.9,2]}', "a[2] missing -> 2"),
+    (["--tolerance", "a.b=1"], b'{"a":1}', b'{"a":2}', "a 1 -> 2"),
+    (["--tolerance", "b=1"], b'{"a":1,"b":1}', b'{"a":2,"b":2}', "a 1 -> 2"),
+    (["--tolerance", '."a=b"=1'], b'{"a=b":1}', b'{"a=b":2}', None),
+    (["--tolerance", "a=b=1"], b'{"a=b":1}', b'{"a=b":2}', None),
+    (["--tolerance", "b=1", "--only", "b"], b'{"a":1,"b":1}', b'{"a":2,"b":2}', None),
+    (["--tolerance", "b=1", "--ignore", "a"], b'{"a":1,"b":1}', b'{"a":2,"b":3}', "b 1 -> 3"),
+)
+
+# rules, two documents, and what is told of them, if anything
+RULES = (
+    (["--ignore", "a"], b'{"a":1,"b":1}', b'{"a":2,"b":2}', "b 1 -> 2"),
+    (["--ignore", "a"], b'{"a":1}', b'{"a":2}', None), (["--ignore", "b"], b'{"a":1}', b'{"a":2}', "a 1 -> 2"),
+    (["--ignore", "a"], b'{"a":1}', b"{}", None), (["--ignore", "a"], b"{}", b'{"a":1}', None),
+    (["--ignore", "a"], b'{"a":{"b":1}}', b'{"a":{"b":2}}', None),
+    (["--ignore", "a.b"], b'{"a":{"b":1,"c":1}}', b'{"a":{"b":2,"c":2}}', "a.c 1 -> 2"),
+    (["--ignore", "a.b"], b'{"a":{"b":1}}', b"{}", 'a {"b":1} -> missing'),
+    (["--ignore", "a.b"], b'{"a":{"b":1}}', b'{"a":[1]}', 'a {"b":1} -> [1]'),
+    (["--ignore", "a"], b'{"ab":1}', b'{"ab":2}', "ab 1 -> 2"),
+    (["--ignore", "a[1]"], b'{"a":[1,2,3]}', b'{"a":[2,3,4]}', "a[0] 1 -> 2, a[2] 3 -> 4"),
+    (["--ignore", "a[2]"], b'{"a":[1,2]}', b'{"a":[1,2,3]}', None),
+    (["--ignore", "a[]"], b'{"a":[1]}', b'{"a":[2,3]}', None),
+    (["--ignore", "a[]"], b'{"a":{"0":1,"[]":1}}', b'{"a":{"0":2,"[]":2}}', 'a.0 1 -> 2, a."[]" 1 -> 2'),
+    (["--ignore", 'a."[]"'], b'{"a":{"[]":1}}', b'{"a":{"[]":2}}', None),
+    (["--ignore", "a.0"], b'{"a":[1]}', b'{"a":[2]}', "a[0] 1 -> 2"),
+    (["--ignore", "a[]"], b'{"a":[1]}', b'{"a":1}', "a [1] -> 1"),
+    (["--ignore", "a[].p"], b'{"a":[{"p":1,"q":1},{"p":1}]}', b'{"a":[{"p":2,"q":2},{"p":2}]}', "a[0].q 1 -> 2"),
+    (["--ignore", "a[].p"], b'{"a":[]}', b'{"a":[{"p":2}]}', 'a[0] missing -> {"p":2}'),
+    (["--ignore", "a[][1]"], b'{"a":[[1,1],[1,1]]}', b'{"a":[[1,2],[2,1]]}', "a[1][0] 1 -> 2"),
+    (["--ignore", "a,b.c"], b'{"a":1,"b":{"c":1},"d":1}', b'{"a":2,"b":{"c":2},"d":2}', "d 1 -> 2"),
+    (["--ignore", "a", "--ignore", "b.c"], b'{"a":1,"b":{"c":1},"d":1}', b'{"a":2,"b":{"c":2},"d":2}', "d 1 -> 2"),
+    (["--ignore", r'."a\u002cb"'], b'{"a,b":1,"a":1}', b'{"a,b":2,"a":2}', "a 1 -> 2"),
+    (["--ignore", '."a.b"'], b'{"a.b":1,"a":{"b":1}}', b'{"a.b":2,"a":{"b":2}}', "a.b 1 -> 2"),
+    (["--ignore", '.""'], b'{"":1,"a":{"":1}}', b'{"":2,"a":{"":2}}', 'a."" 1 -> 2'),
+    (["--ignore", "é"], b'{"\xc3\xa9":1,"e\xcc\x81":1}', b'{"\xc3\xa9":2,"e\xcc\x81":2}', '."e\u0301" 1 -> 2'),
+    (["--only", "a"], b'{"a":1,"b":1}', b'{"a":2,"b":2}', "a 1 -> 2"), (["--only", "b"], b'{"a":1}', b'{"a":2}', None),
+    (["--only", "a.b"], b'{"a":{"b":1,"c":1},"d":1}', b'{"a":{"b":2,"c":2},"d":2}', "a.b 1 -> 2"),
+    (["--only", "a"], b'{"a":{"b":1,"c":1},"d":1}', b'{"a":{"b":2,"c":2},"d":2}', "a.b 1 -> 2, a.c 1 -> 2"),
+    (["--only", "a.b"], b'{"a":{"c":1}}', b"{}", 'a {"c":1} -> missing'),
+    (["--only", "a.b"], b'{"a":1}', b'{"a":2}', "a 1 -> 2"),
+    (["--only", "a[].p"], b'{"a":[{"p":1,"q":1}]}', b'{"a":[{"p":2,"q":2},1]}', "a[0].p 1 -> 2, a[1] missing -> 1"),
+    (["--only", "c,a"], b'{"a":1,"b":1,"c":1}', b'{"a":2,"b":2,"c":2}', "a 1 -> 2, c 1 -> 2"),
+    (["--only", "a", "--ignore", "a.b"], b'{"a":{"b":1,"c":1}}', b'{"a":{"b":2,"c":2}}', "a.c 1 -> 2"),
+    (["--only", "a.b", "--ignore", "a"], b'{"a":{"b":1}}', b'{"a":{"b":2}}', None),
+    (["--only", "[0]"], b'{"0":1}', b'{"0":2}', None),
+    (["--missing-is-null"], b'{"a":null,"b":1}', b'{"b":null}', "b 1 -> null"),
+    (["--missing-is-null"], b"{}", b'{"a":null}', None), (["--missing-is-null"], b'{"a":1}', b"{}", "a 1 -> missing"),
+    (["--missing-is-null"], b'{"a":false}', b"{}", "a false -> missing"),
+    (["--missing-is-null"], b'{"a":[1,null]}', b'{"a":[1]}', None),
+    (["--missing-is-null"], b'{"a":[null,1]}', b'{"a":[1]}', "a[0] null -> 1, a[1] 1 -> missing"),
+    (["--missing-is-null"], b'{"a":{"b":null}}', b'{"a":{}}', None),
+    (["--missing-is-null"], b'{"a":{"b":null}}', b"{}", 'a {"b":null} -> missing'),
+    (["--missing-is-null"], b'{"a":null}', b'{"a":{"b":null}}', 'a null -> {"b":null}'),
+    (["--missing-is-null", "--only", "a"], b'{"b":1,"a":null}', b'{"b":2}', None),
+    (["--missing-is-null", "--ignore", "b"], b'{"b":1,"a":null,"c":null}', b'{"b":2,"c":""}', 'c null -> ""'),
+    *TOLERANCES,
+)
+
 # options, both files, the status, and what is printed, or said with status 2
 FILES = (
     ([], b"", b"", 0, "0 changed, 0 removed, 0 added, 0 the same."),
@@ -141,14 +264,14 @@ FILES = (
     ([], b"{}\n{}\n", b"{}\n", 1, "- row 2  left.ndjson line 2\n0 changed, 1 removed, 0 added, 1 the same."),
     ([], b'{"a":1}\n{"a":2}\n', b'{"a":2}\n{"a":1}\n', 1,
      "~ row 1  a 1 -> 2\n~ row 2  a 2 -> 1\n2 changed, 0 removed, 0 added, 0 the same."),
-    ([], b"\n", b"", 2, "left.ndjson: line 1 is no JSON"),
-    ([], b"{}\n\n", b"{}\n", 2, "left.ndjson: line 2 is no JSON"),
-    ([], b"{}\n", b"{}\n\n{}\n", 2, "right.ndjson: line 2 is no JSON"),
-    ([], b"{}\n", b"{}\r\n\r\n", 2, "right.ndjson: line 2 is no JSON"),
-    ([], b"{}\r{}\n", b"", 2, "left.ndjson: line 1 is no JSON"),
-    ([], b'{"a":\n1}\n', b"", 2, "left.ndjson: line 1 is no JSON"),
-    ([], b"\xef\xbb\xbf", b"", 2, "left.ndjson: line 1 is no JSON"),
-    ([], b"{}\n{}\0", b"", 2, "left.ndjson: line 2 is no JSON"),
+    ([], b"\n", b"", 2, "left.ndjson: line 1, column 1: no JSON"),
+    ([], b"{}\n\n", b"{}\n", 2, "left.ndjson: line 2, column 1: no JSON"),
+    ([], b"{}\n", b"{}\n\n{}\n", 2, "right.ndjson: line 2, column 1: no JSON"),
+    ([], b"{}\n", b"{}\r\n\r\n", 2, "right.ndjson: line 2, column 2: no JSON"),
+    ([], b"{}\r{}\n", b"", 2, "left.ndjson: line 1, column 4: no JSON"),
+    ([], b'{"a":\n1}\n', b"", 2, "left.ndjson: line 1, column 6: no JSON"),
+    ([], b"\xef\xbb\xbf", b"", 2, "left.ndjson: line 1, column 1: no JSON"),
+    ([], b"{}\n{}\0", b"", 2, "left.ndjson: line 2, column 3: no JSON"),
     (["--key", "id"], b'{"id":1.0,"a":1}\n{"id":"1","a":2}\n{"id":null,"a":3}\n',
      b'{"id":null,"a":3}\n{"id":"1","a":0}\n{"id":1e0,"a":1}', 1,
      '~ id="1"  a 2 -> 0\n1 changed, 0 removed, 0 added, 2 the same.'),
@@ -164,6 +287,15 @@ FILES = (
      "0 changed, 1 removed, 0 added, 0 the same."),
     (["--key", "id"], b'{"id":1,"a":1}\n{"id":1,"a":2}\n{"id":1.0,"a":3}\n', b'{"id":1,"a":1}\n{"id":10e-1,"a":3}\n', 1,
      "~ id=1  a 2 -> 3\n- id=1  left.ndjson line 3\n1 changed, 1 removed, 0 added, 1 the same."),
+    # lines that are equal on both sides, and keys that come twice
+    (["--key", "id"], b'{"id":1,"a":1}\n{"id":1,"a":1}\n{"id":1,"a":2}\n',
+     b'{"id":1,"a":2}\n{"id":1,"a":1}\n{"id":1,"a":1}\n', 1,
+     "~ id=1  a 1 -> 2\n~ id=1  a 2 -> 1\n2 changed, 0 removed, 0 added, 1 the same."),
+    (["--key", "id"], b'{"id":2}\n{"id":1}\n', b'{"id":1}\n{"id":1}\n{"id":2}\n{"id":2}\n', 1,
+     "+ id=1  right.ndjson line 2\n+ id=2  right.ndjson line 4\n0 changed, 0 removed, 2 added, 2 the same."),
+    (["--unique", "--key", "id"], b'{"id":1}\n{"id":2}\n', b'{"id":2}\n{"id":1}\n{"id":2}\n', 2,
+     "right.ndjson: the rows at lines 1 and 3 have one key"),
+    (["--key", "id"], b'{"id":1}\n', b'{"id":1}\n{"id":1}x\n', 2, "right.ndjson: line 2, column 9: no JSON"),
     (["--key", "id"], b'{"id":2,"a":1}\n{"id":5}\n{"id":1,"a":1}\n{"id":4}\n',
      b'{"id":7}\n{"id":1,"a":2}\n{"id":6}\n{"id":2,"a":2}\n', 1,
      "~ id=2  a 1 -> 2\n~ id=1  a 1 -> 2\n- id=5  left.ndjson line 2\n- id=4  left.ndjson line 4\n"
@@ -186,11 +318,41 @@ FILES = (
      r'- order.id="\u009b",".\"a.b\""="\u007f,="  left.ndjson line 1' "\n0 changed, 1 removed, 0 added, 0 the same."),
     (["--key", r'."a\u002cb"'], b'{"a,b":1.0}\n', b"", 1,
      r'- ".\"a\\u002cb\""=1  left.ndjson line 1' "\n0 changed, 1 removed, 0 added, 0 the same."),
-    (["--key", "a.b"], b'{"a.b":1}\n', b"", 2, "left.ndjson: line 1 has no a.b"),
-    (["--key", "a[1]"], b'{"a":[1]}\n', b"", 2, "left.ndjson: line 1 has no a[1]"),
-    (["--key", "a[0]"], b'{"a":{"0":1}}\n', b"", 2, "left.ndjson: line 1 has no a[0]"),
-    (["--key", "a.b"], b'{"a":{"b":1}}\n{"a":[1]}\n', b"", 2, "left.ndjson: line 2 has no a.b"),
-    (["--key", "a,b"], b'{"a":1,"b":1}\n', b'{"a":1,"b":1}\n{"a":1}', 2, "right.ndjson: line 2 has no b"),
+    (["--key", "id", "--ignore", "id"], b'{"id":1,"a":1}\n{"id":2}\n', b'{"id":1.0,"a":2}\n{"id":3}', 1,
+     "~ id=1  a 1 -> 2\n- id=2  left.ndjson line 2\n+ id=3  right.ndjson line 2\n"
+     "1 changed, 1 removed, 1 added, 0 the same."),
+    (["--key", "id", "--only", "b"], b'{"id":1,"a":1,"b":1}\n{"id":2,"a":1,"b":1}\n',
+     b'{"id":2,"a":2,"b":2.0}\n{"id":1,"a":2,"b":1.0}\n', 1,
+     "~ id=2  b 1 -> 2.0\n1 changed, 0 removed, 0 added, 1 the same."),
+    (["--key", "id", "--missing-is-null"], b'{"id":null,"a":1}\n', b'{"a":1}', 2, "right.ndjson: line 1: no id"),
+    (["--limit", "1", "--ignore", "t"], b'{"t":1}\n{"a":1,"t":1}\n{"a":2,"t":1}\n',
+     b'{"t":2}\n{"a":2,"t":2}\n{"a":3}\n', 1,
+     "~ row 2  a 1 -> 2\n.. and 1 more\n2 changed, 0 removed, 0 added, 1 the same."),
+    (["--format", "json", "--ignore", "a[].p", "--missing-is-null"], b'{"a":[{"p":1,"q":1}],"n":null}\n',
+     b'{"a":[{"p":2,"q":2}]}\n', 1,
+     '{"kind":"changed","key":{},"left_line":1,"right_line":1,"changes":[{"path":"a[0].q","left":1,"right":2}]}\n'
+     '{"kind":"counts","changed":1,"removed":0,"added":0,"same":0,"not_shown":0}'),
+    (["--key", "a.b"], b'{"a.b":1}\n', b"", 2, "left.ndjson: line 1: no a.b"),
+    (["--key", "a[1]"], b'{"a":[1]}\n', b"", 2, "left.ndjson: line 1: no a[1]"),
+    (["--key", "a[0]"], b'{"a":{"0":1}}\n', b"", 2, "left.ndjson: line 1: no a[0]"),
+    (["--key", "a.b"], b'{"a":{"b":1}}\n{"a":[1]}\n', b"", 2, "left.ndjson: line 2: no a.b"),
+    (["--key", "a,b"], b'{"a":1,"b":1}\n', b'{"a":1,"b":1}\n{"a":1}', 2, "right.ndjson: line 2: no b"),
+    (["--no-key-is-null", "--key", "id"], b'{"id":1}\n{"a":1}\n', b'{"id":null,"a":1}\n{"id":1}\n', 1,
+     "~ id=null  id missing -> null\n1 changed, 0 removed, 0 added, 1 the same."),
+    (["--no-key-is-null", "--key", "id"], b'{"id":""}\n{"id":"null"}\n', b"{}\n", 1,
+     '- id=""  left.ndjson line 1\n- id="null"  left.ndjson line 2\n+ id=null  right.ndjson line 1\n'
+     "0 changed, 2 removed, 1 added, 0 the same."),
+    (["--no-key-is-null", "--key", "a.b,k[1]"], b'{"a":1}\n{"a":{"b":null},"k":[0]}\n{"k":[0,1]}\n',
+     b'{"k":[0,null]}\n', 1,
+     "~ a.b=null,k[1]=null  a 1 -> missing, k missing -> [0,null]\n- a.b=null,k[1]=null  left.ndjson line 2\n"
+     "- a.b=null,k[1]=1  left.ndjson line 3\n1 changed, 2 removed, 0 added, 0 the same."),
+    (["--no-key-is-null", "--key", "id", "--format", "json"], b"{}\n", b"", 1,
+     '{"kind":"removed","key":{"id":null},"line":1}\n'
+     '{"kind":"counts","changed":0,"removed":1,"added":0,"same":0,"not_shown":0}'),
+    (["--no-key-is-null", "--unique", "--key", "id"], b'{}\n{"id":1}\n{"id":null}\n', b"", 2,
+     "left.ndjson: the rows at lines 1 and 3 have one key"),
+    (["--no-key-is-null", "--key", "id"], b"{}\n[]\n", b"", 2, "left.ndjson: line 2, column 1: no JSON object"),
+    (["--no-key-is-null"], b"{}\n", b"{}\n", 0, "0 changed, 0 removed, 0 added, 1 the same."),
     (["--unique", "--key", "id"], b'{"id":1}\n{"id":2}\n', b'{"id":2}\n{"id":1}\n', 0,
      "0 changed, 0 removed, 0 added, 2 the same."),
     (["--unique", "--key", "id"], b'{"id":1}\n{"id":2}\n{"id":1.0}\n', b"", 2,
@@ -223,13 +385,35 @@ TROUBLES = (
     (["good.ndjson", "table.csv"], "dunkelva: "),
     (["table.csv", "good.jsonl"], "dunkelva: "),
     (["--input", "xml", "good.ndjson", "good.ndjson"], "xml"),
-    (["--input", "ndjson", "good.ndjson", "table.csv"], "table.csv: line 1 is no JSON"),
+    (["--input", "ndjson", "good.ndjson", "table.csv"], "table.csv: line 1, column 1: no JSON"),
     (["--input", "csv", "--key", "nope", "good.ndjson", "good.ndjson"], "no column is named nope"),
     (["--limit", "many", "good.ndjson", "good.ndjson"], "many"),
     (["--format", "xml", "good.ndjson", "good.ndjson"], "xml"),
     (["--color", "sometimes", "good.ndjson", "good.ndjson"], "sometimes"),
     (["--unique", "good.ndjson", "good.ndjson"], "--key"),
+    (["--no-key-is-null", "table.csv", "table.csv"], "--no-key-is-null goes with JSON documents"),
     (["--nope", "good.ndjson", "good.ndjson"], "--nope"),
+    (["--missing-is-null", "table.csv", "table.csv"], "--missing-is-null goes with JSON documents"),
+    (["--missing-is-null", "--input", "csv", "good.ndjson", "good.ndjson"], "--missing-is-null goes with"),
+    *(([option, "id=1", "table.csv", "table.csv"], f"{option} goes with JSON documents")
+      for option in ("--tolerance", "--relative-tolerance")),
+    *(([option, f"id{word}", "good.ndjson", "good.ndjson"], f"{option}{said}") for word, said in (
+        ("", " takes a path and a bound such as"), ("0.1", " takes a path and a bound such as"),
+        ("=", ': the bound "" is not a number'), ("=x", ': the bound "x" is not a number'),
+        ("=+1", ': the bound "+1" is not'), ("=.5", ': the bound ".5" is not'), ("=01", ': the bound "01" is not'),
+        ("=1.", ': the bound "1." is not'), ("=1 ", ': the bound "1 " is not'), ("=1%", ': the bound "1%" is not'),
+        ("=-1", ': the bound "-1" is negative'), ("=-0", ': the bound "-0" is negative'),
+        *((f"={bound}", f': the bound "{bound}" has an exponent of more than 30 digits')
+          for bound in (f"1e{WIDE}", f"1e-{WIDE}")),
+        *((f"={bound}", f': the bound "{bound}" has more than 18 digits') for bound in ("1" * 19, "1" + "0" * 18)),
+        ("[=1", " takes paths such"))
+      for option in ("--tolerance", "--relative-tolerance")),
+    (["--tolerance", "=1", "good.ndjson", "good.ndjson"], "--tolerance takes paths such as"),
+    (["--null", "", "good.ndjson", "good.ndjson"], "--null goes with CSV files"),
+    (["--common", "good.ndjson", "good.ndjson"], "--common goes with CSV files"),
+    *(([option, path, "good.ndjson", "good.ndjson"], f"{option} takes paths such as") for path in (
+        "", ".", "id.", "id..a", "id[", "id[ ]", "id[a]", "id[-1]", "id]", "[]id", "a,", "a,,b", '."id', '."id"a',
+        '."\\ud800"') for option in ("--only", "--ignore")),
     (["good.ndjson"], "RIGHT"),
     (["good.ndjson", b"\xff.ndjson"], "invalid data"),
     *((["--key", path, "good.ndjson", "good.ndjson"], "") for path in (
@@ -240,6 +424,10 @@ TROUBLES = (
 GOOD_WORDS = (["good.ndjson", "good.jsonl"], ["--input", "ndjson", "good.ndjson", "good.txt"],
               ["--input", "ndjson", "-", "good.ndjson"], ["--input", "ndjson", "good.ndjson", "-"],
               ["--input", "csv", "table.csv", "table.ndjson"], ["table.csv", "table.csv"],
+              ["--only", "[].a,.id,x[1]", "--ignore", "[]", "good.ndjson", "good.jsonl"],
+              ["--missing-is-null", "good.ndjson", "good.jsonl"],
+              ["--tolerance", "id=0.1", "--relative-tolerance=[].a=1E-9", "good.ndjson", "good.jsonl"],
+              ["--only", "id", "--ignore", "a[]", "table.csv", "table.csv"],
               ["--key", "id", "--unique", "good.jsonl", "good.jsonl"], ["--key=.id", "good.jsonl", "good.jsonl"])
 NAMED = {"good.ndjson": b'{"id":1}\n', "good.jsonl": b'{"id":1.0}', "good.txt": b'{"id":1}\n', "table.csv": b"id\n1\n",
          "table.ndjson": b"id\n1\n"}

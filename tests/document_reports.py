@@ -18,8 +18,13 @@ MISSING = object()
 LONE = re.compile("[\ud800-\udfff]")
 HIGH = re.compile("[\x7f-\x9f]")
 NUMBER = re.compile(r"(-?)(\d+)(?:\.(\d+))?(?:[eE]([-+]?)(\d+))?")
-STEP = re.compile(r'\[(\d+)\]|(?:^|\.)([^."\[\]]+)|\.("(?:[^"\\]|\\.)*")')
+STEP = re.compile(r'\[(\d*)\]|(?:^|\.)([^."\[\]]+)|\.("(?:[^"\\]|\\.)*")', re.DOTALL)
+ANY = object()
 PLAIN = re.compile(r"[A-Za-z0-9_-]+")
+LEXEME = re.compile(r'[\[\]{},:]|("(?:[^"\\]|\\.)*"?)([ \t\r]*:)?|[^\[\]{},: \t\r]+', re.DOTALL)
+WORD = re.compile(r"true|false|null|-?(?:0|[1-9][0-9]*)(?:\.[0-9]+)?(?:[eE][-+]?[0-9]+)?")
+NO_JSON, NO_OBJECT, TWICE = "no JSON", "no JSON object", "an object has a name twice"
+WIDE = "an exponent has more than 30 digits"
 
 # a difference between two values: where it is, and both parts, of which one may be missing
 Change = collections.namedtuple("Change", "path left right")
@@ -166,8 +171,8 @@ def path_text(path):
 
 
 def steps_of(path):
-    """Returns the steps of a path that is given as a word."""
-    return [int(place) if place else json.loads(quoted) if quoted else name
+    """Returns the steps of a path or a pattern that is given as a word, where `[]` is the step to any item."""
+    return [int(place) if place else json.loads(quoted) if quoted else name if name else ANY
             for place, name, quoted in STEP.findall(path)]
 
 
@@ -181,28 +186,100 @@ def part_at(value, steps):
     return value
 
 
+# ---- places
+
+def kind_of(found):
+    """Returns whether a lexeme is a sign, a string, a name, another value or bad."""
+    string, colon = found.groups()
+    if string is None:
+        return found[0] if found[0] in "[]{},:" else "value" if WORD.fullmatch(found[0]) else "bad"
+    try:
+        return "bad" if LONE.search(json.loads(string)) else "name" if colon else "string"
+    except ValueError:
+        return "bad"
+
+
+def tokens_of(text):
+    """Makes the tokens of a text, each with its kind and its place: a string and a colon behind it are a name."""
+    return ((kind_of(found), found.start(), found[1] or found[0]) for found in LEXEME.finditer(text))
+
+
+def bad_place(text):
+    """Returns the place of the first token that no object of JSON has there, or of the end."""
+    opened, may_follow = "", "{"
+    for kind, place, _ in tokens_of(text):
+        if kind not in may_follow.split() or len(opened) == DEEPEST and kind in "{[":
+            return place
+        opened = opened + kind if kind in "{[" else opened[:-1] if kind in "}]" else opened
+        value = "{ [ string value"
+        if kind in ("{", "["):
+            may_follow = "name }" if kind == "{" else f"{value} ]"
+        elif kind == "name":
+            may_follow = value
+        elif kind == ",":
+            may_follow = "name" if opened[-1] == "{" else value
+        else:
+            may_follow = f", {'}' if opened[-1] == '{' else ']'}" if opened else ""
+    return len(text)
+
+
+def second_name_place(text):
+    """Returns the place of the first name that its object had before."""
+    opened = []
+    for kind, place, lexeme in tokens_of(text):
+        if kind in "{[":
+            opened.append(set())
+        elif kind in "}]":
+            opened.pop()
+        elif kind == "name":
+            if (name := json.loads(lexeme)) in opened[-1]:
+                return place
+            opened[-1].add(name)
+    return None
+
+
+def place_of(text, what):
+    """Returns the place of what is wrong with a text, or None."""
+    if what == NO_JSON:
+        return bad_place(text)
+    if what == TWICE:
+        return second_name_place(text)
+    if what == WIDE:
+        return next(place for _, place, lexeme in tokens_of(text) if NUMBER.fullmatch(lexeme) and is_wide(lexeme))
+    return next(tokens_of(text))[1] if what == NO_OBJECT else None
+
+
+def fault_text(number, line, what):
+    """Returns what is said of a line that is no document, with the column of its fault in characters."""
+    try:
+        place = place_of(line.decode(), what)
+    except UnicodeDecodeError as error:
+        place = len(line[: error.start].decode())
+    return f"line {number}: {what}" if place is None else f"line {number}, column {place + 1}: {what}"
+
+
 # ---- reading
 
 def faults_of(value, keys):
     """Returns what may be said of a value that is no document with these keys."""
-    said = [] if isinstance(value, Object) else ["is no JSON object"]
+    said = [] if isinstance(value, Object) else [NO_OBJECT]
     held = [part for part, _ in parts(value)]
     if any(len(dict(part.members)) < len(part.members) for part in held if isinstance(part, Object)):
-        said.append("has an object with a name twice")
+        said.append(TWICE)
     if any(is_wide(part.text) for part in held if isinstance(part, Number)):
-        said.append("has a number whose exponent has more than 30 digits")
-    return said + [f"has no {key}" for key in keys if part_at(value, steps_of(key)) is MISSING]
+        said.append(WIDE)
+    return said + [f"no {key}" for key in keys if part_at(value, steps_of(key)) is MISSING]
 
 
-def documents_of(content, keys):
+def documents_of(content, options):
     """Returns the documents of a file. Raises a Fault of the first line that is none."""
     lines = content.split(b"\n")
-    documents = []
+    documents, keys = [], [] if options["null_keys"] else options["keys"]
     for number, line in enumerate(lines if lines[-1] else lines[:-1], 1):
         value, is_json = tree_of(line)
-        said = faults_of(value, keys) if is_json else ["is no JSON"]
+        said = faults_of(value, keys) if is_json else [NO_JSON]
         if said:
-            raise Fault(*(f"line {number} {what}" for what in said))
+            raise Fault(*(fault_text(number, line, what) for what in said))
         documents.append(value)
     return documents
 
@@ -210,7 +287,84 @@ def documents_of(content, keys):
 def keys_of(documents, options):
     """Returns the key of each document, as normal texts."""
     paths = [steps_of(key) for key in options["keys"]]
-    return [tuple(compact(normal(part_at(it, path))) for path in paths) for it in documents]
+    return [tuple(key_text(part_at(it, path)) for path in paths) for it in documents]
+
+
+def key_text(part):
+    """Returns the normal text of a part of a key, which is null where there is none."""
+    return compact(normal(None if part is MISSING else part))
+
+
+# ---- tolerances
+
+def squeezed(terms):
+    """Returns whole numbers that compare and add up as these signed digits with their exponents do.
+
+    Where no number has a digit for long, fewer places without one do as well.
+    """
+    placed = {}
+    low, top = None, None
+    for tens, digits in sorted({(tens, digits) for _, digits, tens in terms}):
+        if low is None:
+            low, top, moved = 0, 0, tens
+        elif tens - moved > top + 40:
+            moved = tens - top - 40
+        placed[tens] = tens - moved
+        top = max(top, placed[tens] + len(str(digits)))
+    return [sign * digits * 10 ** placed[tens] for sign, digits, tens in terms]
+
+
+def signed(text):
+    """Returns a number's sign, its digits as a whole number, and its exponent."""
+    sign, digits, tens = number_parts(text)
+    return -1 if sign else 1, int(digits), tens
+
+
+def is_close(left, right, bound, relative):
+    """Returns whether two numbers lie at most a bound apart, or at most that part of the larger one."""
+    own, other, (_, times, tens) = signed(left), signed(right), signed(bound)
+    rooms = [(1, times * digits, tens + up) for _, digits, up in (own, other)] if relative else [(1, times, tens)]
+    for room in rooms:
+        first, second, most = squeezed([own, other, room])
+        if abs(first - second) <= most:
+            return True
+    return False
+
+
+# ---- rules
+
+def agrees(pattern, path):
+    """Returns whether a pattern and a path lead the same way as far as both go."""
+    return all(isinstance(step, int) if own is ANY else type(own) is type(step) and own == step
+               for own, step in zip(pattern, path))
+
+
+def is_within(path, words):
+    """Returns whether a path leads to a part that one of some words names, or into one."""
+    return any(len(pattern) <= len(path) and agrees(pattern, path) for pattern in map(steps_of, words))
+
+
+def is_around(path, words):
+    """Returns whether a path leads to a part in which one of some words names others."""
+    return any(len(pattern) > len(path) and agrees(pattern, path) for pattern in map(steps_of, words))
+
+
+def is_tolerated(change, tolerances):
+    """Returns whether one of some tolerances allows a difference: words of paths with their bounds."""
+    if not all(isinstance(part, Number) for part in (change.left, change.right)):
+        return False
+    return any(is_within(change.path, [word]) and is_close(change.left.text, change.right.text, bound, relative)
+               for word, bound, relative in tolerances)
+
+
+def is_told(change, options):
+    """Returns whether the rules among the options tell a difference."""
+    if options.get("missing_is_null") and all(part is MISSING or part is None for part in (change.left, change.right)):
+        return False
+    if is_within(change.path, options.get("ignored", ())) or is_tolerated(change, options.get("tolerances", ())):
+        return False
+    only = options.get("only", ())
+    return not only or is_within(change.path, only) or is_around(change.path, only)
 
 
 # ---- comparing
@@ -244,7 +398,8 @@ def comparison_of(sides, options):
     """Compares the documents of two files."""
     pairs, added = rows_compared(sides, options)
     removed = [i for i, j in pairs if j is None]
-    matched = [(i, j, list(changes_between(sides[0][i], sides[1][j]))) for i, j in pairs if j is not None]
+    matched = [(i, j, [it for it in changes_between(sides[0][i], sides[1][j]) if is_told(it, options)])
+               for i, j in pairs if j is not None]
     changed = [it for it in matched if it[2]]
     return Comparison(changed, removed, added, len(matched) - len(changed))
 
@@ -358,7 +513,7 @@ def faults_said(pair):
     said, sides = [], []
     for file, content in zip(named_files(pair.options), (pair.left_bytes, pair.right_bytes)):
         try:
-            sides.append(documents_of(content, pair.options["keys"]))
+            sides.append(documents_of(content, pair.options))
         except Fault as fault:
             said += [f"{file}: {what}" for what in fault.said]
     if not said and pair.options["unique"] and (twice := key_fault(sides, pair.options)):

@@ -4,11 +4,12 @@ A value is made as a tree (`document_reports.py`), in which differences are plan
 ways: members in any order, blanks, numbers in any notation, characters as they are or escaped.
 """
 import collections
+import json
 import pathlib
 
 import document_reports
 import runs
-from document_reports import MISSING, Number, Object
+from document_reports import ANY, MISSING, Number, Object
 
 # é as one character, and as two
 TEXTS = ("", "a", "b", "ab", "A", "null", "missing", "1", 'say "so"', "back\\slash", "a/b", "\0", "\b\f\n\r\t",
@@ -24,6 +25,8 @@ PATHS = (("id", ["id"]), (".id", ["id"]), ('."id"', ["id"]), ("order.id", ["orde
          ('a[2]."[0]"', ["a", 2, "[0]"]), ("A-b_9._", ["A-b_9", "_"]), ("0[0][0]", ["0", 0, 0]))
 FILES = ("left.ndjson", "right.ndjson", "le ft.jsonl", "a=b.jsonl", "Å.ndjson", "a.csv.jsonl")
 BIGGEST = 10**30 - 1000
+# characters that a name without quotes can't have in a word
+QUOTED = set('."[],\0')
 # how deep the parts of a random value lie; chains are deeper
 DEEP = 4
 
@@ -271,12 +274,13 @@ def made_keys(steps, chance):
     return made_key, is_unique
 
 
-def made_document(steps, key, chance):
-    """Makes a document with a key."""
+def made_document(steps, key, chance, lacking=0):
+    """Makes a document with a key, each part of which is left out at this rate."""
     count = chance.choice((0, 1, 2, 3, 5))
     value = Object(tuple((name, made_value(chance, 1)) for name in chance.sample(NAMES, count)))
     for path, part in zip(steps, key):
-        value = placed(value, path, part, chance)
+        if chance.random() >= lacking:
+            value = placed(value, path, part, chance)
     return value
 
 
@@ -288,10 +292,90 @@ def altered_rows(rows, steps, chance, planted):
     return [altered(value, (), keys, chance, planted) if chance.random() < 0.4 else value for value in rows]
 
 
+def paths_in(value, chance):
+    """Makes the steps to a part of a value that is chosen, one more at each step."""
+    path = ()
+    while document_reports.children(value):
+        if isinstance(value, list):
+            step = chance.randrange(len(value))
+            value = value[step]
+        else:
+            step, value = chance.choice(value.members)
+        path += (step,)
+        yield path
+
+
+def step_word(step, is_first, chance):
+    """Returns a step of a pattern as a part of a word."""
+    if step is ANY:
+        return "[]"
+    if isinstance(step, int):
+        return f"[{step}]"
+    if step and not QUOTED & set(step) and chance.random() < 0.8:
+        return step if is_first and step[0] != "-" and chance.random() < 0.8 else f".{step}"
+    quoted = json.dumps(step, ensure_ascii=chance.random() < 0.3)
+    return "." + quoted.replace(",", "\\u002c")
+
+
+def pattern_word(path, chance):
+    """Returns a word that is a pattern for a path, or for others too."""
+    steps = [ANY if isinstance(step, int) and chance.random() < 0.5 else step for step in path]
+    if chance.random() < 0.1:
+        steps[chance.randrange(len(steps))] = chance.choice((*NAMES, ANY, 0, 1))
+    if chance.random() < 0.15:
+        steps.append(chance.choice((*NAMES, ANY, 0)))
+    return "".join(step_word(step, n == 0, chance) for n, step in enumerate(steps))
+
+
+def made_patterns(values, most, chance):
+    """Makes some words that are patterns for parts of values."""
+    words = []
+    for _ in range(chance.randrange(1, most + 1)):
+        paths = list(paths_in(chance.choice(values), chance)) if values else []
+        words.append(pattern_word(chance.choice(paths or [(chance.choice(NAMES),)]), chance))
+    return words
+
+
+def numbers_in(values):
+    """Returns the numbers in values."""
+    return [part for value in values for part, _ in document_reports.parts(value) if isinstance(part, Number)]
+
+
+def made_bound(numbers, relative, chance):
+    """Makes a bound, which is about as large as some differences that are planted."""
+    if relative:
+        return chance.choice(("0", "1", "2", "0.9", "0.8999", "0.25", "0.1", "1e-1", "1E-2", "1.0e-9", "1.99", "10"))
+    sign, digits, tens = document_reports.number_parts(chance.choice(numbers).text if numbers else "1")
+    tens = tens + chance.choice((0, 0, 0, -1, 1, len(digits), 400, -400))
+    tens = max(min(tens, BIGGEST), -BIGGEST)
+    return f"{chance.choice(('0', '1', '2', '3', '5', '8', '9.0', '0.9', '20', '999999999999999999'))}e{tens}"
+
+
+def made_tolerances(values, chance):
+    """Makes some tolerances: words of patterns, bounds, and whether these are parts of the larger number."""
+    numbers, tolerances = numbers_in(values), []
+    words = made_patterns(values, 4, chance) + [step_word(it, True, chance) for it in chance.sample(NAMES, 6)]
+    for word in chance.sample(words, chance.randrange(1, len(words) + 1)):
+        relative = chance.random() < 0.5
+        tolerances.append((word, made_bound(numbers, relative, chance), relative))
+    return tolerances
+
+
+def made_rules(values, chance):
+    """Makes the rules that say which differences between values are told, which are none for many pairs."""
+    if chance.random() < 0.5:
+        return {"ignored": [], "only": [], "missing_is_null": False, "tolerances": []}
+    way = chance.random()
+    return {"ignored": made_patterns(values, 5, chance) if way < 0.6 else [],
+            "only": made_patterns(values, 5, chance) if way > 0.4 else [], "missing_is_null": chance.random() < 0.4,
+            "tolerances": made_tolerances(values, chance) if chance.random() < 0.6 else []}
+
+
 def made_options(keys, chance):
     """Makes the options to compare files by these keys."""
     options = {"keys": keys, "limit": chance.choice((None, None, 0, 1, 3)), "json": chance.random() < 0.5,
                "colored": chance.random() < 0.2, "unique": bool(keys) and chance.random() < 0.2,
+               "null_keys": bool(keys) and chance.random() < 0.2,
                "piped": chance.choice((None,) * 10 + (0, 1)), "files": chance.sample(FILES, 2),
                "input": chance.random() < 0.1, "commas": chance.random() < 0.5}
     if chance.random() < 0.1:
@@ -306,19 +390,24 @@ def made_pair(chance, most=8):
         chosen = chosen[:1]
     steps = [path for _, path in chosen]
     made_key, is_unique = made_keys(steps, chance)
-    left = [made_document(steps, made_key(), chance) for _ in range(chance.randrange(most + 1))]
+    options = made_options([word for word, _ in chosen], chance)
+    lacking = 0.3 if options["null_keys"] else 0
+    left = [made_document(steps, made_key(), chance, lacking) for _ in range(chance.randrange(most + 1))]
+    if left and not is_unique and chance.random() < 0.3:
+        left = chance.choices(left, k=len(left))
     is_same, planted = chance.random() < 0.15, collections.Counter()
     rows = left if is_same else altered_rows(left, steps, chance, planted)
     lines = {id(value): line_of(value, chance) for value in left}
     right = [lines[id(value)] if id(value) in lines and chance.random() < 0.3 else line_of(value, chance)
              for value in rows]
     if not is_same:
-        right += [line_of(made_document(steps, made_key(), chance), chance) for _ in range(chance.randrange(3))]
+        right += [line_of(made_document(steps, made_key(), chance, lacking), chance)
+                  for _ in range(chance.randrange(3))]
     if steps and chance.random() < 0.5:
         chance.shuffle(right)
-    options = made_options([word for word, _ in chosen], chance)
+    options |= made_rules([*left, *rows], chance)
     left = file_of([lines[id(value)] for value in left], chance)
-    return Pair(left, file_of(right, chance), options, planted if is_unique or not steps else None)
+    return Pair(left, file_of(right, chance), options, planted if is_unique and not lacking or not steps else None)
 
 
 # ---- runs
@@ -330,7 +419,13 @@ def arguments(options):
     if options["limit"] is not None:
         words += ["--limit", str(options["limit"])]
     words += ["--format", "json"] * options["json"] + ["--color", "always"] * options["colored"]
-    words += ["--unique"] * options["unique"]
+    words += ["--unique"] * options["unique"] + ["--missing-is-null"] * options["missing_is_null"]
+    words += ["--no-key-is-null"] * options["null_keys"]
+    for option in ("ignored", "only"):
+        patterns = [",".join(options[option])] if options[option] and options["commas"] else options[option]
+        words += [word for pattern in patterns for word in ({"ignored": "--ignore"}.get(option, "--only"), pattern)]
+    for word, bound, relative in options["tolerances"]:
+        words += ["--relative-tolerance" if relative else "--tolerance", f"{word}={bound}"]
     return words + ["--input", "ndjson"] * (options["input"] or options["piped"] is not None)
 
 

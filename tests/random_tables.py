@@ -21,6 +21,11 @@ CELLS = ("", "a", "b", "ab", "a,b", 'say "so"', "two\nlines", "x\r\ny", "tab\t",
 KEYS = ("1", "2", "3", "a", "bc", "ab", "c", "", "k 1", "x,y", "\xfe", as_bytes("\x9b"), as_bytes("é"))
 # an option splits names at commas, so that none has one
 NAMES = ("id", "name", "city", "amount", "note", "x y", 'a"b', as_bytes("Å"))
+# numbers, each as its digits and the tens behind them
+NUMBERS = (("0", 0), ("1", 0), ("12", 0), ("125", -1), ("125", -4), ("7", 20), ("9007199254740993", 0))
+# what looks like a number and is none, as RFC 8259 writes numbers
+NO_NUMBERS = ("007", "+5", ".5", "5.", "0x1", "1e", "-", "1e5 ", " 5", "--1", "1_0", "0.", "-01", "1.e1", "NaN", "5\n",
+              "1e\xc2\xb2", "\xef\xbc\x91", "1,5", "e5", "1e+", "00")
 FILES = ("left.csv", "right.csv", "le ft.csv", "a=b.csv", "Å.csv")
 
 # `left` and `right` are Tables, `options` a dict, the others the bytes of the files
@@ -53,12 +58,43 @@ def table_of(records, lines, has_header):
     return Table([str(c + 1) for c in range(len(records[0]) if records else 0)], records, lines)
 
 
-def changed_row(row, keys, chance):
+def number_text(digits, tens, chance):
+    """Returns a number of these digits, with tens behind them, written in one of many ways."""
+    more = chance.choice((0, 0, 1, 2, 3))
+    digits, tens = digits + "0" * more, tens - more
+    point = chance.randrange(-2, len(digits) + 1)
+    whole, fraction = digits[: max(point, 0)] or "0", "0" * max(-point, 0) + digits[max(point, 0) :]
+    power = tens + len(fraction)
+    sign = "-" if power < 0 else chance.choice(("", "+"))
+    exponent = chance.choice("eE") + sign + "0" * chance.randrange(3) + str(abs(power))
+    has_exponent = power or chance.random() < 0.2
+    return (whole.lstrip("0") or "0") + ("." + fraction if fraction else "") + (exponent if has_exponent else "")
+
+
+def numbers_of(chance):
+    """Returns some numbers, each as a text with its sign, digits and tens."""
+    made = {}
+    for digits, tens in chance.sample(NUMBERS, 3):
+        sign = chance.choice(("", "", "-"))
+        for _ in range(3):
+            made[sign + number_text(digits, tens, chance)] = sign, digits, tens
+    return made
+
+
+def written_again(row, numbers, chance):
+    """Returns a row with some of these numbers written in other ways."""
+    def again(sign, digits, tens):
+        return sign + number_text(digits, tens, chance)
+
+    return [again(*numbers[cell]) if cell in numbers and chance.random() < 0.5 else cell for cell in row]
+
+
+def changed_row(row, keys, cells, chance):
     """Returns a row with another cell outside its key at times."""
     row = list(row)
     places = [c for c in range(len(row)) if c not in keys]
     if places and chance.random() < 0.4:
-        row[chance.choice(places)] = chance.choice(CELLS)
+        row[chance.choice(places)] = chance.choice(cells)
     return row
 
 
@@ -71,11 +107,13 @@ def made_options(names, keys, chance):
                "limit": chance.choice((None, None, 0, 1, 3)), "common": chance.random() < 0.15,
                "delimiter": chance.choice((None, None, None, None, ";", "\t", "|")), "header": has_header,
                "piped": chance.choice((None,) * 10 + (0, 1)), "files": chance.sample(FILES, 2),
-               "json": chance.random() < 0.5, "colored": chance.random() < 0.2,
+               "numbers": chance.random() < 0.4, "json": chance.random() < 0.5, "colored": chance.random() < 0.2,
                "unique": bool(keys) and chance.random() < 0.2}
     others = [name for name in names if name not in options["keys"]]
     if others and chance.random() < 0.3:
         options[chance.choice(("ignored", "only"))] = chance.sample(others, chance.randrange(1, len(others) + 1))
+    if options["numbers"] and chance.random() < 0.4:
+        options["texts"] = chance.sample([*names, "none"], chance.randrange(1, len(names) + 2))
     return options
 
 
@@ -84,13 +122,18 @@ def made_pair(chance):
     width = chance.randrange(1, 6)
     names = chance.sample(NAMES, width)
     keys = sorted(chance.sample(range(width), chance.randrange(0, min(width, 2) + 1)))
+    numbers = numbers_of(chance) if chance.random() < 0.5 else {}
+    cells = [*chance.sample(CELLS, 3), *chance.sample(NO_NUMBERS, 3), *numbers] if numbers else CELLS
+    key_cells = [*chance.sample(KEYS, 2), chance.choice(NO_NUMBERS), *numbers] if numbers else KEYS
 
     def made_rows(most):
         count = chance.randrange(0, most)
-        return [[chance.choice(KEYS if c in keys else CELLS) for c in range(width)] for _ in range(count)]
+        return [[chance.choice(key_cells if c in keys else cells) for c in range(width)] for _ in range(count)]
 
-    left = made_rows(9)
-    right = [changed_row(row, keys, chance) for row in left if chance.random() < 0.85] + made_rows(3)
+    # at times more pairs than are compared at once
+    left = made_rows(9 if chance.random() < 0.95 else 800)
+    right = [changed_row(row, keys, cells, chance) for row in left if chance.random() < 0.85] + made_rows(3)
+    right = [written_again(row, numbers, chance) for row in right]
     if chance.random() < 0.5:
         chance.shuffle(right)
     options = made_options(names, keys, chance)
@@ -101,7 +144,7 @@ def made_pair(chance):
         at = chance.randrange(width + 1)
         right_names.insert(at, "more")
         for row in right:
-            row.insert(at, chance.choice(CELLS))
+            row.insert(at, chance.choice(cells))
     left, left_bytes = written(left_names, left, options, chance)
     right, right_bytes = written(right_names, right, options, chance)
     return Pair(left, right, options, left_bytes, right_bytes)
@@ -110,7 +153,7 @@ def made_pair(chance):
 def arguments(options):
     """Returns the words of the program for these options, as bytes."""
     words = []
-    for name, word_of in (("keys", "--key"), ("ignored", "--ignore"), ("only", "--only")):
+    for name, word_of in (("keys", "--key"), ("ignored", "--ignore"), ("only", "--only"), ("texts", "--text")):
         for value in options.get(name, []):
             words += [word_of, value]
     for name in ("null", "limit"):
@@ -120,7 +163,7 @@ def arguments(options):
         words += ["--delimiter", options["delimiter"].replace("\t", "\\t")]
     words += ["--common"] * options["common"] + ["--no-header"] * (not options["header"])
     words += ["--format", "json"] * options["json"] + ["--color", "always"] * options["colored"]
-    words += ["--unique"] * options["unique"]
+    words += ["--unique"] * options["unique"] + ["--numbers"] * options["numbers"]
     return [word.encode("latin-1") for word in words]
 
 

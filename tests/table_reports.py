@@ -1,13 +1,36 @@
 """The reports that `dunkelva diff` has to print, worked out from the rows of two tables (`random_tables.py`)."""
 import collections
+import decimal
 import json
 import re
 
 import random_tables
 
-# `sides` are the rows of both tables in the compared columns `names`, `keys` the places of the key among these, `lone`
-# pairs of a side and the name of a column that it has alone, `changed` the rows of partners and the places that differ
-Comparison = collections.namedtuple("Comparison", "names keys lone sides changed removed added same")
+# `sides` are the rows of both tables in the compared columns `names`, `compared` what their cells are compared by,
+# `keys` the places of the key among the columns, `lone` pairs of a side and the name of a column that it has alone,
+# `changed` the rows of partners and the places that differ
+Comparison = collections.namedtuple("Comparison", "names keys lone sides compared changed removed added same")
+
+# a number as RFC 8259 writes it: what stands before its exponent, and the exponent
+NUMBER = re.compile(r"(-?(?:0|[1-9][0-9]*)(?:\.[0-9]+)?)(?:[eE]([+-]?[0-9]+))?")
+MOST_DIGITS = 30
+
+
+def worth(cell):
+    """Returns what a cell is compared by where numbers count: its sign, digits and tens, or the text of no number."""
+    found = NUMBER.fullmatch(cell)
+    if not found:
+        return cell
+    sign, digits, tens = decimal.Decimal(found[1]).as_tuple()
+    text = "".join(map(str, digits)).lstrip("0")
+    kept = text.rstrip("0")
+    return (sign, kept, tens + int(found[2] or 0) + len(text) - len(kept)) if kept else (0, "", 0)
+
+
+def is_wide(cell):
+    """Returns whether a cell is a number whose exponent has too many digits."""
+    found = NUMBER.fullmatch(cell)
+    return bool(found and found[2]) and len(found[2].lstrip("+-").lstrip("0")) > MOST_DIGITS
 
 
 def partners(left_keys, right_keys):
@@ -34,14 +57,16 @@ def comparison_of(pair):
             for name in table.names if name not in other.names and is_chosen(name, options)]
     places = [[table.names.index(name) for name in names] for table in (left, right)]
     sides = [[[row[c] for c in columns] for row in table.rows] for table, columns in zip((left, right), places)]
+    counts = [options["numbers"] and name not in options.get("texts", []) for name in names]
+    compared = [[[worth(cell) if counts[c] else cell for c, cell in enumerate(row)] for row in rows] for rows in sides]
     keys = [names.index(name) for name in options["keys"]]
-    pairs, added = partners(*[[tuple(row[k] for k in keys) for row in rows] for rows in sides])
+    pairs, added = partners(*[[tuple(row[k] for k in keys) for row in rows] for rows in compared])
     removed = [i for i, j in pairs if j is None]
     matched = [(i, j) for i, j in pairs if j is not None]
-    changed = [(i, j, [c for c in range(len(names)) if sides[0][i][c] != sides[1][j][c]]) for i, j in matched]
+    changed = [(i, j, [c for c in range(len(names)) if compared[0][i][c] != compared[1][j][c]]) for i, j in matched]
     changed = [it for it in changed if it[2]]
     same = len(matched) - len(changed)
-    return Comparison(names, keys, [] if options["common"] else lone, sides, changed, removed, added, same)
+    return Comparison(names, keys, [] if options["common"] else lone, sides, compared, changed, removed, added, same)
 
 
 def status_of(found):
@@ -169,11 +194,24 @@ def objects_of(printed):
 
 # ---- what a run has to do
 
+def wide_number(pair):
+    """Returns what is said of the first number that counts and whose exponent is too wide, or None."""
+    found, options = comparison_of(pair), pair.options
+    for file, table, rows in zip(random_tables.named_files(options), (pair.left, pair.right), found.sides):
+        for line, row in zip(table.lines, rows):
+            for name, cell in zip(found.names, row):
+                if options["numbers"] and name not in options.get("texts", []) and is_wide(cell):
+                    return f"{file}: line {line} has a number in column {name} whose exponent has more than 30 digits"
+    return None
+
+
 def key_twice(pair):
     """Returns what is said of the first row whose key an earlier row of its file has, or None."""
+    if not pair.options["unique"]:
+        return None
     found = comparison_of(pair)
     files = random_tables.named_files(pair.options)
-    for file, table, rows in zip(files, (pair.left, pair.right), found.sides):
+    for file, table, rows in zip(files, (pair.left, pair.right), found.compared):
         seen = {}
         for i, row in enumerate(rows):
             first = seen.setdefault(tuple(row[k] for k in found.keys), i)
@@ -212,7 +250,9 @@ def is_report(printed, pair, has_lines):
 
 def is_right(ran, pair, has_lines=True):
     """Returns whether a run over two tables that can be compared did as it has to."""
-    said = key_twice(pair) if pair.options["unique"] else None
+    if wide_number(pair):
+        return ran.status == 2 and not ran.printed and b"more than 30 digits" in ran.said
+    said = key_twice(pair)
     if said and has_lines:
         return ran == (2, b"", f"dunkelva: {said}\n".encode("latin-1"))
     if said:
@@ -222,6 +262,6 @@ def is_right(ran, pair, has_lines=True):
 
 def wanted(pair):
     """Returns what a run over two tables has to do, in words."""
-    said = key_twice(pair) if pair.options["unique"] else None
+    said = wide_number(pair) or key_twice(pair)
     report = json_objects(pair) if pair.options["json"] else text_report(pair)
     return f"status 2: {said}" if said else f"status {status_of(comparison_of(pair))}: {report}"
