@@ -1,0 +1,43 @@
+# What can be built here. `make help` lists it.
+
+PREFIX ?= /usr/local
+DESTDIR ?=
+# With QUICK=1 the program is built without a proof.
+QUICK ?=
+PROVED = crates/dunkelva/out/dunkelva
+UNPROVED = out/quick/dunkelva
+PROGRAM ?= $(if $(QUICK),$(UNPROVED),$(PROVED))
+BIN = $(DESTDIR)$(PREFIX)/bin
+SHARE = $(DESTDIR)$(PREFIX)/share
+
+.PHONY: help quick program prove test install install-files uninstall deb
+
+help: ## List what can be made
+	@sed -n 's/^\([a-z]*\):.*## /  \1\t/p' Makefile | expand -t 14
+
+quick: ## Build the program without a proof (out/quick/dunkelva; minutes)
+	packaging/build_quick
+
+program: ## Prove and build the program (crates/dunkelva/out/dunkelva; half an hour)
+	cd crates/dunkelva && rt run -- --version
+
+prove: ## Prove everything and run all tests (the gate; an hour or more)
+	.ci/run
+
+test: ## Run most stored inputs without a proof (minutes)
+	tests/quick
+
+install: $(if $(QUICK),quick,program) install-files ## Build, and install below PREFIX; QUICK=1: without a proof
+	@echo "$(BIN)/dunkelva is installed$(if $(QUICK),. It is not proved,).";
+
+# Installs a program that is built.
+install-files:
+	install -D -m 755 $(PROGRAM) $(BIN)/dunkelva
+	cd share && find . -type f -exec install -D -m 644 {} $(SHARE)/{} \;
+
+uninstall: ## Remove what install put below PREFIX
+	rm -f $(BIN)/dunkelva
+	cd share && find . -type f -exec rm -f $(SHARE)/{} \;
+
+deb: $(if $(QUICK),quick,program) ## Make a Debian package in out/; QUICK=1: without a proof
+	packaging/make_deb $(PROGRAM)
