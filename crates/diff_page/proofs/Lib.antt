@@ -1,0 +1,3 @@
+mod Examples
+pub mod Escapes
+pub mod NoTag
