@@ -26,31 +26,6 @@ first_read cfg s xs first s2 ys (r ∷ rs) h all =
     let same : all.2.0 ≡ h.0 = cc in
     (rs, ap (λ (x : List (List ℕ)). x ∷ rs) (all.2.2 ∙ (ap (λ (p : Read). p.0) same ∙ sym h.2)))
 
--- a text has one list of records
-pub one_reading : (cfg : Config) (s : State) (xs : List ℕ) (rows others : List (List (List ℕ))) → AreRecords cfg s xs rows → AreRecords cfg s xs others → rows ≡ others
-unfolding Reached
-one_reading cfg s xs [] [] a b = refl
-one_reading cfg s xs [] (o ∷ os) a b =
-    let state : s ≡ a.0 = a.2.0 in
-    let text : xs ≡ a.1 = a.2.1 in
-    let none : next_record cfg s [] [] xs ≡ None = rw (state, text) a.3 in
-    let some : next_record cfg s [] [] xs ≡ Some b.2.0 = b.2.1 in
-    absurd (cc)
-one_reading cfg s xs (r ∷ rs) [] a b =
-    let state : s ≡ b.0 = b.2.0 in
-    let text : xs ≡ b.1 = b.2.1 in
-    let none : next_record cfg s [] [] xs ≡ None = rw (state, text) b.3 in
-    let some : next_record cfg s [] [] xs ≡ Some a.2.0 = a.2.1 in
-    absurd (cc)
-one_reading cfg s xs (r ∷ rs) (o ∷ os) a b =
-    let one : next_record cfg s [] [] xs ≡ Some a.2.0 = a.2.1 in
-    let two : next_record cfg s [] [] xs ≡ Some b.2.0 = b.2.1 in
-    let same : b.2.0 ≡ a.2.0 = cc in
-    let head : o ≡ r = b.2.2 ∙ (ap (λ (p : Read). p.0) same ∙ sym a.2.2) in
-    let rest : AreRecords cfg a.2.0.1 a.2.0.2 os = subst (λ (p : Read). AreRecords cfg p.1 p.2 os) same (b.0, b.1, b.2.3, b.3) in
-    let others : rs ≡ os = one_reading cfg a.2.0.1 a.2.0.2 rs os (a.0, a.1, a.2.3, a.3) rest in
-    ap (λ (l : List (List (List ℕ))). r ∷ l) others ∙ ap (λ (x : List (List ℕ)). x ∷ os) (sym head)
-
 pub header_names : (b : Bool) (first : List (List ℕ)) (more records : List (List (List ℕ))) → records ≡ first ∷ more → b ≡ true → names_of b records ≡ first
 header_names b first more records e t = rw (e, t) refl
 

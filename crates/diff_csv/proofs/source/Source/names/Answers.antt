@@ -5,7 +5,8 @@ use Rattle.csv.specs.Reading.{strip_bom}
 use Rattle.csv.specs.Records.{fields_of}
 use Rattle.csv.specs.declared.parser.State.TheVariants as st
 use Rattle.diff_csv.specs.Options.{config_of}
-use Rattle.diff_csv.proofs.NameLemmas.{first_read, header_names, numbered_names, one_reading}
+use Rattle.diff_csv.specs.RecordLaws.{one_reading}
+use Rattle.diff_csv.proofs.NameLemmas.{first_read, header_names, numbered_names}
 use Rattle.diff_csv.proofs.ReadingLemmas.{begins}
 use Rattle.diff_csv.proofs.source.Source.names.Goals as goal
 
