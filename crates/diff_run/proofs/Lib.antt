@@ -1,2 +1,7 @@
+pub mod ExampleColumns
+pub mod ExampleLines
+pub mod ExampleReport
+pub mod ExampleRows
 mod Examples
+pub mod OnceLemmas
 pub mod SideLemmas

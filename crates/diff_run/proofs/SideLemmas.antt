@@ -9,14 +9,14 @@ use Rattle.diff_columns.specs.Names.{Names, names_of}
 use Rattle.diff_columns.specs.declared.error.Side.{Side}
 use Rattle.diff_columns.specs.declared.error.Side.TheVariants.{Left, Right}
 use Rattle.diff_columns.specs.declared.layout.Layout.{Layout}
-use Rattle.diff_csv.specs.Tables.{HasShape, IsTableOf}
+use Rattle.diff_csv.specs.Tables.{HasShape}
 use Rattle.diff_csv.specs.declared.source.CsvTable.{CsvTable}
 use Rattle.diff_numbers.specs.Columns.{number_columns}
 use Rattle.diff_report.specs.Sides.{AreAsLarge, AreSides, compared_left, compared_right}
 use Rattle.diff_report.specs.declared.sides.Comparables.{Comparables}
 use Rattle.diff_report.specs.declared.sides.Sides.{Sides}
 use Rattle.diff_run.specs.Comparables.{AreComparables, HasNamedColumns, HasWideNumber, IsComparedFault, table_on}
-use Rattle.diff_run.specs.Faults.{IsRowsFault, IsRunFault, IsSideFault, IsWideFault, rows_on}
+use Rattle.diff_run.specs.Faults.{IsRowsFault, IsRunFault, IsSideFault, rows_on}
 use Rattle.diff_run.specs.Heads.{AreHeadsOf, IsFrameOf}
 use Rattle.diff_run.specs.Inputs.{AreBothOf}
 use Rattle.diff_run.specs.Run.{AreSidesOf}
