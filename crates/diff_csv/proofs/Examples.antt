@@ -8,7 +8,8 @@ use Rattle.csv.specs.Reading.{Reached, strip_bom}
 use Rattle.csv.specs.declared.parser.State.TheVariants as st
 use Rattle.diff_csv.specs.Options.{is_delimiter}
 use Rattle.diff_csv.specs.Quotes.{ends_open, mark, mark_fields, state_after}
-use Rattle.diff_csv.specs.Records.{AreRecordsOf, HasOtherLength, data_rows, names_of}
+use Rattle.diff_csv.specs.Records.{AreRecordsOf, HasOtherLength, IsReadFault, data_rows, names_of}
+use Rattle.diff_csv.specs.declared.error.CsvError.TheVariants.{OpenQuote}
 use Rattle.diff_csv.specs.declared.options.CsvOptions.{CsvOptions}
 
 abbrev commas : CsvOptions
@@ -25,6 +26,42 @@ two-records : AreRecordsOf commas (codes "id,n\n7,1\n") (header ∷ seven ∷ []
 unfolding next_record Reached strip_bom
 two-records = (st.StartRecord, [], ((header, st.StartRecord, codes "7,1\n"), refl, refl, ((seven, st.StartRecord, []), refl, refl, (refl, refl))), refl)
 
+-- the two texts that docs/DIFF.md compares
+old-records : AreRecordsOf commas (codes "id,city,amount\n1,Oslo,12.50\n2,Bergen,3\n3,Molde,1\n")
+    ((codes "id" ∷ codes "city" ∷ codes "amount" ∷ []) ∷ (codes "1" ∷ codes "Oslo" ∷ codes "12.50" ∷ []) ∷ (codes "2" ∷ codes "Bergen" ∷ codes "3" ∷ []) ∷ (codes "3" ∷ codes "Molde" ∷ codes "1" ∷ []) ∷ [])
+unfolding next_record Reached strip_bom
+old-records = (
+  st.StartRecord,
+  [],
+  (
+    (_, st.StartRecord, codes "1,Oslo,12.50\n2,Bergen,3\n3,Molde,1\n"),
+    refl,
+    refl,
+    ((_, st.StartRecord, codes "2,Bergen,3\n3,Molde,1\n"), refl, refl, ((_, st.StartRecord, codes "3,Molde,1\n"), refl, refl, ((_, st.StartRecord, []), refl, refl, (refl, refl)))),
+  ),
+  refl,
+)
+
+new-records : AreRecordsOf commas (codes "amount,id,city\n12.75,1,Bergen\n1,3,Molde\n9,4,Hamar\n")
+    ((codes "amount" ∷ codes "id" ∷ codes "city" ∷ []) ∷ (codes "12.75" ∷ codes "1" ∷ codes "Bergen" ∷ []) ∷ (codes "1" ∷ codes "3" ∷ codes "Molde" ∷ []) ∷ (codes "9" ∷ codes "4" ∷ codes "Hamar" ∷ []) ∷ [])
+unfolding next_record Reached strip_bom
+new-records = (
+  st.StartRecord,
+  [],
+  (
+    (_, st.StartRecord, codes "12.75,1,Bergen\n1,3,Molde\n9,4,Hamar\n"),
+    refl,
+    refl,
+    ((_, st.StartRecord, codes "1,3,Molde\n9,4,Hamar\n"), refl, refl, ((_, st.StartRecord, codes "9,4,Hamar\n"), refl, refl, ((_, st.StartRecord, []), refl, refl, (refl, refl)))),
+  ),
+  refl,
+)
+
+-- a text without a column id
+day-records : AreRecordsOf commas (codes "day,n\n3,8\n") ((codes "day" ∷ codes "n" ∷ []) ∷ (codes "3" ∷ codes "8" ∷ []) ∷ [])
+unfolding next_record Reached strip_bom
+day-records = (st.StartRecord, [], ((_, st.StartRecord, codes "3,8\n"), refl, refl, ((_, st.StartRecord, []), refl, refl, (refl, refl))), refl)
+
 -- a text ends within quotes, or behind them
 open-quote : ends_open commas (codes "a,\"b") ≡ true
 unfolding state_after strip_bom
@@ -33,6 +70,10 @@ open-quote = refl
 closed-quote : ends_open commas (codes "a,\"b\"") ≡ false
 unfolding state_after strip_bom
 closed-quote = refl
+
+-- and is not read then
+quote-never-ends : IsReadFault commas (codes "a,\"b") (OpenQuote 1)
+quote-never-ends = open-quote
 
 -- with the mark behind it the first of these has a record whose last field is not empty, and the second one more record
 open-mark : AreRecordsOf commas (codes "a,\"b" ++ mark) ((codes "a" ∷ codes "b\n" ∷ []) ∷ [])

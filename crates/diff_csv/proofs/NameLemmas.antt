@@ -1,5 +1,5 @@
 -- The first record of a text, and the names that it gives.
-use Rattle.std.proofs.Common.{◌≡◌, ◌∙◌, Bool, true, false, ℕ, List, [], ◌∷◌, ◌++◌, Some, None, length, map, take, get_or, sym, refl, ap, subst, arith, ◌<◌, ◌≤◌, ◌+◌, zero, suc}
+use Rattle.std.proofs.Common.{◌≡◌, ◌∙◌, Bool, true, false, ℕ, List, [], ◌∷◌, ◌++◌, Some, None, length, map, take, get_or, sym, refl, ap, arith, ◌<◌, ◌≤◌, ◌+◌, zero, suc}
 use Rattle.std.proofs.lemmas.List.{append_assoc, take_more}
 use Rattle.std.specs.Fmt.{decimal}
 use Rattle.std.specs.List.{range_with_len}

@@ -1,5 +1,5 @@
 -- Rows of cells, as they are appended and as a table cuts them.
-use Rattle.std.proofs.Common.{◌≡◌, ◌<◌, ◌+◌, ◌*◌, ◌∙◌, Bool, true, false, Option, ℕ, suc, List, [], ◌∷◌, ◌++◌, length, get_or, map, take, drop, refl, ap, sym, arith, length-append, subst}
+use Rattle.std.proofs.Common.{◌≡◌, ◌+◌, ◌*◌, ◌∙◌, Bool, true, false, Option, ℕ, suc, List, [], ◌∷◌, ◌++◌, length, get_or, map, take, drop, refl, ap, sym, arith, length-append, subst}
 use Rattle.std.proofs.Math.Seq.{take-append_seam, drop-append_seam}
 use Rattle.std.proofs.lemmas.List.{length-map}
 use Rattle.std.specs.List.{flat_map}
