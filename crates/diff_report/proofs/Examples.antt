@@ -1,16 +1,19 @@
 -- Worked examples of the definitions.
 use Rattle.std.specs.Fmt.{digits}
-use Rattle.std.specs.Prelude.{◌≡◌, [], ◌∷◌, ◌++◌, false, true, None, Some, codes, refl}
+use Rattle.std.specs.Prelude.{◌≡◌, [], ◌∷◌, ◌++◌, false, true, None, Some, codes, refl, slice_index}
 use Rattle.diff_words.specs.Cells.{cell_text}
 use Rattle.diff_words.specs.Colors.{color_text, painted}
 use Rattle.diff_words.specs.Lists.{listed}
 use Rattle.diff_words.specs.Quoted.{byte_text, quoted}
 use Rattle.diff_words.specs.Words.{word_text}
-use Rattle.diff_report.specs.Lines.{pair_line}
+use Rattle.diff_tables.specs.declared.compare.Comparison.{Comparison}
+use Rattle.diff_report.specs.Lines.{pair_line, side_line, side_text}
 use Rattle.diff_report.specs.Naming.{Naming}
 use Rattle.diff_report.specs.Pairs.{change_text, columns_apart}
 use Rattle.diff_report.specs.Rows.{row_text}
-use Rattle.diff_report.specs.Summary.{rest_text}
+use Rattle.diff_report.specs.Sides.{row_of}
+use Rattle.diff_report.specs.Summary.{by_column, columns_counted, rest_text, summary_text, totals_text}
+use Rattle.diff_report.specs.declared.sides.Side.{Side}
 
 -- three columns, of which the first two are keys
 abbrev by_two : Naming
@@ -43,3 +46,35 @@ colors-of-change = refl
 two-more : rest_text 3 5 ≡ codes ".. and 2 more\n"
 unfolding rest_text digits
 two-more = refl
+
+none-more : rest_text 5 5 ≡ []
+unfolding rest_text
+none-more = refl
+
+-- row 76 of old.csv, which begins at its line 78
+line-of-row : (side : Side) → row_of side 76 ≡ codes "77" ∷ codes "mon" ∷ codes "Oslo" ∷ [] → side.name.items ≡ codes "old.csv" → slice_index side.lines.items 76 ≡ 78
+    → side_line 45 by_two side 76 ≡ codes "- id=77,day=mon  old.csv line 78\n"
+unfolding side_line side_text row_text listed word_text painted color_text digits
+line-of-row side row name line = rw (row, name, line) refl
+
+-- the same in red
+red-line-of-row : (side : Side) → row_of side 76 ≡ codes "77" ∷ codes "mon" ∷ codes "Oslo" ∷ [] → side.name.items ≡ codes "old.csv" → slice_index side.lines.items 76 ≡ 78
+    → side_line 45 (record by_two { colored = true }) side 76 ≡ 27 ∷ codes "[31m- id=77,day=mon  old.csv line 78" ++ 27 ∷ codes "[0m\n"
+unfolding side_line side_text row_text listed word_text painted color_text digits
+red-line-of-row side row name line = rw (row, name, line) refl
+
+-- columns that never differ are not counted
+one-counted : columns_counted (0 ∷ 5 ∷ 0 ∷ []) ≡ 1 ∷ []
+one-counted = refl
+
+-- of three pairs two differ, a row is removed and none is added
+last-line : (c : Comparison) → c.changed.items ≡ 0 ∷ 2 ∷ [] → c.matching.left_rows.items ≡ 0 ∷ 1 ∷ 3 ∷ [] → c.matching.removed.items ≡ 2 ∷ [] → c.matching.added.items ≡ []
+    → summary_text by_two c (0 ∷ 1 ∷ 2 ∷ []) ≡ codes "2 changed, 1 removed, 0 added, 1 the same.  By column: day 1, city 2.\n"
+unfolding summary_text totals_text by_column listed word_text digits
+last-line c changed left_rows removed added = rw (changed, left_rows, removed, added) refl
+
+-- no pair differs
+last-line-without : (c : Comparison) → c.changed.items ≡ [] → c.matching.left_rows.items ≡ 0 ∷ [] → c.matching.removed.items ≡ [] → c.matching.added.items ≡ []
+    → summary_text by_two c (0 ∷ 0 ∷ 0 ∷ []) ≡ codes "0 changed, 0 removed, 0 added, 1 the same.\n"
+unfolding summary_text totals_text digits
+last-line-without c changed left_rows removed added = rw (changed, left_rows, removed, added) refl
