@@ -1,13 +1,14 @@
 //! The keys of documents that the words of the command line give.
 
-ghost use Rattle.std.specs.Prelude.{◌≡◌, length, IfOk};
+ghost use Rattle.std.specs.Prelude.{◌≡◌, length};
 
-use anyhow::{Result, anyhow};
+use crate::rules::no_path;
+use anyhow::Result;
 use clap::ArgMatches;
-use json_paths::error::PathError;
+use dunkelva_options::lists::split_lists;
 use json_paths::parse::parse_path;
 use json_paths::path::Path;
-use std::alloc::{AllocError, Global};
+use std::alloc::Global;
 
 /// Paths to the parts of a document that name it, and their names in a report.
 #[derive(Drop)]
@@ -21,41 +22,18 @@ pub(crate) struct Keys<'a> {
 fn path_of(alloc: Global, word: &str) -> Result<Path> {
     match parse_path(alloc, word) {
         Ok(path) => Ok(path),
-        Err(PathError::Memory) => Err(anyhow!("out of memory")),
-        Err(PathError::Invalid) => Err(anyhow!(
-            "--key takes paths such as order.id or items[0].sku, and not {word:?}"
-        )),
+        Err(error) => Err(no_path(error, "key", "items[0].sku", word)),
     }
 }
 
-/// Returns the paths that words are.
-fn paths_of(alloc: Global, words: &[&str]) -> Result<Vec<Path>>
-    ensures { IfOk result (λ paths. length paths.items ≡ length words.now) }
-{
+/// Returns the keys that the words give.
+pub(crate) fn keys_of<'a>(alloc: Global, matches: &ArgMatches<'a>) -> Result<Keys<'a>> {
+    let words = split_lists(alloc, matches.get_strs("key").unwrap_or(&[]))?;
     let mut paths = Vec::new(alloc);
-    for word in words {
-        paths.push(path_of(alloc, word)?)?;
-    }
-    Ok(paths)
-}
-
-/// Returns the bytes of each word.
-fn names_of<'a>(alloc: Global, words: &[&'a str]) -> Result<Vec<&'a [u8]>, AllocError>
-    ensures { IfOk result (λ names. length names.items ≡ length words.now) }
-{
     let mut names = Vec::new(alloc);
-    for word in words {
+    for word in &words {
+        paths.push(path_of(alloc, word)?)?;
         names.push(word.as_bytes())?;
     }
-    Ok(names)
-}
-
-impl<'a> Keys<'a> {
-    /// Returns the keys that the words give.
-    pub(crate) fn of(alloc: Global, matches: &ArgMatches<'a>) -> Result<Keys<'a>> {
-        let words = matches.get_strs("key").unwrap_or(&[]);
-        let names = names_of(alloc, words)?;
-        let paths = paths_of(alloc, words)?;
-        Ok(Keys { paths, names })
-    }
+    Ok(Keys { paths, names })
 }

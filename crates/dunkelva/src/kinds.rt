@@ -1,19 +1,8 @@
 //! What the files hold, as their names and the words of the command line say.
 
+use crate::options::{GoesWith, Takes, options};
 use anyhow::{Result, anyhow};
 use clap::ArgMatches;
-
-/// The options that only tables have, and that take a value.
-const TABLE_VALUES: [&str; 3] = ["text", "null", "delimiter"];
-
-/// The options that only tables have, and that take none.
-const TABLE_SWITCHES: [&str; 3] = ["common", "numbers", "no-header"];
-
-/// The options that only documents have, and that take a value.
-const DOCUMENT_VALUES: [&str; 2] = ["tolerance", "relative-tolerance"];
-
-/// The options that only documents have, and that take none.
-const DOCUMENT_SWITCHES: [&str; 2] = ["missing-is-null", "no-key-is-null"];
 
 /// Returns whether a file of this name holds documents.
 fn names_documents(name: &str) -> bool {
@@ -33,34 +22,37 @@ pub(crate) fn hold_documents(matches: &ArgMatches<'_>, left: &str, right: &str) 
     Ok(in_left || in_right)
 }
 
+/// Returns the first option that is given and goes with files of this kind alone, among those that
+/// take a value or among those that take none.
+fn given_of(matches: &ArgMatches<'_>, kind: GoesWith, takes_value: bool) -> Option<&'static str> {
+    for option in options() {
+        let is_given = match option.takes {
+            Takes::Nothing => !takes_value && matches.get_flag(option.id),
+            _ => takes_value && matches.contains_id(option.id),
+        };
+        if is_given && option.goes_with == kind {
+            return Some(option.id);
+        }
+    }
+    None
+}
+
 /// Refuses the options that only tables have.
 pub(crate) fn refuse_table_options(matches: &ArgMatches<'_>) -> Result<()> {
-    for option in &TABLE_VALUES {
-        if matches.contains_id(option) {
-            return Err(anyhow!("--{option} goes with CSV files"));
-        }
+    let tables = GoesWith::Tables;
+    match given_of(matches, tables, true).or(given_of(matches, tables, false)) {
+        Some(option) => Err(anyhow!("--{option} goes with CSV files")),
+        None => Ok(()),
     }
-    for option in &TABLE_SWITCHES {
-        if matches.get_flag(option) {
-            return Err(anyhow!("--{option} goes with CSV files"));
-        }
-    }
-    Ok(())
 }
 
 /// Refuses the options that only documents have.
 pub(crate) fn refuse_document_options(matches: &ArgMatches<'_>) -> Result<()> {
-    for option in &DOCUMENT_SWITCHES {
-        if matches.get_flag(option) {
-            return Err(anyhow!("--{option} goes with JSON documents"));
-        }
+    let documents = GoesWith::Documents;
+    match given_of(matches, documents, false).or(given_of(matches, documents, true)) {
+        Some(option) => Err(anyhow!("--{option} goes with JSON documents")),
+        None => Ok(()),
     }
-    for option in &DOCUMENT_VALUES {
-        if matches.contains_id(option) {
-            return Err(anyhow!("--{option} goes with JSON documents"));
-        }
-    }
-    Ok(())
 }
 
 /// Returns the byte that stands between fields where no word says it: a tab in files whose names

@@ -6,24 +6,23 @@ mod command;
 mod files;
 mod keys;
 mod kinds;
+mod options;
 mod progress;
 mod rules;
 mod tasks;
-mod tolerances;
 mod trouble;
 mod words;
 
 use crate::command::command;
-use crate::files::{open, open_beside, total_of};
-use crate::keys::Keys;
+use crate::keys::keys_of;
 use crate::kinds::{hold_documents, refuse_document_options, refuse_table_options};
 use crate::rules::rules_of;
-use crate::tasks::{Task, compare};
+use crate::tasks::{Task, compare_named};
 use crate::words::{Names, csv_options, format_of, is_colored, limit_of};
 use anyhow::{Result, anyhow};
 use clap::ArgMatches;
+use diff_columns::choice::Choice;
 use diff_run::options::Options;
-use diff_run::run::Input;
 use document_rows::reading::Reading;
 use document_run::options::DocumentOptions;
 use std::env;
@@ -32,33 +31,21 @@ use std::process::ExitCode;
 /// The status where the files can't be compared.
 const TROUBLE: u8 = 2;
 
-/// Compares the two inputs that are named. One of them may be standard input.
-fn compare_named(rt: &HostRuntime, left: &str, right: &str, task: &Task<'_>) -> Result<u8> {
-    let input = Input {
-        name: b"-",
-        reader: rt.reader(),
-    };
-    match (left, right) {
-        ("-", "-") => Err(anyhow!("only one of the two can be standard input")),
-        ("-", _) => compare(rt, input, open_beside(rt, right)?, None, task),
-        (_, "-") => compare(rt, open_beside(rt, left)?, input, None, task),
-        _ => {
-            let left = open(rt, left)?;
-            let right = open(rt, right)?;
-            let total = total_of(&left.reader, &right.reader);
-            compare(rt, left, right, total, task)
-        }
-    }
-}
-
 /// Compares two CSV files.
 fn diff_tables(rt: &HostRuntime, matches: &ArgMatches<'_>, left: &str, right: &str) -> Result<u8> {
     refuse_document_options(matches)?;
     let names = Names::of(rt.alloc(), matches)?;
+    let choice = Choice {
+        keys: &names.keys,
+        only: matches.contains_id("only").then_some(names.only.as_slice()),
+        ignored: &names.ignored,
+    };
     let options = Options {
-        choice: names.choice(),
+        choice,
         csv: csv_options(matches, left, right)?,
-        numbers: names.texts(),
+        numbers: matches
+            .get_flag("numbers")
+            .then_some(names.texts.as_slice()),
         null: matches.get_str("null").map(|word| word.as_bytes()),
         limit: limit_of(matches),
         common: matches.get_flag("common"),
@@ -77,7 +64,7 @@ fn diff_documents(
     right: &str,
 ) -> Result<u8> {
     refuse_table_options(matches)?;
-    let keys = Keys::of(rt.alloc(), matches)?;
+    let keys = keys_of(rt.alloc(), matches)?;
     let rules = rules_of(rt.alloc(), matches)?;
     let options = DocumentOptions {
         keys: &keys.paths,

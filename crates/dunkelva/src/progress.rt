@@ -2,6 +2,7 @@
 
 ghost use Rattle.std.specs.Prelude.{ℕ, List, Option};
 
+use crate::files::Source;
 use std::cell::Cell;
 use std::io;
 use std::io::{IsTerminal, Read, Write};
@@ -95,18 +96,16 @@ impl<'a> Progress<'a> {
     }
 }
 
-/// A reader whose bytes are counted.
+/// A source whose bytes are counted.
 #[derive(Drop)]
-pub(crate) struct Counted<'a, R> {
-    pub(crate) reader: R,
+pub(crate) struct Counted<'a> {
+    pub(crate) source: Source,
     pub(crate) progress: &'a Progress<'a>,
 }
 
-impl<R: Read> Read for Counted<'_, R> {
-    ghost remaining = { λ counted. R.remaining counted.reader };
-
+impl Read for Counted<'_> {
     fn read(&mut self, buf: &mut [u8]) -> io::Result<usize> {
-        let bytes = self.reader.read(buf)?;
+        let bytes = self.source.read(buf)?;
         self.progress.add(bytes);
         Ok(bytes)
     }

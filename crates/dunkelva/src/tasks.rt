@@ -1,15 +1,15 @@
 //! What is compared, and what comes of it.
 
+use crate::files::{Source, open, total_of};
 use crate::progress::{Cleared, Counted, Progress};
 use crate::trouble::{document_trouble, table_trouble};
-use anyhow::Result;
+use anyhow::{Result, anyhow};
 use diff_run::options::Options;
 use diff_run::report::Outcome;
 use diff_run::run::{Input, run};
 use document_run::options::DocumentOptions;
 use document_run::run::run_documents;
 use std::io;
-use std::io::Read;
 
 /// The status where the files are the same.
 const SAME: u8 = 0;
@@ -27,26 +27,28 @@ pub(crate) enum Task<'a> {
 }
 
 /// Returns an input whose bytes are counted.
-fn counted<'a, R: Read>(
-    input: Input<'a, R>,
-    progress: &'a Progress<'a>,
-) -> Input<'a, Counted<'a, R>> {
+fn counted<'a>(input: Input<'a, Source>, progress: &'a Progress<'a>) -> Input<'a, Counted<'a>> {
     let Input { name, reader } = input;
     Input {
         name,
-        reader: Counted { reader, progress },
+        reader: Counted {
+            source: reader,
+            progress,
+        },
     }
 }
 
 /// Compares two inputs, and writes the report to standard output.
-fn outcome_of<L: Read + Drop, R: Read + Drop>(
+fn outcome_of(
     rt: &HostRuntime,
-    left: Input<'_, L>,
-    right: Input<'_, R>,
+    left: Input<'_, Source>,
+    right: Input<'_, Source>,
     progress: &Progress<'_>,
     task: &Task<'_>,
 ) -> Result<Outcome> {
     let files = (left.name, right.name);
+    let left = counted(left, progress);
+    let right = counted(right, progress);
     let writer = io::writer(rt);
     let mut out = Cleared { writer, progress };
     match task {
@@ -63,17 +65,14 @@ fn outcome_of<L: Read + Drop, R: Read + Drop>(
     }
 }
 
-/// Compares two inputs, and returns the status. `total` is how many bytes both have.
-pub(crate) fn compare<L: Read + Drop, R: Read + Drop>(
+/// Compares two inputs, and returns the status.
+fn compare(
     rt: &HostRuntime,
-    left: Input<'_, L>,
-    right: Input<'_, R>,
-    total: Option<u64>,
+    left: Input<'_, Source>,
+    right: Input<'_, Source>,
     task: &Task<'_>,
 ) -> Result<u8> {
-    let progress = Progress::new(rt, total);
-    let left = counted(left, &progress);
-    let right = counted(right, &progress);
+    let progress = Progress::new(rt, total_of(&left.reader, &right.reader));
     let outcome = outcome_of(rt, left, right, &progress, task);
     progress.erase();
     match outcome {
@@ -81,4 +80,20 @@ pub(crate) fn compare<L: Read + Drop, R: Read + Drop>(
         Ok(Outcome::Different) => Ok(DIFFERENT),
         Err(error) => Err(error),
     }
+}
+
+/// Compares the two inputs that are named. One of them may be standard input.
+pub(crate) fn compare_named(
+    rt: &HostRuntime,
+    left: &str,
+    right: &str,
+    task: &Task<'_>,
+) -> Result<u8> {
+    if left == "-" && right == "-" {
+        return Err(anyhow!("only one of the two can be standard input"));
+    }
+    let has_standard = left == "-" || right == "-";
+    let left = open(rt, left, has_standard)?;
+    let right = open(rt, right, has_standard)?;
+    compare(rt, left, right, task)
 }

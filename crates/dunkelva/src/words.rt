@@ -3,7 +3,6 @@
 use crate::kinds::usual_delimiter;
 use anyhow::{Result, anyhow};
 use clap::ArgMatches;
-use diff_columns::choice::Choice;
 use diff_csv::options::{CsvOptions, is_delimiter};
 use diff_run::options::Format;
 use std::alloc::{AllocError, Global};
@@ -11,57 +10,43 @@ use std::env;
 use std::env::VarError;
 use std::io::IsTerminal;
 
-/// The names that the words give, each as its bytes.
+/// The names of columns that the words give, each as its bytes.
 #[derive(Drop)]
 pub(crate) struct Names<'a> {
-    keys: Vec<&'a [u8]>,
-    only: Option<Vec<&'a [u8]>>,
-    ignored: Vec<&'a [u8]>,
-    texts: Option<Vec<&'a [u8]>>,
+    pub(crate) keys: Vec<&'a [u8]>,
+    pub(crate) only: Vec<&'a [u8]>,
+    pub(crate) ignored: Vec<&'a [u8]>,
+    pub(crate) texts: Vec<&'a [u8]>,
 }
 
-/// Returns the bytes of each text.
-fn bytes_of<'a>(alloc: Global, texts: &[&'a str]) -> Result<Vec<&'a [u8]>, AllocError> {
-    let mut all = Vec::with_capacity(alloc, texts.len())?;
-    for text in texts {
-        all.push(text.as_bytes())?;
+/// Appends the names in the lists that an option takes.
+fn push_names<'a>(
+    names: &mut Vec<&'a [u8]>,
+    matches: &ArgMatches<'a>,
+    option: &str,
+) -> Result<(), AllocError> {
+    for list in matches.get_strs(option).unwrap_or(&[]) {
+        for name in list.split(',') {
+            names.push(name.as_bytes())?;
+        }
     }
-    Ok(all)
+    Ok(())
 }
 
 impl<'a> Names<'a> {
     /// Returns the names that the words give.
     pub(crate) fn of(alloc: Global, matches: &ArgMatches<'a>) -> Result<Names<'a>, AllocError> {
-        let only = match matches.get_strs("only") {
-            Some(texts) => Some(bytes_of(alloc, texts)?),
-            None => None,
+        let mut names = Names {
+            keys: Vec::new(alloc),
+            only: Vec::new(alloc),
+            ignored: Vec::new(alloc),
+            texts: Vec::new(alloc),
         };
-        let texts = if matches.get_flag("numbers") {
-            Some(bytes_of(alloc, matches.get_strs("text").unwrap_or(&[]))?)
-        } else {
-            None
-        };
-        Ok(Names {
-            keys: bytes_of(alloc, matches.get_strs("key").unwrap_or(&[]))?,
-            only,
-            ignored: bytes_of(alloc, matches.get_strs("ignore").unwrap_or(&[]))?,
-            texts,
-        })
-    }
-
-    /// Returns the choice of columns that the names make.
-    pub(crate) fn choice(&self) -> Choice<'_> {
-        Choice {
-            keys: &self.keys,
-            only: self.only.as_deref(),
-            ignored: &self.ignored,
-        }
-    }
-
-    /// Returns the columns that are compared as texts, where numbers are compared by what they are
-    /// worth in all others.
-    pub(crate) fn texts(&self) -> Option<&[&'a [u8]]> {
-        self.texts.as_deref()
+        push_names(&mut names.keys, matches, "key")?;
+        push_names(&mut names.only, matches, "only")?;
+        push_names(&mut names.ignored, matches, "ignore")?;
+        push_names(&mut names.texts, matches, "text")?;
+        Ok(names)
     }
 }
 

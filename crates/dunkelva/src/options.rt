@@ -1,0 +1,191 @@
+//! The options of `dunkelva diff`, in the order in which help has them.
+
+/// What stands behind an option.
+#[derive(Clone, Copy)]
+pub(crate) enum Takes {
+    /// Nothing.
+    Nothing,
+    /// A text.
+    Text,
+    /// A number.
+    Number,
+    /// One of these words.
+    Word(&'static [&'static str]),
+    /// A text, and the option may be given again.
+    Texts,
+    /// A list of texts with commas between them, and the option may be given again.
+    List,
+}
+
+/// The files that an option goes with.
+#[derive(Clone, Copy, PartialEq, Eq)]
+pub(crate) enum GoesWith {
+    Both,
+    Tables,
+    Documents,
+}
+
+/// An option of the command line.
+#[derive(Clone, Copy)]
+pub(crate) struct CliOption {
+    /// Its name, which stands behind two hyphens.
+    pub(crate) id: &'static str,
+    pub(crate) takes: Takes,
+    /// What help calls that which it takes.
+    pub(crate) value: &'static str,
+    /// The word that it has where it is not given.
+    pub(crate) default: Option<&'static str>,
+    /// The option that is given with it.
+    pub(crate) needs: Option<&'static str>,
+    pub(crate) goes_with: GoesWith,
+    pub(crate) help: &'static str,
+}
+
+/// An option that is given or not.
+const SWITCH: CliOption = CliOption {
+    id: "",
+    takes: Takes::Nothing,
+    value: "",
+    default: None,
+    needs: None,
+    goes_with: GoesWith::Both,
+    help: "",
+};
+
+/// The options of the command.
+static OPTIONS: [CliOption; 18] = [
+    CliOption {
+        id: "key",
+        takes: Takes::List,
+        value: "COLUMNS",
+        help: "The columns or paths that name a row; without them rows are compared by position",
+        ..SWITCH
+    },
+    CliOption {
+        id: "only",
+        takes: Takes::List,
+        value: "COLUMNS",
+        help: "Compare these columns or paths alone, and the key",
+        ..SWITCH
+    },
+    CliOption {
+        id: "ignore",
+        takes: Takes::List,
+        value: "COLUMNS",
+        help: "Compare all columns or paths but these",
+        ..SWITCH
+    },
+    CliOption {
+        id: "unique",
+        needs: Some("key"),
+        help: "A key that comes twice in a file is an error",
+        ..SWITCH
+    },
+    CliOption {
+        id: "common",
+        goes_with: GoesWith::Tables,
+        help: "Leave out columns that one file has alone",
+        ..SWITCH
+    },
+    CliOption {
+        id: "numbers",
+        goes_with: GoesWith::Tables,
+        help: "Compare numbers by what they are worth: 12, 12.00 and 1.2e1 are the same",
+        ..SWITCH
+    },
+    CliOption {
+        id: "text",
+        takes: Takes::List,
+        value: "COLUMNS",
+        needs: Some("numbers"),
+        goes_with: GoesWith::Tables,
+        help: "With --numbers, compare these columns as text even so",
+        ..SWITCH
+    },
+    CliOption {
+        id: "missing-is-null",
+        goes_with: GoesWith::Documents,
+        help: "In JSON a part that is missing is the same as null",
+        ..SWITCH
+    },
+    CliOption {
+        id: "tolerance",
+        takes: Takes::Texts,
+        value: "PATH=BOUND",
+        goes_with: GoesWith::Documents,
+        help: "In JSON numbers at this path may lie so far apart",
+        ..SWITCH
+    },
+    CliOption {
+        id: "relative-tolerance",
+        takes: Takes::Texts,
+        value: "PATH=BOUND",
+        goes_with: GoesWith::Documents,
+        help: "In JSON numbers at this path may lie this part of the larger one apart",
+        ..SWITCH
+    },
+    CliOption {
+        id: "input",
+        takes: Takes::Word(&["csv", "ndjson"]),
+        value: "KIND",
+        help: "What both files are; without it their names say it",
+        ..SWITCH
+    },
+    CliOption {
+        id: "null",
+        takes: Takes::Text,
+        value: "WORD",
+        goes_with: GoesWith::Tables,
+        help: "A field that is this word is a null",
+        ..SWITCH
+    },
+    CliOption {
+        id: "delimiter",
+        takes: Takes::Text,
+        value: "BYTE",
+        goes_with: GoesWith::Tables,
+        help: "The byte between fields, \\t for a tab; without it a comma, or a tab in .tsv files",
+        ..SWITCH
+    },
+    CliOption {
+        id: "no-header",
+        goes_with: GoesWith::Tables,
+        help: "The first record is a row; columns are named 1, 2, 3 ..",
+        ..SWITCH
+    },
+    CliOption {
+        id: "no-key-is-null",
+        goes_with: GoesWith::Documents,
+        help: "A document without a part at a key path has the key null there",
+        ..SWITCH
+    },
+    CliOption {
+        id: "limit",
+        takes: Takes::Number,
+        value: "N",
+        default: Some("20"),
+        help: "Print at most N differences; 0 prints all",
+        ..SWITCH
+    },
+    CliOption {
+        id: "format",
+        takes: Takes::Word(&["text", "json"]),
+        value: "FORM",
+        default: Some("text"),
+        help: "Print lines to read, or a JSON object in each line",
+        ..SWITCH
+    },
+    CliOption {
+        id: "color",
+        takes: Takes::Word(&["auto", "always", "never"]),
+        value: "WHEN",
+        default: Some("auto"),
+        help: "Print in colours; auto does on a terminal, unless NO_COLOR is set",
+        ..SWITCH
+    },
+];
+
+/// Returns the options.
+pub(crate) fn options() -> &'static [CliOption] {
+    &OPTIONS
+}

@@ -1,0 +1,4 @@
+//! What the words of options hold.
+#![tactic(auto)]
+
+pub mod lists;

@@ -1,0 +1,68 @@
+//! Lists of paths as a user writes them, with commas between them.
+//!
+//! A comma within quotes is part of a name: in `."a,b",c` are the texts `."a,b"` and `c`.
+
+ghost use Rattle.std.specs.Prelude.{◌≡◌, ◌++◌, map, IfOk};
+ghost use Rattle.dunkelva_options.specs.Lists.{after, all_parts, is_end, list_parts};
+
+use std::alloc::{AllocError, Global};
+
+/// Where a byte stands.
+#[derive(Clone, Copy, PartialEq, Eq)]
+enum Quoting {
+    Outside,
+    Inside,
+    /// Within quotes, behind a backslash.
+    Escaped,
+}
+
+impl Quoting {
+    /// Returns where the byte behind this one stands.
+    fn after(self, byte: u8) -> Quoting
+        ensures { result ≡ after self byte }
+    {
+        match (self, byte) {
+            (Quoting::Outside, b'"') => Quoting::Inside,
+            (Quoting::Outside, _) => Quoting::Outside,
+            (Quoting::Inside, b'"') => Quoting::Outside,
+            (Quoting::Inside, b'\\') => Quoting::Escaped,
+            (Quoting::Inside | Quoting::Escaped, _) => Quoting::Inside,
+        }
+    }
+
+    /// Returns whether a byte is a comma between two texts.
+    fn is_end(self, byte: u8) -> bool
+        ensures { result ≡ is_end self byte }
+    {
+        self == Quoting::Outside && byte == b','
+    }
+}
+
+/// Appends the texts between the commas of a list.
+fn push_parts<'a>(parts: &mut Vec<&'a str>, list: &'a str) -> Result<(), AllocError>
+    ensures { IfOk result (λ _. map (λ text. text.now) parts.new.items ≡ map (λ text. text.now) parts.old.items ++ list_parts list.now) }
+{
+    let bytes = list.as_bytes();
+    let mut quoting = Quoting::Outside;
+    let mut start = 0;
+    for at in 0..bytes.len() {
+        if quoting.is_end(bytes[at]) {
+            parts.push(&list[start..at])?;
+            start = at + 1;
+        }
+        quoting = quoting.after(bytes[at]);
+    }
+    parts.push(&list[start..])?;
+    Ok(())
+}
+
+/// Returns the texts between the commas of each list.
+pub fn split_lists<'a>(alloc: Global, lists: &[&'a str]) -> Result<Vec<&'a str>, AllocError>
+    ensures { IfOk result (λ parts. map (λ text. text.now) parts.items ≡ all_parts (map (λ list. list.now) lists.now)) }
+{
+    let mut parts = Vec::new(alloc);
+    for list in lists {
+        push_parts(&mut parts, list)?;
+    }
+    Ok(parts)
+}
