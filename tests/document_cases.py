@@ -358,6 +358,38 @@ FILES = (
      "left.ndjson: the rows at lines 1 and 3 have one key"),
     (["--no-key-is-null", "--key", "id"], b"{}\n[]\n", b"", 2, "left.ndjson: line 2, column 1: no JSON object"),
     (["--no-key-is-null"], b"{}\n", b"{}\n", 0, "0 changed, 0 removed, 0 added, 1 the same."),
+    # lines that are passed over
+    (["--skip-bad"], b"{}", b"{}\n", 0, "0 changed, 0 removed, 0 added, 1 the same."),
+    (["--skip-bad"], b"\n{}\nnul\n", b"{}\n", 0,
+     "0 changed, 0 removed, 0 added, 1 the same.\nSkipped 2 lines of left.ndjson (the first is line 1)."),
+    (["--skip-bad"], b"\n\xff\n", b"", 0,
+     "0 changed, 0 removed, 0 added, 0 the same.\nSkipped 2 lines of left.ndjson (the first is line 1)."),
+    (["--skip-bad"], b"{}\n", b'{"a":2}\n[]', 1,
+     "~ row 1  a missing -> 2\n1 changed, 0 removed, 0 added, 0 the same.\nSkipped 1 line of right.ndjson (line 2)."),
+    (["--skip-bad", "--key", "id"], b'{"id":1}\n{}\n{"id":2}\n{"id":3,"id":3}\n',
+     b'{"id":9}x\n{"id":1}\n{"id":4e%s}\n{"id":5}' % WIDE.encode(), 1,
+     "- id=2  left.ndjson line 3\n+ id=5  right.ndjson line 4\n0 changed, 1 removed, 1 added, 1 the same.\n"
+     "Skipped 2 lines of left.ndjson (the first is line 2).\nSkipped 2 lines of right.ndjson (the first is line 1)."),
+    (["--skip-bad", "--key", "a,b"], b'{"a":1}\n{"b":1}\n{"a":1,"b":2}\n', b'{"a":1,"b":3}\n', 1,
+     "- a=1,b=2  left.ndjson line 3\n+ a=1,b=3  right.ndjson line 1\n0 changed, 1 removed, 1 added, 0 the same.\n"
+     "Skipped 2 lines of left.ndjson (the first is line 1)."),
+    (["--skip-bad", "--key", "id"], b'{"id":1}\n', b'nul\n{"id":1}\nnul\n{"id":1}\n', 1,
+     "+ id=1  right.ndjson line 4\n0 changed, 0 removed, 1 added, 1 the same.\n"
+     "Skipped 2 lines of right.ndjson (the first is line 1)."),
+    (["--skip-bad", "--key", "id", "--no-key-is-null"], b"{}\n", b'\n{"id":null}', 1,
+     "~ id=null  id missing -> null\n1 changed, 0 removed, 0 added, 0 the same.\n"
+     "Skipped 1 line of right.ndjson (line 1)."),
+    (["--skip-bad", "--key", "id", "--unique"], b'{"id":1}\n[\n{"id":1}\n', b"", 2,
+     "left.ndjson: the rows at lines 1 and 3 have one key"),
+    (["--skip-bad", "--key", "id", "--limit", "1", "--color", "always"], b'[]\n{"id":1}\n{"id":2}\n', b"", 1,
+     "\x1b[31m- id=1  left.ndjson line 2\x1b[0m\n.. and 1 more\n0 changed, 2 removed, 0 added, 0 the same.\n"
+     "Skipped 1 line of left.ndjson (line 1)."),
+    (["--skip-bad", "--key", "id", "--limit", "1", "--format", "json"], b'\n{"id":1,"a":1}\n\n{"id":2}\n',
+     b'{"id":1,"a":2}\n', 1,
+     '{"kind":"changed","key":{"id":1},"left_line":2,"right_line":1,"changes":[{"path":"a","left":1,"right":2}]}\n'
+     '{"kind":"counts","changed":1,"removed":1,"added":0,"same":0,"not_shown":1,"left_skipped":2,"right_skipped":0}'),
+    (["--skip-bad", "--format", "json"], b"{}", b"{}", 0,
+     '{"kind":"counts","changed":0,"removed":0,"added":0,"same":1,"not_shown":0,"left_skipped":0,"right_skipped":0}'),
     (["--unique", "--key", "id"], b'{"id":1}\n{"id":2}\n', b'{"id":2}\n{"id":1}\n', 0,
      "0 changed, 0 removed, 0 added, 2 the same."),
     (["--unique", "--key", "id"], b'{"id":1}\n{"id":2}\n{"id":1.0}\n', b"", 2,
@@ -399,6 +431,7 @@ TROUBLES = (
     (["--no-key-is-null", "table.csv", "table.csv"], "--no-key-is-null goes with JSON documents"),
     (["--nope", "good.ndjson", "good.ndjson"], "--nope"),
     (["--missing-is-null", "table.csv", "table.csv"], "--missing-is-null goes with JSON documents"),
+    (["--skip-bad", "table.csv", "table.csv"], "--skip-bad goes with JSON documents"),
     (["--missing-is-null", "--input", "csv", "good.ndjson", "good.ndjson"], "--missing-is-null goes with"),
     *(([option, "id=1", "table.csv", "table.csv"], f"{option} goes with JSON documents")
       for option in ("--tolerance", "--relative-tolerance")),
@@ -430,7 +463,7 @@ GOOD_WORDS = (["good.ndjson", "good.jsonl"], ["--input", "ndjson", "good.ndjson"
               ["--input", "ndjson", "-", "good.ndjson"], ["--input", "ndjson", "good.ndjson", "-"],
               ["--input", "csv", "table.csv", "table.ndjson"], ["table.csv", "table.csv"],
               ["--only", "[].a,.id,x[1]", "--ignore", "[]", "good.ndjson", "good.jsonl"],
-              ["--missing-is-null", "good.ndjson", "good.jsonl"],
+              ["--missing-is-null", "good.ndjson", "good.jsonl"], ["--skip-bad", "good.ndjson", "good.jsonl"],
               ["--tolerance", "id=0.1", "--relative-tolerance=[].a=1E-9", "good.ndjson", "good.jsonl"],
               ["--only", "id", "--ignore", "a[]", "table.csv", "table.csv"],
               ["--key", "id", "--unique", "good.jsonl", "good.jsonl"], ["--key=.id", "good.jsonl", "good.jsonl"])

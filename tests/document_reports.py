@@ -44,6 +44,14 @@ class Object:
     members: tuple
 
 
+class Documents(list):
+    """The documents of a file, with the numbers of their lines and of the lines that are passed over."""
+
+    def __init__(self):
+        super().__init__()
+        self.numbers, self.skipped = [], []
+
+
 class Fault(Exception):
     """What may be said of a line that is no document, or of a key that comes twice."""
 
@@ -272,15 +280,19 @@ def faults_of(value, keys):
 
 
 def documents_of(content, options):
-    """Returns the documents of a file. Raises a Fault of the first line that is none."""
+    """Returns the documents of a file. Raises a Fault of the first line that is none, where none is passed over."""
     lines = content.split(b"\n")
-    documents, keys = [], [] if options["null_keys"] else options["keys"]
+    documents, keys = Documents(), [] if options["null_keys"] else options["keys"]
     for number, line in enumerate(lines if lines[-1] else lines[:-1], 1):
         value, is_json = tree_of(line)
         said = faults_of(value, keys) if is_json else [NO_JSON]
-        if said:
+        if said and not options.get("skip_bad"):
             raise Fault(*(fault_text(number, line, what) for what in said))
-        documents.append(value)
+        if said:
+            documents.skipped.append(number)
+        else:
+            documents.append(value)
+            documents.numbers.append(number)
     return documents
 
 
@@ -437,7 +449,13 @@ def text_report(sides, found, options):
         return b"%s %s -> %s" % (shown(path_text(change.path)).encode(), left, right)
 
     def alone_text(color, mark, side, i):
-        return painted(color, b"%s %s  %s line %d" % (mark, row_text(side, i), files[side], i + 1))
+        return painted(color, b"%s %s  %s line %d" % (mark, row_text(side, i), files[side], sides[side].numbers[i]))
+
+    def skipped_text(side):
+        first, *others = sides[side].skipped
+        if others:
+            return b"Skipped %d lines of %s (the first is line %d)." % (1 + len(others), files[side], first)
+        return b"Skipped 1 line of %s (line %d)." % (files[side], first)
 
     lines = [painted(table_reports.YELLOW, b"~ " + row_text(0, i)) + b"  " + b", ".join(map(change_text, changes))
              for i, _, changes in found.changed]
@@ -446,6 +464,7 @@ def text_report(sides, found, options):
     lines, rest = table_reports.shown(lines, options)
     lines += [b".. and %d more" % rest] * (rest > 0)
     lines.append(b"%d changed, %d removed, %d added, %d the same." % counts_of(found))
+    lines += [skipped_text(side) for side in range(2) if sides[side].skipped]
     return b"".join(line + b"\n" for line in lines)
 
 
@@ -469,13 +488,15 @@ def json_objects(sides, found, options):
         told = [(name, part) for name, part in (("left", it.left), ("right", it.right)) if part is not MISSING]
         return Object((("path", path_text(it.path)), *told))
 
-    objects = [numbered(("kind", "changed"), ("key", key(0, i)), ("left_line", i + 1), ("right_line", j + 1),
+    left, right = (side.numbers for side in sides)
+    objects = [numbered(("kind", "changed"), ("key", key(0, i)), ("left_line", left[i]), ("right_line", right[j]),
                         ("changes", [change(it) for it in changes])) for i, j, changes in found.changed]
-    objects += [numbered(("kind", "removed"), ("key", key(0, i)), ("line", i + 1)) for i in found.removed]
-    objects += [numbered(("kind", "added"), ("key", key(1, j)), ("line", j + 1)) for j in found.added]
+    objects += [numbered(("kind", "removed"), ("key", key(0, i)), ("line", left[i])) for i in found.removed]
+    objects += [numbered(("kind", "added"), ("key", key(1, j)), ("line", right[j])) for j in found.added]
     objects, rest = table_reports.shown(objects, options)
+    skipped = zip(("left_skipped", "right_skipped"), (len(side.skipped) for side in sides))
     return [*objects, numbered(("kind", "counts"), *zip(("changed", "removed", "added", "same"), counts_of(found)),
-                               ("not_shown", rest))]
+                               ("not_shown", rest), *(skipped if options.get("skip_bad") else ()))]
 
 
 def objects_of(printed):
@@ -504,7 +525,7 @@ def key_fault(sides, options):
         for i, key in enumerate(keys_of(side, options)):
             first = seen.setdefault(key, i)
             if first < i:
-                return f"{file}: the rows at lines {first + 1} and {i + 1} have one key"
+                return f"{file}: the rows at lines {side.numbers[first]} and {side.numbers[i]} have one key"
     return None
 
 

@@ -1,7 +1,8 @@
 """Pairs of small random files of JSON documents, one a line, with options to compare them by.
 
 A value is made as a tree (`document_reports.py`), in which differences are planted, and is then written in one of many
-ways: members in any order, blanks, numbers in any notation, characters as they are or escaped.
+ways: members in any order, blanks, numbers in any notation, characters as they are or escaped. Where lines that are no
+documents are passed over, some are put between the others.
 """
 import collections
 import json
@@ -27,6 +28,9 @@ FILES = ("left.ndjson", "right.ndjson", "le ft.jsonl", "a=b.jsonl", "Å.ndjson",
 BIGGEST = 10**30 - 1000
 # characters that a name without quotes can't have in a word
 QUOTED = set('."[],\0')
+# lines that are no documents, whatever the keys
+BAD_LINES = (b"", b" \t", b"nul", b"{", b'{"id":1', b"{} {}", b"\xef\xbb\xbf{}", b'{"a":"\xff"}', b"[]", b'"id"',
+             b"-0.5", b'{"a":1,"a":1}', b'{"id":{"a":[{"b":1,"b":2}]}}', b'{"a":1e1%s}' % (b"0" * 30))
 # how deep the parts of a random value lie; chains are deeper
 DEEP = 4
 
@@ -375,12 +379,22 @@ def made_options(keys, chance):
     """Makes the options to compare files by these keys."""
     options = {"keys": keys, "limit": chance.choice((None, None, 0, 1, 3)), "json": chance.random() < 0.5,
                "colored": chance.random() < 0.2, "unique": bool(keys) and chance.random() < 0.2,
-               "null_keys": bool(keys) and chance.random() < 0.2,
+               "null_keys": bool(keys) and chance.random() < 0.2, "skip_bad": chance.random() < 0.25,
                "piped": chance.choice((None,) * 10 + (0, 1)), "files": chance.sample(FILES, 2),
                "input": chance.random() < 0.1, "commas": chance.random() < 0.5}
     if chance.random() < 0.1:
         options.update(files=["left.txt", "right"], input=True)
     return options
+
+
+def with_bad_lines(lines, options, chance):
+    """Returns lines with some between them that are no documents."""
+    lines, bad = list(lines), BAD_LINES
+    if options["keys"] and not options["null_keys"]:
+        bad += (b"{}", b"{ }")
+    for _ in range(chance.choice((0, 1, 1, 2, 5))):
+        lines.insert(chance.randrange(len(lines) + 1), chance.choice(bad))
+    return lines
 
 
 def made_pair(chance, most=8):
@@ -406,8 +420,11 @@ def made_pair(chance, most=8):
     if steps and chance.random() < 0.5:
         chance.shuffle(right)
     options |= made_rules([*left, *rows], chance)
-    left = file_of([lines[id(value)] for value in left], chance)
-    return Pair(left, file_of(right, chance), options, planted if is_unique and not lacking or not steps else None)
+    left = [lines[id(value)] for value in left]
+    if options["skip_bad"]:
+        left, right = (with_bad_lines(side, options, chance) for side in (left, right))
+    is_known = is_unique and not lacking or not steps
+    return Pair(file_of(left, chance), file_of(right, chance), options, planted if is_known else None)
 
 
 # ---- runs
@@ -420,7 +437,7 @@ def arguments(options):
         words += ["--limit", str(options["limit"])]
     words += ["--format", "json"] * options["json"] + ["--color", "always"] * options["colored"]
     words += ["--unique"] * options["unique"] + ["--missing-is-null"] * options["missing_is_null"]
-    words += ["--no-key-is-null"] * options["null_keys"]
+    words += ["--no-key-is-null"] * options["null_keys"] + ["--skip-bad"] * options["skip_bad"]
     for option in ("ignored", "only"):
         patterns = [",".join(options[option])] if options[option] and options["commas"] else options[option]
         words += [word for pattern in patterns for word in ({"ignored": "--ignore"}.get(option, "--only"), pattern)]

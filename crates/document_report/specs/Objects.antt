@@ -17,4 +17,4 @@ difference_objects s m changed = map (changed_object s m) changed ++ map (alone_
 
 -- the first lines, and the counts
 unfoldable pub document_json_text : DocumentSides → Matching → List ℕ → ℕ → List ℕ
-document_json_text s m changed limit = concat (take limit (difference_objects s m changed)) ++ counts_object m (length changed) limit
+document_json_text s m changed limit = concat (take limit (difference_objects s m changed)) ++ counts_object s m (length changed) limit

@@ -53,6 +53,6 @@ pub fn push_document_json(
     ensures { OnOk result (out.new.items ≡ out.old.items ++ document_json_text sides.now matching.now changed.now limit) }
 {
     push_objects(alloc, out, sides, matching, changed, limit)?;
-    push_counts(out, matching, changed.len(), limit)?;
+    push_counts(out, sides, matching, changed.len(), limit)?;
     Ok(())
 }

@@ -11,6 +11,7 @@ use diff_keys::matching::Matching;
 use document_words::counts::{push_rest, push_summary};
 use document_words::lines::push_alone_lines;
 use document_words::sides::DocumentSides;
+use document_words::skipped::push_skipped_lines;
 use std::alloc::{AllocError, Global};
 
 /// Appends the lines of the first `limit` differences: the changed documents in left order, then
@@ -37,8 +38,8 @@ fn push_lines(
 }
 
 /// Appends the report of a comparison of documents: the lines of the first `limit` differences, how
-/// many more there are, and the summary. `changed` has the places of the matched documents that
-/// differ. The one error is that memory is short.
+/// many more there are, the summary, and how many lines are passed over. `changed` has the places of
+/// the matched documents that differ. The one error is that memory is short.
 pub fn push_document_report(
     alloc: Global,
     out: &mut Vec<u8>,
@@ -55,5 +56,6 @@ pub fn push_document_report(
     push_lines(alloc, out, sides, matching, changed, limit)?;
     push_rest(out, matching, changed.len(), limit)?;
     push_summary(out, matching, changed.len())?;
+    push_skipped_lines(out, sides)?;
     Ok(())
 }

@@ -1,20 +1,17 @@
 -- Lines that are known, and their rows.
-use Rattle.std.proofs.Common.{◌≡◌, ◌<◌, ◌+◌, ◌-◌, ◌∙◌, ℕ, suc, List, [], ◌∷◌, ◌++◌, length, get_or, map, take, refl, ap, sym, arith, length-append, subst}
-use Rattle.std.proofs.lemmas.List.{append_assoc, flat_map_more, get_or-map, length-map, take_all, take_more}
-use Rattle.std.proofs.lemmas.List.Elements.{All-push}
-use Rattle.std.specs.List.{flat_map}
-use Rattle.std.specs.Prelude.{All, slice_index}
+use Rattle.std.proofs.Common.{◌≡◌, ◌<◌, ◌+◌, ◌-◌, ◌∙◌, ℕ, suc, List, [], ◌∷◌, ◌++◌, length, get_or, take, ap, sym, arith, Some, subst}
+use Rattle.std.proofs.lemmas.List.{append_assoc, get_or-map, length-map, take_more}
 use Rattle.diff_tables.specs.Strings.{AreStrings}
 use Rattle.diff_tables.specs.Tables.{TableRows}
 use Rattle.json_paths.specs.Paths.{Path}
-use Rattle.document_rows.specs.Documents.{IsDocument, document_row}
+use Rattle.document_rows.specs.Documents.{IsDocument, document_row, key_cells, tree_of}
 use Rattle.document_rows.specs.Known.{HoldsDocumentsOf}
 use Rattle.document_rows.specs.Rows.{HoldsRows}
 use Rattle.document_rows.specs.Tables.{HoldsDocuments, line_at}
 use Rattle.document_rows.specs.declared.cells.Rows.{Rows}
 use Rattle.document_rows.specs.declared.reading.Reading.{Reading}
-use Rattle.document_rows.proofs.DocumentLemmas.{row_count, row_line}
-use Rattle.document_rows.proofs.RowLemmas.{number_more}
+use Rattle.document_rows.proofs.DocumentLemmas.{row_count, row_line, tree_is}
+use Rattle.document_rows.proofs.RowLemmas.{row_kept}
 
 -- the row of a document is a function of its line
 pub record IsRowAt (reading : Reading) (keys : List Path) (t : TableRows) (i : ℕ) : Type 0 where
@@ -47,14 +44,12 @@ cell_more all row k cell within is =
     ∙ ap (λ l. all ++ l) (ap (λ c. take k row ++ c ∷ []) is ∙ sym (take_more row k [] within))
 
 -- a row of a table of documents more
-pub copy_kept : (reading : Reading) (keys : List Path) (all : List (List ℕ)) (t : TableRows) (i : ℕ) (old new : Rows) → HoldsDocumentsOf reading keys t → i < length t.rows → HoldsRows reading keys all old
+pub copy_kept : (reading : Reading) (keys : List Path) (all : List (List ℕ)) (t : TableRows) (i number : ℕ) (old new : Rows) → HoldsDocumentsOf reading keys t → i < length t.rows
+    → number ≡ suc (length all) → HoldsRows reading keys all old
     → ((strings : List (List ℕ)) → AreStrings old.cells strings → AreStrings new.cells (strings ++ get_or t.rows i []))
-    → new.lines.items ≡ old.lines.items ++ suc (length old.lines.items) ∷ [] → HoldsRows reading keys (all ++ line_at t i ∷ []) new
-copy_kept reading keys all t i old new docs within h cells numbers =
+    → new.lines.items ≡ old.lines.items ++ number ∷ [] → new.skipped.items ≡ old.skipped.items → HoldsRows reading keys (all ++ line_at t i ∷ []) new
+copy_kept reading keys all t i number old new docs within number_is h cells numbers others =
     let here = row_at reading keys t docs i within in
-    record {
-      documents = All-push (IsDocument reading keys) all (line_at t i) h.documents here.document;
-      cells = subst (AreStrings new.cells) (ap (λ l. flat_map (document_row keys) all ++ l) here.row ∙ flat_map_more (document_row keys) [] all (line_at t i)) (cells (flat_map (document_row keys) all) h.cells);
-      lines = let grown = ap length numbers in let one = length-append old.lines.items (suc (length old.lines.items) ∷ []) in let more = length-append all (line_at t i ∷ []) in omega (arith, grown, one, more, h.lines);
-      numbers = subst (λ ns. (j : ℕ) → j < length (all ++ line_at t i ∷ []) → slice_index ns j ≡ suc j) (sym numbers) (number_more old.lines.items all (line_at t i) h.lines h.numbers);
-    }
+    let tree = tree_of (line_at t i) in
+    row_kept reading keys all (line_at t i) tree number old new (here.document.json ∙ ap Some (sym (tree_is reading keys (line_at t i) here.document))) here.document number_is h
+    (λ strings held. subst (AreStrings new.cells) (ap (λ l. strings ++ l) here.row ∙ sym (append_assoc strings (key_cells keys tree) (line_at t i ∷ []))) (cells strings held)) numbers others

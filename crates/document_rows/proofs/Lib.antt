@@ -3,6 +3,7 @@ mod Examples
 mod KnownLemmas
 mod LineLemmas
 mod NarrowLemmas
+mod NumberLemmas
 mod PairLemmas
 mod PartLemmas
 mod RowLemmas

@@ -1,12 +1,12 @@
 -- Numbers whose texts are short.
-use Rattle.std.proofs.Common.{◌≡◌, ◌<◌, ◌≤◌, ◌+◌, ◌-◌, ◌^◌, ℕ, Bool, true, false, cond, List, [], drop, eqb, get_or, length, arith, length-take, length-drop, lit<}
+use Rattle.std.proofs.Common.{◌<◌, ◌≤◌, ◌+◌, ◌-◌, ◌^◌, ℕ, Bool, true, false, cond, List, [], drop, eqb, get_or, length, arith, length-take, length-drop, lit<}
 use Rattle.std.proofs.Math.Nat.{pow-le-pow_right}
 use Rattle.std.proofs.lemmas.Int.Digits.{digits_value-lt}
 use Rattle.std.specs.Float.Numeral.{digits_end, exponent_start, has_exponent, scan_numeral}
 use Rattle.std.specs.List.{slice_range}
 use Rattle.std.specs.Str.Parse.{digits_value}
 use Rattle.fast_float.proofs.Reading.{scan_numeral-AllDigits}
-use Rattle.json_decimals.specs.Decimals.{is_negative, parts_of, unsigned}
+use Rattle.json_decimals.specs.Decimals.{is_negative, unsigned}
 use Rattle.json_decimals.specs.Texts.{HasWideExponent}
 
 -- a part of a text is at most as long

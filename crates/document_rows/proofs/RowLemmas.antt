@@ -1,15 +1,15 @@
 -- Rows of documents, as they are kept and as a table cuts them.
-use Rattle.std.proofs.Common.{◌≡◌, ◌<◌, ◌≤◌, ◌+◌, ◌*◌, ◌∙◌, Option, Some, None, ℕ, suc, List, [], ◌∷◌, ◌++◌, length, get_or, map, take, drop, refl, ap, sym, arith, length-append, subst, ◌⊎◌, inl, inr}
+use Rattle.std.proofs.Common.{◌≡◌, ◌<◌, ◌≤◌, ◌+◌, ◌*◌, ◌∙◌, Option, Some, None, ℕ, suc, List, [], ◌∷◌, ◌++◌, length, get_or, map, take, drop, refl, ap, sym, arith, length-append, subst, inl, inr}
 use Rattle.std.proofs.Math.Seq.{take-append_seam, drop-append_seam}
-use Rattle.std.proofs.lemmas.Bool.{cases_lt}
-use Rattle.std.proofs.lemmas.List.{append_assoc, append-nil, flat_map_more, get_or-map, get_or_append_left, get_or_push, length-map, take_all, take_more}
+use Rattle.std.proofs.lemmas.List.{append_assoc, append-nil, flat_map_more, get_or-map, length-map, take_all, take_more}
 use Rattle.std.proofs.lemmas.List.Elements.{All-push}
 use Rattle.std.specs.List.{flat_map}
-use Rattle.std.specs.Prelude.{All, IsSome, codes, false, slice_index, unwrap_or}
+use Rattle.std.specs.Option.{option_map}
+use Rattle.std.specs.Prelude.{All, IsSome, codes, false, true, unwrap_or}
 use Rattle.std.specs.Str.{IsUtf8}
 use Rattle.diff_tables.specs.Strings.{AreStrings}
 use Rattle.diff_tables.specs.Tables.{cut_rows}
-use Rattle.json.specs.Json.{Json, null, document}
+use Rattle.json.specs.Json.{Json, null, object, document}
 use Rattle.json.specs.Strict.{HasUniqueKeys}
 use Rattle.json.specs.Print.{print_from}
 use Rattle.json_normal.specs.Narrow.{HasNarrowNumbers}
@@ -19,17 +19,18 @@ use Rattle.json_paths.specs.Paths.{part_at}
 use Rattle.json_paths.specs.Views.{path_view, paths_view}
 use Rattle.json_paths.specs.declared.path.Path.{Path}
 use Rattle.document_rows.specs.Documents.{HasKeys, HasParts, IsDocument, cell_of, document_row, key_cells, tree_of}
-use Rattle.document_rows.specs.Errors.{IsObject, IsReadFault, IsStop}
+use Rattle.document_rows.specs.Errors.{IsLineFault, IsObject, IsReadFault, IsStop}
 use Rattle.document_rows.specs.Lines.{lines_of}
-use Rattle.document_rows.specs.Reading.{IsFaultAt, IsPartTrouble, IsTrouble}
+use Rattle.document_rows.specs.Numbers.{AreNumbered, numbered_lines}
+use Rattle.document_rows.specs.Reading.{IsFaultAt, IsKeyFault, LacksPart}
 use Rattle.document_rows.specs.Rows.{HoldsRows}
 use Rattle.document_rows.specs.declared.cells.Rows.{Rows}
+use Rattle.document_rows.specs.declared.error.LineFault.{LineFault}
 use Rattle.document_rows.specs.declared.error.LineFault.TheVariants as fault
 use Rattle.document_rows.specs.declared.error.ReadError.{ReadError}
 use Rattle.document_rows.specs.declared.error.ReadError.TheVariants as error
 use Rattle.document_rows.specs.declared.reading.Reading.{Reading}
-use Rattle.document_rows.specs.declared.values.Trouble.{Trouble}
-use Rattle.document_rows.specs.declared.values.Trouble.TheVariants as trouble
+use Rattle.document_rows.proofs.NumberLemmas.{document_numbered, lines_more, other_numbered, same_lines}
 
 -- the cells of one key more
 cells_more : (ks : List Path) (p : Path) (j : Json) → key_cells (paths_view (ks ++ p ∷ [])) j ≡ key_cells (paths_view ks) j ++ cell_of (part_at (path_view p) j) ∷ []
@@ -74,27 +75,42 @@ pub not_some : (o : Option Json) → ¬ IsSome o → o ≡ None
 not_some None h = refl
 not_some (Some x) h = absurd (h refl)
 
+-- what is made of something is something
+pub mapped_some : {X Y : Type 0} (f : X → Y) (o : Option X) → IsSome o → IsSome (option_map f o)
+mapped_some f None h = cc h
+mapped_some f (Some x) h = refl
+
 -- the cells of all keys
 pub all_cells_kept : (ks : List Path) (k : ℕ) → length ks ≤ k → take k ks ≡ ks
 all_cells_kept ks k end = take_all k ks end
 
 -- a key that leads nowhere
-pub no_part : (reading : Reading) (ks : List Path) (j : Json) (k : ℕ) (p : Path) → reading.null_keys ≡ false → k < length ks → p ≡ get_or ks k p → part_at (path_view p) j ≡ None
-    → IsPartTrouble reading (paths_view ks) j (trouble.Fault (fault.NoPart k))
-no_part reading ks j k p strict within is none = (
-  strict,
-  let count : length (paths_view ks) ≡ length ks = length-map ks path_view in omega (arith, within, count),
-  ap (λ (q : paths.Path). part_at q j) (get_or-map path_view ks k p [] within ∙ ap path_view (sym is)) ∙ none,
-)
+pub no_part : (ks : List Path) (j : Json) (k : ℕ) (p : Path) → k < length ks → p ≡ get_or ks k p → part_at (path_view p) j ≡ None → LacksPart (paths_view ks) j k
+no_part ks j k p within is none = record {
+  within = let count : length (paths_view ks) ≡ length ks = length-map ks path_view in omega (arith, within, count);
+  none = ap (λ (q : paths.Path). part_at q j) (get_or-map path_view ks k p [] within ∙ ap path_view (sym is)) ∙ none;
+}
 
 -- a key that leads nowhere in the value of a line
-pub part_trouble : (reading : Reading) (keys : List paths.Path) (line : List ℕ) (j : Json) (t : Trouble) → document line ≡ Some j → IsPartTrouble reading keys j t → IsTrouble reading keys line t
-part_trouble reading keys line j trouble.Memory is h = tt
-part_trouble reading keys line j (trouble.Fault fault.Invalid) is h = absurd h
-part_trouble reading keys line j (trouble.Fault fault.RepeatedName) is h = absurd h
-part_trouble reading keys line j (trouble.Fault fault.WideExponent) is h = absurd h
-part_trouble reading keys line j (trouble.Fault fault.NoObject) is h = absurd h
-part_trouble reading keys line j (trouble.Fault (fault.NoPart k)) is h = (h.0, h.1, rw is h.2)
+pub key_trouble : (reading : Reading) (keys : List paths.Path) (line : List ℕ) (j : Json) (what : LineFault) → document line ≡ Some j → IsKeyFault reading keys j what → IsLineFault reading keys line what
+key_trouble reading keys line j fault.Invalid is h = absurd h
+key_trouble reading keys line j fault.RepeatedName is h = absurd h
+key_trouble reading keys line j fault.WideExponent is h = absurd h
+key_trouble reading keys line j fault.NoObject is h = absurd h
+key_trouble reading keys line j (fault.NoPart k) is h = (h.0, h.1.within, rw is h.1.none)
+
+-- what is wrong with a line is wrong with no document
+pub no_document : (reading : Reading) (keys : List paths.Path) (line : List ℕ) (what : LineFault) → IsLineFault reading keys line what → ¬ IsDocument reading keys line
+no_document reading keys line fault.Invalid (inl text) d = text d.utf8
+no_document reading keys line fault.Invalid (inr none) d = let some : Some (object d.members) ≡ None = sym d.json ∙ none in cc some
+no_document reading keys line fault.RepeatedName h d = (rw d.json at h) d.unique
+no_document reading keys line fault.WideExponent h d = (rw d.json at h) d.narrow
+no_document reading keys line fault.NoObject h d = (rw d.json at h) (d.members, refl)
+no_document reading keys line (fault.NoPart k) (strict, within, h) d =
+    let none : part_at (get_or keys k []) (object d.members) ≡ None = rw d.json at h in
+    let there : IsSome (part_at (get_or keys k []) (object d.members)) = d.keys_there strict k [] within in
+    let never = rw none at there in
+    cc never
 
 -- a line whose value was checked is a document
 pub document_from : (reading : Reading) (keys : List paths.Path) (line : List ℕ) (j : Json) → IsUtf8 line → document line ≡ Some j → IsObject j → HasUniqueKeys j → HasNarrowNumbers j → HasKeys reading keys j
@@ -116,27 +132,37 @@ row_more keys all line j is =
     append_assoc (flat_map (document_row keys) all) (key_cells keys j) (line ∷ [])
     ∙ (ap (λ (t : Json). flat_map (document_row keys) all ++ (key_cells keys t ++ line ∷ [])) tree ∙ flat_map_more (document_row keys) [] all line)
 
--- the number of one line more
-pub number_more : (numbers : List ℕ) (all : List (List ℕ)) (line : List ℕ) → length numbers ≡ length all → ((i : ℕ) → i < length all → slice_index numbers i ≡ suc i)
-    → (i : ℕ) → i < length (all ++ line ∷ []) → slice_index (numbers ++ suc (length numbers) ∷ []) i ≡ suc i
-number_more numbers all line count before i within = at (cases_lt i (length numbers)) (omega (arith, within, length-append all (line ∷ []), count))
-  where
-    at : (i < length numbers) ⊎ (length numbers ≤ i) → i ≤ length numbers → slice_index (numbers ++ suc (length numbers) ∷ []) i ≡ suc i
-    at (inl low) most = get_or_append_left numbers (suc (length numbers) ∷ []) 0 i low ∙ before i (omega (arith, low, count))
-    at (inr high) most =
-        let here : length numbers ≡ i = omega (arith, high, most) in
-        get_or_push numbers (suc (length numbers)) 0 i here ∙ ap suc here
-
 -- one row more
-pub row_kept : (reading : Reading) (keys : List paths.Path) (all : List (List ℕ)) (line : List ℕ) (j : Json) (old new : Rows) → document line ≡ Some j → IsDocument reading keys line → HoldsRows reading keys all old
+pub row_kept : (reading : Reading) (keys : List paths.Path) (all : List (List ℕ)) (line : List ℕ) (j : Json) (number : ℕ) (old new : Rows) → document line ≡ Some j → IsDocument reading keys line
+    → number ≡ suc (length all) → HoldsRows reading keys all old
     → ((strings : List (List ℕ)) → AreStrings old.cells strings → AreStrings new.cells ((strings ++ key_cells keys j) ++ line ∷ []))
-    → new.lines.items ≡ old.lines.items ++ suc (length old.lines.items) ∷ [] → HoldsRows reading keys (all ++ line ∷ []) new
-row_kept reading keys all line j old new is doc h cells numbers = record {
-  documents = All-push (IsDocument reading keys) all line h.documents doc;
-  cells = subst (AreStrings new.cells) (row_more keys all line j is) (cells (flat_map (document_row keys) all) h.cells);
-  lines = let grown = ap length numbers in let one = length-append old.lines.items (suc (length old.lines.items) ∷ []) in let more = length-append all (line ∷ []) in omega (arith, grown, one, more, h.lines);
-  numbers = subst (λ ns. (i : ℕ) → i < length (all ++ line ∷ []) → slice_index ns i ≡ suc i) (sym numbers) (number_more old.lines.items all line h.lines h.numbers);
-}
+    → new.lines.items ≡ old.lines.items ++ number ∷ [] → new.skipped.items ≡ old.skipped.items → HoldsRows reading keys (all ++ line ∷ []) new
+row_kept reading keys all line j number old new is doc number_is h cells numbers others =
+    let before = numbered_lines all old.lines.items in
+    let grown : new.lines.items ≡ old.lines.items ++ suc (length all) ∷ [] = numbers ∙ ap (λ n. old.lines.items ++ n ∷ []) number_is in
+    let kept : numbered_lines (all ++ line ∷ []) new.lines.items ≡ before ++ line ∷ [] =
+    ap (numbered_lines (all ++ line ∷ [])) grown ∙ lines_more (IsDocument reading keys) all line old.lines.items h.numbered.documents in
+    record {
+      numbered = subst (λ l. AreNumbered reading keys (all ++ line ∷ []) l new.skipped.items) (sym grown)
+          (subst (AreNumbered reading keys (all ++ line ∷ []) (old.lines.items ++ suc (length all) ∷ [])) (sym others) (document_numbered reading keys all line old.lines.items old.skipped.items h.numbered doc));
+      documents = subst (All (IsDocument reading keys)) (sym kept) (All-push (IsDocument reading keys) before line h.documents doc);
+      cells = subst (λ l. AreStrings new.cells (flat_map (document_row keys) l)) (sym kept) (subst (AreStrings new.cells) (row_more keys before line j is) (cells (flat_map (document_row keys) before) h.cells));
+    }
+
+-- a line that is passed over
+pub row_skipped : (reading : Reading) (keys : List paths.Path) (all : List (List ℕ)) (line : List ℕ) (number : ℕ) (old new : Rows) → reading.skip_bad ≡ true → ¬ IsDocument reading keys line
+    → number ≡ suc (length all) → HoldsRows reading keys all old
+    → new.cells ≡ old.cells → new.lines ≡ old.lines → new.skipped.items ≡ old.skipped.items ++ number ∷ [] → HoldsRows reading keys (all ++ line ∷ []) new
+row_skipped reading keys all line number old new passes other number_is h cells numbers skipped =
+    let grown : new.skipped.items ≡ old.skipped.items ++ suc (length all) ∷ [] = skipped ∙ ap (λ n. old.skipped.items ++ n ∷ []) number_is in
+    let kept : numbered_lines (all ++ line ∷ []) new.lines.items ≡ numbered_lines all old.lines.items =
+    ap (λ l. numbered_lines (all ++ line ∷ []) l.items) numbers ∙ same_lines (IsDocument reading keys) all line old.lines.items h.numbered.documents in
+    record {
+      numbered = subst (λ l. AreNumbered reading keys (all ++ line ∷ []) l.items new.skipped.items) (sym numbers)
+          (subst (AreNumbered reading keys (all ++ line ∷ []) old.lines.items) (sym grown) (other_numbered reading keys all line old.lines.items old.skipped.items h.numbered passes other));
+      documents = subst (All (IsDocument reading keys)) (sym kept) h.documents;
+      cells = subst (λ c. AreStrings c (flat_map (document_row keys) (numbered_lines (all ++ line ∷ []) new.lines.items))) (sym cells) (subst (λ l. AreStrings old.cells (flat_map (document_row keys) l)) (sym kept) h.cells);
+    }
 
 -- how many cells rows of one width have
 pub all_cells : (f : List ℕ → List (List ℕ)) (w : ℕ) → ((r : List ℕ) → length (f r) ≡ w) → (rows : List (List ℕ)) → length (flat_map f rows) ≡ w * length rows
@@ -159,7 +185,7 @@ cut_kept f w size (r ∷ rs) =
 
 -- lines up to one that is not kept
 pub line_fault : (reading : Reading) (keys : List paths.Path) (text : List ℕ) (all : List (List ℕ)) (line after : List ℕ) (number : ℕ) (e : ReadError) → lines_of text ≡ all ++ line ∷ lines_of after
-    → All (IsDocument reading keys) all → number ≡ suc (length all) → IsFaultAt reading keys line number e → IsReadFault text reading keys e
+    → (reading.skip_bad ≡ false → All (IsDocument reading keys) all) → number ≡ suc (length all) → IsFaultAt reading keys line number e → IsReadFault text reading keys e
 line_fault reading keys text all line after number error.Memory lines docs count h = tt
 line_fault reading keys text all line after number (error.Read cause) lines docs count h = tt
 line_fault reading keys text all line after number (error.Line n column what) lines docs count h = record {
@@ -167,9 +193,10 @@ line_fault reading keys text all line after number (error.Line n column what) li
   line = line;
   after = lines_of after;
   lines = lines;
-  documents = docs;
+  documents = docs h.1;
   number_is = h.0 ∙ count;
-  faulty = h.1;
+  not_skipped = h.1;
+  faulty = h.2;
 }
 
 -- a failure of the reader

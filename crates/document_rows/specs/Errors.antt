@@ -1,7 +1,8 @@
 -- Why an input is not read.
 --
 -- Of the lines {"id": 1}, [2], {} with the key id the second one is no object. Without it the last one has no part at
--- the key, which is the first of the keys; where keys may be null nothing is wrong with it.
+-- the key, which is the first of the keys; where keys may be null nothing is wrong with it. Where lines that are no
+-- documents are passed over, no line is an error.
 use Rattle.std.specs.Prelude.{◌≡◌, ◌<◌, ◌⊎◌, ℕ, suc, false, All, IsSomeAnd, List, [], ◌∷◌, ◌++◌, None, length, get_or, ⊤}
 use Rattle.std.specs.Str.{IsUtf8}
 use Rattle.json.specs.Json.{Json, Members, object, document}
@@ -29,7 +30,8 @@ IsLineFault reading keys line fault.WideExponent = IsSomeAnd (document line) (λ
 IsLineFault reading keys line fault.NoObject = IsSomeAnd (document line) (λ j. ¬ IsObject j)
 IsLineFault reading keys line (fault.NoPart key) = (reading.null_keys ≡ false) × (key < length keys) × IsSomeAnd (document line) (λ j. part_at (get_or keys key []) j ≡ None)
 
--- a line of the text is no document, those before it are, and they are as many as its number says, which is from 1 on
+-- a line of the text is no document, and is not to be passed over; those before it are documents, and they are as many as
+-- its number says, which is from 1 on
 pub record HasFaultyLine (text : List ℕ) (reading : Reading) (keys : List Path) (number : ℕ) (what : LineFault) : Type 0 where
   pub before : List (List ℕ)
   pub line : List ℕ
@@ -37,6 +39,7 @@ pub record HasFaultyLine (text : List ℕ) (reading : Reading) (keys : List Path
   pub lines : lines_of text ≡ before ++ line ∷ after
   pub documents : All (IsDocument reading keys) before
   pub number_is : number ≡ suc (length before)
+  pub not_skipped : reading.skip_bad ≡ false
   pub faulty : IsLineFault reading keys line what
 
 -- an allocation failed

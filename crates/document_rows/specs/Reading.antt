@@ -28,14 +28,18 @@ abbrev pub IsTrouble : Reading → List Path → List ℕ → Trouble → Type 0
 IsTrouble reading keys line trouble.Memory = ⊤
 IsTrouble reading keys line (trouble.Fault what) = IsLineFault reading keys line what
 
--- why the parts of a value are not kept: an allocation failed, or a key leads nowhere and may not be null
-abbrev pub IsPartTrouble : Reading → List Path → Json → Trouble → Type 0
-IsPartTrouble reading keys j trouble.Memory = ⊤
-IsPartTrouble reading keys j (trouble.Fault fault.Invalid) = ⊥
-IsPartTrouble reading keys j (trouble.Fault fault.RepeatedName) = ⊥
-IsPartTrouble reading keys j (trouble.Fault fault.WideExponent) = ⊥
-IsPartTrouble reading keys j (trouble.Fault fault.NoObject) = ⊥
-IsPartTrouble reading keys j (trouble.Fault (fault.NoPart key)) = (reading.null_keys ≡ false) × (key < length keys) × (part_at (get_or keys key []) j ≡ None)
+-- the key at a place leads nowhere in a value
+pub record LacksPart (keys : List Path) (j : Json) (key : ℕ) : Type 0 where
+  pub within : key < length keys
+  pub none : part_at (get_or keys key []) j ≡ None
+
+-- why the keys of a value are not there: one of them leads nowhere and may not be null
+abbrev pub IsKeyFault : Reading → List Path → Json → LineFault → Type 0
+IsKeyFault reading keys j fault.Invalid = ⊥
+IsKeyFault reading keys j fault.RepeatedName = ⊥
+IsKeyFault reading keys j fault.WideExponent = ⊥
+IsKeyFault reading keys j fault.NoObject = ⊥
+IsKeyFault reading keys j (fault.NoPart key) = (reading.null_keys ≡ false) × LacksPart keys j key
 
 -- a line of a number is at fault, or an allocation failed
 abbrev pub IsFault : ℕ → LineFault → ReadError → Type 0
@@ -43,8 +47,8 @@ IsFault number what error.Memory = ⊤
 IsFault number what (error.Read cause) = ⊥
 IsFault number what (error.Line n column w) = (n ≡ number) × (w ≡ what)
 
--- why the line of a number is not kept: an allocation failed, or it is no document
+-- why the line of a number is not kept: an allocation failed, or it is no document, and is not to be passed over
 abbrev pub IsFaultAt : Reading → List Path → List ℕ → ℕ → ReadError → Type 0
 IsFaultAt reading keys line number error.Memory = ⊤
 IsFaultAt reading keys line number (error.Read cause) = ⊥
-IsFaultAt reading keys line number (error.Line n column what) = (n ≡ number) × IsLineFault reading keys line what
+IsFaultAt reading keys line number (error.Line n column what) = (n ≡ number) × (reading.skip_bad ≡ false) × IsLineFault reading keys line what

@@ -2,13 +2,15 @@
 --
 -- With the key id the text of the lines {"id": 7} and {"id": 8, "n": 1} has the rows 7 {"id": 7} and 8 {"id": 8, "n": 1},
 -- whose lines are 1 and 2. Another text, of the line {"id": 8, "n": 2}, has another document for 8, and none where n is ignored.
-use Rattle.std.specs.Prelude.{◌≡◌, ◌≢◌, ◌<◌, ◌-◌, ℕ, suc, All, List, [], get_or, length, map, slice_index}
+-- Where lines that are no documents are passed over the text of the lines {"id": 7}, [8] and {"id": 9} has the rows 7 {"id": 7}
+-- and 9 {"id": 9}, whose lines are 1 and 3.
+use Rattle.std.specs.Prelude.{◌≡◌, ◌≢◌, ◌-◌, ℕ, suc, All, List, [], get_or, length, map, slice_index}
 use Rattle.diff_tables.specs.Tables.{TableRows}
 use Rattle.json_changes.specs.Rules.{Rules, differences_told}
 use Rattle.json_paths.specs.Paths.{Path}
 use Rattle.document_rows.specs.Documents.{IsDocument, document_row, tree_of}
 use Rattle.document_rows.specs.Lines.{lines_of}
-use Rattle.document_rows.specs.declared.read.Documents.{Documents}
+use Rattle.document_rows.specs.Numbers.{AreNumbered, numbered_lines}
 use Rattle.document_rows.specs.declared.reading.Reading.{Reading}
 
 -- the table has a row for each of these lines, which are documents
@@ -17,21 +19,21 @@ pub record AreRowsOf (reading : Reading) (keys : List Path) (lines : List (List 
   pub width : t.width ≡ suc (length keys)
   pub rows : t.rows ≡ map (document_row keys) lines
 
--- these lines are documents, the table has a row for each, and the rows' lines are numbered from 1 on
-pub record AreDocumentsWith (reading : Reading) (keys : List Path) (all : List (List ℕ)) (d : Documents) : Type 0 where
-  pub table : AreRowsOf reading keys all d.table
-  pub lines : length d.lines.items ≡ length all
-  pub numbers : (i : ℕ) → i < length all → slice_index d.lines.items i ≡ suc i
+-- the table has a row for each of these lines that is a document, in their order; these are the numbers of the rows' lines,
+-- and of the lines that are passed over
+pub record AreDocumentsWith (reading : Reading) (keys : List Path) (lines : List (List ℕ)) (t : TableRows) (numbers skipped : List ℕ) : Type 0 where
+  pub numbered : AreNumbered reading keys lines numbers skipped
+  pub table : AreRowsOf reading keys (numbered_lines lines numbers) t
 
--- all lines of the text are documents, and the table has a row for each
-abbrev pub AreDocumentsOf : List ℕ → Reading → List Path → Documents → Type 0
-AreDocumentsOf text reading keys d = AreDocumentsWith reading keys (lines_of text) d
+-- the same of the lines of a text
+abbrev pub AreDocumentsOf : List ℕ → Reading → List Path → TableRows → List ℕ → List ℕ → Type 0
+AreDocumentsOf text reading keys t numbers skipped = AreDocumentsWith reading keys (lines_of text) t numbers skipped
 
--- the table has a row for each of some documents, and as many line numbers
-pub record HaveDocuments (reading : Reading) (keys : List Path) (d : Documents) : Type 0 where
+-- the table has a row for each of some documents, and there are as many line numbers
+pub record HaveDocuments (reading : Reading) (keys : List Path) (t : TableRows) (numbers : List ℕ) : Type 0 where
   pub all : List (List ℕ)
-  pub table : AreRowsOf reading keys all d.table
-  pub lines : length d.lines.items ≡ length all
+  pub table : AreRowsOf reading keys all t
+  pub lines : length numbers ≡ length all
 
 -- a table of documents
 abbrev pub HoldsDocuments : TableRows → Type 0

@@ -1,6 +1,6 @@
 //! The cells of documents that are appended one after another.
 
-ghost use Rattle.std.specs.Prelude.{◌≡◌, ◌↔◌, ◌<◌, ◌++◌, ◌∷◌, [], ℕ, suc, IsSome, IsTrue, List, IfOk, OnOk, MatchResult, length, get_or};
+ghost use Rattle.std.specs.Prelude.{◌≡◌, ◌<◌, ◌++◌, ◌∷◌, [], ℕ, suc, true, List, IfErr, IfOk, OnOk, MatchResult, length, get_or};
 ghost use Rattle.diff_tables.specs.Strings.{AreStrings};
 ghost use Rattle.json.specs.Strict.{HasUniqueKeys};
 ghost use Rattle.json.specs.Value.{value_view};
@@ -9,8 +9,8 @@ ghost use Rattle.json_normal.specs.Normal.{normal_text};
 ghost use Rattle.json_paths.specs.Paths as paths;
 ghost use Rattle.json_paths.specs.Paths.{part_at};
 ghost use Rattle.json_paths.specs.Views.{path_view, paths_view};
-ghost use Rattle.document_rows.specs.Documents.{HasKeys, cell_of, key_cells};
-ghost use Rattle.document_rows.specs.Reading.{IsPartTrouble, IsTrouble};
+ghost use Rattle.document_rows.specs.Documents.{IsDocument, cell_of, key_cells};
+ghost use Rattle.document_rows.specs.Reading.{IsTrouble, IsTroubleMemory};
 ghost use Rattle.document_rows.specs.Known.{HoldsDocumentsOf};
 ghost use Rattle.document_rows.specs.Rows.{HoldsRows};
 ghost use Rattle.document_rows.specs.Tables.{HoldsDocuments, line_at};
@@ -19,7 +19,7 @@ ghost use Rattle.document_rows.specs.declared.reading.Reading.{Reading};
 use crate::error::LineFault;
 use crate::place::column_of;
 use crate::reading::Reading;
-use crate::values::{Trouble, object_of};
+use crate::values::{Trouble, document_in};
 use diff_tables::strings::Strings;
 use diff_tables::table::Table;
 use json::{Scratch, Value, Writer};
@@ -43,11 +43,13 @@ pub(crate) struct Rooms {
     room: Room,
 }
 
-/// Rows of documents, one document's cells after another's, and the number of each one's line.
+/// Rows of documents, one document's cells after another's, the number of each one's line, and the
+/// numbers of the lines that are passed over.
 #[derive(Drop)]
 pub(crate) struct Rows {
     pub(crate) cells: Strings,
     pub(crate) lines: Vec<u64>,
+    pub(crate) skipped: Vec<u64>,
 }
 
 /// Appends the normal text of a value as a cell.
@@ -75,27 +77,25 @@ fn push_cell(
 }
 
 /// Appends the normal text of a document's part at a key, and that of null where there is none.
-/// Returns whether there is one.
 fn push_part(
     alloc: Global,
     cells: &mut Strings,
     room: &mut Room,
     value: &Value<'_>,
     key: &Path,
-) -> Result<bool, AllocError>
+) -> Result<(), AllocError>
     requires unique { HasUniqueKeys (value_view value.now) }
     requires narrow { HasNarrowNumbers (value_view value.now) }
-    ensures found { IfOk result (λ found. IsTrue found ↔ IsSome (part_at (path_view key.now) (value_view value.now))) }
-    ensures cell { OnOk result ((all : List (List ℕ)) → AreStrings cells.old all → AreStrings cells.new (all ++ cell_of (part_at (path_view key.now) (value_view value.now)) ∷ [])) }
+    ensures { OnOk result ((all : List (List ℕ)) → AreStrings cells.old all → AreStrings cells.new (all ++ cell_of (part_at (path_view key.now) (value_view value.now)) ∷ [])) }
 {
     match key.part_of(value) {
         Some(part) => {
             push_cell(alloc, cells, room, part)?;
-            Ok(true)
+            Ok(())
         }
         None => {
             cells.push(b"null")?;
-            Ok(false)
+            Ok(())
         }
     }
 }
@@ -107,18 +107,13 @@ fn push_parts(
     room: &mut Room,
     value: &Value<'_>,
     keys: &[Path],
-    reading: Reading,
-) -> Result<(), Trouble>
+) -> Result<(), AllocError>
     requires unique { HasUniqueKeys (value_view value.now) }
     requires narrow { HasNarrowNumbers (value_view value.now) }
-    ensures parts { MatchResult result (λ _. HasKeys reading (paths_view keys.now) (value_view value.now)) (IsPartTrouble reading (paths_view keys.now) (value_view value.now)) }
-    ensures cells { OnOk result ((all : List (List ℕ)) → AreStrings cells.old all → AreStrings cells.new (all ++ key_cells (paths_view keys.now) (value_view value.now))) }
+    ensures { OnOk result ((all : List (List ℕ)) → AreStrings cells.old all → AreStrings cells.new (all ++ key_cells (paths_view keys.now) (value_view value.now))) }
 {
     for key in 0..keys.len() {
-        let found = push_part(alloc, cells, room, value, &keys[key])?;
-        if !found && !reading.null_keys {
-            return Err(Trouble::Fault(LineFault::NoPart { key }));
-        }
+        push_part(alloc, cells, room, value, &keys[key])?;
     }
     Ok(())
 }
@@ -156,15 +151,6 @@ fn push_cells(cells: &mut Strings, table: &Table, row: usize) -> Result<(), Allo
     Ok(())
 }
 
-/// Appends the number of the next line.
-fn push_number(lines: &mut Vec<u64>) -> Result<(), AllocError>
-    ensures { OnOk result (lines.new.items ≡ lines.old.items ++ suc (length lines.old.items) ∷ []) }
-{
-    let number = lines.len() as u64 + 1;
-    lines.push(number)?;
-    Ok(())
-}
-
 impl Rows {
     /// Returns no rows.
     pub(crate) fn new(alloc: Global) -> Result<Rows, AllocError>
@@ -172,38 +158,59 @@ impl Rows {
     {
         let cells = Strings::new(alloc)?;
         let lines = Vec::new(alloc);
-        Ok(Rows { cells, lines })
+        let skipped = Vec::new(alloc);
+        Ok(Rows {
+            cells,
+            lines,
+            skipped,
+        })
     }
 
-    /// Appends a row that is one of a table.
-    pub(crate) fn push_copy(&mut self, table: &Table, row: usize) -> Result<(), AllocError>
+    /// Appends a row that is one of a table, for the line of a number.
+    pub(crate) fn push_copy(
+        &mut self,
+        table: &Table,
+        row: usize,
+        number: u64,
+    ) -> Result<(), AllocError>
         requires documents { HoldsDocuments table.now }
         requires row { row < length table.now.rows }
-        ensures { OnOk result ((reading : Reading) (keys : List paths.Path) (lines : List (List ℕ)) → HoldsDocumentsOf reading keys table.now → HoldsRows reading keys lines self.old → HoldsRows reading keys (lines ++ line_at table.now row ∷ []) self.new) }
+        ensures { OnOk result ((reading : Reading) (keys : List paths.Path) (lines : List (List ℕ)) → HoldsDocumentsOf reading keys table.now → number ≡ suc (length lines) → HoldsRows reading keys lines self.old → HoldsRows reading keys (lines ++ line_at table.now row ∷ []) self.new) }
     {
         push_cells(&mut self.cells, table, row)?;
-        push_number(&mut self.lines)?;
+        self.lines.push(number)?;
         Ok(())
     }
 
-    /// Appends the row of a document: the cells of the keys, and the line.
+    /// Appends the row of a document, which is the line of a number: the cells of the keys, and the
+    /// line. Appends nothing where the line is no document.
     pub(crate) fn push(
         &mut self,
         alloc: Global,
         line: &[u8],
+        number: u64,
         keys: &[Path],
         reading: Reading,
         rooms: &mut Rooms,
     ) -> Result<(), Trouble>
-        ensures { MatchResult result
-            (λ _. (lines : List (List ℕ)) → HoldsRows reading (paths_view keys.now) lines self.old → HoldsRows reading (paths_view keys.now) (lines ++ line.now ∷ []) self.new)
+        ensures kept { MatchResult result
+            (λ _. (lines : List (List ℕ)) → number ≡ suc (length lines) → HoldsRows reading (paths_view keys.now) lines self.old → HoldsRows reading (paths_view keys.now) (lines ++ line.now ∷ []) self.new)
             (IsTrouble reading (paths_view keys.now) line.now) }
+        ensures unchanged { IfErr result (λ trouble. ¬ IsTroubleMemory trouble → self.new ≡ self.old) }
     {
         let Rooms { scratch, room } = rooms;
-        let value = object_of(alloc, line, scratch, &mut room.number)?;
-        push_parts(alloc, &mut self.cells, room, &value, keys, reading)?;
+        let value = document_in(alloc, line, keys, reading, scratch, &mut room.number)?;
+        push_parts(alloc, &mut self.cells, room, &value, keys)?;
         self.cells.push(line)?;
-        push_number(&mut self.lines)?;
+        self.lines.push(number)?;
+        Ok(())
+    }
+
+    /// Passes over the line of a number, which is no document.
+    pub(crate) fn skip(&mut self, number: u64) -> Result<(), AllocError>
+        ensures { OnOk result ((reading : Reading) (keys : List paths.Path) (lines : List (List ℕ)) (line : List ℕ) → reading.skip_bad ≡ true → ¬ IsDocument reading keys line → number ≡ suc (length lines) → HoldsRows reading keys lines self.old → HoldsRows reading keys (lines ++ line ∷ []) self.new) }
+    {
+        self.skipped.push(number)?;
         Ok(())
     }
 }

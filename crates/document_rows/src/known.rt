@@ -1,6 +1,6 @@
 //! Lines whose documents were read before.
 
-ghost use Rattle.std.specs.Prelude.{◌≡◌, ◌<◌, ◌++◌, ◌∷◌, [], ℕ, List, false, true, IfOk};
+ghost use Rattle.std.specs.Prelude.{◌≡◌, ◌<◌, ◌++◌, ◌∷◌, [], ℕ, suc, List, false, true, length, IfOk};
 ghost use Rattle.json_paths.specs.Paths.{Path};
 ghost use Rattle.document_rows.specs.Known.{HoldsDocumentsOf, KnowsLines};
 ghost use Rattle.document_rows.specs.Rows.{HoldsRows};
@@ -95,10 +95,15 @@ impl<'a> Known<'a> {
         self.slots[slot_of(line, self.slots.len())] as usize
     }
 
-    /// Appends the row of a line, if it is known. Returns whether it is.
-    pub(crate) fn push_row(&self, rows: &mut Rows, line: &[u8]) -> Result<bool, AllocError>
+    /// Appends the row of a line, if it is known. Returns whether it is. `number` is the line's.
+    pub(crate) fn push_row(
+        &self,
+        rows: &mut Rows,
+        line: &[u8],
+        number: u64,
+    ) -> Result<bool, AllocError>
         requires { (reading : Reading) × (keys : List Path) × KnowsLines reading keys self.now }
-        ensures found { IfOk result (λ found. found ≡ true → (reading : Reading) (keys : List Path) (lines : List (List ℕ)) → KnowsLines reading keys self.now → HoldsRows reading keys lines rows.old → HoldsRows reading keys (lines ++ line.now ∷ []) rows.new) }
+        ensures found { IfOk result (λ found. found ≡ true → (reading : Reading) (keys : List Path) (lines : List (List ℕ)) → KnowsLines reading keys self.now → number ≡ suc (length lines) → HoldsRows reading keys lines rows.old → HoldsRows reading keys (lines ++ line.now ∷ []) rows.new) }
         ensures other { IfOk result (λ found. found ≡ false → rows.new ≡ rows.old) }
     {
         let Some(table) = self.table else {
@@ -108,7 +113,7 @@ impl<'a> Known<'a> {
         if row >= table.count() || line_of(table, row) != line {
             return Ok(false);
         }
-        rows.push_copy(table, row)?;
+        rows.push_copy(table, row, number)?;
         Ok(true)
     }
 }

@@ -1,7 +1,7 @@
 //! Inputs of documents, read to tables.
 
 ghost use Rattle.std.specs.Io.Buffered.{reader_remaining};
-ghost use Rattle.std.specs.Prelude.{◌≡◌, ◌++◌, ◌∷◌, [], ℕ, List, Some, IfErr, IfOk, MatchResult};
+ghost use Rattle.std.specs.Prelude.{◌≡◌, ◌++◌, ◌∷◌, [], ℕ, suc, List, Some, length, IfErr, IfOk, MatchResult};
 ghost use Rattle.json_paths.specs.Views.{paths_view};
 ghost use Rattle.document_rows.specs.Errors.{IsMemory, IsReadFault, IsStop};
 ghost use Rattle.document_rows.specs.Known.{HoldsDocumentsOf, KnowsLines};
@@ -29,6 +29,8 @@ pub struct Documents {
     pub table: Table,
     /// For each row its line's number, from 1 on.
     pub lines: Vec<u64>,
+    /// The numbers of the lines that are passed over, since they are no documents.
+    pub skipped: Vec<u64>,
 }
 
 /// Returns what a failure of the reader says.
@@ -72,8 +74,8 @@ fn fault_in(
     }
 }
 
-/// Keeps the document of a line, which is read unless the line is known. `number` is the line's,
-/// from 1 on.
+/// Keeps the document of a line, which is read unless the line is known, or passes over a line that
+/// is none. `number` is the line's, from 1 on.
 fn keep_line(
     alloc: Global,
     rows: &mut Rows,
@@ -86,16 +88,22 @@ fn keep_line(
 ) -> Result<(), ReadError>
     requires { KnowsLines reading (paths_view keys.now) known.now }
     ensures { MatchResult result
-        (λ _. (all : List (List ℕ)) → HoldsRows reading (paths_view keys.now) all rows.old → HoldsRows reading (paths_view keys.now) (all ++ line.now ∷ []) rows.new)
+        (λ _. (all : List (List ℕ)) → number ≡ suc (length all) → HoldsRows reading (paths_view keys.now) all rows.old → HoldsRows reading (paths_view keys.now) (all ++ line.now ∷ []) rows.new)
         (IsFaultAt reading (paths_view keys.now) line.now number) }
 {
-    if known.push_row(rows, line)? {
+    if known.push_row(rows, line, number)? {
         return Ok(());
     }
-    match rows.push(alloc, line, keys, reading, rooms) {
+    match rows.push(alloc, line, number, keys, reading, rooms) {
         Ok(()) => Ok(()),
         Err(Trouble::Memory) => Err(ReadError::Memory),
-        Err(Trouble::Fault(fault)) => Err(fault_in(alloc, line, number, fault, rooms)),
+        Err(Trouble::Fault(fault)) => {
+            if !reading.skip_bad {
+                return Err(fault_in(alloc, line, number, fault, rooms));
+            }
+            rows.skip(number)?;
+            Ok(())
+        }
     }
 }
 
@@ -137,11 +145,19 @@ fn read_rows<B: BufRead + Drop>(
 /// Returns the table of rows, which have a cell for each key and one for the line.
 fn table_of(alloc: Global, rows: Rows, keys: &[Path]) -> Result<Documents, ReadError>
     requires { (reading : Reading) × (lines : List (List ℕ)) × HoldsRows reading (paths_view keys.now) lines rows }
-    ensures { MatchResult result (λ documents. (reading : Reading) (lines : List (List ℕ)) → HoldsRows reading (paths_view keys.now) lines rows → AreDocumentsWith reading (paths_view keys.now) lines documents) IsMemory }
+    ensures { MatchResult result (λ d. (reading : Reading) (lines : List (List ℕ)) → HoldsRows reading (paths_view keys.now) lines rows → AreDocumentsWith reading (paths_view keys.now) lines d.table d.lines.items d.skipped.items) IsMemory }
 {
-    let Rows { cells, lines } = rows;
+    let Rows {
+        cells,
+        lines,
+        skipped,
+    } = rows;
     match Table::new(alloc, keys.len() + 1, lines.len(), cells) {
-        Ok(table) => Ok(Documents { table, lines }),
+        Ok(table) => Ok(Documents {
+            table,
+            lines,
+            skipped,
+        }),
         Err(_) => Err(ReadError::Memory),
     }
 }
@@ -165,9 +181,9 @@ fn read_unknown<R: Read + Drop>(
     known: &Known<'_>,
 ) -> Result<Documents, ReadError>
     requires { KnowsLines reading (paths_view keys.now) known.now }
-    ensures shape { IfOk result (HaveDocuments reading (paths_view keys.now)) }
+    ensures shape { IfOk result (λ d. HaveDocuments reading (paths_view keys.now) d.table d.lines.items) }
     ensures documents { MatchResult result
-        (λ documents. (text : List ℕ) → R.remaining reader ≡ Some text → AreDocumentsOf text reading (paths_view keys.now) documents)
+        (λ d. (text : List ℕ) → R.remaining reader ≡ Some text → AreDocumentsOf text reading (paths_view keys.now) d.table d.lines.items d.skipped.items)
         (λ error. (text : List ℕ) → R.remaining reader ≡ Some text → IsReadFault text reading (paths_view keys.now) error) }
 {
     let buffered = buffered(alloc, reader)?;
@@ -177,17 +193,18 @@ fn read_unknown<R: Read + Drop>(
 }
 
 /// Reads the documents of an input, each of which has a part at each key, or null where there is
-/// none if `reading` says so. Fails with `Line` only where a line is no such document, with `Read`
-/// where the reader fails, and else with `Memory`.
+/// none if `reading` says so. A line that is no such document is passed over if `reading` says so.
+/// Fails with `Line` only where it does not and a line is none, with `Read` where the reader fails,
+/// and else with `Memory`.
 pub fn read_documents<R: Read + Drop>(
     alloc: Global,
     reader: R,
     keys: &[Path],
     reading: Reading,
 ) -> Result<Documents, ReadError>
-    ensures shape { IfOk result (HaveDocuments reading (paths_view keys.now)) }
+    ensures shape { IfOk result (λ d. HaveDocuments reading (paths_view keys.now) d.table d.lines.items) }
     ensures documents { MatchResult result
-        (λ documents. (text : List ℕ) → R.remaining reader ≡ Some text → AreDocumentsOf text reading (paths_view keys.now) documents)
+        (λ d. (text : List ℕ) → R.remaining reader ≡ Some text → AreDocumentsOf text reading (paths_view keys.now) d.table d.lines.items d.skipped.items)
         (λ error. (text : List ℕ) → R.remaining reader ≡ Some text → IsReadFault text reading (paths_view keys.now) error) }
 {
     let known = Known::none(alloc);
@@ -205,9 +222,9 @@ pub fn read_documents_beside<R: Read + Drop>(
     table: &Table,
 ) -> Result<Documents, ReadError>
     requires { HoldsDocumentsOf reading (paths_view keys.now) table.now }
-    ensures shape { IfOk result (HaveDocuments reading (paths_view keys.now)) }
+    ensures shape { IfOk result (λ d. HaveDocuments reading (paths_view keys.now) d.table d.lines.items) }
     ensures documents { MatchResult result
-        (λ documents. (text : List ℕ) → R.remaining reader ≡ Some text → AreDocumentsOf text reading (paths_view keys.now) documents)
+        (λ d. (text : List ℕ) → R.remaining reader ≡ Some text → AreDocumentsOf text reading (paths_view keys.now) d.table d.lines.items d.skipped.items)
         (λ error. (text : List ℕ) → R.remaining reader ≡ Some text → IsReadFault text reading (paths_view keys.now) error) }
 {
     let known = Known::of(alloc, table)?;

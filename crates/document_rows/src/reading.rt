@@ -5,4 +5,6 @@
 pub struct Reading {
     /// Whether a document that has no part at a key has the key null. Else it is an error.
     pub null_keys: bool,
+    /// Whether a line that is no document is passed over. Else it is an error.
+    pub skip_bad: bool,
 }

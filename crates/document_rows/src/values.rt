@@ -1,20 +1,24 @@
 //! The values of lines, and what may be wrong with a line.
 
-ghost use Rattle.std.specs.Prelude.{◌≡◌, List, Some, IfErr, IfOk, MatchResult};
+ghost use Rattle.std.specs.Prelude.{◌≡◌, List, None, Some, IfErr, IfOk, IfSome, MatchResult};
 ghost use Rattle.std.specs.Str.{IsUtf8};
 ghost use Rattle.json.specs.Json.{document};
 ghost use Rattle.json.specs.Strict.{HasUniqueKeys};
 ghost use Rattle.json.specs.Value.{value_view};
 ghost use Rattle.json_normal.specs.Narrow.{HasNarrowNumbers};
+ghost use Rattle.json_paths.specs.Paths as paths;
+ghost use Rattle.json_paths.specs.Views.{paths_view};
+ghost use Rattle.document_rows.specs.Documents.{HasKeys, HasParts, IsDocument};
 ghost use Rattle.document_rows.specs.Errors.{IsObject};
-ghost use Rattle.json_paths.specs.Paths.{Path};
-ghost use Rattle.document_rows.specs.Reading.{IsTrouble, IsTroubleMemory};
+ghost use Rattle.document_rows.specs.Reading.{IsKeyFault, IsTrouble, IsTroubleMemory, LacksPart};
 ghost use Rattle.document_rows.specs.declared.reading.Reading.{Reading};
 
 use crate::error::LineFault;
 use crate::narrow::check_narrow;
+use crate::reading::Reading;
 use json::{Error, Scratch, Value};
 use json_decimals::error::NumberError;
+use json_paths::path::Path;
 use std::alloc::{AllocError, AllocFailed, Global};
 
 /// The reason why a line is not kept.
@@ -46,7 +50,7 @@ impl<T: Drop> From<AllocFailed<T>> for Trouble {
 fn parsed<'a>(alloc: Global, line: &'a [u8], scratch: &'a mut Scratch) -> Result<Value<'a>, Trouble>
     ensures { MatchResult result
         (λ v. IsUtf8 line.now × (document line.now ≡ Some (value_view v)) × HasUniqueKeys (value_view v))
-        (λ trouble. (reading : Reading) (keys : List Path) → IsTrouble reading keys line.now trouble) }
+        (λ trouble. (reading : Reading) (keys : List paths.Path) → IsTrouble reading keys line.now trouble) }
 {
     let Ok(text) = std::str::from_utf8(line) else {
         return Err(Trouble::Fault(LineFault::Invalid));
@@ -69,7 +73,7 @@ pub(crate) fn object_of<'a>(
 ) -> Result<Value<'a>, Trouble>
     ensures utf8 { IfOk result (λ _. IsUtf8 line.now) }
     ensures value { IfOk result (λ v. (document line.now ≡ Some (value_view v)) × IsObject (value_view v) × HasUniqueKeys (value_view v) × HasNarrowNumbers (value_view v)) }
-    ensures trouble { IfErr result (λ trouble. (reading : Reading) (keys : List Path) → IsTrouble reading keys line.now trouble) }
+    ensures trouble { IfErr result (λ trouble. (reading : Reading) (keys : List paths.Path) → IsTrouble reading keys line.now trouble) }
 {
     let value = parsed(alloc, line, scratch)?;
     let Value::Object(_) = &value else {
@@ -79,5 +83,50 @@ pub(crate) fn object_of<'a>(
         Ok(()) => Ok(value),
         Err(NumberError::Memory) => Err(Trouble::Memory),
         Err(NumberError::WideExponent) => Err(Trouble::Fault(LineFault::WideExponent)),
+    }
+}
+
+/// Returns the place of the first key that leads nowhere in a value.
+fn missing_key(value: &Value<'_>, keys: &[Path]) -> Option<usize>
+    ensures parts { result ≡ None → HasParts (paths_view keys.now) (value_view value.now) }
+    ensures missing { IfSome result (LacksPart (paths_view keys.now) (value_view value.now)) }
+{
+    for key in 0..keys.len() {
+        if keys[key].part_of(value).is_none() {
+            return Some(key);
+        }
+    }
+    None
+}
+
+/// Checks that a value has a part at each key, unless a key may be null.
+fn check_keys(value: &Value<'_>, keys: &[Path], reading: Reading) -> Result<(), LineFault>
+    ensures { MatchResult result (λ _. HasKeys reading (paths_view keys.now) (value_view value.now)) (IsKeyFault reading (paths_view keys.now) (value_view value.now)) }
+{
+    if reading.null_keys {
+        return Ok(());
+    }
+    match missing_key(value, keys) {
+        Some(key) => Err(LineFault::NoPart { key }),
+        None => Ok(()),
+    }
+}
+
+/// Reads the object of a line that is a document. `room` is used for its numbers.
+pub(crate) fn document_in<'a>(
+    alloc: Global,
+    line: &'a [u8],
+    keys: &[Path],
+    reading: Reading,
+    scratch: &'a mut Scratch,
+    room: &mut Vec<u8>,
+) -> Result<Value<'a>, Trouble>
+    ensures document { MatchResult result (λ _. IsDocument reading (paths_view keys.now) line.now) (IsTrouble reading (paths_view keys.now) line.now) }
+    ensures value { IfOk result (λ v. (document line.now ≡ Some (value_view v)) × HasUniqueKeys (value_view v) × HasNarrowNumbers (value_view v)) }
+{
+    let value = object_of(alloc, line, scratch, room)?;
+    match check_keys(&value, keys, reading) {
+        Ok(()) => Ok(value),
+        Err(fault) => Err(Trouble::Fault(fault)),
     }
 }

@@ -7,9 +7,8 @@ use Rattle.diff_run.specs.declared.report.Outcome.{Outcome}
 use Rattle.diff_tables.proofs.CompareLemmas.{pairs_within}
 use Rattle.document_rows.proofs.DocumentLemmas.{tree_unique}
 use Rattle.document_rows.specs.Documents.{IsDocument, document_row}
-use Rattle.document_rows.specs.Lines.{lines_of}
 use Rattle.document_run.specs.Laws.{AreNotSame}
-use Rattle.document_run.specs.Run.{HasOthers, IsDocumentReportOf, key_columns, paths_of, rules_of, tree_at}
+use Rattle.document_run.specs.Run.{HasOthers, IsDocumentReportOf, key_columns, left_documents, paths_of, right_documents, rules_of, tree_at}
 use Rattle.document_run.specs.declared.options.DocumentOptions.{DocumentOptions}
 use Rattle.json.specs.Json.{Json}
 use Rattle.json.specs.Strict.{HasUniqueKeys}
@@ -32,22 +31,28 @@ told_apart rules j k none u v = (
 
 pub changed_not_same : (options : DocumentOptions) (left_text right_text left_name right_name written : List ℕ) (outcome : Outcome) → rules_of options ≡ no_rules
     → (r : IsDocumentReportOf options left_text right_text left_name right_name written outcome)
-    → ListsRising (AreNotSame left_text right_text r.matching) (length r.matching.left_rows.items) r.changed
+    → ListsRising (AreNotSame (left_documents left_text r.sides) (right_documents right_text r.sides) r.matching) (length r.matching.left_rows.items) r.changed
 changed_not_same options left_text right_text left_name right_name written outcome none r =
-    listed_as (HasOthers (rules_of options) left_text right_text r.matching) (AreNotSame left_text right_text r.matching) (length r.matching.left_rows.items) r.changed at r.changed_are
+    listed_as (HasOthers (rules_of options) left right r.matching) (AreNotSame left right r.matching) (length r.matching.left_rows.items) r.changed at r.changed_are
   where
-    rows : List ℕ → List (List (List ℕ))
-    rows text = map (document_row (paths_of options)) (lines_of text)
+    left : List (List ℕ)
+    left = left_documents left_text r.sides
 
-    at : (k : ℕ) → k < length r.matching.left_rows.items → HasOthers (rules_of options) left_text right_text r.matching k ↔ AreNotSame left_text right_text r.matching k
+    right : List (List ℕ)
+    right = right_documents right_text r.sides
+
+    rows : List (List ℕ) → List (List (List ℕ))
+    rows documents = map (document_row (paths_of options)) documents
+
+    at : (k : ℕ) → k < length r.matching.left_rows.items → HasOthers (rules_of options) left right r.matching k ↔ AreNotSame left right r.matching k
     at k within =
-        let pairs = pairs_within (key_columns options) (rows left_text) (rows right_text) r.matching r.matched in
+        let pairs = pairs_within (key_columns options) (rows left) (rows right) r.matching r.matched in
         let i = slice_index r.matching.left_rows.items k in
         let j = slice_index r.matching.right_rows.items k in
-        let low : i < length (lines_of left_text) = omega (arith, pairs.left_within k within, length-map (lines_of left_text) (document_row (paths_of options))) in
-        let right : k < length r.matching.right_rows.items = omega (arith, within, pairs.one_length) in
-        let few : j < length (lines_of right_text) = omega (arith, pairs.right_within k right, length-map (lines_of right_text) (document_row (paths_of options))) in
-        let l : IsDocument options.reading (paths_of options) (get_or (lines_of left_text) i []) = r.sides_are.left.documents.table.documents i [] low in
-        let m : IsDocument options.reading (paths_of options) (get_or (lines_of right_text) j []) = r.sides_are.right.documents.table.documents j [] few in
-        told_apart (rules_of options) (tree_at left_text i) (tree_at right_text j) none
-        (tree_unique options.reading (paths_of options) (get_or (lines_of left_text) i []) l) (tree_unique options.reading (paths_of options) (get_or (lines_of right_text) j []) m)
+        let low : i < length left = omega (arith, pairs.left_within k within, length-map left (document_row (paths_of options))) in
+        let other : k < length r.matching.right_rows.items = omega (arith, within, pairs.one_length) in
+        let few : j < length right = omega (arith, pairs.right_within k other, length-map right (document_row (paths_of options))) in
+        let l : IsDocument options.reading (paths_of options) (get_or left i []) = r.sides_are.left.documents.table.documents i [] low in
+        let m : IsDocument options.reading (paths_of options) (get_or right j []) = r.sides_are.right.documents.table.documents j [] few in
+        told_apart (rules_of options) (tree_at left i) (tree_at right j) none
+        (tree_unique options.reading (paths_of options) (get_or left i []) l) (tree_unique options.reading (paths_of options) (get_or right j []) m)

@@ -1,11 +1,10 @@
 -- Sides that have the documents of texts.
-use Rattle.std.proofs.Common.{◌≡◌, ◌∙◌, ◌<◌, ◌≤◌, ◌+◌, ◌-◌, ◌^◌, ◌↔◌, ℕ, suc, List, [], length, get_or, map, true, arith, ap, sym, subst, refl}
+use Rattle.std.proofs.Common.{◌≡◌, ◌∙◌, ◌<◌, ◌≤◌, ◌+◌, ◌-◌, ◌^◌, ◌↔◌, ℕ, suc, List, [], length, get_or, map, arith, ap, sym, subst}
 use Rattle.std.proofs.lemmas.List.{get_or-map, get_or_push, length-map}
 use Rattle.std.proofs.lemmas.List.Elements.{All-from_get_or}
 use Rattle.std.proofs.lemmas.List.FromFn.{get_or-range_with_len, length-range_with_len}
 use Rattle.std.specs.List.{range_with_len}
 use Rattle.std.specs.Prelude.{All, slice_index}
-use Rattle.diff_columns.specs.declared.error.Side.{Side}
 use Rattle.diff_columns.specs.declared.error.Side.TheVariants.{Left, Right}
 use Rattle.diff_keys.specs.Matching.{IsAdded, IsRemoved}
 use Rattle.diff_keys.specs.RisingLaws.{listed_as}
@@ -19,10 +18,11 @@ use Rattle.diff_tables.specs.Tables.{TableRows}
 use Rattle.document_report.specs.Documents.{HoldDocuments}
 use Rattle.document_rows.specs.Documents.{cell_of, document_row, tree_of}
 use Rattle.document_rows.specs.Lines.{lines_of}
+use Rattle.document_rows.specs.Numbers.{numbered_line}
 use Rattle.document_rows.specs.Tables.{AreRowsOf, IsOtherDocument, line_at}
 use Rattle.document_rows.specs.declared.reading.Reading.{Reading}
-use Rattle.document_run.specs.Faults.{AreFirstTwice, HasKeyTwice, HaveFewLines, IsDocumentFault, IsRowsFault}
-use Rattle.document_run.specs.Run.{AreSidesOf, HasOthers, IsDocumentReportOf, IsSideOf, document_keys, key_columns, paths_of, rules_of}
+use Rattle.document_run.specs.Faults.{HasKeyTwice, HasTwice, IsDocumentFault, IsRowsFault}
+use Rattle.document_run.specs.Run.{AreSidesOf, HasOthers, IsDocumentReportOf, IsSideOf, document_keys, documents_at, key_columns, left_documents, paths_of, right_documents, rules_of}
 use Rattle.document_run.specs.Sides.{AreComparable, HasDocuments, IsFoundOn, IsKeyed, IsReportOn}
 use Rattle.document_run.specs.declared.error.DocumentError.{DocumentError}
 use Rattle.document_run.specs.declared.error.DocumentError.TheVariants as error
@@ -96,13 +96,13 @@ documents_named options s f h = record {
       (listed_all (IsAdded (row_keys (key_columns options) s.left.table.rows) (row_keys (key_columns options) s.right.table.rows)) (length (row_keys (key_columns options) s.right.table.rows)) f.matching.added.items h.matched.added);
 }
 
--- the documents of two rows are those of the lines at their places
+-- the documents of two rows are those at their places
 pub same_others : (options : DocumentOptions) (left_text right_text left_name right_name : List ℕ) (s : DocumentSides) (f : Found) → AreSidesOf options left_text right_text left_name right_name s → IsFoundOn options s f
-    → (k : ℕ) → k < length f.matching.left_rows.items → IsOtherDocument (rules_of options) s.left.table s.right.table f.matching.left_rows.items f.matching.right_rows.items k ↔ HasOthers (rules_of options) left_text right_text f.matching k
+    → (k : ℕ) → k < length f.matching.left_rows.items → IsOtherDocument (rules_of options) s.left.table s.right.table f.matching.left_rows.items f.matching.right_rows.items k ↔ HasOthers (rules_of options) (left_documents left_text s) (right_documents right_text s) f.matching k
 same_others options left_text right_text left_name right_name s f sides h k within = (
   λ other none. other (subst (λ line. differences_told (rules_of options) (tree_of line) (tree_of (line_at s.right.table j)) ≡ []) (sym el)
-      (subst (λ line. differences_told (rules_of options) (tree_of (get_or (lines_of left_text) i [])) (tree_of line) ≡ []) (sym er) none)),
-  λ other none. other (subst (λ line. differences_told (rules_of options) (tree_of line) (tree_of (get_or (lines_of right_text) j [])) ≡ []) el
+      (subst (λ line. differences_told (rules_of options) (tree_of (get_or (left_documents left_text s) i [])) (tree_of line) ≡ []) (sym er) none)),
+  λ other none. other (subst (λ line. differences_told (rules_of options) (tree_of line) (tree_of (get_or (right_documents right_text s) j [])) ≡ []) el
       (subst (λ line. differences_told (rules_of options) (tree_of (line_at s.left.table i)) (tree_of line) ≡ []) er none)),
 )
   where
@@ -112,22 +112,22 @@ same_others options left_text right_text left_name right_name s f sides h k with
     j : ℕ
     j = slice_index f.matching.right_rows.items k
 
-    l : AreRowsOf options.reading (paths_of options) (lines_of left_text) s.left.table
+    l : AreRowsOf options.reading (paths_of options) (left_documents left_text s) s.left.table
     l = sides.left.documents.table
 
-    r : AreRowsOf options.reading (paths_of options) (lines_of right_text) s.right.table
+    r : AreRowsOf options.reading (paths_of options) (right_documents right_text s) s.right.table
     r = sides.right.documents.table
 
-    el : line_at s.left.table i ≡ get_or (lines_of left_text) i []
+    el : line_at s.left.table i ≡ get_or (left_documents left_text s) i []
     el =
         let pairs = pairs_within (key_columns options) s.left.table.rows s.right.table.rows f.matching h.matched in
-        line_is options.reading (paths_of options) (lines_of left_text) s.left.table i l (omega (arith, pairs.left_within k within, length_rows options.reading (paths_of options) (lines_of left_text) s.left.table l))
+        line_is options.reading (paths_of options) (left_documents left_text s) s.left.table i l (omega (arith, pairs.left_within k within, length_rows options.reading (paths_of options) (left_documents left_text s) s.left.table l))
 
-    er : line_at s.right.table j ≡ get_or (lines_of right_text) j []
+    er : line_at s.right.table j ≡ get_or (right_documents right_text s) j []
     er =
         let pairs = pairs_within (key_columns options) s.left.table.rows s.right.table.rows f.matching h.matched in
         let there : k < length f.matching.right_rows.items = omega (arith, within, pairs.one_length) in
-        line_is options.reading (paths_of options) (lines_of right_text) s.right.table j r (omega (arith, pairs.right_within k there, length_rows options.reading (paths_of options) (lines_of right_text) s.right.table r))
+        line_is options.reading (paths_of options) (right_documents right_text s) s.right.table j r (omega (arith, pairs.right_within k there, length_rows options.reading (paths_of options) (right_documents right_text s) s.right.table r))
 
 -- the report of the sides of two texts is that of the texts
 pub report_is : (options : DocumentOptions) (left_text right_text left_name right_name : List ℕ) (s : DocumentSides) (written : List ℕ) (outcome : Outcome) → AreSidesOf options left_text right_text left_name right_name s
@@ -143,7 +143,7 @@ report_is options left_text right_text left_name right_name s written outcome si
       changed = f.changed.items;
       sides_are = sides;
       matched = rw (l, r) at on.matched;
-      changed_are = listed_as (IsOtherDocument (rules_of options) s.left.table s.right.table f.matching.left_rows.items f.matching.right_rows.items) (HasOthers (rules_of options) left_text right_text f.matching) (length f.matching.left_rows.items) f.changed.items
+      changed_are = listed_as (IsOtherDocument (rules_of options) s.left.table s.right.table f.matching.left_rows.items f.matching.right_rows.items) (HasOthers (rules_of options) (left_documents left_text s) (right_documents right_text s) f.matching) (length f.matching.left_rows.items) f.changed.items
           (same_others options left_text right_text left_name right_name s f sides on) on.changed;
       unique = λ asked. let both = on.unique asked in (rw l at both.0, rw r at both.1);
       text = report.text;
@@ -151,27 +151,32 @@ report_is options left_text right_text left_name right_name s written outcome si
     }
 
 -- two rows of one key are those of two lines
-pub twice_is : (options : DocumentOptions) (text name : List ℕ) (side : Table) (first again : ℕ) → IsSideOf options text name side → HasKeyTwice side (key_columns options) first again → AreFirstTwice (document_keys options text) first again
-twice_is options text name side first again h (t, twice, first_is, again_is) =
-    let moved : IsFirstTwice (document_keys options text) t = rw h.documents.table.rows at twice in
-    let count : length (document_keys options text) ≡ length (lines_of text) = length-map (map (document_row (paths_of options)) (lines_of text)) (row_key (key_columns options)) ∙ length-map (lines_of text) (document_row (paths_of options)) in
-    (t, moved, first_is ∙ h.documents.numbers t.first (omega (arith, moved.in_order, moved.within, count)), again_is ∙ h.documents.numbers t.again (omega (arith, moved.within, count)))
+pub twice_is : (options : DocumentOptions) (text name : List ℕ) (side : Table) (skipped : List ℕ) (first again : ℕ) → IsSideOf options text name side skipped → HasKeyTwice side (key_columns options) first again → HasTwice options text first again
+twice_is options text name side skipped first again h (t, twice, first_is, again_is) =
+    let moved : IsFirstTwice (document_keys options (documents_at text side.lines.items)) t = rw h.documents.table.rows at twice in
+    (side.lines.items, (skipped, h.documents.numbered), (t, moved, first_is, again_is))
 
--- as many keys as lines
-length_keys : (options : DocumentOptions) (text name : List ℕ) (side : Table) → IsSideOf options text name side → length (row_keys (key_columns options) side.table.rows) ≡ length (lines_of text)
-length_keys options text name side h =
-    length-map side.table.rows (row_key (key_columns options)) ∙ length_rows options.reading (paths_of options) (lines_of text) side.table h.documents.table
+-- as many keys as documents
+length_keys : (options : DocumentOptions) (text name : List ℕ) (side : Table) (skipped : List ℕ) → IsSideOf options text name side skipped → length (row_keys (key_columns options) side.table.rows) ≡ length side.lines.items
+length_keys options text name side skipped h =
+    length-map side.table.rows (row_key (key_columns options))
+    ∙ (length_rows options.reading (paths_of options) (documents_at text side.lines.items) side.table h.documents.table ∙ length-map side.lines.items (numbered_line (lines_of text)))
 
 -- sides that can't be compared are those of the two texts
 pub rows_fault : (options : DocumentOptions) (left_text right_text left_name right_name : List ℕ) (s : DocumentSides) (e : DocumentError) → AreSidesOf options left_text right_text left_name right_name s
     → IsRowsFault options s e → IsDocumentFault options left_text right_text e
 rows_fault options left_text right_text left_name right_name s error.Memory sides fault = fault
-rows_fault options left_text right_text left_name right_name s error.TooManyRows sides fault =
-    λ few. fault (
-      subst (λ n. n ≤ 2 ^ 32) (sym (length_keys options left_text left_name s.left sides.left)) few.0,
-      subst (λ n. n ≤ 2 ^ 32) (sym (length_keys options right_text right_name s.right sides.right)) few.1,
-    )
+rows_fault options left_text right_text left_name right_name s error.TooManyRows sides fault = (
+  s.left.lines.items,
+  s.right.lines.items,
+  (s.left_skipped.items, sides.left.documents.numbered),
+  (s.right_skipped.items, sides.right.documents.numbered),
+  λ few. fault (
+    subst (λ n. n ≤ 2 ^ 32) (sym (length_keys options left_text left_name s.left s.left_skipped.items sides.left)) few.0,
+    subst (λ n. n ≤ 2 ^ 32) (sym (length_keys options right_text right_name s.right s.right_skipped.items sides.right)) few.1,
+  ),
+)
 rows_fault options left_text right_text left_name right_name s (error.Read side cause) sides fault = absurd fault
-rows_fault options left_text right_text left_name right_name s (error.KeyTwice Left first again) sides (asked, twice) = (asked, twice_is options left_text left_name s.left first again sides.left twice)
-rows_fault options left_text right_text left_name right_name s (error.KeyTwice Right first again) sides (asked, twice) = (asked, twice_is options right_text right_name s.right first again sides.right twice)
+rows_fault options left_text right_text left_name right_name s (error.KeyTwice Left first again) sides (asked, twice) = (asked, twice_is options left_text left_name s.left s.left_skipped.items first again sides.left twice)
+rows_fault options left_text right_text left_name right_name s (error.KeyTwice Right first again) sides (asked, twice) = (asked, twice_is options right_text right_name s.right s.right_skipped.items first again sides.right twice)
 rows_fault options left_text right_text left_name right_name s (error.Write cause) sides fault = absurd fault

@@ -2,7 +2,7 @@
 --
 -- With the key id the texts {"id": 7} and {"day": 7} are not compared, since line 1 of the right one has no id. Where
 -- keys have to be unique, a text of the lines {"id": 7} and {"id": 7.0} is not compared, since lines 1 and 2 have one key.
-use Rattle.std.specs.Prelude.{◌≡◌, ◌≤◌, ◌^◌, ℕ, suc, true, List, length, slice_index, ⊤}
+use Rattle.std.specs.Prelude.{◌≡◌, ◌≤◌, ◌^◌, ℕ, true, List, length, slice_index, ⊤}
 use Rattle.diff_columns.specs.declared.error.Side.{Side}
 use Rattle.diff_columns.specs.declared.error.Side.TheVariants.{Left, Right}
 use Rattle.diff_keys.specs.Errors.{AreFew}
@@ -12,8 +12,8 @@ use Rattle.diff_report.specs.declared.sides.Side.{Side as Table}
 use Rattle.diff_run.specs.Faults.{text_on}
 use Rattle.diff_tables.specs.Keys.{row_keys}
 use Rattle.document_rows.specs.Errors.{IsReadFault}
-use Rattle.document_rows.specs.Lines.{lines_of}
-use Rattle.document_run.specs.Run.{document_keys, key_columns, paths_of}
+use Rattle.document_rows.specs.Numbers.{AreDocumentNumbers}
+use Rattle.document_run.specs.Run.{document_keys, documents_at, key_columns, paths_of}
 use Rattle.document_run.specs.declared.error.DocumentError.{DocumentError}
 use Rattle.document_run.specs.declared.error.DocumentError.TheVariants as error
 use Rattle.document_run.specs.declared.options.DocumentOptions.{DocumentOptions}
@@ -23,21 +23,31 @@ use Rattle.document_words.specs.declared.sides.DocumentSides.{DocumentSides}
 abbrev pub IsMemory : DocumentError → Type 0
 IsMemory e = e ≡ error.Memory
 
--- each of the two texts has 2^32 lines at most
-abbrev pub HaveFewLines : List ℕ → List ℕ → Type 0
-HaveFewLines left_text right_text = (length (lines_of left_text) ≤ 2 ^ 32) × (length (lines_of right_text) ≤ 2 ^ 32)
+-- these documents are too many: of one text there are more than 2^32
+abbrev pub AreTooMany : List ℕ → List ℕ → Type 0
+AreTooMany left right = ¬ ((length left ≤ 2 ^ 32) × (length right ≤ 2 ^ 32))
 
--- the documents on these two lines have one key, and of the documents before the later one no two have
-abbrev pub AreFirstTwice : List (List ℕ) → ℕ → ℕ → Type 0
-AreFirstTwice keys first again = (t : Twice) × IsFirstTwice keys t × (first ≡ suc t.first) × (again ≡ suc t.again)
+-- the documents of two texts, each by the number of its line, are too many
+abbrev pub HaveTooMany : DocumentOptions → List ℕ → List ℕ → Type 0
+HaveTooMany options left_text right_text = (left : List ℕ) × (right : List ℕ)
+    × AreDocumentNumbers left_text options.reading (paths_of options) left × AreDocumentNumbers right_text options.reading (paths_of options) right × AreTooMany left right
 
--- why two texts are not compared: a line of one of them is no document, there are too many lines, keys have to be unique
+-- the documents on these two of some lines have one key, and of the documents before the later one no two have
+abbrev pub AreFirstTwice : List (List ℕ) → List ℕ → ℕ → ℕ → Type 0
+AreFirstTwice keys numbers first again = (t : Twice) × IsFirstTwice keys t × (first ≡ slice_index numbers t.first) × (again ≡ slice_index numbers t.again)
+
+-- so do these two of the documents of a text
+abbrev pub HasTwice : DocumentOptions → List ℕ → ℕ → ℕ → Type 0
+HasTwice options text first again = (numbers : List ℕ) × AreDocumentNumbers text options.reading (paths_of options) numbers
+    × AreFirstTwice (document_keys options (documents_at text numbers)) numbers first again
+
+-- why two texts are not compared: a line of one of them is no document, there are too many documents, keys have to be unique
 -- and two documents of a text have one, or an allocation, a read or a write failed
 abbrev pub IsDocumentFault : DocumentOptions → List ℕ → List ℕ → DocumentError → Type 0
 IsDocumentFault options left_text right_text error.Memory = ⊤
-IsDocumentFault options left_text right_text error.TooManyRows = ¬ (HaveFewLines left_text right_text)
+IsDocumentFault options left_text right_text error.TooManyRows = HaveTooMany options left_text right_text
 IsDocumentFault options left_text right_text (error.Read side cause) = IsReadFault (text_on side left_text right_text) options.reading (paths_of options) cause
-IsDocumentFault options left_text right_text (error.KeyTwice side first again) = (options.unique ≡ true) × AreFirstTwice (document_keys options (text_on side left_text right_text)) first again
+IsDocumentFault options left_text right_text (error.KeyTwice side first again) = (options.unique ≡ true) × HasTwice options (text_on side left_text right_text) first again
 IsDocumentFault options left_text right_text (error.Write cause) = ⊤
 
 -- a write failed
@@ -50,7 +60,7 @@ IsWrite (error.Write cause) = ⊤
 
 -- two documents of a side have one key; these are their lines
 abbrev pub HasKeyTwice : Table → List ℕ → ℕ → ℕ → Type 0
-HasKeyTwice side columns first again = (t : Twice) × IsFirstTwice (row_keys columns side.table.rows) t × (first ≡ slice_index side.lines.items t.first) × (again ≡ slice_index side.lines.items t.again)
+HasKeyTwice side columns first again = AreFirstTwice (row_keys columns side.table.rows) side.lines.items first again
 
 -- two documents of this side have one key, or an allocation failed
 abbrev pub IsSideFault : Table → List ℕ → Side → DocumentError → Type 0

@@ -5,6 +5,8 @@
 -- - id=7  old.ndjson line 1
 -- 1 changed, 1 removed, 0 added, 0 the same.
 -- Where n is ignored nothing is told of 8, and the last line is 0 changed, 1 removed, 0 added, 1 the same.
+-- A line [] before the first one, where such lines are passed over, makes 7 stand on line 2, and a last line more:
+-- Skipped 1 line of old.ndjson (line 1).
 use Rattle.std.specs.List.{range_with_len}
 use Rattle.std.specs.Prelude.{◌≡◌, ◌≢◌, ◌==◌, ◌&&◌, ℕ, Bool, true, if◌then◌else◌, List, [], get_or, length, map, slice_index}
 use Rattle.diff_columns.specs.Names.{names_of}
@@ -22,6 +24,7 @@ use Rattle.document_report.specs.Objects.{document_json_text}
 use Rattle.document_report.specs.Report.{document_report_text}
 use Rattle.document_rows.specs.Documents.{document_row, tree_of}
 use Rattle.document_rows.specs.Lines.{lines_of}
+use Rattle.document_rows.specs.Numbers.{numbered_lines}
 use Rattle.document_rows.specs.Tables.{AreDocumentsOf}
 use Rattle.document_run.specs.declared.options.DocumentOptions.{DocumentOptions}
 use Rattle.document_words.specs.Sides as words
@@ -40,32 +43,45 @@ paths_of options = paths_view options.keys.now
 abbrev pub key_columns : DocumentOptions → List ℕ
 key_columns options = range_with_len 0 (length options.keys.now)
 
--- the key of each document of a text: the normal texts of the parts at the paths
-abbrev pub document_keys : DocumentOptions → List ℕ → List (List ℕ)
-document_keys options text = row_keys (key_columns options) (map (document_row (paths_of options)) (lines_of text))
+-- the lines of a text that have these numbers
+abbrev pub documents_at : List ℕ → List ℕ → List (List ℕ)
+documents_at text numbers = numbered_lines (lines_of text) numbers
 
--- the tree of the document on line i of a text, the first being 0
-abbrev pub tree_at : List ℕ → ℕ → Json
-tree_at text i = tree_of (get_or (lines_of text) i [])
+-- the documents of the left text
+abbrev pub left_documents : List ℕ → DocumentSides → List (List ℕ)
+left_documents text sides = documents_at text sides.left.lines.items
+
+-- the documents of the right text
+abbrev pub right_documents : List ℕ → DocumentSides → List (List ℕ)
+right_documents text sides = documents_at text sides.right.lines.items
+
+-- the key of each of some documents: the normal texts of the parts at the paths
+abbrev pub document_keys : DocumentOptions → List (List ℕ) → List (List ℕ)
+document_keys options documents = row_keys (key_columns options) (map (document_row (paths_of options)) documents)
+
+-- the tree of document i of some, the first being 0
+abbrev pub tree_at : List (List ℕ) → ℕ → Json
+tree_at documents i = tree_of (get_or documents i [])
 
 -- the rules that say which differences are told
 abbrev pub rules_of : DocumentOptions → Rules
 rules_of options = rules_view options.rules.now
 
--- rules tell a difference between the documents at place k of two lists of line numbers
-abbrev pub HasOthers : Rules → List ℕ → List ℕ → Matching → ℕ → Type 0
-HasOthers rules left_text right_text m k =
-    differences_told rules (tree_at left_text (slice_index m.left_rows.items k)) (tree_at right_text (slice_index m.right_rows.items k)) ≢ []
+-- rules tell a difference between the documents at place k of two lists of places among documents
+abbrev pub HasOthers : Rules → List (List ℕ) → List (List ℕ) → Matching → ℕ → Type 0
+HasOthers rules left right m k = differences_told rules (tree_at left (slice_index m.left_rows.items k)) (tree_at right (slice_index m.right_rows.items k)) ≢ []
 
--- a side has the documents of a text, and the name of its input
-pub record IsSideOf (options : DocumentOptions) (text name : List ℕ) (side : Side) : Type 0 where
+-- a side has the documents of a text, and the name of its input; these lines of the text are passed over
+pub record IsSideOf (options : DocumentOptions) (text name : List ℕ) (side : Side) (skipped : List ℕ) : Type 0 where
   pub named : side.name.items ≡ name
-  pub documents : AreDocumentsOf text options.reading (paths_of options) (record { table = side.table; lines = side.lines })
+  pub documents : AreDocumentsOf text options.reading (paths_of options) side.table side.lines.items skipped
 
--- the sides have the documents of two texts, the names of the keys, and the rules
+-- the sides have the documents of two texts, the numbers of the lines that are passed over, the names of the keys, and
+-- the rules
 pub record AreSidesOf (options : DocumentOptions) (left_text right_text left_name right_name : List ℕ) (sides : DocumentSides) : Type 0 where
-  pub left : IsSideOf options left_text left_name sides.left
-  pub right : IsSideOf options right_text right_name sides.right
+  pub left : IsSideOf options left_text left_name sides.left sides.left_skipped.items
+  pub right : IsSideOf options right_text right_name sides.right sides.right_skipped.items
+  pub skip_bad : sides.skip_bad ≡ options.reading.skip_bad
   pub names : words.names_of sides ≡ names_of options.names.now
   pub colored : sides.colored ≡ options.colored
   pub rules : sides.rules.now ≡ options.rules.now
@@ -83,9 +99,9 @@ has_none m changed = (length changed == 0) && (length m.removed.items == 0) && (
 abbrev pub outcome_of : Matching → List ℕ → Outcome
 outcome_of m changed = if has_none m changed then Same else Different
 
--- no key comes twice in either text
-abbrev pub HaveUniqueKeys : DocumentOptions → List ℕ → List ℕ → Type 0
-HaveUniqueKeys options left_text right_text = AllDiffer (document_keys options left_text) × AllDiffer (document_keys options right_text)
+-- no key comes twice among either documents
+abbrev pub HaveUniqueKeys : DocumentOptions → List (List ℕ) → List (List ℕ) → Type 0
+HaveUniqueKeys options left right = AllDiffer (document_keys options left) × AllDiffer (document_keys options right)
 
 -- the report of two texts, and what it comes to: documents of one key are partners, the first with the first; of the
 -- partners those are changed between which a difference is told
@@ -94,8 +110,8 @@ pub record IsDocumentReportOf (options : DocumentOptions) (left_text right_text 
   pub matching : Matching
   pub changed : List ℕ
   pub sides_are : AreSidesOf options left_text right_text left_name right_name sides
-  pub matched : IsMatching (document_keys options left_text) (document_keys options right_text) matching
-  pub changed_are : ListsRising (HasOthers (rules_of options) left_text right_text matching) (length matching.left_rows.items) changed
-  pub unique : options.unique ≡ true → HaveUniqueKeys options left_text right_text
+  pub matched : IsMatching (document_keys options (left_documents left_text sides)) (document_keys options (right_documents right_text sides)) matching
+  pub changed_are : ListsRising (HasOthers (rules_of options) (left_documents left_text sides) (right_documents right_text sides) matching) (length matching.left_rows.items) changed
+  pub unique : options.unique ≡ true → HaveUniqueKeys options (left_documents left_text sides) (right_documents right_text sides)
   pub text : written ≡ format_text options.format sides matching changed options.limit
   pub outcome_is : outcome ≡ outcome_of matching changed

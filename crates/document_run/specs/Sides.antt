@@ -14,7 +14,7 @@ use Rattle.document_words.specs.declared.sides.DocumentSides.{DocumentSides}
 
 -- a side has some documents
 abbrev pub HasDocuments : DocumentOptions → Side → Type 0
-HasDocuments options side = HaveDocuments options.reading (paths_of options) (record { table = side.table; lines = side.lines })
+HasDocuments options side = HaveDocuments options.reading (paths_of options) side.table side.lines.items
 
 -- both sides have documents, and a name for each key
 pub record AreComparable (options : DocumentOptions) (s : DocumentSides) : Type 0 where

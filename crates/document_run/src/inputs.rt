@@ -15,21 +15,37 @@ use document_rows::read::{Documents, read_documents, read_documents_beside};
 use std::alloc::Global;
 use std::io::Read;
 
+/// The documents of an input, and the numbers of the lines that are passed over.
+#[derive(Drop)]
+pub(crate) struct ReadSide {
+    pub(crate) table: Table,
+    pub(crate) skipped: Vec<u64>,
+}
+
 /// Reads the documents of the input on a side.
 pub(crate) fn read_side<R: Read + Drop>(
     alloc: Global,
     input: Input<'_, R>,
     options: &DocumentOptions<'_>,
     side: Side,
-) -> Result<Table, DocumentError>
-    ensures shape { IfOk result (HasDocuments options.now) }
+) -> Result<ReadSide, DocumentError>
+    ensures shape { IfOk result (λ read. HasDocuments options.now read.table) }
     ensures texts { MatchResult result
-        (λ table. (text : List ℕ) → R.remaining input.entry.reader ≡ Some text → IsSideOf options.now text input.entry.name.now table)
+        (λ read. (text : List ℕ) → R.remaining input.entry.reader ≡ Some text → IsSideOf options.now text input.entry.name.now read.table read.skipped.items)
         (λ error. (left_text right_text : List ℕ) → R.remaining input.entry.reader ≡ Some (text_on side left_text right_text) → IsDocumentFault options.now left_text right_text error) }
 {
     let name = Vec::from_slice(alloc, input.name)?;
     match read_documents(alloc, input.reader, options.keys, options.reading) {
-        Ok(Documents { table, lines }) => Ok(Table { name, table, lines }),
+        Ok(
+            Documents {
+                table,
+                lines,
+                skipped,
+            },
+        ) => Ok(ReadSide {
+            table: Table { name, table, lines },
+            skipped,
+        }),
         Err(cause) => Err(DocumentError::Read { side, cause }),
     }
 }
@@ -40,11 +56,11 @@ pub(crate) fn read_right<R: Read + Drop>(
     input: Input<'_, R>,
     options: &DocumentOptions<'_>,
     left: &Table,
-) -> Result<Table, DocumentError>
+) -> Result<ReadSide, DocumentError>
     requires { HasDocuments options.now left.now }
-    ensures shape { IfOk result (HasDocuments options.now) }
+    ensures shape { IfOk result (λ read. HasDocuments options.now read.table) }
     ensures texts { MatchResult result
-        (λ table. (text : List ℕ) → R.remaining input.entry.reader ≡ Some text → IsSideOf options.now text input.entry.name.now table)
+        (λ read. (text : List ℕ) → R.remaining input.entry.reader ≡ Some text → IsSideOf options.now text input.entry.name.now read.table read.skipped.items)
         (λ error. (left_text right_text : List ℕ) → R.remaining input.entry.reader ≡ Some right_text → IsDocumentFault options.now left_text right_text error) }
 {
     let name = Vec::from_slice(alloc, input.name)?;
@@ -55,7 +71,16 @@ pub(crate) fn read_right<R: Read + Drop>(
         options.reading,
         &left.table,
     ) {
-        Ok(Documents { table, lines }) => Ok(Table { name, table, lines }),
+        Ok(
+            Documents {
+                table,
+                lines,
+                skipped,
+            },
+        ) => Ok(ReadSide {
+            table: Table { name, table, lines },
+            skipped,
+        }),
         Err(cause) => Err(DocumentError::Read {
             side: Side::Right,
             cause,

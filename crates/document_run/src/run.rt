@@ -31,7 +31,8 @@ fn report_on<L: Read + Drop, R: Read + Drop>(
 }
 
 /// Compares two inputs of documents, and writes the report. Nothing is written where an input can't
-/// be read, a line is no document, an input has too many of them, or an allocation fails.
+/// be read, a line is no document and is not to be passed over, an input has too many of them, or an
+/// allocation fails.
 pub fn run_documents<L: Read + Drop, R: Read + Drop, W: Write>(
     alloc: Global,
     left: Input<'_, L>,

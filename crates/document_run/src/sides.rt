@@ -40,10 +40,13 @@ pub(crate) fn sides_of<'a, L: Read + Drop, R: Read + Drop>(
 {
     let keys = copied(alloc, options.names)?;
     let left = read_side(alloc, left, options, Side::Left)?;
-    let right = read_right(alloc, right, options, &left)?;
+    let right = read_right(alloc, right, options, &left.table)?;
     Ok(DocumentSides {
-        left,
-        right,
+        left: left.table,
+        right: right.table,
+        left_skipped: left.skipped,
+        right_skipped: right.skipped,
+        skip_bad: options.reading.skip_bad,
         keys,
         colored: options.colored,
         rules: options.rules,

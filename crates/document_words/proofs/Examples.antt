@@ -3,15 +3,17 @@ use Rattle.bstr.proofs.Computing.{computing}
 use Rattle.std.specs.Char.{encode_utf8}
 use Rattle.std.specs.Fmt.{digits}
 use Rattle.std.specs.Prelude.{◌≡◌, ◌++◌, [], ◌∷◌, false, true, None, Some, codes, refl}
+use Rattle.diff_json.specs.Counts.{totals_members}
 use Rattle.diff_json.specs.Strings.{char_text, json_string}
 use Rattle.diff_words.specs.Colors.{color_text, painted}
 use Rattle.diff_words.specs.Lists.{listed}
 use Rattle.diff_words.specs.Quoted.{byte_text, quoted}
 use Rattle.diff_words.specs.Words.{word_text}
 use Rattle.document_words.specs.Changes.{change_object, change_text, part_member, part_text}
-use Rattle.document_words.specs.Counts.{totals_text}
+use Rattle.document_words.specs.Counts.{counts_json, totals_text}
 use Rattle.document_words.specs.Keys.{document_name, key_members}
 use Rattle.document_words.specs.Lines.{alone_json, alone_text}
+use Rattle.document_words.specs.Skipped.{skipped_members, skipped_text}
 use Rattle.json_plain.specs.Plain.{plain_byte, plain_json}
 
 name-by-keys : document_name (codes "order.id" ∷ codes "day" ∷ []) 0 (codes "\"A-7\"" ∷ codes "3" ∷ codes "{}" ∷ []) ≡ codes "order.id=\"A-7\",day=3"
@@ -67,3 +69,25 @@ removed-in-json = refl
 summary : totals_text 1 1 1 5 ≡ codes "1 changed, 1 removed, 1 added, 5 the same.\n"
 unfolding totals_text digits
 summary = refl
+
+-- two lines that are passed over, of a file whose name has a space
+two-skipped : skipped_text (codes "a b.ndjson") (7 ∷ 12 ∷ []) ≡ codes "Skipped 2 lines of \"a b.ndjson\" (the first is line 7).\n"
+unfolding skipped_text word_text quoted byte_text digits
+two-skipped = refl
+
+one-skipped : skipped_text (codes "b.ndjson") (12 ∷ []) ≡ codes "Skipped 1 line of b.ndjson (line 12).\n"
+unfolding skipped_text word_text digits
+one-skipped = refl
+
+none-skipped : skipped_text (codes "b.ndjson") [] ≡ []
+unfolding skipped_text
+none-skipped = refl
+
+counts : counts_json 1 2 3 40 0 (skipped_members true 2 0) ≡ codes "{\"kind\":\"counts\",\"changed\":1,\"removed\":2,\"added\":3,\"same\":40,\"not_shown\":0,\"left_skipped\":2,\"right_skipped\":0}\n"
+unfolding counts_json totals_members skipped_members digits
+counts = refl
+
+-- where no line may be passed over, nothing is told of that
+counts-alone : counts_json 0 0 0 1 0 (skipped_members false 0 0) ≡ codes "{\"kind\":\"counts\",\"changed\":0,\"removed\":0,\"added\":0,\"same\":1,\"not_shown\":0}\n"
+unfolding counts_json totals_members skipped_members digits
+counts-alone = refl

@@ -2,10 +2,13 @@
 --
 -- 1 changed, 1 removed, 1 added, 5 the same.
 -- {"kind":"counts","changed":1,"removed":1,"added":1,"same":5,"not_shown":0}
+-- {"kind":"counts","changed":1,"removed":1,"added":1,"same":5,"not_shown":0,"left_skipped":2,"right_skipped":0}
 use Rattle.std.specs.Fmt.{decimal}
 use Rattle.std.specs.Prelude.{ℕ, ◌+◌, ◌-◌, List, ◌++◌, length, codes}
 use Rattle.diff_json.specs.Counts.{totals_members}
 use Rattle.diff_keys.specs.declared.matching.Matching.{Matching}
+use Rattle.document_words.specs.Skipped.{skipped_members}
+use Rattle.document_words.specs.declared.sides.DocumentSides.{DocumentSides}
 
 -- how many differences there are, where so many of the matched rows are changed
 abbrev pub difference_count : Matching → ℕ → ℕ
@@ -19,6 +22,11 @@ totals_text changed removed added same = decimal changed ++ codes " changed, " +
 abbrev pub summary_text : Matching → ℕ → List ℕ
 summary_text m changed = totals_text changed (length m.removed.items) (length m.added.items) (length m.left_rows.items - changed)
 
--- the same in JSON, with how many differences have no line
-unfoldable pub counts_object : Matching → ℕ → ℕ → List ℕ
-counts_object m changed limit = codes "{\"kind\":\"counts\"," ++ totals_members changed (length m.removed.items) (length m.added.items) (length m.left_rows.items - changed) (difference_count m changed - limit) ++ codes "}\n"
+-- the same in JSON, with how many differences have no line, and more members
+unfoldable pub counts_json : ℕ → ℕ → ℕ → ℕ → ℕ → List ℕ → List ℕ
+counts_json changed removed added same not_shown more = codes "{\"kind\":\"counts\"," ++ totals_members changed removed added same not_shown ++ more ++ codes "}\n"
+
+-- the line with the counts in JSON, where so many of the matched documents are changed
+unfoldable pub counts_object : DocumentSides → Matching → ℕ → ℕ → List ℕ
+counts_object s m changed limit = counts_json changed (length m.removed.items) (length m.added.items) (length m.left_rows.items - changed) (difference_count m changed - limit)
+    (skipped_members s.skip_bad (length s.left_skipped.items) (length s.right_skipped.items))

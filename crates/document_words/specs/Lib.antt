@@ -3,3 +3,4 @@ pub mod Counts
 pub mod Keys
 pub mod Lines
 pub mod Sides
+pub mod Skipped

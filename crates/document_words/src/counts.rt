@@ -6,6 +6,8 @@ ghost use Rattle.diff_json.specs.Counts.{totals_members};
 ghost use Rattle.diff_report.specs.Summary.{rest_text};
 ghost use Rattle.document_words.specs.Counts.{counts_object, difference_count, summary_text, totals_text};
 
+use crate::sides::DocumentSides;
+use crate::skipped::push_skipped_members;
 use diff_keys::matching::Matching;
 use diff_words::decimals::push_decimal;
 use itoa::Integer;
@@ -116,21 +118,23 @@ fn push_total_members(
 }
 
 /// Appends the line with the counts in JSON, where so many of the matched documents are changed.
-#[tactic(auto, unfolding(crate::specs::Counts::counts_object))]
+#[tactic(auto, unfolding(crate::specs::Counts::counts_json, crate::specs::Counts::counts_object))]
 pub fn push_counts(
     out: &mut Vec<u8>,
+    sides: &DocumentSides<'_>,
     matching: &Matching,
     changed: usize,
     limit: usize,
 ) -> Result<(), AllocError>
     requires { changed ≤ length matching.now.left_rows.items }
-    ensures { OnOk result (out.new.items ≡ out.old.items ++ counts_object matching.now changed limit) }
+    ensures { OnOk result (out.new.items ≡ out.old.items ++ counts_object sides.now matching.now changed limit) }
 {
     let same = matching.left_rows.len() - changed;
     let not_shown = difference_count(matching, changed).saturating_sub(limit as u128);
     let (removed, added) = (matching.removed.len(), matching.added.len());
     out.extend_from_slice(br#"{"kind":"counts","#)?;
     push_total_members(out, changed, removed, added, same, not_shown)?;
+    push_skipped_members(out, sides)?;
     out.extend_from_slice(b"}\n")?;
     Ok(())
 }

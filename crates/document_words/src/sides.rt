@@ -9,6 +9,12 @@ use json_changes::changes::Rules;
 pub struct DocumentSides<'a> {
     pub left: Side,
     pub right: Side,
+    /// The numbers of the lines of the left file that are passed over, since they are no documents.
+    pub left_skipped: Vec<u64>,
+    /// The same of the right file.
+    pub right_skipped: Vec<u64>,
+    /// Whether lines that are no documents are passed over.
+    pub skip_bad: bool,
     /// The names of the keys. Without one a document is named by its number.
     pub keys: Vec<Vec<u8>>,
     /// Whether the report has colours for a terminal.

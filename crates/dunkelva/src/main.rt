@@ -71,6 +71,7 @@ fn diff_documents(
         names: &keys.names,
         reading: Reading {
             null_keys: matches.get_flag("no-key-is-null"),
+            skip_bad: matches.get_flag("skip-bad"),
         },
         rules: &rules,
         limit: limit_of(matches),

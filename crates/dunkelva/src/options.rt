@@ -53,7 +53,7 @@ const SWITCH: CliOption = CliOption {
 };
 
 /// The options of the command.
-static OPTIONS: [CliOption; 18] = [
+static OPTIONS: [CliOption; 19] = [
     CliOption {
         id: "key",
         takes: Takes::List,
@@ -157,6 +157,12 @@ static OPTIONS: [CliOption; 18] = [
         id: "no-key-is-null",
         goes_with: GoesWith::Documents,
         help: "A document without a part at a key path has the key null there",
+        ..SWITCH
+    },
+    CliOption {
+        id: "skip-bad",
+        goes_with: GoesWith::Documents,
+        help: "Pass over lines that are no documents, and say how many there are",
         ..SWITCH
     },
     CliOption {

@@ -11,5 +11,5 @@ returns c =
     let m = c.args.matching.now in
     let places = c.args.changed.now in
     c.in_ok-push_counts.ensures
-    ∙ (ap (λ l. l ++ counts_object m (length places) c.args.limit) c.in_ok-push_objects.ensures
-    ∙ append_assoc c.args.out.now.items (concat (take c.args.limit (difference_objects c.args.sides.now m places))) (counts_object m (length places) c.args.limit))
+    ∙ (ap (λ l. l ++ counts_object c.args.sides.now m (length places) c.args.limit) c.in_ok-push_objects.ensures
+    ∙ append_assoc c.args.out.now.items (concat (take c.args.limit (difference_objects c.args.sides.now m places))) (counts_object c.args.sides.now m (length places) c.args.limit))

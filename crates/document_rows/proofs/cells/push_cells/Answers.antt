@@ -1,4 +1,4 @@
-use Rattle.std.proofs.Common.{◌++◌, [], get_or, arith, append-nil, ap, sym, subst}
+use Rattle.std.proofs.Common.{◌++◌, [], get_or, arith, subst}
 use Rattle.std.proofs.lemmas.List.{take_all}
 use Rattle.diff_tables.specs.Strings.{AreStrings}
 use Rattle.document_rows.proofs.KnownLemmas.{cell_more}

@@ -15,8 +15,8 @@ pub push_cell-requires-clause-narrow : goal.push_cell-requires-clause-narrow
 push_cell-requires-clause-narrow c =
     narrow_part (path_view c.args.key.now) (value_view c.args.value.now) (value_view c.in-Some.part.now) c.requires.narrow (rw c.in-Some.is at c.part_of.ensures)
 
-pub returns-in_ok-push-in-None-clause-cell : goal.returns-in_ok-push-in-None-clause-cell
-returns-in_ok-push-in-None-clause-cell c = λ all old.
+pub returns-in_ok-push-in-None : goal.returns-in_ok-push-in-None
+returns-in_ok-push-in-None c = λ all old.
     let none = rw c.in-None.is at c.part_of.ensures in
     subst (λ o. AreStrings c.push.new.self (all ++ cell_of o ∷ [])) none
     (subst (λ t. AreStrings c.push.new.self (all ++ t ∷ [])) (sym null_text) (c.in_ok-push-in-None.ensures all old))

@@ -34,7 +34,7 @@ returns-in_err-keep_line g c =
     rw (p.1, p.2) (λ text known.
     let (rest, left, cut) = before.so_far text known in
     let (after, _, line) = rw some at (c.in_ok-next_line.ensures.told rest left) in
-    line_fault c.args.reading (paths_view c.args.keys.now) text before.all c.next_line.new.line.items after (c.loop-before.before + 1) _ (cut ∙ ap (λ l. before.all ++ l) line) before.held.documents (omega (arith, before.count))
+    line_fault c.args.reading (paths_view c.args.keys.now) text before.all c.next_line.new.line.items after (c.loop-before.before + 1) _ (cut ∙ ap (λ l. before.all ++ l) line) before.held.numbered.none_skipped (omega (arith, before.count))
     (rw c.deref.ensures.value at c.in_err-keep_line.ensures))
 
 pub loop-before-preserved : goal.loop-before-preserved
@@ -44,7 +44,7 @@ loop-before-preserved g c =
     let next = c.next_line.new.line.items in
     record {
       all = before.all ++ next ∷ [];
-      held = rw c.deref.ensures.value at (c.in_ok-keep_line.ensures before.all before.held);
+      held = rw c.deref.ensures.value at (c.in_ok-keep_line.ensures before.all (omega (arith, before.count)) before.held);
       count = omega (arith, before.count, length-append before.all (next ∷ []));
       so_far = λ text known.
           let (rest, left, cut) = before.so_far text known in

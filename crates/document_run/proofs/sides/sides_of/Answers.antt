@@ -25,6 +25,7 @@ returns-clause-texts g c = λ left_text right_text el er. record {
   left = c.in_ok-left.ensures.texts left_text el;
   right = c.in_ok-right.ensures.texts right_text er;
   names = c.in_ok-keys.ensures;
+  skip_bad = refl;
   colored = refl;
   rules = refl;
 }

@@ -15,7 +15,7 @@ push_copy-requires-clause-documents c =
     some_documents reading keys c.in-Some.table.now (knows c.in-Some.table.now (ap option_copied c.in-Some.is))
 
 pub returns-clause-found : goal.returns-clause-found
-returns-clause-found c = λ _ reading keys lines knows held.
+returns-clause-found c = λ _ reading keys lines knows number_is held.
     let same : c.line_of.result.now ≡ c.args.line.now = search rules in
     subst (λ l. HoldsRows reading keys (lines ++ l ∷ []) c.push_copy.new.self) (sym c.line_of.ensures ∙ same)
-    (c.in_ok-push_copy.ensures reading keys lines (knows c.in-Some.table.now (ap option_copied c.in-Some.is)) held)
+    (c.in_ok-push_copy.ensures reading keys lines (knows c.in-Some.table.now (ap option_copied c.in-Some.is)) number_is held)
