@@ -22,7 +22,7 @@ pub(crate) const BODY: &str = r##"</style>
 lines.</p></noscript>
 <main>
 <ul class="counts" id="counts" aria-label="Counts"></ul>
-<p id="lone"></p>
+<p id="notes"></p>
 <section id="by-column" class="hidden" aria-labelledby="by-column-title">
 <h2 id="by-column-title">Cells that differ, by column</h2>
 <table class="bars"><tbody id="bars"></tbody></table>

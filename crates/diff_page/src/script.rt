@@ -212,14 +212,18 @@ function countColumns() {
   return [...found].sort((a, b) => b[1] - a[1]);
 }
 
-// Shows how many rows there are of each kind, and the columns of one file alone.
+// Shows how many rows there are of each kind, columns of one file alone, and lines passed over.
 function drawCounts() {
   for (const name of ["changed", "removed", "added", "same"]) {
     const number = make("strong", {}, grouped(count(name)));
     find("counts").append(make("li", {class: name}, number, name === "same" ? "the same" : name));
   }
   const lone = of("column").map(it => `${it.get("column")} (${it.get("only_in")} file)`);
-  find("lone").textContent = lone.length ? `Columns of one file alone: ${lone.join(", ")}.` : "";
+  const skipped = ["left", "right"].filter(it => count(`${it}_skipped`))
+    .map(it => `${grouped(count(`${it}_skipped`))} (${it} file)`);
+  const notes = [["Columns of one file alone", lone], ["Lines passed over", skipped]];
+  find("notes").textContent =
+    notes.filter(it => it[1].length).map(it => `${it[0]}: ${it[1].join(", ")}.`).join(" ");
 }
 
 // Shows how often each column differs.

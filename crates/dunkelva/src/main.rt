@@ -18,7 +18,7 @@ use crate::keys::keys_of;
 use crate::kinds::{hold_documents, refuse_document_options, refuse_table_options};
 use crate::rules::rules_of;
 use crate::tasks::{Task, compare_named};
-use crate::words::{Names, csv_options, format_of, is_colored, limit_of};
+use crate::words::{Names, csv_options, format_of, is_colored, limit_of, target_of};
 use anyhow::{Result, anyhow};
 use clap::ArgMatches;
 use diff_columns::choice::Choice;
@@ -53,7 +53,7 @@ fn diff_tables(rt: &HostRuntime, matches: &ArgMatches<'_>, left: &str, right: &s
         format: format_of(matches),
         colored: is_colored(rt, matches),
     };
-    compare_named(rt, left, right, &Task::Tables(options))
+    compare_named(rt, left, right, &Task::Tables(options), target_of(matches))
 }
 
 /// Compares two files of documents.
@@ -79,7 +79,13 @@ fn diff_documents(
         format: format_of(matches),
         colored: is_colored(rt, matches),
     };
-    compare_named(rt, left, right, &Task::Documents(options))
+    compare_named(
+        rt,
+        left,
+        right,
+        &Task::Documents(options),
+        target_of(matches),
+    )
 }
 
 /// Compares the two files that the words name.

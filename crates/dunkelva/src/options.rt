@@ -53,7 +53,7 @@ const SWITCH: CliOption = CliOption {
 };
 
 /// The options of the command.
-static OPTIONS: [CliOption; 19] = [
+static OPTIONS: [CliOption; 20] = [
     CliOption {
         id: "key",
         takes: Takes::List,
@@ -187,6 +187,13 @@ static OPTIONS: [CliOption; 19] = [
         value: "WHEN",
         default: Some("auto"),
         help: "Print in colours; auto does on a terminal, unless NO_COLOR is set",
+        ..SWITCH
+    },
+    CliOption {
+        id: "html",
+        takes: Takes::Text,
+        value: "FILE",
+        help: "Write a page to look at into FILE, of up to 10000 differences, and print nothing",
         ..SWITCH
     },
 ];

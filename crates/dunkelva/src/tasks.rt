@@ -4,18 +4,54 @@ use crate::files::{Source, open, total_of};
 use crate::progress::{Cleared, Counted, Progress};
 use crate::trouble::{document_trouble, table_trouble};
 use anyhow::{Result, anyhow};
+use diff_page::page::push_page;
+use diff_run::error::RunError;
 use diff_run::options::Options;
 use diff_run::report::Outcome;
 use diff_run::run::{Input, run};
+use document_run::error::DocumentError;
 use document_run::options::DocumentOptions;
 use document_run::run::run_documents;
-use std::io;
+use std::io::{ErrorKind, Write};
+use std::{fs, io};
 
-/// The status where the files are the same.
-const SAME: u8 = 0;
+/// How a comparison ended.
+#[derive(Clone, Copy)]
+enum Ending {
+    Same,
+    Different,
+    /// Nobody reads standard output any more.
+    Unread,
+}
 
-/// The status where the files differ.
-const DIFFERENT: u8 = 1;
+impl Ending {
+    /// Returns the status of the program.
+    fn status(self) -> u8 {
+        match self {
+            Ending::Same => 0,
+            Ending::Different => 1,
+            Ending::Unread => 2,
+        }
+    }
+}
+
+impl From<Outcome> for Ending {
+    fn from(outcome: Outcome) -> Ending {
+        match outcome {
+            Outcome::Same => Ending::Same,
+            Outcome::Different => Ending::Different,
+        }
+    }
+}
+
+/// Where the report goes.
+#[derive(Clone, Copy)]
+pub(crate) enum Target<'a> {
+    /// Standard output.
+    Output,
+    /// A file of this name, as a page to look at.
+    Page(&'a str),
+}
 
 /// What the files hold, and how they are compared.
 #[derive(Clone, Copy)]
@@ -38,30 +74,58 @@ fn counted<'a>(input: Input<'a, Source>, progress: &'a Progress<'a>) -> Input<'a
     }
 }
 
-/// Compares two inputs, and writes the report to standard output.
-fn outcome_of(
+/// Returns how a comparison ended whose report could not be written: as with other programs, nothing
+/// is said where nobody reads it.
+fn unwritten(cause: io::Error) -> Result<Ending> {
+    if cause.kind() == ErrorKind::BrokenPipe {
+        return Ok(Ending::Unread);
+    }
+    Err(anyhow!("{cause}").context("standard output"))
+}
+
+/// Compares two inputs, and writes the report to `out`.
+fn report_to<W: Write>(
     rt: &HostRuntime,
     left: Input<'_, Source>,
     right: Input<'_, Source>,
     progress: &Progress<'_>,
     task: &Task<'_>,
-) -> Result<Outcome> {
+    out: &mut W,
+) -> Result<Ending> {
     let files = (left.name, right.name);
     let left = counted(left, progress);
     let right = counted(right, progress);
-    let writer = io::writer(rt);
-    let mut out = Cleared { writer, progress };
     match task {
-        Task::Tables(options) => match run(rt.alloc(), left, right, &mut out, options) {
-            Ok(outcome) => Ok(outcome),
+        Task::Tables(options) => match run(rt.alloc(), left, right, out, options) {
+            Ok(outcome) => Ok(Ending::from(outcome)),
+            Err(RunError::Write { cause }) => unwritten(cause),
             Err(error) => Err(table_trouble(error, files, options)),
         },
-        Task::Documents(options) => {
-            match run_documents(rt.alloc(), left, right, &mut out, options) {
-                Ok(outcome) => Ok(outcome),
-                Err(error) => Err(document_trouble(error, files, options)),
-            }
-        }
+        Task::Documents(options) => match run_documents(rt.alloc(), left, right, out, options) {
+            Ok(outcome) => Ok(Ending::from(outcome)),
+            Err(DocumentError::Write { cause }) => unwritten(cause),
+            Err(error) => Err(document_trouble(error, files, options)),
+        },
+    }
+}
+
+/// Compares two inputs, and writes the page of the report to a file.
+fn write_page(
+    rt: &HostRuntime,
+    left: Input<'_, Source>,
+    right: Input<'_, Source>,
+    progress: &Progress<'_>,
+    task: &Task<'_>,
+    path: &str,
+) -> Result<Ending> {
+    let files = (left.name, right.name);
+    let mut report = Vec::new(rt.alloc());
+    let ending = report_to(rt, left, right, progress, task, &mut report)?;
+    let mut page = Vec::new(rt.alloc());
+    push_page(&mut page, files.0, files.1, &report)?;
+    match fs::write(rt, path, page.as_slice()) {
+        Ok(()) => Ok(ending),
+        Err(error) => Err(anyhow!("{error}").context(path)),
     }
 }
 
@@ -71,13 +135,21 @@ fn compare(
     left: Input<'_, Source>,
     right: Input<'_, Source>,
     task: &Task<'_>,
+    target: Target<'_>,
 ) -> Result<u8> {
     let progress = Progress::new(rt, total_of(&left.reader, &right.reader));
-    let outcome = outcome_of(rt, left, right, &progress, task);
+    let ending = match target {
+        Target::Output => {
+            let writer = io::writer(rt);
+            let progress = &progress;
+            let mut out = Cleared { writer, progress };
+            report_to(rt, left, right, progress, task, &mut out)
+        }
+        Target::Page(path) => write_page(rt, left, right, &progress, task, path),
+    };
     progress.erase();
-    match outcome {
-        Ok(Outcome::Same) => Ok(SAME),
-        Ok(Outcome::Different) => Ok(DIFFERENT),
+    match ending {
+        Ok(ending) => Ok(ending.status()),
         Err(error) => Err(error),
     }
 }
@@ -88,6 +160,7 @@ pub(crate) fn compare_named(
     left: &str,
     right: &str,
     task: &Task<'_>,
+    target: Target<'_>,
 ) -> Result<u8> {
     if left == "-" && right == "-" {
         return Err(anyhow!("only one of the two can be standard input"));
@@ -95,5 +168,5 @@ pub(crate) fn compare_named(
     let has_standard = left == "-" || right == "-";
     let left = open(rt, left, has_standard)?;
     let right = open(rt, right, has_standard)?;
-    compare(rt, left, right, task)
+    compare(rt, left, right, task, target)
 }

@@ -65,7 +65,6 @@ pub(crate) fn table_trouble(
         RunError::Columns {
             cause: ColumnError::NoKey { side, key },
         } => no_key(key, options).context(file_of(files, side)),
-        RunError::Write { cause } => anyhow!("{cause}").context("standard output"),
         other => anyhow!("{other}"),
     }
 }
@@ -121,7 +120,6 @@ pub(crate) fn document_trouble(
         DocumentError::KeyTwice { side, first, again } => {
             one_key(first, again).context(file_of(files, side))
         }
-        DocumentError::Write { cause } => anyhow!("{cause}").context("standard output"),
         other => anyhow!("{other}"),
     }
 }

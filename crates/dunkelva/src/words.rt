@@ -1,8 +1,10 @@
 //! What the words of the command line ask for.
 
 use crate::kinds::usual_delimiter;
+use crate::tasks::Target;
 use anyhow::{Result, anyhow};
 use clap::ArgMatches;
+use clap::parser::ValueSource;
 use diff_csv::options::{CsvOptions, is_delimiter};
 use diff_run::options::Format;
 use std::alloc::{AllocError, Global};
@@ -76,8 +78,23 @@ pub(crate) fn csv_options(matches: &ArgMatches<'_>, left: &str, right: &str) -> 
     })
 }
 
+/// The most differences in a page, where no other number is given.
+const MOST_IN_PAGE: usize = 10_000;
+
+/// Returns where the report goes.
+pub(crate) fn target_of<'a>(matches: &ArgMatches<'a>) -> Target<'a> {
+    match matches.get_str("html") {
+        Some(path) => Target::Page(path),
+        None => Target::Output,
+    }
+}
+
 /// Returns how many differences are printed: 0 stands for all.
 pub(crate) fn limit_of(matches: &ArgMatches<'_>) -> usize {
+    let is_given = matches.value_source("limit") == Some(ValueSource::CommandLine);
+    if matches.contains_id("html") && !is_given {
+        return MOST_IN_PAGE;
+    }
     match matches.get_one::<usize>("limit") {
         Some(0) => usize::MAX,
         Some(limit) => limit,
@@ -85,8 +102,11 @@ pub(crate) fn limit_of(matches: &ArgMatches<'_>) -> usize {
     }
 }
 
-/// Returns the form of the report.
+/// Returns the form of the report. A page has its report as JSON lines.
 pub(crate) fn format_of(matches: &ArgMatches<'_>) -> Format {
+    if matches.contains_id("html") {
+        return Format::Json;
+    }
     match matches.get_str("format") {
         Some("json") => Format::Json,
         _ => Format::Text,
