@@ -27,7 +27,7 @@ prove: ## Prove everything and run all tests (the gate; an hour or more)
 test: ## Run most stored inputs without a proof (minutes)
 	tests/quick
 
-bench: ## Time the kernels beside plain Rust (15 minutes)
+bench: ## Time the kernels beside plain Rust (proves them first; then 15 minutes)
 	bench/run.sh
 
 install: $(if $(QUICK),quick,program) install-files ## Build, and install below PREFIX; QUICK=1: without a proof
