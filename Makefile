@@ -18,7 +18,7 @@ help: ## List what can be made
 quick: ## Build the program without a proof (out/quick/dunkelva; minutes)
 	packaging/build_quick
 
-program: ## Prove and build the program (crates/dunkelva/out/dunkelva; half an hour)
+program: ## Prove and build the program (crates/dunkelva/out/dunkelva; up to an hour)
 	cd crates/dunkelva && rt run -- --version
 
 prove: ## Prove everything and run all tests (the gate; an hour or more)
