@@ -239,7 +239,7 @@ def written(value, chance, blanks, rate):
     if isinstance(value, list):
         return f"[{','.join(map(within, value)) or blank()}]"
     if isinstance(value, Object):
-        members = chance.sample(value.members, len(value.members))
+        members = chance.sample(value.members, len(value.members)) if value.members else ()
         return "{" + (",".join(f"{within(name)}:{within(part)}" for name, part in members) or blank()) + "}"
     return document_reports.compact(value)
 
