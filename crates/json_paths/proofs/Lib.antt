@@ -1,2 +1,7 @@
 mod Examples
 mod PatternExamples
+mod ShapeLemmas
+mod QuoteLemmas
+mod StepLemmas
+mod PlaceLemmas
+mod LoopLemmas

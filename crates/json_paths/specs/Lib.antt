@@ -2,4 +2,6 @@ pub mod Errors
 pub mod Paths
 pub mod PatternViews
 pub mod Patterns
+pub mod Reading
+pub mod Texts
 pub mod Views

@@ -1,46 +1,47 @@
 //! Paths as a user writes them.
 //!
-//! A path is steps, one after another: a dot and a name, a dot and a name within quotes, or a place
-//! within brackets. The dot before the first name may be left out where this has no quotes. In
-//! `a.b[0]` are the names `a` and `b` and the place 0, and in `."a.b"` is one name. Within quotes
-//! are the escapes of JSON, and without them stand neither dots, brackets nor quotes.
+//! A path is one or more steps, one after another: a dot and a name, a dot and a name within quotes,
+//! or the digits of a place within brackets. The dot before the first name may be left out where
+//! this has no quotes. In `a.b[0]` are the names `a` and `b` and the place 0, and in `."a.b"` is one
+//! name. A name within quotes is a string of JSON. A name without them has no dot, bracket or quote
+//! in it, and one byte or more.
 //!
 //! A pattern is written as a path is, and in it `[]` is the step to any item: `items[].price`.
 
-ghost use Rattle.std.specs.Prelude.{◌+◌, ◌≢◌, ◌<◌, ◌≤◌, [], length, IfOk, IfSome};
+ghost use Rattle.json.specs.Ascii.{quote, dot, open_bracket};
+ghost use Rattle.json.specs.Json.{string, document};
+ghost use Rattle.json_paths.specs.Errors.{IsInvalid};
 ghost use Rattle.json_paths.specs.PatternViews.{pattern_view};
+ghost use Rattle.json_paths.specs.Reading.{Finds, left_at, up_to_quote};
+ghost use Rattle.json_paths.specs.Texts.{is_plain, IsNoPath, IsNoPattern, IsPathText, IsPatternText, IsPlaceText};
 ghost use Rattle.json_paths.specs.Views.{path_view};
+ghost use Rattle.std.specs.List.{prefix_len};
+ghost use Rattle.std.specs.Prelude.{◌≡◌, ◌≢◌, ◌+◌, ◌<◌, ◌≤◌, ◌∷◌, [], Some, false, length, drop, map, option_map, slice_index, string_bytes, IfOk, IfErr, MatchOption, IsCharBoundary};
 
 use crate::error::PathError;
 use crate::path::{Path, Step};
 use crate::pattern::{Pattern, PatternStep};
 use json::{Error, Scratch, Value};
 use std::alloc::Global;
-use std::str::from_utf8;
-
-/// A step, and the place behind its text.
-#[derive(Drop)]
-struct Found {
-    step: Step,
-    end: usize,
-}
 
 /// A step of a pattern, and the place behind its text.
 #[derive(Drop)]
-struct FoundPattern {
+struct Found {
     step: PatternStep,
     end: usize,
 }
 
 /// Returns whether a byte may stand in a name without quotes.
-fn is_plain(byte: u8) -> bool {
+fn is_plain(byte: u8) -> bool
+    ensures { result ≡ is_plain byte }
+{
     !matches!(byte, b'.' | b'[' | b']' | b'"')
 }
 
-/// Returns the place behind the name without quotes that begins at a place.
+/// Returns the place behind the bytes from a place on that may stand in a name without quotes.
 fn plain_end(bytes: &[u8], start: usize) -> usize
     requires { start ≤ length bytes.now }
-    ensures { (start ≤ result) × (result ≤ length bytes.now) }
+    ensures { result ≡ start + prefix_len is_plain (drop start bytes.now) }
 {
     let mut end = start;
     while end < bytes.len() && is_plain(bytes[end]) {
@@ -49,28 +50,25 @@ fn plain_end(bytes: &[u8], start: usize) -> usize
     end
 }
 
-/// Reads the name without quotes that begins at a place.
-fn plain_name(alloc: Global, bytes: &[u8], start: usize) -> Result<Found, PathError>
-    requires { start ≤ length bytes.now }
-    ensures { IfOk result (λ found. (start < found.end) × (found.end ≤ length bytes.now)) }
+/// Reads the name without quotes that begins at a place, behind its dot.
+fn plain_name(alloc: Global, text: &str, start: usize) -> Result<Found, PathError>
+    requires starts { IsCharBoundary text.now start }
+    requires unquoted { slice_index text.now start ≢ quote }
+    ensures { Finds text.now start (dot ∷ drop start text.now) result }
 {
-    let end = plain_end(bytes, start);
+    let end = plain_end(text.as_bytes(), start);
     if end == start {
         return Err(PathError::Invalid);
     }
-    match String::from_utf8(Vec::from_slice(alloc, &bytes[start..end])?) {
-        Ok(name) => Ok(Found {
-            step: Step::Name(name),
-            end,
-        }),
-        Err(_) => Err(PathError::Invalid),
-    }
+    let name = String::from_str(alloc, &text[start..end])?;
+    let step = PatternStep::Exactly(Step::Name(name));
+    Ok(Found { step, end })
 }
 
 /// Returns the place behind the quote that ends a name, whose first quote stands at a place.
 fn quoted_end(bytes: &[u8], start: usize) -> Option<usize>
     requires { start < length bytes.now }
-    ensures { IfSome result (λ end. (start < end) × (end ≤ length bytes.now)) }
+    ensures { result ≡ option_map (λ n. start + 2 + n) (up_to_quote false (drop (start + 1) bytes.now)) }
 {
     let mut is_escaped = false;
     for at in start + 1..bytes.len() {
@@ -83,7 +81,10 @@ fn quoted_end(bytes: &[u8], start: usize) -> Option<usize>
 }
 
 /// Returns the text that a string of JSON writes.
-fn unquoted(alloc: Global, quoted: &str) -> Result<String, PathError> {
+fn unquoted(alloc: Global, quoted: &str) -> Result<String, PathError>
+    ensures read { IfOk result (λ name. document quoted.now ≡ Some (string (string_bytes name))) }
+    ensures invalid { IfErr result (λ e. IsInvalid e → (k : _) → document quoted.now ≢ Some (string k)) }
+{
     let mut scratch = Scratch::new(alloc);
     match Value::parse(alloc, quoted, &mut scratch) {
         Ok(Value::String(text)) => Ok(String::from_str(alloc, text)?),
@@ -93,128 +94,116 @@ fn unquoted(alloc: Global, quoted: &str) -> Result<String, PathError> {
     }
 }
 
-/// Reads the name within quotes that begins at a place.
-fn quoted_name(alloc: Global, bytes: &[u8], start: usize) -> Result<Found, PathError>
-    requires { start < length bytes.now }
-    ensures { IfOk result (λ found. (start < found.end) × (found.end ≤ length bytes.now)) }
+/// Reads the name within quotes that begins at a place, behind its dot.
+fn quoted_name(alloc: Global, text: &str, start: usize) -> Result<Found, PathError>
+    requires within { start < length text.now }
+    requires quoted { slice_index text.now start ≡ quote }
+    ensures { Finds text.now start (dot ∷ drop start text.now) result }
 {
-    let Some(end) = quoted_end(bytes, start) else {
+    let Some(end) = quoted_end(text.as_bytes(), start) else {
         return Err(PathError::Invalid);
     };
-    match from_utf8(&bytes[start..end]) {
-        Ok(quoted) => Ok(Found {
-            step: Step::Name(unquoted(alloc, quoted)?),
-            end,
-        }),
-        Err(_) => Err(PathError::Invalid),
-    }
+    let name = unquoted(alloc, &text[start..end])?;
+    let step = PatternStep::Exactly(Step::Name(name));
+    Ok(Found { step, end })
 }
 
-/// Returns a number with a digit more behind it, unless it is too large.
-fn with_digit(number: usize, digit: u8) -> Option<usize> {
-    number.checked_mul(10)?.checked_add(usize::from(digit))
-}
-
-/// Reads the number of a place, whose digits begin at a place, and the bracket behind it.
-fn item_place(bytes: &[u8], start: usize) -> Result<Found, PathError>
-    requires { start ≤ length bytes.now }
-    ensures { IfOk result (λ found. (start < found.end) × (found.end ≤ length bytes.now)) }
+/// Reads the name that begins at a place, behind its dot.
+fn name_at(alloc: Global, text: &str, start: usize) -> Result<Found, PathError>
+    requires { IsCharBoundary text.now start }
+    ensures { Finds text.now start (dot ∷ drop start text.now) result }
 {
-    let mut place: usize = 0;
-    for at in start..bytes.len() {
-        if bytes[at] == b']' && start < at {
-            return Ok(Found {
-                step: Step::Place(place),
-                end: at + 1,
-            });
-        }
-        if !bytes[at].is_ascii_digit() {
-            return Err(PathError::Invalid);
-        }
-        let Some(longer) = with_digit(place, bytes[at] - b'0') else {
-            return Err(PathError::Invalid);
-        };
-        place = longer;
+    if start < text.len() && text.as_bytes()[start] == b'"' {
+        return quoted_name(alloc, text, start);
     }
-    Err(PathError::Invalid)
+    plain_name(alloc, text, start)
 }
 
-/// Reads the step that begins at a place.
-fn step_at(alloc: Global, bytes: &[u8], start: usize) -> Result<Found, PathError>
-    requires { start < length bytes.now }
-    ensures { IfOk result (λ found. (start < found.end) × (found.end ≤ length bytes.now)) }
+/// Returns the place that decimal digits write.
+fn place_of(digits: &str) -> Option<usize>
+    ensures { MatchOption result ((i : _) → ¬ (IsPlaceText digits.now i)) (λ i. IsPlaceText digits.now i) }
 {
-    match bytes[start] {
-        b'[' => item_place(bytes, start + 1),
-        b'.' => {
-            if bytes.get(start + 1) == Some(&b'"') {
-                return quoted_name(alloc, bytes, start + 1);
-            }
-            plain_name(alloc, bytes, start + 1)
-        }
-        _ => {
-            if start > 0 {
-                return Err(PathError::Invalid);
-            }
-            plain_name(alloc, bytes, start)
-        }
+    if digits.starts_with('+') {
+        return None;
     }
+    digits.parse::<usize>().ok()
 }
 
-/// Returns the path that a text writes. It has a step at least.
-pub fn parse_path(alloc: Global, text: &str) -> Result<Path, PathError>
-    ensures { IfOk result (λ path. path_view path ≢ []) }
+/// Reads the place that begins at a place, behind its bracket.
+fn item_at(text: &str, start: usize) -> Result<Found, PathError>
+    requires { IsCharBoundary text.now start }
+    ensures { Finds text.now start (open_bracket ∷ drop start text.now) result }
 {
     let bytes = text.as_bytes();
-    if bytes.is_empty() {
+    let end = plain_end(bytes, start);
+    if end == bytes.len() || bytes[end] != b']' {
         return Err(PathError::Invalid);
     }
-    let first = step_at(alloc, bytes, 0)?;
-    let mut end = first.end;
+    let behind = end + 1;
+    if end == start {
+        let step = PatternStep::AnyItem;
+        return Ok(Found { step, end: behind });
+    }
+    let Some(place) = place_of(&text[start..end]) else {
+        return Err(PathError::Invalid);
+    };
+    let step = PatternStep::Exactly(Step::Place(place));
+    Ok(Found { step, end: behind })
+}
+
+/// Reads the step that begins at a place. Before the first name the dot may be missing.
+fn step_at(alloc: Global, text: &str, start: usize) -> Result<Found, PathError>
+    requires { start < length text.now }
+    ensures { Finds text.now start (left_at text.now start) result }
+{
+    let byte = text.as_bytes()[start];
+    if byte == b'[' {
+        return item_at(text, start + 1);
+    }
+    if byte == b'.' {
+        return name_at(alloc, text, start + 1);
+    }
+    if start > 0 || !is_plain(byte) {
+        return Err(PathError::Invalid);
+    }
+    plain_name(alloc, text, start)
+}
+
+/// Returns the path that a text writes, or says that it writes none.
+pub fn parse_path(alloc: Global, text: &str) -> Result<Path, PathError>
+    ensures read { IfOk result (λ path. IsPathText text.now (path_view path)) }
+    ensures invalid { IfErr result (λ e. IsInvalid e → IsNoPath text.now) }
+{
+    if text.is_empty() {
+        return Err(PathError::Invalid);
+    }
+    let mut end = 0;
     let mut steps = Vec::new(alloc);
-    steps.push(first.step)?;
-    while end < bytes.len() {
-        let found = step_at(alloc, bytes, end)?;
-        end = found.end;
-        steps.push(found.step)?;
+    while end < text.len() {
+        let Found { step, end: behind } = step_at(alloc, text, end)?;
+        let PatternStep::Exactly(step) = step else {
+            return Err(PathError::Invalid);
+        };
+        steps.push(step)?;
+        end = behind;
     }
     Ok(Path { steps })
 }
 
-/// Reads the step of a pattern that begins at a place.
-fn pattern_step_at(alloc: Global, bytes: &[u8], start: usize) -> Result<FoundPattern, PathError>
-    requires { start < length bytes.now }
-    ensures { IfOk result (λ found. (start < found.end) × (found.end ≤ length bytes.now)) }
-{
-    if bytes[start] == b'[' && bytes.get(start + 1) == Some(&b']') {
-        return Ok(FoundPattern {
-            step: PatternStep::AnyItem,
-            end: start + 2,
-        });
-    }
-    let found = step_at(alloc, bytes, start)?;
-    Ok(FoundPattern {
-        step: PatternStep::Exactly(found.step),
-        end: found.end,
-    })
-}
-
-/// Returns the pattern that a text writes. It has a step at least.
+/// Returns the pattern that a text writes, or says that it writes none.
 pub fn parse_pattern(alloc: Global, text: &str) -> Result<Pattern, PathError>
-    ensures { IfOk result (λ pattern. pattern_view pattern ≢ []) }
+    ensures read { IfOk result (λ pattern. IsPatternText text.now (pattern_view pattern)) }
+    ensures invalid { IfErr result (λ e. IsInvalid e → IsNoPattern text.now) }
 {
-    let bytes = text.as_bytes();
-    if bytes.is_empty() {
+    if text.is_empty() {
         return Err(PathError::Invalid);
     }
-    let first = pattern_step_at(alloc, bytes, 0)?;
-    let mut end = first.end;
+    let mut end = 0;
     let mut steps = Vec::new(alloc);
-    steps.push(first.step)?;
-    while end < bytes.len() {
-        let found = pattern_step_at(alloc, bytes, end)?;
-        end = found.end;
-        steps.push(found.step)?;
+    while end < text.len() {
+        let Found { step, end: behind } = step_at(alloc, text, end)?;
+        steps.push(step)?;
+        end = behind;
     }
     Ok(Pattern { steps })
 }
