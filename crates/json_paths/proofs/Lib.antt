@@ -1,7 +1,9 @@
 mod Examples
+mod ExampleTexts
 mod PatternExamples
 mod ShapeLemmas
 mod QuoteLemmas
 mod StepLemmas
 mod PlaceLemmas
 mod LoopLemmas
+mod OneLemmas

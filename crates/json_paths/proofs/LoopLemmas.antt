@@ -43,7 +43,8 @@ steps_end d end steps some ends f =
     let all = subst (AreSteps (with_dot d)) (append-nil steps) (f.back [] none) in
     (λ e. dotted d some (subst (AreSteps (with_dot d)) e all), all)
 
-nothing : (all : Pattern) → all ≢ [] → AreSteps [] all → ⊥
+-- no step is written by nothing
+pub nothing : (all : Pattern) → all ≢ [] → AreSteps [] all → ⊥
 nothing [] some h = some refl
 nothing (exactly (name k) ∷ more) some (front, rest, e, (written, s, _), _) = let no : [] ≡ 46 ∷ (written ++ rest) = e ∙ ap (λ f. f ++ rest) s in absurd (cc)
 nothing (exactly (place i) ∷ more) some (front, rest, e, (ds, s, _), _) = let no : [] ≡ 91 ∷ ((ds ++ 93 ∷ []) ++ rest) = e ∙ ap (λ f. f ++ rest) s in absurd (cc)

@@ -21,10 +21,10 @@ run = prefix_len is_plain
 
 -- ---- a name without quotes
 
-run_is : (t k rest : List ℕ) (more : Pattern) → t ≡ k ++ rest → IsPlainName k → AreSteps rest more → run t ≡ length k
+pub run_is : (t k rest : List ℕ) (more : Pattern) → t ≡ k ++ rest → IsPlainName k → AreSteps rest more → run t ≡ length k
 run_is t k rest more e p a = ap run e ∙ run_len k rest p.1 (steps_stop rest more a)
 
-run_of_other : (t u : List ℕ) (x : ℕ) → t ≡ x ∷ u → is_plain x ≡ false → run t ≡ 0
+pub run_of_other : (t u : List ℕ) (x : ℕ) → t ≡ x ∷ u → is_plain x ≡ false → run t ≡ 0
 run_of_other t u x e h = ap run e ∙ ap (λ b. cond b (1 + run u) 0) h
 
 -- the steps that a shape ends with, seen at the end of its first step
@@ -67,7 +67,7 @@ no_plain t z q all h = no_plain_shape t all z q (shape 46 t all h)
 ends_so : (u : List ℕ) (n : ℕ) → IsQuoteAt u n → take (n + 1) u ≡ take n u ++ 34 ∷ []
 ends_so u n w = take_more u n 0 w.within ∙ ap (λ x. take n u ++ x ∷ []) w.byte
 
-cut_at : (p q u : List ℕ) (x n : ℕ) → u ≡ p ++ x ∷ q → length p ≡ n → (take n u ≡ p) × (drop (n + 1) u ≡ q) × (n < length u) × (get_or u n 0 ≡ x)
+pub cut_at : (p q u : List ℕ) (x n : ℕ) → u ≡ p ++ x ∷ q → length p ≡ n → (take n u ≡ p) × (drop (n + 1) u ≡ q) × (n < length u) × (get_or u n 0 ≡ x)
 cut_at p q u x n e l =
     let behind : u ≡ (p ++ x ∷ []) ++ q = e ∙ sym (append_assoc p (x ∷ []) q) in
     let more : length (p ++ x ∷ []) ≡ n + 1 = omega (arith, length-append p (x ∷ []), l) in
@@ -127,7 +127,7 @@ digits_plain : (ds : List ℕ) → AllDigits 10 ds → AllByRecursion (λ x. is_
 digits_plain [] h = tt
 digits_plain (x ∷ ds) h = (digit_plain x h.0, digits_plain ds h.1)
 
-place_run : (t ds rest : List ℕ) (i : ℕ) → t ≡ ds ++ 93 ∷ rest → IsPlaceText ds i → run t ≡ length ds
+pub place_run : (t ds rest : List ℕ) (i : ℕ) → t ≡ ds ++ 93 ∷ rest → IsPlaceText ds i → run t ≡ length ds
 place_run t ds rest i e p = ap run e ∙ run_len ds (93 ∷ rest) (digits_plain ds p.0.1) refl
 
 module _ (t : List ℕ) (i : ℕ) (digits : IsPlaceText (take (run t) t) i) (within : run t < length t) (closes : get_or t (run t) 0 ≡ 93) where

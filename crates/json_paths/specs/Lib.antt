@@ -1,4 +1,5 @@
 pub mod Errors
+pub mod Laws
 pub mod Paths
 pub mod PatternViews
 pub mod Patterns
