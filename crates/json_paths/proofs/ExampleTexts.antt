@@ -27,9 +27,22 @@ fits = omega arith
 
 -- a.b[0]
 two-names : IsPathText (codes "a.b[0]") (name (codes "a") ∷ name (codes "b") ∷ place 0 ∷ [])
-two-names = (some _ _, (codes ".a", codes ".b[0]", refl, (codes "a", refl, inl (refl, (one, (refl, tt)))),
-    (codes ".b", codes "[0]", refl, (codes "b", refl, inl (refl, (one, (refl, tt)))),
-    (codes "[0]", [], refl, (codes "0", refl, ((one, (small, tt)), refl, fits)), refl))))
+two-names = (
+  some _ _,
+  (
+    codes ".a",
+    codes ".b[0]",
+    refl,
+    (codes "a", refl, inl (refl, (one, (refl, tt)))),
+    (
+      codes ".b",
+      codes "[0]",
+      refl,
+      (codes "b", refl, inl (refl, (one, (refl, tt)))),
+      (codes "[0]", [], refl, (codes "0", refl, ((one, (small, tt)), refl, fits)), refl),
+    ),
+  ),
+)
 
 -- the same with its first dot
 dotted : IsPathText (codes ".a.b[0]") (name (codes "a") ∷ name (codes "b") ∷ place 0 ∷ [])
@@ -42,9 +55,22 @@ quoted-name = (some _ _, (codes ".\"a.b\"", [], refl, (codes "\"a.b\"", refl, in
 
 -- items[].price
 any-price : IsPatternText (codes "items[].price") (exactly (name (codes "items")) ∷ any_item ∷ exactly (name (codes "price")) ∷ [])
-any-price = (some _ _, (codes ".items", codes "[].price", refl, (codes "items", refl, inl (refl, (five, (refl, (refl, (refl, (refl, (refl, tt)))))))),
-    (codes "[]", codes ".price", refl, refl,
-    (codes ".price", [], refl, (codes "price", refl, inl (refl, (five, (refl, (refl, (refl, (refl, (refl, tt)))))))), refl))))
+any-price = (
+  some _ _,
+  (
+    codes ".items",
+    codes "[].price",
+    refl,
+    (codes "items", refl, inl (refl, (five, (refl, (refl, (refl, (refl, (refl, tt)))))))),
+    (
+      codes "[]",
+      codes ".price",
+      refl,
+      refl,
+      (codes ".price", [], refl, (codes "price", refl, inl (refl, (five, (refl, (refl, (refl, (refl, (refl, tt)))))))), refl),
+    ),
+  ),
+)
 
 -- [] is the step to any item, and so no path
 no-place : IsNoPath (codes "[]")

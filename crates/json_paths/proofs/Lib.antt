@@ -7,3 +7,4 @@ mod StepLemmas
 mod PlaceLemmas
 mod LoopLemmas
 mod OneLemmas
+mod WrittenLemmas

@@ -1,7 +1,8 @@
 -- Laws of texts.
-use Rattle.std.specs.Prelude.{◌≡◌, ℕ, List}
-use Rattle.json_paths.specs.Paths.{Path}
-use Rattle.json_paths.specs.Patterns.{Pattern}
+use Rattle.std.specs.Prelude.{◌≡◌, ◌≢◌, ◌<◌, ◌^◌, ⊤, ℕ, List, []}
+use Rattle.std.specs.List.{AllByRecursion}
+use Rattle.json_paths.specs.Paths.{Path, name, place}
+use Rattle.json_paths.specs.Patterns.{Pattern, PatternStep, exactly, any_item}
 use Rattle.json_paths.specs.Texts.{IsPathText, IsPatternText}
 
 -- a text writes one path at most
@@ -11,3 +12,13 @@ OnePath = (text : List ℕ) (p q : Path) → IsPathText text p → IsPathText te
 -- a text writes one pattern at most
 abbrev pub OnePattern : Type 0
 OnePattern = (text : List ℕ) (p q : Pattern) → IsPatternText text p → IsPatternText text q → p ≡ q
+
+-- a step whose place is a number of 64 bits
+abbrev pub Fits : PatternStep → Type 0
+Fits (exactly (name k)) = ⊤
+Fits (exactly (place i)) = i < 2 ^ 64
+Fits any_item = ⊤
+
+-- some text writes each pattern, whatever its names
+abbrev pub EachHasAText : Type 0
+EachHasAText = (pattern : Pattern) → pattern ≢ [] → AllByRecursion Fits pattern → (text : List ℕ) × IsPatternText text pattern

@@ -26,7 +26,7 @@ IsQuotedName text k = (inner : List ℕ) × (text ≡ quote ∷ (inner ++ quote 
 abbrev pub IsPlaceText : List ℕ → ℕ → Type 0
 IsPlaceText digits i = IsNumeral 10 digits × (digits_value 10 digits ≡ i) × (i < 2 ^ 64)
 
--- a step: a dot and a name, or a place within brackets, where no place is any
+-- a step: a dot and a name, or a place within brackets, which are empty for any item
 abbrev pub IsStepText : List ℕ → PatternStep → Type 0
 IsStepText text (exactly (name k)) = (written : List ℕ) × (text ≡ dot ∷ written) × (((written ≡ k) × IsPlainName k) ⊎ IsQuotedName written k)
 IsStepText text (exactly (place i)) = (digits : List ℕ) × (text ≡ open_bracket ∷ (digits ++ close_bracket ∷ [])) × IsPlaceText digits i
@@ -50,9 +50,10 @@ IsPatternText text pattern = (pattern ≢ []) × AreSteps (with_dot text) patter
 abbrev pub IsPathText : List ℕ → Path → Type 0
 IsPathText text path = IsPatternText text (map exactly path)
 
--- no path has the text, or no pattern
+-- no path has the text
 abbrev pub IsNoPath : List ℕ → Type 0
 IsNoPath text = (path : Path) → ¬ (IsPathText text path)
 
+-- no pattern has the text
 abbrev pub IsNoPattern : List ℕ → Type 0
 IsNoPattern text = (pattern : Pattern) → ¬ (IsPatternText text pattern)

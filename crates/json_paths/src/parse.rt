@@ -16,7 +16,7 @@ ghost use Rattle.json_paths.specs.Reading.{Finds, left_at, up_to_quote};
 ghost use Rattle.json_paths.specs.Texts.{is_plain, IsNoPath, IsNoPattern, IsPathText, IsPatternText, IsPlaceText};
 ghost use Rattle.json_paths.specs.Views.{path_view};
 ghost use Rattle.std.specs.List.{prefix_len};
-ghost use Rattle.std.specs.Prelude.{◌≡◌, ◌≢◌, ◌+◌, ◌<◌, ◌≤◌, ◌∷◌, [], Some, false, length, drop, map, option_map, slice_index, string_bytes, IfOk, IfErr, MatchOption, IsCharBoundary};
+ghost use Rattle.std.specs.Prelude.{◌≡◌, ◌≢◌, ◌+◌, ◌<◌, ◌≤◌, ◌∷◌, [], Some, false, length, drop, option_map, slice_index, string_bytes, IfOk, IfErr, MatchOption, IsCharBoundary};
 
 use crate::error::PathError;
 use crate::path::{Path, Step};
@@ -119,7 +119,7 @@ fn name_at(alloc: Global, text: &str, start: usize) -> Result<Found, PathError>
     plain_name(alloc, text, start)
 }
 
-/// Returns the place that decimal digits write.
+/// Returns the place that a text writes, where this is decimal digits.
 fn place_of(digits: &str) -> Option<usize>
     ensures { MatchOption result ((i : _) → ¬ (IsPlaceText digits.now i)) (λ i. IsPlaceText digits.now i) }
 {
@@ -129,7 +129,7 @@ fn place_of(digits: &str) -> Option<usize>
     digits.parse::<usize>().ok()
 }
 
-/// Reads the place that begins at a place, behind its bracket.
+/// Reads what stands within brackets, behind the first of them: a place, or nothing for any item.
 fn item_at(text: &str, start: usize) -> Result<Found, PathError>
     requires { IsCharBoundary text.now start }
     ensures { Finds text.now start (open_bracket ∷ drop start text.now) result }
