@@ -1,0 +1,23 @@
+-- A text that is written safely, a byte at a time.
+use Rattle.std.proofs.Common.{◌≡◌, ◌<◌, ◌≤◌, ◌+◌, ℕ, List, [], ◌++◌, length, get_or, drop, arith, ap, sym, ◌∙◌}
+use Rattle.std.proofs.lemmas.List.{append_assoc, append-nil, at_drop_more, get_or-drop}
+use Rattle.std.proofs.Math.ListN.{drop_of_length-le}
+use Rattle.diff_markdown.specs.Escapes.{safe_behind, safe_byte}
+
+-- what is written and what is still to be written, a byte on
+pub byte_written : (all now after : List ℕ) (before b next : ℕ) (bytes : List ℕ) (i : ℕ) → i < length bytes
+    → now ++ safe_behind before (drop i bytes) ≡ all → after ≡ now ++ safe_byte before b next → b ≡ get_or bytes i 0 → next ≡ get_or bytes (i + 1) 0
+    → after ++ safe_behind b (drop (i + 1) bytes) ≡ all
+byte_written all now after before b next bytes i within rest a e n =
+    let step : safe_behind before (drop i bytes) ≡ safe_byte before (get_or bytes i 0) (get_or (drop (i + 1) bytes) 0 0) ++ safe_behind (get_or bytes i 0) (drop (i + 1) bytes) =
+    at_drop_more (safe_behind before) bytes i 0 within in
+    let place : i + 1 + 0 ≡ i + 1 = omega arith in
+    let look : get_or (drop (i + 1) bytes) 0 0 ≡ get_or bytes (i + 1) 0 = get_or-drop (i + 1) bytes 0 0 ∙ ap (λ k. get_or bytes k 0) place in
+    let both : safe_behind before (drop i bytes) ≡ safe_byte before b next ++ safe_behind b (drop (i + 1) bytes) = rw (e, n, ← look) step in
+    ap (λ l. l ++ safe_behind b (drop (i + 1) bytes)) a ∙ (append_assoc now (safe_byte before b next) (safe_behind b (drop (i + 1) bytes)) ∙ (ap (λ l. now ++ l) (sym both) ∙ rest))
+
+-- behind the last byte nothing is still to be written
+pub all_written : (all now : List ℕ) (before : ℕ) (bytes : List ℕ) (i : ℕ) → length bytes ≤ i → now ++ safe_behind before (drop i bytes) ≡ all → now ≡ all
+all_written all now before bytes i past rest =
+    let none : drop i bytes ≡ [] = drop_of_length-le bytes past in
+    sym (append-nil now) ∙ (ap (λ l. now ++ safe_behind before l) (sym none) ∙ rest)

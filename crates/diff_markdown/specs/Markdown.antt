@@ -1,0 +1,69 @@
+-- A report as Markdown: a line with the counts, and a table of the differences.
+use Rattle.std.specs.List.{flat_map}
+use Rattle.std.specs.Prelude.{ℕ, ◌==◌, if◌then◌else◌, List, [], ◌++◌, length, codes, Option, Some, None, option_and_then, option_map, All, IsSome}
+use Rattle.std.specs.Str.{bytes_eq, IsUtf8}
+use Rattle.std.specs.Str.Lines.{lines}
+use Rattle.json.specs.Json.{Json, document}
+use Rattle.diff_markdown.specs.declared.line.Kind.{Kind}
+use Rattle.diff_markdown.specs.declared.line.Kind.TheVariants.{Column, Changed, Removed, Added, Counts}
+use Rattle.diff_markdown.specs.Cells.{name_cell}
+use Rattle.diff_markdown.specs.Counts.{counts_text}
+use Rattle.diff_markdown.specs.Rows.{added_row, changed_rows, column_row, removed_row, string_at}
+
+-- the kind of line that a word names
+unfoldable pub kind_named : List ℕ → Option Kind
+kind_named word =
+    if bytes_eq word (codes "column") then Some Column
+    else (if bytes_eq word (codes "changed") then Some Changed
+    else (if bytes_eq word (codes "removed") then Some Removed
+    else (if bytes_eq word (codes "added") then Some Added
+    else (if bytes_eq word (codes "counts") then Some Counts else None))))
+
+-- the kind of a line and its value, where it is JSON with a kind
+unfoldable pub line_of : List ℕ → Option (Kind × Json)
+line_of line = option_and_then (λ j. option_map (λ k. (k, j)) (kind_named (string_at (codes "kind") j))) (document line)
+
+-- what a line gives to the table
+abbrev pub rows_by : Kind → Json → List ℕ
+rows_by Column j = column_row j
+rows_by Changed j = changed_rows j
+rows_by Removed j = removed_row j
+rows_by Added j = added_row j
+rows_by Counts j = []
+
+-- what a line gives to the head
+abbrev pub counts_by : Kind → Json → List ℕ
+counts_by Column j = []
+counts_by Changed j = []
+counts_by Removed j = []
+counts_by Added j = []
+counts_by Counts j = counts_text j
+
+abbrev pub rows_in : Option (Kind × Json) → List ℕ
+rows_in None = []
+rows_in (Some p) = rows_by p.0 p.1
+
+abbrev pub counts_in : Option (Kind × Json) → List ℕ
+counts_in None = []
+counts_in (Some p) = counts_by p.0 p.1
+
+-- the rows of some lines
+abbrev pub rows_of : List (List ℕ) → List ℕ
+rows_of = flat_map (λ l. rows_in (line_of l))
+
+-- the counts in some lines
+abbrev pub counts_of : List (List ℕ) → List ℕ
+counts_of = flat_map (λ l. counts_in (line_of l))
+
+-- a table of these rows, if there are any
+abbrev pub table : List ℕ → List ℕ
+table rows = if length rows == 0 then [] else codes "\n| | Key | Part | Left | Right |\n|---|---|---|---|---|\n" ++ rows
+
+-- a report of two files as Markdown
+unfoldable pub markdown_of : List ℕ → List ℕ → List ℕ → List ℕ
+markdown_of left right report = name_cell left ++ codes " and " ++ name_cell right ++ counts_of (lines report) ++ codes "\n" ++ table (rows_of (lines report))
+
+-- a text is a report: each line is JSON with a kind
+pub record IsReport (text : List ℕ) : Type 0 where
+  pub utf8 : IsUtf8 text
+  pub each : All (λ l. IsSome (line_of l)) (lines text)

@@ -1,0 +1,74 @@
+//! Texts that stay within their code spans and cells.
+
+ghost use Rattle.std.specs.Fmt.{digit_glyph};
+ghost use Rattle.std.specs.Prelude.{◌≡◌, ◌<◌, ◌++◌, false, get_or, OnOk};
+ghost use Rattle.diff_markdown.specs.Escapes.{is_escaped, is_high_control, safe, safe_byte, unicode_escape};
+
+use std::alloc::AllocError;
+
+/// Returns whether two bytes are a control character from U+0080 to U+009F in UTF-8.
+fn is_high_control(first: u8, second: u8) -> bool
+    ensures { result ≡ is_high_control first second }
+{
+    first == 194 && 127 < second && second < 160
+}
+
+/// Returns whether a byte behind another one is a mark of Markdown or ends a control character.
+fn is_escaped(before: u8, byte: u8) -> bool
+    ensures { result ≡ is_escaped before byte }
+{
+    byte == b'`' || byte == b'|' || byte == 127 || is_high_control(before, byte)
+}
+
+/// Returns a hexadecimal digit, in small letters.
+fn hex_digit(n: u8) -> u8
+    requires { n < 16 }
+    ensures { result ≡ digit_glyph false n }
+{
+    if n < 10 { b'0' + n } else { b'a' + (n - 10) }
+}
+
+/// Appends a character below 256 as `\u` and four hexadecimal digits.
+fn push_escape(out: &mut Vec<u8>, code: u8) -> Result<(), AllocError>
+    ensures { OnOk result (out.new.items ≡ out.old.items ++ unicode_escape code) }
+{
+    out.extend_from_slice(b"\\u00")?;
+    out.push(hex_digit(code / 16))?;
+    out.push(hex_digit(code % 16))?;
+    Ok(())
+}
+
+/// Appends what stands for a byte between two others.
+#[tactic(auto, unfolding(crate::specs::Escapes::safe_byte))]
+fn push_byte(out: &mut Vec<u8>, before: u8, byte: u8, after: u8) -> Result<(), AllocError>
+    ensures { OnOk result (out.new.items ≡ out.old.items ++ safe_byte before byte after) }
+{
+    if is_high_control(byte, after) {
+        return Ok(());
+    }
+    if is_escaped(before, byte) {
+        push_escape(out, byte)?;
+        return Ok(());
+    }
+    out.push(byte)?;
+    Ok(())
+}
+
+/// Returns byte `i`, or 0 where there is none.
+fn byte_at(bytes: &[u8], i: usize) -> u8
+    ensures { result ≡ get_or bytes.now i 0 }
+{
+    if i < bytes.len() { bytes[i] } else { 0 }
+}
+
+/// Appends a text that ends no code span and no cell.
+pub(crate) fn push_safe(out: &mut Vec<u8>, text: &[u8]) -> Result<(), AllocError>
+    ensures { OnOk result (out.new.items ≡ out.old.items ++ safe text.now) }
+{
+    let mut before = 0;
+    for i in 0..text.len() {
+        push_byte(out, before, text[i], byte_at(text, i + 1))?;
+        before = text[i];
+    }
+    Ok(())
+}

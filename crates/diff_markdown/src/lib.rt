@@ -1,0 +1,5 @@
+//! Reports as Markdown, for the texts of pull requests.
+#![tactic(auto)]
+
+mod escapes;
+mod line;
