@@ -1,1 +1,4 @@
+pub mod LineLemmas
+pub mod PartLemmas
 pub mod SafeLemmas
+pub mod TextLemmas

@@ -2,8 +2,9 @@
 --
 -- The string Oslo is `"Oslo"`, the member id with 7 is `id=7`, and the member "a b" with null is `"a b"=null`.
 use Rattle.std.specs.List.{list_all}
-use Rattle.std.specs.Prelude.{ℕ, ◌==◌, Bool, not, ◌&&◌, nat_lt, if◌then◌else◌, List, [], ◌∷◌, ◌++◌, length, codes, Option, Some, None}
-use Rattle.json.specs.Json.{Json, null, boolean, number, string, array, object, Members, no_members, member}
+use Rattle.std.specs.Prelude.{ℕ, ◌==◌, Bool, not, ◌&&◌, nat_lt, if◌then◌else◌, List, [], ◌∷◌, ◌++◌, length, codes, Option, Some, None, option_and_then}
+use Rattle.json.specs.Find.{as_object}
+use Rattle.json.specs.Json.{Json, string, Members, no_members, member}
 use Rattle.json.specs.Print.{print}
 use Rattle.json.specs.Tree.{json_tokens}
 use Rattle.diff_markdown.specs.Escapes.{safe}
@@ -39,7 +40,7 @@ side_cell None = codes "missing"
 side_cell (Some j) = value_cell j
 
 -- a member within a code span
-abbrev pub pair_cell : List ℕ → Json → List ℕ
+unfoldable pub pair_cell : List ℕ → Json → List ℕ
 pair_cell name j = codes "`" ++ name_text name ++ codes "=" ++ value_text j ++ codes "`"
 
 -- members one after another, with commas between them, and something before the first
@@ -47,12 +48,11 @@ abbrev pub pairs_after : List ℕ → Members → List ℕ
 pairs_after gap no_members = []
 pairs_after gap (member name j rest) = gap ++ pair_cell name j ++ pairs_after (codes ", ") rest
 
+-- the members that there are
+abbrev pub pairs_in : Option Members → List ℕ
+pairs_in None = []
+pairs_in (Some ms) = pairs_after [] ms
+
 -- the members of a part that is an object
 unfoldable pub pairs_cell : Option Json → List ℕ
-pairs_cell None = []
-pairs_cell (Some null) = []
-pairs_cell (Some (boolean b)) = []
-pairs_cell (Some (number s)) = []
-pairs_cell (Some (string s)) = []
-pairs_cell (Some (array js)) = []
-pairs_cell (Some (object ms)) = pairs_after [] ms
+pairs_cell part = pairs_in (option_and_then as_object part)

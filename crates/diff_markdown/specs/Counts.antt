@@ -7,6 +7,7 @@ use Rattle.std.specs.Str.{bytes_eq}
 use Rattle.json.specs.Find.{get}
 use Rattle.json.specs.Json.{Json}
 use Rattle.diff_markdown.specs.Cells.{pairs_cell}
+use Rattle.diff_markdown.specs.Escapes.{safe}
 use Rattle.diff_markdown.specs.Rows.{number_at, number_cell}
 
 -- how many rows are of each kind
@@ -26,9 +27,9 @@ skipped_note j =
     else codes " Skipped lines: " ++ number_cell (codes "left_skipped") j ++ codes " left, " ++ number_cell (codes "right_skipped") j ++ codes " right."
 
 -- how many differences the report leaves out, if it does
-unfoldable pub hidden_note : Json → List ℕ
-hidden_note j = if bytes_eq (number_at (codes "not_shown") j) (codes "0") then [] else codes " Not shown: " ++ number_cell (codes "not_shown") j ++ codes " more."
+abbrev pub hidden_note : List ℕ → List ℕ
+hidden_note count = if bytes_eq count (codes "0") then [] else codes " Not shown: " ++ safe count ++ codes " more."
 
 -- the counts of a report
 unfoldable pub counts_text : Json → List ℕ
-counts_text j = kinds_text j ++ columns_note (pairs_cell (get (codes "columns") j)) ++ skipped_note j ++ hidden_note j
+counts_text j = kinds_text j ++ columns_note (pairs_cell (get (codes "columns") j)) ++ skipped_note j ++ hidden_note (number_at (codes "not_shown") j)

@@ -1,5 +1,6 @@
 pub mod Cells
 pub mod Counts
+pub mod Errors
 pub mod Escapes
 pub mod Laws
 pub mod Markdown

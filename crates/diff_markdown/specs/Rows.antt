@@ -3,8 +3,8 @@
 -- {"kind":"removed","key":{"id":"2"},"row":2,"line":3} is the row | removed | `id="2"` | | line 3 | |
 use Rattle.std.specs.Prelude.{ℕ, ◌==◌, if◌then◌else◌, List, [], ◌++◌, length, codes, Option, Some, None, option_and_then, unwrap_or}
 use Rattle.std.specs.Str.{bytes_eq}
-use Rattle.json.specs.Find.{as_number, as_str, get}
-use Rattle.json.specs.Json.{Json, null, boolean, number, string, array, object, Items, no_items, item, Members, no_members, member}
+use Rattle.json.specs.Find.{as_array, as_number, as_object, as_str, get}
+use Rattle.json.specs.Json.{Json, Items, no_items, item, Members, no_members, member}
 use Rattle.diff_markdown.specs.Cells.{name_cell, pairs_cell, side_cell}
 use Rattle.diff_markdown.specs.Escapes.{safe}
 
@@ -44,15 +44,18 @@ abbrev pub item_rows : List ℕ → Items → List ℕ
 item_rows name no_items = []
 item_rows name (item change rest) = change_row name (string_at (codes "path") change) change ++ item_rows name rest
 
+-- the rows of the parts that there are, of which an object has the names and an array the paths
+abbrev pub rows_in_object : List ℕ → Option Members → List ℕ
+rows_in_object name None = []
+rows_in_object name (Some changes) = member_rows name changes
+
+abbrev pub rows_in_array : List ℕ → Option Items → List ℕ
+rows_in_array name None = []
+rows_in_array name (Some changes) = item_rows name changes
+
 -- the rows of the parts of a row that differ
 unfoldable pub change_rows : List ℕ → Option Json → List ℕ
-change_rows name None = []
-change_rows name (Some null) = []
-change_rows name (Some (boolean b)) = []
-change_rows name (Some (number s)) = []
-change_rows name (Some (string s)) = []
-change_rows name (Some (array changes)) = item_rows name changes
-change_rows name (Some (object changes)) = member_rows name changes
+change_rows name part = rows_in_object name (option_and_then as_object part) ++ rows_in_array name (option_and_then as_array part)
 
 -- the rows of a row that changed
 abbrev pub changed_rows : Json → List ℕ

@@ -1,5 +1,11 @@
 //! Reports as Markdown, for the texts of pull requests.
 #![tactic(auto)]
 
+mod cells;
+mod counts;
+pub mod error;
 mod escapes;
 mod line;
+pub mod markdown;
+mod parts;
+mod rows;

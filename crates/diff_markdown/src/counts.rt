@@ -1,0 +1,90 @@
+//! What the head of a report says.
+
+ghost use Rattle.std.specs.Prelude.{◌≡◌, ◌++◌, OnOk};
+ghost use Rattle.json.specs.Tree.{HasNumbers};
+ghost use Rattle.json.specs.Value.{value_view};
+ghost use Rattle.diff_markdown.specs.Counts.{columns_note, counts_text, hidden_note, kinds_text, skipped_note};
+
+use crate::cells::push_pairs_cell;
+use crate::escapes::push_safe;
+use crate::parts::{number_at, push_number};
+use json::Value;
+use std::alloc::{AllocError, Global};
+
+/// Appends how many rows are of each kind.
+#[tactic(auto, unfolding(crate::specs::Counts::kinds_text))]
+fn push_kinds(out: &mut Vec<u8>, counts: &Value<'_>) -> Result<(), AllocError>
+    ensures { OnOk result (out.new.items ≡ out.old.items ++ kinds_text (value_view counts.now)) }
+{
+    out.extend_from_slice(b": ")?;
+    push_number(out, counts, "changed")?;
+    out.extend_from_slice(b" changed, ")?;
+    push_number(out, counts, "removed")?;
+    out.extend_from_slice(b" removed, ")?;
+    push_number(out, counts, "added")?;
+    out.extend_from_slice(b" added, ")?;
+    push_number(out, counts, "same")?;
+    out.extend_from_slice(b" the same.")?;
+    Ok(())
+}
+
+/// Appends how many cells differ in each column, if any does.
+fn push_columns(out: &mut Vec<u8>, pairs: &[u8]) -> Result<(), AllocError>
+    ensures { OnOk result (out.new.items ≡ out.old.items ++ columns_note pairs.now) }
+{
+    if pairs.is_empty() {
+        return Ok(());
+    }
+    out.extend_from_slice(b" By column: ")?;
+    out.extend_from_slice(pairs)?;
+    out.push(b'.')?;
+    Ok(())
+}
+
+/// Appends how many lines of each file are passed over, where the report says so.
+#[tactic(auto, unfolding(crate::specs::Counts::skipped_note))]
+fn push_skipped(out: &mut Vec<u8>, counts: &Value<'_>) -> Result<(), AllocError>
+    ensures { OnOk result (out.new.items ≡ out.old.items ++ skipped_note (value_view counts.now)) }
+{
+    if number_at(counts, "left_skipped").is_empty() {
+        return Ok(());
+    }
+    out.extend_from_slice(b" Skipped lines: ")?;
+    push_number(out, counts, "left_skipped")?;
+    out.extend_from_slice(b" left, ")?;
+    push_number(out, counts, "right_skipped")?;
+    out.extend_from_slice(b" right.")?;
+    Ok(())
+}
+
+/// Appends how many differences the report leaves out, if it does.
+fn push_hidden(out: &mut Vec<u8>, count: &str) -> Result<(), AllocError>
+    ensures { OnOk result (out.new.items ≡ out.old.items ++ hidden_note count.now) }
+{
+    if count == "0" {
+        return Ok(());
+    }
+    out.extend_from_slice(b" Not shown: ")?;
+    push_safe(out, count.as_bytes())?;
+    out.extend_from_slice(b" more.")?;
+    Ok(())
+}
+
+/// Appends the counts of a report.
+#[tactic(auto, unfolding(crate::specs::Counts::counts_text))]
+pub(crate) fn push_counts(
+    alloc: Global,
+    out: &mut Vec<u8>,
+    counts: &Value<'_>,
+) -> Result<(), AllocError>
+    requires { HasNumbers (value_view counts.now) }
+    ensures { OnOk result (out.new.items ≡ out.old.items ++ counts_text (value_view counts.now)) }
+{
+    let mut columns = Vec::new(alloc);
+    push_pairs_cell(alloc, &mut columns, counts, "columns")?;
+    push_kinds(out, counts)?;
+    push_columns(out, &columns)?;
+    push_skipped(out, counts)?;
+    push_hidden(out, number_at(counts, "not_shown"))?;
+    Ok(())
+}

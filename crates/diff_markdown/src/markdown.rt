@@ -1,0 +1,101 @@
+//! Reports as Markdown.
+
+ghost use Rattle.std.specs.Prelude.{◌≡◌, ◌++◌, All, Err, IfOk, IsSome, OnOk, map};
+ghost use Rattle.std.specs.Str.Lines.{lines};
+ghost use Rattle.diff_markdown.specs.Markdown.{IsReport, counts_of, line_of, markdown_of, rows_of, table};
+
+use crate::cells::push_name_cell;
+use crate::error::MarkdownError;
+use crate::line::push_line;
+use json::Scratch;
+use std::alloc::{AllocError, Global};
+use std::str::from_utf8;
+
+/// Appends what lines give to the head and to the table.
+fn push_lines(
+    alloc: Global,
+    head: &mut Vec<u8>,
+    rows: &mut Vec<u8>,
+    lines: &[&str],
+) -> Result<(), MarkdownError>
+    ensures each { OnOk result (All (λ l. IsSome (line_of l)) (map (λ l. l.now) lines.now)) }
+    ensures head { OnOk result (head.new.items
+        ≡ head.old.items ++ counts_of (map (λ l. l.now) lines.now)) }
+    ensures rows { OnOk result (rows.new.items
+        ≡ rows.old.items ++ rows_of (map (λ l. l.now) lines.now)) }
+    ensures no_report { result ≡ Err MarkdownError.NoReport
+        → ¬ All (λ l. IsSome (line_of l)) (map (λ l. l.now) lines.now) }
+{
+    let mut scratch = Scratch::new(alloc);
+    for line in lines {
+        push_line(alloc, head, rows, line, &mut scratch)?;
+    }
+    Ok(())
+}
+
+/// Returns the lines of a text.
+fn lines_of(alloc: Global, text: &str) -> Result<Vec<&str>, AllocError>
+    ensures { IfOk result (λ v. map (λ l. l.now) v.items ≡ lines text.now) }
+{
+    text.lines().collect(alloc)
+}
+
+/// Appends what the lines of a text give to the head and to the table.
+fn push_text(
+    alloc: Global,
+    head: &mut Vec<u8>,
+    rows: &mut Vec<u8>,
+    text: &str,
+) -> Result<(), MarkdownError>
+    ensures each { OnOk result (All (λ l. IsSome (line_of l)) (lines text.now)) }
+    ensures head { OnOk result (head.new.items ≡ head.old.items ++ counts_of (lines text.now)) }
+    ensures rows { OnOk result (rows.new.items ≡ rows.old.items ++ rows_of (lines text.now)) }
+    ensures no_report { result ≡ Err MarkdownError.NoReport
+        → ¬ All (λ l. IsSome (line_of l)) (lines text.now) }
+{
+    let lines = lines_of(alloc, text)?;
+    push_lines(alloc, head, rows, &lines)?;
+    Ok(())
+}
+
+/// Appends a table of rows, if there are any.
+fn push_table(out: &mut Vec<u8>, rows: &[u8]) -> Result<(), AllocError>
+    ensures { OnOk result (out.new.items ≡ out.old.items ++ table rows.now) }
+{
+    if rows.is_empty() {
+        return Ok(());
+    }
+    out.extend_from_slice(b"\n| | Key | Part | Left | Right |\n|---|---|---|---|---|\n")?;
+    out.extend_from_slice(rows)?;
+    Ok(())
+}
+
+/// Appends a report of two files as Markdown. `report` is the report as JSON lines, and the two names
+/// are those of the files.
+///
+/// Fails where a line of the report is no JSON or has no kind. A failure may leave some text written.
+#[tactic(auto, unfolding(crate::specs::Markdown::markdown_of))]
+pub fn push_markdown(
+    alloc: Global,
+    out: &mut Vec<u8>,
+    left: &str,
+    right: &str,
+    report: &[u8],
+) -> Result<(), MarkdownError>
+    ensures report { OnOk result (IsReport report.now) }
+    ensures text { OnOk result (out.new.items
+        ≡ out.old.items ++ markdown_of left.now right.now report.now) }
+    ensures no_report { result ≡ Err MarkdownError.NoReport → ¬ IsReport report.now }
+{
+    let Ok(text) = from_utf8(report) else {
+        return Err(MarkdownError::NoReport);
+    };
+    let mut rows = Vec::new(alloc);
+    push_name_cell(alloc, out, left)?;
+    out.extend_from_slice(b" and ")?;
+    push_name_cell(alloc, out, right)?;
+    push_text(alloc, out, &mut rows, text)?;
+    out.push(b'\n')?;
+    push_table(out, &rows)?;
+    Ok(())
+}
