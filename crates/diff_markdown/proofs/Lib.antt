@@ -1,3 +1,5 @@
+mod Examples
+pub mod InsideLaws
 pub mod LineLemmas
 pub mod PartLemmas
 pub mod SafeLemmas

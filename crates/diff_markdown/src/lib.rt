@@ -5,6 +5,7 @@ mod cells;
 mod counts;
 pub mod error;
 mod escapes;
+pub mod laws;
 mod line;
 pub mod markdown;
 mod parts;
