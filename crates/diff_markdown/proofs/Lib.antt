@@ -1,6 +1,9 @@
 mod Examples
 pub mod InsideLaws
 pub mod LineLemmas
+pub mod NumberLemmas
 pub mod PartLemmas
 pub mod SafeLemmas
+pub mod StringLemmas
 pub mod TextLemmas
+pub mod ValueLaws

@@ -1,12 +1,12 @@
 -- Lines of a report.
-use Rattle.std.proofs.Common.{◌≡◌, ◌<◌, ◌+◌, ℕ, true, false, List, [], ◌∷◌, ◌++◌, Option, Some, None, length, get_or, take, arith, ap, refl, sym, subst, ◌∙◌}
+use Rattle.std.proofs.Common.{◌≡◌, ◌<◌, ◌+◌, ℕ, true, false, List, [], ◌∷◌, ◌++◌, Option, Some, None, length, get_or, take, arith, ap, sym, subst, ◌∙◌}
 use Rattle.std.proofs.lemmas.List.{flat_map_more, get_or-map, length-map, map_more}
 use Rattle.std.proofs.lemmas.List.Elements.{All-append, All-cons, All-nil}
 use Rattle.std.specs.Borrow.{Bor}
 use Rattle.std.specs.List.{flat_map}
 use Rattle.std.specs.Prelude.{All, IsSome, codes, map, option_and_then, option_map}
-use Rattle.json.specs.Json.{Json, document}
-use Rattle.diff_markdown.specs.Markdown.{kind_named, line_of}
+use Rattle.json.specs.Json.{Json}
+use Rattle.diff_markdown.specs.Markdown.{kind_named, line_of, line_value}
 use Rattle.diff_markdown.specs.Rows.{string_at}
 use Rattle.diff_markdown.specs.declared.line.Kind.{Kind}
 
@@ -15,17 +15,17 @@ abbrev known : Json → Option (Kind × Json)
 known j = option_map (λ k. (k, j)) (kind_named (string_at (codes "kind") j))
 
 -- a line that is a value with a kind
-pub line_known : (line : List ℕ) (j : Json) (k : Kind) → document line ≡ Some j → kind_named (string_at (codes "kind") j) ≡ Some k → line_of line ≡ Some (k, j)
+pub line_known : (line : List ℕ) (j : Json) (k : Kind) → line_value line ≡ Some j → kind_named (string_at (codes "kind") j) ≡ Some k → line_of line ≡ Some (k, j)
 unfolding line_of
 line_known line j k d e = ap (option_and_then known) d ∙ ap (option_map (λ k. (k, j))) e
 
 -- a line that is a value with none
-pub line_unknown : (line : List ℕ) (j : Json) → document line ≡ Some j → kind_named (string_at (codes "kind") j) ≡ None → line_of line ≡ None
+pub line_unknown : (line : List ℕ) (j : Json) → line_value line ≡ Some j → kind_named (string_at (codes "kind") j) ≡ None → line_of line ≡ None
 unfolding line_of
 line_unknown line j d e = ap (option_and_then known) d ∙ ap (option_map (λ k. (k, j))) e
 
 -- a line that is no value
-pub line_broken : (line : List ℕ) → document line ≡ None → line_of line ≡ None
+pub line_broken : (line : List ℕ) → line_value line ≡ None → line_of line ≡ None
 unfolding line_of
 line_broken line d = ap (option_and_then known) d
 

@@ -2,7 +2,7 @@
 --
 -- The string Oslo is `"Oslo"`, the member id with 7 is `id=7`, and the member "a b" with null is `"a b"=null`.
 use Rattle.std.specs.List.{list_all}
-use Rattle.std.specs.Prelude.{ℕ, ◌==◌, Bool, not, ◌&&◌, nat_lt, if◌then◌else◌, List, [], ◌∷◌, ◌++◌, length, codes, Option, Some, None, option_and_then}
+use Rattle.std.specs.Prelude.{ℕ, ◌==◌, Bool, not, ◌&&◌, nat_lt, if◌then◌else◌, List, [], ◌++◌, length, codes, Option, Some, None, option_and_then}
 use Rattle.json.specs.Find.{as_object}
 use Rattle.json.specs.Json.{Json, string, Members, no_members, member}
 use Rattle.json.specs.Print.{print}

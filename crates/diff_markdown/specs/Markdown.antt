@@ -1,9 +1,13 @@
 -- A report as Markdown: a line with the counts, and a table of the differences.
+--
+-- With the one line {"kind":"counts","changed":0,"removed":0,"added":0,"same":4,"not_shown":0} the report of a.csv and b.csv is
+-- `a.csv` and `b.csv`: 0 changed, 0 removed, 0 added, 4 the same.
 use Rattle.std.specs.List.{flat_map}
 use Rattle.std.specs.Prelude.{ℕ, ◌==◌, if◌then◌else◌, List, [], ◌++◌, length, codes, Option, Some, None, option_and_then, option_map, All, IsSome}
 use Rattle.std.specs.Str.{bytes_eq, IsUtf8}
 use Rattle.std.specs.Str.Lines.{lines}
-use Rattle.json.specs.Json.{Json, document}
+use Rattle.json.specs.Json.{Json, if_last, value}
+use Rattle.json.specs.Lex.{tokens}
 use Rattle.diff_markdown.specs.declared.line.Kind.{Kind}
 use Rattle.diff_markdown.specs.declared.line.Kind.TheVariants.{Column, Changed, Removed, Added, Counts}
 use Rattle.diff_markdown.specs.Cells.{name_cell}
@@ -19,9 +23,17 @@ kind_named word =
     else (if bytes_eq word (codes "added") then Some Added
     else (if bytes_eq word (codes "counts") then Some Counts else None))))
 
+-- how deep a line may nest: some levels deeper than a document, which may be a part of it
+abbrev pub most_depth : ℕ
+most_depth = 256
+
+-- the value that a line is
+abbrev pub line_value : List ℕ → Option Json
+line_value line = option_and_then (λ p. if_last p.0 p.1) (value most_depth (tokens line))
+
 -- the kind of a line and its value, where it is JSON with a kind
 unfoldable pub line_of : List ℕ → Option (Kind × Json)
-line_of line = option_and_then (λ j. option_map (λ k. (k, j)) (kind_named (string_at (codes "kind") j))) (document line)
+line_of line = option_and_then (λ j. option_map (λ k. (k, j)) (kind_named (string_at (codes "kind") j))) (line_value line)
 
 -- what a line gives to the table
 abbrev pub rows_by : Kind → Json → List ℕ
@@ -39,10 +51,12 @@ counts_by Removed j = []
 counts_by Added j = []
 counts_by Counts j = counts_text j
 
+-- the rows of a line that is read, if it is one
 abbrev pub rows_in : Option (Kind × Json) → List ℕ
 rows_in None = []
 rows_in (Some p) = rows_by p.0 p.1
 
+-- the counts of a line that is read, if it is one
 abbrev pub counts_in : Option (Kind × Json) → List ℕ
 counts_in None = []
 counts_in (Some p) = counts_by p.0 p.1

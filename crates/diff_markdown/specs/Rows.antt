@@ -44,16 +44,17 @@ abbrev pub item_rows : List ℕ → Items → List ℕ
 item_rows name no_items = []
 item_rows name (item change rest) = change_row name (string_at (codes "path") change) change ++ item_rows name rest
 
--- the rows of the parts that there are, of which an object has the names and an array the paths
+-- the rows of the parts of an object, if there is one
 abbrev pub rows_in_object : List ℕ → Option Members → List ℕ
 rows_in_object name None = []
 rows_in_object name (Some changes) = member_rows name changes
 
+-- the rows of the parts of an array, if there is one
 abbrev pub rows_in_array : List ℕ → Option Items → List ℕ
 rows_in_array name None = []
 rows_in_array name (Some changes) = item_rows name changes
 
--- the rows of the parts of a row that differ
+-- the rows of the parts of a row that differ: those of a table are an object, and those of documents an array
 unfoldable pub change_rows : List ℕ → Option Json → List ℕ
 change_rows name part = rows_in_object name (option_and_then as_object part) ++ rows_in_array name (option_and_then as_array part)
 

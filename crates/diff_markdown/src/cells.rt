@@ -67,11 +67,7 @@ fn push_name(alloc: Global, out: &mut Vec<u8>, name: &str) -> Result<(), AllocEr
 }
 
 /// Appends a name within a code span.
-pub(crate) fn push_name_cell(
-    alloc: Global,
-    out: &mut Vec<u8>,
-    name: &str,
-) -> Result<(), AllocError>
+pub(crate) fn push_name_cell(alloc: Global, out: &mut Vec<u8>, name: &str) -> Result<(), AllocError>
     ensures { OnOk result (out.new.items ≡ out.old.items ++ name_cell name.now) }
 {
     out.push(b'`')?;

@@ -1,17 +1,19 @@
 //! The lines of a report.
 
 ghost use Rattle.std.specs.Prelude.{◌≡◌, ◌++◌, Err, IfOk, IsSome, None, OnOk, Some};
-ghost use Rattle.json.specs.Json.{document};
 ghost use Rattle.json.specs.Tree.{HasNumbers};
 ghost use Rattle.json.specs.Value.{value_view};
-ghost use Rattle.diff_markdown.specs.Markdown.{counts_by, counts_in, kind_named, line_of, rows_by, rows_in};
+ghost use Rattle.diff_markdown.specs.Markdown.{counts_by, counts_in, kind_named, line_of, line_value, rows_by, rows_in};
 
 use crate::counts::push_counts;
 use crate::error::MarkdownError;
 use crate::parts::string_at;
 use crate::rows::{push_added, push_changed, push_column, push_removed};
-use json::{Error, Scratch, Value};
+use json::{Error, Reader, Scratch, Value};
 use std::alloc::{AllocError, Global};
+
+/// How deep a line may nest: some levels deeper than a document, which may be a part of it.
+const MOST_DEPTH: usize = 256;
 
 /// What a line of a report tells.
 #[derive(Clone, Copy)]
@@ -57,17 +59,22 @@ fn value_of<'a>(
     line: &'a str,
     scratch: &'a mut Scratch,
 ) -> Result<Value<'a>, MarkdownError>
-    ensures ok { IfOk result (λ v. document line.now ≡ Some (value_view v)) }
+    ensures ok { IfOk result (λ v. line_value line.now ≡ Some (value_view v)) }
     ensures numbers { IfOk result (λ v. HasNumbers (value_view v)) }
-    ensures no_report { result ≡ Err MarkdownError.NoReport → document line.now ≡ None }
+    ensures no_report { result ≡ Err MarkdownError.NoReport → line_value line.now ≡ None }
 {
-    match Value::parse(alloc, line, scratch) {
-        Ok(value) => Ok(value),
-        Err(Error::OutOfMemory) => Err(MarkdownError::Memory),
-        Err(Error::Invalid) => Err(MarkdownError::NoReport),
+    let mut reader = Reader::new(line, scratch)?;
+    let value = match Value::read(alloc, &mut reader, MOST_DEPTH) {
+        Ok(value) => value,
+        Err(Error::OutOfMemory) => return Err(MarkdownError::Memory),
+        Err(Error::Invalid) => return Err(MarkdownError::NoReport),
         Err(Error::TooLong) => unreachable!(),
         Err(Error::DuplicateKey) => unreachable!(),
+    };
+    if reader.next().is_some() {
+        return Err(MarkdownError::NoReport);
     }
+    Ok(value)
 }
 
 /// Appends what a line of a kind gives to the head and to the table.

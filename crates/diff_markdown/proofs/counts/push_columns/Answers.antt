@@ -1,4 +1,4 @@
-use Rattle.std.proofs.Common.{rules, ◌≡◌, false, length, nat_eq}
+use Rattle.std.proofs.Common.{rules, ◌≡◌, false, length}
 use Rattle.std.specs.Prelude.{◌==◌}
 use Rattle.diff_markdown.proofs.TextLemmas.{noted}
 use Rattle.diff_markdown.proofs.counts.push_columns.Goals as goal

@@ -1,4 +1,4 @@
-use Rattle.std.proofs.Common.{rules, arith, ◌≡◌, ◌++◌, ◌∙◌, Err, ap}
+use Rattle.std.proofs.Common.{rules, arith, ◌≡◌, Err, ap}
 use Rattle.std.specs.Prelude.{IsSome}
 use Rattle.diff_markdown.specs.Markdown.{counts_in, line_of, rows_in}
 use Rattle.diff_markdown.specs.declared.error.MarkdownError.TheVariants.{NoReport}
@@ -8,8 +8,7 @@ use Rattle.diff_markdown.proofs.markdown.push_lines.Goals as goal
 pub loop-line-preserved : goal.loop-line-preserved
 loop-line-preserved c =
     let ls = c.args.lines.now in
-    let i = c.loop-line.line-index in
-    (
+    let i = c.loop-line.line-index in (
       each_more (λ l. IsSome (line_of l)) ls i _ (omega arith) c.loop-line.invariant.0 c.in_ok-push_line.ensures.ok,
       written_more (λ l. counts_in (line_of l)) c.args.head.now.items _ _ ls i _ (omega arith) c.loop-line.invariant.1 c.in_ok-push_line.ensures.head,
       written_more (λ l. rows_in (line_of l)) c.args.rows.now.items _ _ ls i _ (omega arith) c.loop-line.invariant.2 c.in_ok-push_line.ensures.rows,
