@@ -1,54 +1,89 @@
--- The first line of a text, as it is read.
-use Rattle.std.proofs.Common.{◌≡◌, ◌<◌, ◌-◌, Bool, true, false, ◌<◌, ◌-◌, ℕ, suc, List, [], ◌∷◌, length, take, refl, ap, lt-ltb, arith}
-use Rattle.std.specs.Io.BufRead.{drop_through, strip_last, take_through}
-use Rattle.std.specs.Prelude.{◌==◌, if◌then◌else◌, nat_lt, slice_index}
+-- Lines of a text that are read part by part.
+use Rattle.std.proofs.Common.{◌≡◌, ◌≢◌, ◌<◌, ◌≤◌, ◌+◌, ◌++◌, ◌∷◌, [], ℕ, Bool, true, false, List, Option, Some, None, length, take, refl, sym, ap, ◌∙◌, arith, eq-eqb, eqb-true, ne_eqb, get_or, get_or-take, length-take-le, append_assoc, take_all}
+use Rattle.std.specs.Io.KnownBytes.{Consumes, Keeps}
+use Rattle.std.specs.Prelude.{◌==◌, not}
+use Rattle.std.proofs.lemmas.List.{get_or_default, take_more, append-nil}
+use Rattle.std.proofs.lemmas.List.Elements.{All-head, All-tail, All-nil, All-append}
+use Rattle.memchr.specs.Find.{IsFirstByte, Nowhere, Passes, is_byte}
 use Rattle.document_rows.specs.Lines.{lines_of}
+use Rattle.document_rows.specs.LineParts.{HasNoLineFeed}
+use Rattle.document_rows.specs.Reading.{TakesLine}
 
--- a byte before a text that has another is at its end what this is
-strip_more : (b x : ℕ) (xs : List ℕ) → strip_last 10 (b ∷ x ∷ xs) ≡ b ∷ strip_last 10 (x ∷ xs)
-strip_more b x xs =
-    let two : length (b ∷ x ∷ xs) - 1 ≡ suc (length xs) = omega arith in
-    let one : length (x ∷ xs) - 1 ≡ length xs = omega arith in
-    let some : nat_lt 0 (length (b ∷ x ∷ xs)) ≡ true = lt-ltb 0 (length (b ∷ x ∷ xs)) (omega arith) in
-    let other : nat_lt 0 (length (x ∷ xs)) ≡ true = lt-ltb 0 (length (x ∷ xs)) (omega arith) in
-    rw (two, one, some, other) (by (slice_index (x ∷ xs) (length xs) == 10))
-  where
-    by : (t : Bool) → (if t then b ∷ take (length xs) (x ∷ xs) else b ∷ x ∷ xs) ≡ b ∷ (if t then take (length xs) (x ∷ xs) else x ∷ xs)
-    by true = refl
-    by false = refl
+-- bytes that a reader keeps are those that it had
+pub kept : (known : Option (List ℕ)) (rest : List ℕ) → Keeps (Some rest) known → known ≡ Some rest
+kept None rest is = absurd is
+kept (Some left) rest is = ap Some is
 
--- what is taken of a text that is not empty begins with its first byte
-taken : (c : ℕ) (cs : List ℕ) → (ys : List ℕ) × (take_through 10 (c ∷ cs) ≡ c ∷ ys)
-taken c cs = by (c == 10)
-  where
-    by : (t : Bool) → (ys : List ℕ) × ((if t then c ∷ [] else c ∷ take_through 10 cs) ≡ c ∷ ys)
-    by true = ([], refl)
-    by false = (take_through 10 cs, refl)
+-- bytes that a reader consumes are those that it had first
+pub consumed : (known : Option (List ℕ)) (rest text : List ℕ) → Consumes (Some rest) known text → (left : List ℕ) × (known ≡ Some left) × (rest ≡ text ++ left)
+consumed None rest text is = absurd is
+consumed (Some left) rest text is = (left, refl, is)
 
--- the line of one byte
-one : (b : ℕ) → (b == 10) ≡ false → strip_last 10 (b ∷ []) ≡ b ∷ []
-one b e = rw e refl
+-- where a search met no line feed before a place, none stands before it
+pub none_before : (shown : List ℕ) (end : ℕ) → end ≤ length shown → Nowhere (Passes (is_byte 10) shown) 0 end → HasNoLineFeed (take end shown)
+none_before shown end within free k d before is =
+    let less : k < end = omega (arith, before, length-take-le end shown within) in
+    let there : get_or shown k 0 ≡ 10 = get_or_default shown k 0 d (omega arith) ∙ (sym (get_or-take end shown k d less) ∙ is) in
+    free k (omega arith) less (eq-eqb _ _ there)
 
--- the first line of a text that is not empty, and the lines behind it
-pub first_line : (b : ℕ) (bs : List ℕ) → lines_of (b ∷ bs) ≡ strip_last 10 (take_through 10 (b ∷ bs)) ∷ lines_of (drop_through 10 (b ∷ bs))
+-- where a search met no line feed at all, none stands there
+pub none_at_all : (shown : List ℕ) → IsFirstByte (is_byte 10) shown None → HasNoLineFeed shown
+none_at_all shown free = rw (take_all (length shown) shown (omega arith)) at (none_before shown (length shown) (omega arith) free)
+
+-- the bytes up to a line feed that was found, and it
+pub up_to_feed : (shown : List ℕ) (end : ℕ) → IsFirstByte (is_byte 10) shown (Some end) → take (end + 1) shown ≡ take end shown ++ 10 ∷ []
+up_to_feed shown end found = take_more shown end 0 found.0.high ∙ ap (λ b. take end shown ++ b ∷ []) (eqb-true _ _ found.1)
+
+-- a line that ends in a line feed is the first one
+pub ended_line : (line left : List ℕ) → HasNoLineFeed line → lines_of (line ++ 10 ∷ left) ≡ line ∷ lines_of left
 unfolding lines_of
-first_line b [] = by (b == 10) refl
-  where
-    by : (t : Bool) → (b == 10) ≡ t → lines_of (b ∷ []) ≡ strip_last 10 (take_through 10 (b ∷ [])) ∷ lines_of (drop_through 10 (b ∷ []))
-    by true e = rw e (rw e refl)
-    by false e = rw e (rw e refl)
-first_line b (c ∷ cs) = by (b == 10) refl (first_line c cs) (taken c cs)
-  where
-    by : (t : Bool) → (b == 10) ≡ t → lines_of (c ∷ cs) ≡ strip_last 10 (take_through 10 (c ∷ cs)) ∷ lines_of (drop_through 10 (c ∷ cs))
-        → (ys : List ℕ) × (take_through 10 (c ∷ cs) ≡ c ∷ ys)
-        → lines_of (b ∷ c ∷ cs) ≡ strip_last 10 (take_through 10 (b ∷ c ∷ cs)) ∷ lines_of (drop_through 10 (b ∷ c ∷ cs))
-    by true e next front = rw e (rw e refl)
-    by false e next front =
-        let here : strip_last 10 (b ∷ take_through 10 (c ∷ cs)) ≡ b ∷ strip_last 10 (take_through 10 (c ∷ cs)) = rw front.1 (strip_more b c front.0) in
-        rw e (rw (next, here) refl)
+ended_line [] left free = refl
+ended_line (b ∷ line) left free =
+    let other : (b == 10) ≡ false = ne_eqb b 10 (All-head (λ b. b ≢ 10) b line free) in
+    rw (other, ended_line line left (All-tail (λ b. b ≢ 10) b line free)) refl
 
--- the first line of a text of which something was read
-pub some_line : (rest read line : List ℕ) → 0 < length read → read ≡ take_through 10 rest → line ≡ strip_last 10 read
-    → lines_of rest ≡ line ∷ lines_of (drop_through 10 rest)
-some_line [] read line more is stripped = absurd (omega (arith, more, ap length is))
-some_line (b ∷ bs) read line more is stripped = rw (stripped, is) (first_line b bs)
+-- a line that ends with the text is the only one
+pub last_line : (b : ℕ) (line : List ℕ) → HasNoLineFeed (b ∷ line) → lines_of (b ∷ line) ≡ (b ∷ line) ∷ []
+unfolding lines_of
+last_line b [] free =
+    let other : (b == 10) ≡ false = ne_eqb b 10 (All-head (λ b. b ≢ 10) b [] free) in
+    rw other refl
+last_line b (c ∷ line) free =
+    let other : (b == 10) ≡ false = ne_eqb b 10 (All-head (λ b. b ≢ 10) b (c ∷ line) free) in
+    rw (other, last_line c line (All-tail (λ b. b ≢ 10) b (c ∷ line) free)) refl
+
+-- what was read of a line, and what is left of the text
+pub record IsBegun (text line left : List ℕ) : Type 0 where
+  pub split : text ≡ line ++ left
+  pub free : HasNoLineFeed line
+
+-- nothing was read
+pub begun : (text line : List ℕ) → line ≡ [] → IsBegun text line text
+begun text line is = record { split = rw is refl; free = rw is (All-nil (λ b. b ≢ 10)) }
+
+-- a part more was read
+pub went_on : (text line part more after left : List ℕ) → IsBegun text line left → left ≡ part ++ after → more ≡ line ++ part → HasNoLineFeed part → IsBegun text more after
+went_on text line part more after left begun split is free =
+    record {
+      split = begun.split ∙ (rw split (sym (append_assoc line part after)) ∙ ap (λ l. l ++ after) (sym is));
+      free = rw is (All-append (λ b. b ≢ 10) line part begun.free free);
+    }
+
+-- the line feed was met
+pub met_feed : (text line part more after left : List ℕ) → IsBegun text line left → left ≡ part ++ 10 ∷ after → more ≡ line ++ part → HasNoLineFeed part → lines_of text ≡ more ∷ lines_of after
+met_feed text line part more after left begun split is free =
+    let on = went_on text line part more (10 ∷ after) left begun split is free in
+    rw on.split (ended_line more after on.free)
+
+-- the end was met, and a line stands before it
+pub met_end : (text line left : List ℕ) → IsBegun text line left → left ≡ [] → 0 < length line → lines_of text ≡ line ∷ []
+met_end text [] left begun end some = absurd (omega (arith, some))
+met_end text (b ∷ line) left begun end some = rw (begun.split, end, append-nil (b ∷ line)) (last_line b line begun.free)
+
+-- the end was met: the line that stands before it is the last one, unless it is empty
+pub at_end : {R : Type 0} (remaining : R → Option (List ℕ)) (reader : R) (text line left : List ℕ) (is_empty : Bool) → IsBegun text line left → left ≡ [] → remaining reader ≡ Some []
+    → (is_empty ≡ true → length line ≡ 0) → (is_empty ≡ false → 0 < length line) → TakesLine remaining text line reader (not is_empty)
+unfolding lines_of
+at_end remaining reader text [] left true begun end is empty some = begun.split ∙ end
+at_end remaining reader text (b ∷ line) left true begun end is empty some = absurd (omega (arith, empty refl))
+at_end remaining reader text line left false begun end is empty some = ([], is, met_end text line left begun end (some refl))

@@ -1,6 +1,7 @@
 pub mod Documents
 pub mod Errors
 pub mod Known
+pub mod LineParts
 pub mod Lines
 pub mod Numbers
 pub mod Reading

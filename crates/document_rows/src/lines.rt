@@ -1,18 +1,52 @@
 //! The lines of an input, one after another.
 
-ghost use Rattle.std.specs.Io.BufRead.{strip_last};
 ghost use Rattle.std.specs.Prelude.{◌≡◌, ℕ, List, Some, IfOk};
+ghost use Rattle.document_rows.specs.LineParts.{TakesPart};
 ghost use Rattle.document_rows.specs.Reading.{TakesLine};
 
-use std::io::{BufRead, Result};
+use memchr::memchr;
+use std::io::{BufRead, ErrorKind, Result};
 
-/// Takes the line feed off the end of a line, if one stands there.
-fn drop_line_feed(line: &mut Vec<u8>)
-    ensures { line.new.items ≡ strip_last 10 line.old.items }
+/// How far a line is read.
+#[derive(Clone, Copy, Drop)]
+enum Part {
+    /// It may go on.
+    Open,
+    /// Its line feed was met.
+    Ended,
+    /// The input has ended.
+    Nothing,
+}
+
+/// Appends what a reader has at hand of a line, without its line feed.
+fn append_part<B: BufRead>(reader: &mut B, line: &mut Vec<u8>) -> Result<Part>
+    ensures { IfOk result (λ part. (rest : List ℕ) → B.remaining reader.old ≡ Some rest → TakesPart B.remaining rest line.old.items line.new.items reader.new part) }
 {
-    let len = line.len();
-    if len > 0 && line[len - 1] == b'\n' {
-        line.truncate(len - 1);
+    let at_hand = match reader.fill_buf() {
+        Ok(at_hand) => at_hand,
+        Err(cause) => {
+            // The call was cut short and is made again.
+            if cause.kind() == ErrorKind::Interrupted {
+                return Ok(Part::Open);
+            }
+            return Err(cause);
+        }
+    };
+    if at_hand.is_empty() {
+        return Ok(Part::Nothing);
+    }
+    match memchr(b'\n', at_hand) {
+        Some(end) => {
+            line.extend_from_slice(&at_hand[..end])?;
+            reader.consume(end + 1);
+            Ok(Part::Ended)
+        }
+        None => {
+            let len = at_hand.len();
+            line.extend_from_slice(at_hand)?;
+            reader.consume(len);
+            Ok(Part::Open)
+        }
     }
 }
 
@@ -21,9 +55,13 @@ pub(crate) fn read_line<B: BufRead>(reader: &mut B, line: &mut Vec<u8>) -> Resul
     ensures { IfOk result (λ found. (rest : List ℕ) → B.remaining reader.old ≡ Some rest → TakesLine B.remaining rest line.new.items reader.new found) }
 {
     line.clear();
-    if reader.read_until(b'\n', line)? == 0 {
-        return Ok(false);
+    for _ in 0..u64::MAX {
+        match append_part(reader, line)? {
+            Part::Open => {}
+            Part::Ended => return Ok(true),
+            Part::Nothing => return Ok(!line.is_empty()),
+        }
     }
-    drop_line_feed(line);
-    Ok(true)
+    // No memory holds so many parts.
+    Err(ErrorKind::OutOfMemory.into())
 }

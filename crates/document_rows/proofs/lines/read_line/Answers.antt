@@ -1,11 +1,15 @@
-use Rattle.std.proofs.Common.{◌≡◌, arith}
-use Rattle.std.specs.Io.BufRead.{drop_through, take_through}
-use Rattle.document_rows.proofs.LineLemmas.{some_line}
+use Rattle.std.proofs.Common.{rules}
+use Rattle.document_rows.proofs.LineLemmas.{at_end, begun, met_feed}
 use Rattle.document_rows.proofs.lines.read_line.Goals as goal
 
-pub returns : goal.returns
-returns g c = λ rest known.
-    let read = c.read_until.new.buf.items in
-    let all : read ≡ take_through 10 rest = rw c.clear.ensures.items at (rw known at c.in_ok-read_until.ensures.bytes) in
-    let left = rw known at c.in_ok-read_until.ensures.rest in
-    (drop_through 10 rest, left, some_line rest read c.drop_line_feed.new.line.items (omega (arith, c.in_ok-read_until.ensures.ok, c.read_until.new.buf.ok.0, c.if-branch-eq0.false)) all c.drop_line_feed.ensures)
+pub returns-in-Ended : goal.returns-in-Ended
+returns-in-Ended g c = λ text known.
+    let (left, is, begun) = c.loop.invariant text known in
+    let (part, after, behind, split, more, free) = rw c.in-Ended.is at (c.in_ok-append_part.ensures left is) in
+    (after, behind, met_feed text _ part _ after left begun split more free)
+
+pub returns-in-Nothing : goal.returns-in-Nothing
+returns-in-Nothing g c = λ text known.
+    let (left, is, begun) = c.loop.invariant text known in
+    let (behind, end, same) = rw c.in-Nothing.is at (c.in_ok-append_part.ensures left is) in
+    at_end g.B.Read.remaining c.append_part.new.reader text _ left c.is_empty.result (rw same begun) end behind (λ e. search rules) (λ e. search rules)
