@@ -311,6 +311,13 @@ FILES = (
      + ".. and 5 more\n0 changed, 25 removed, 0 added, 0 the same."),
     (["--limit", "0"], b"", b"{}\n" * 25, 1, "".join(f"+ row {n}  right.ndjson line {n}\n" for n in range(1, 26))
      + "0 changed, 0 removed, 25 added, 0 the same."),
+    (["--key", "id", "--summary"], b'{"id":1,"a":1}\n{"id":2}\n', b'{"id":1,"a":2}\n{"id":3}\n', 1,
+     "1 changed, 1 removed, 1 added, 0 the same."),
+    (["--summary", "--limit", "1", "--skip-bad"], b'{"a":1}\n[]\n', b'{"a":0}\n{"a":0}\n', 1,
+     "1 changed, 0 removed, 1 added, 0 the same.\nSkipped 1 line of left.ndjson (line 2)."),
+    (["--summary", "--format", "json"], b'{"a":1}\n', b'{"a":0}\n{"a":0}\n', 1,
+     '{"kind":"counts","changed":1,"removed":0,"added":1,"same":0,"not_shown":2}'),
+    (["--summary"], b'{"a":1}\n', b'{"a":1.0}\n', 0, "0 changed, 0 removed, 0 added, 1 the same."),
     (["--format", "json", "--limit", "2"], b'{"\x7f":1}\n{"\xc2\x9b":2}\n{"a":3}\n', b"{}\n{}\n{}\n", 1,
      '{"kind":"changed","key":{},"left_line":1,"right_line":1,"changes":[{"path":".\\"\\u007f\\"","left":1}]}\n'
      '{"kind":"changed","key":{},"left_line":2,"right_line":2,"changes":[{"path":".\\"\\u009b\\"","left":2}]}\n'

@@ -462,7 +462,7 @@ def text_report(sides, found, options):
     lines += [alone_text(table_reports.RED, b"-", 0, i) for i in found.removed]
     lines += [alone_text(table_reports.GREEN, b"+", 1, j) for j in found.added]
     lines, rest = table_reports.shown(lines, options)
-    lines += [b".. and %d more" % rest] * (rest > 0)
+    lines += [b".. and %d more" % rest] * (rest > 0 and not options.get("summary"))
     lines.append(b"%d changed, %d removed, %d added, %d the same." % counts_of(found))
     lines += [skipped_text(side) for side in range(2) if sides[side].skipped]
     return b"".join(line + b"\n" for line in lines)

@@ -381,7 +381,7 @@ def made_options(keys, chance):
                "colored": chance.random() < 0.2, "unique": bool(keys) and chance.random() < 0.2,
                "null_keys": bool(keys) and chance.random() < 0.2, "skip_bad": chance.random() < 0.25,
                "piped": chance.choice((None,) * 10 + (0, 1)), "files": chance.sample(FILES, 2),
-               "input": chance.random() < 0.1, "commas": chance.random() < 0.5}
+               "input": chance.random() < 0.1, "commas": chance.random() < 0.5, "summary": chance.random() < 0.05}
     if chance.random() < 0.1:
         options.update(files=["left.txt", "right"], input=True)
     return options
@@ -438,6 +438,7 @@ def arguments(options):
     words += ["--format", "json"] * options["json"] + ["--color", "always"] * options["colored"]
     words += ["--unique"] * options["unique"] + ["--missing-is-null"] * options["missing_is_null"]
     words += ["--no-key-is-null"] * options["null_keys"] + ["--skip-bad"] * options["skip_bad"]
+    words += ["--summary"] * options["summary"]
     for option in ("ignored", "only"):
         patterns = [",".join(options[option])] if options[option] and options["commas"] else options[option]
         words += [word for pattern in patterns for word in ({"ignored": "--ignore"}.get(option, "--only"), pattern)]

@@ -108,7 +108,7 @@ def made_options(names, keys, chance):
                "delimiter": chance.choice((None, None, None, None, ";", "\t", "|")), "header": has_header,
                "piped": chance.choice((None,) * 10 + (0, 1)), "files": chance.sample(FILES, 2),
                "numbers": chance.random() < 0.4, "json": chance.random() < 0.5, "colored": chance.random() < 0.2,
-               "unique": bool(keys) and chance.random() < 0.2}
+               "unique": bool(keys) and chance.random() < 0.2, "summary": chance.random() < 0.05}
     others = [name for name in names if name not in options["keys"]]
     if others and chance.random() < 0.3:
         options[chance.choice(("ignored", "only"))] = chance.sample(others, chance.randrange(1, len(others) + 1))
@@ -164,6 +164,7 @@ def arguments(options):
     words += ["--common"] * options["common"] + ["--no-header"] * (not options["header"])
     words += ["--format", "json"] * options["json"] + ["--color", "always"] * options["colored"]
     words += ["--unique"] * options["unique"] + ["--numbers"] * options["numbers"]
+    words += ["--summary"] * options["summary"]
     return [word.encode("latin-1") for word in words]
 
 

@@ -82,6 +82,8 @@ def column_counts(found):
 
 def shown(lines, options):
     """Returns the first differences, and how many are left out."""
+    if options.get("summary"):
+        return [], len(lines)
     limit = 20 if options["limit"] is None else options["limit"] or len(lines)
     return lines[:limit], max(len(lines) - limit, 0)
 
@@ -133,7 +135,7 @@ def text_report(pair):
     lines += [painted(GREEN, f"+ {row_text(right[j], j)}  {files[1]} line {pair.right.lines[j]}") for j in found.added]
     lines, rest = shown(lines, options)
     lines = [f"! column {word(name)} only in {files[side]}" for side, name in found.lone] + lines
-    lines += [f".. and {rest} more"] * (rest > 0)
+    lines += [f".. and {rest} more"] * (rest > 0 and not options.get("summary"))
     counts = (f"{len(found.changed)} changed, {len(found.removed)} removed, {len(found.added)} added, "
               f"{found.same} the same.")
     columns = ", ".join(f"{word(name)} {count}" for name, count in column_counts(found))

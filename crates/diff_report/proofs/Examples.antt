@@ -51,6 +51,10 @@ none-more : rest_text 5 5 ≡ []
 unfolding rest_text
 none-more = refl
 
+counts-alone : rest_text 0 5 ≡ []
+unfolding rest_text
+counts-alone = refl
+
 -- row 76 of old.csv, which begins at its line 78
 line-of-row : (side : Side) → row_of side 76 ≡ codes "77" ∷ codes "mon" ∷ codes "Oslo" ∷ [] → side.name.items ≡ codes "old.csv" → slice_index side.lines.items 76 ≡ 78
     → side_line 45 by_two side 76 ≡ codes "- id=77,day=mon  old.csv line 78\n"

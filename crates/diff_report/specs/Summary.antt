@@ -3,15 +3,15 @@
 -- 2 changed, 1 removed, 1 added, 998999 the same.  By column: city 1, amount 2.
 use Rattle.std.specs.Fmt.{decimal}
 use Rattle.std.specs.List.{range_with_len}
-use Rattle.std.specs.Prelude.{ℕ, ◌-◌, ◌==◌, nat_lt, Bool, not, if◌then◌else◌, List, [], ◌∷◌, ◌++◌, length, map, filter, get_or, slice_index, codes}
+use Rattle.std.specs.Prelude.{ℕ, ◌-◌, ◌==◌, nat_lt, Bool, not, ◌&&◌, if◌then◌else◌, List, [], ◌∷◌, ◌++◌, length, map, filter, get_or, slice_index, codes}
 use Rattle.diff_tables.specs.declared.compare.Comparison.{Comparison}
 use Rattle.diff_words.specs.Lists.{listed}
 use Rattle.diff_words.specs.Words.{word_text}
 use Rattle.diff_report.specs.Naming.{Naming}
 
--- how many of some differences have no line, where some have none
+-- how many of some differences have no line, where some have one and others none
 unfoldable pub rest_text : ℕ → ℕ → List ℕ
-rest_text limit count = if nat_lt limit count then codes ".. and " ++ decimal (count - limit) ++ codes " more\n" else []
+rest_text limit count = if nat_lt 0 limit && nat_lt limit count then codes ".. and " ++ decimal (count - limit) ++ codes " more\n" else []
 
 -- how many rows are changed, removed, added, and the same
 unfoldable pub totals_text : Comparison → List ℕ

@@ -14,7 +14,7 @@ use diff_words::words::push_word;
 use polars_arrays_flat::byte_rows::ByteRows;
 use std::alloc::AllocError;
 
-/// Appends how many differences have no line, where some have none.
+/// Appends how many differences have no line, where some have one and others none.
 #[tactic(auto, unfolding(crate::specs::Summary::rest_text))]
 pub(crate) fn push_rest(
     out: &mut Vec<u8>,
@@ -26,7 +26,7 @@ pub(crate) fn push_rest(
     let matching = &comparison.matching;
     let alone = matching.removed.len() as u128 + matching.added.len() as u128;
     let count = comparison.changed.len() as u128 + alone;
-    if count <= limit as u128 {
+    if limit == 0 || count <= limit as u128 {
         return Ok(());
     }
     out.extend_from_slice(b".. and ")?;

@@ -24,7 +24,7 @@ pub struct Options<'a> {
     pub numbers: Option<&'a [&'a [u8]]>,
     /// The cell that stands for no value, where there is one.
     pub null: Option<&'a [u8]>,
-    /// The most differences that have a line of their own.
+    /// The most differences that have a line of their own. With 0 the report is the counts.
     pub limit: usize,
     /// Whether columns that one input has alone are left out of the report.
     pub common: bool,

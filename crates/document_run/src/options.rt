@@ -19,7 +19,7 @@ pub struct DocumentOptions<'a> {
     pub reading: Reading,
     /// The rules that say which differences between two documents are told.
     pub rules: &'a Rules,
-    /// The most differences that have a line of their own.
+    /// The most differences that have a line of their own. With 0 the report is the counts.
     pub limit: usize,
     /// Whether a key that comes twice in an input is an error.
     pub unique: bool,

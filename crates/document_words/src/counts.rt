@@ -20,7 +20,7 @@ fn difference_count(matching: &Matching, changed: usize) -> u128
     changed as u128 + matching.removed.len() as u128 + matching.added.len() as u128
 }
 
-/// Appends how many differences have no line, where some have none.
+/// Appends how many differences have no line, where some have one and others none.
 #[tactic(auto, unfolding(diff_report::specs::Summary::rest_text))]
 pub fn push_rest(
     out: &mut Vec<u8>,
@@ -31,7 +31,7 @@ pub fn push_rest(
     ensures { OnOk result (out.new.items ≡ out.old.items ++ rest_text limit (difference_count matching.now changed)) }
 {
     let count = difference_count(matching, changed);
-    if count <= limit as u128 {
+    if limit == 0 || count <= limit as u128 {
         return Ok(());
     }
     out.extend_from_slice(b".. and ")?;

@@ -53,7 +53,7 @@ const SWITCH: CliOption = CliOption {
 };
 
 /// The options of the command.
-static OPTIONS: [CliOption; 20] = [
+static OPTIONS: [CliOption; 21] = [
     CliOption {
         id: "key",
         takes: Takes::List,
@@ -171,6 +171,11 @@ static OPTIONS: [CliOption; 20] = [
         value: "N",
         default: Some("20"),
         help: "Print at most N differences; 0 prints all",
+        ..SWITCH
+    },
+    CliOption {
+        id: "summary",
+        help: "Print the counts, and no rows or documents that differ",
         ..SWITCH
     },
     CliOption {

@@ -89,8 +89,11 @@ pub(crate) fn target_of<'a>(matches: &ArgMatches<'a>) -> Target<'a> {
     }
 }
 
-/// Returns how many differences are printed: 0 stands for all.
+/// Returns how many differences are printed. On the command line the limit 0 stands for all.
 pub(crate) fn limit_of(matches: &ArgMatches<'_>) -> usize {
+    if matches.get_flag("summary") {
+        return 0;
+    }
     let is_given = matches.value_source("limit") == Some(ValueSource::CommandLine);
     if matches.contains_id("html") && !is_given {
         return MOST_IN_PAGE;
