@@ -438,7 +438,7 @@ def arguments(options):
     words += ["--format", "json"] * options["json"] + ["--color", "always"] * options["colored"]
     words += ["--unique"] * options["unique"] + ["--missing-is-null"] * options["missing_is_null"]
     words += ["--no-key-is-null"] * options["null_keys"] + ["--skip-bad"] * options["skip_bad"]
-    words += ["--summary"] * options["summary"]
+    words += ["--summary"] * options["summary"] + ["--markdown"] * options.get("markdown", False)
     for option in ("ignored", "only"):
         patterns = [",".join(options[option])] if options[option] and options["commas"] else options[option]
         words += [word for pattern in patterns for word in ({"ignored": "--ignore"}.get(option, "--only"), pattern)]

@@ -164,7 +164,7 @@ def arguments(options):
     words += ["--common"] * options["common"] + ["--no-header"] * (not options["header"])
     words += ["--format", "json"] * options["json"] + ["--color", "always"] * options["colored"]
     words += ["--unique"] * options["unique"] + ["--numbers"] * options["numbers"]
-    words += ["--summary"] * options["summary"]
+    words += ["--summary"] * options["summary"] + ["--markdown"] * options.get("markdown", False)
     return [word.encode("latin-1") for word in words]
 
 

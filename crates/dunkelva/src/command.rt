@@ -9,12 +9,15 @@ const VERSION: &str = "0.1.0";
 
 /// What `dunkelva diff --help` has behind the options.
 const NOTES: &str = "\
-Files whose names end in .ndjson or .jsonl have a JSON object in each line. There --key takes paths \
-such as order.id or items[0].sku, and --only and --ignore take paths in which [] is every item, such \
-as items[].price, and so do the two tolerances. Others are CSV, with which --common, --numbers, \
---text, --null, --delimiter and --no-header go, and tolerances, --missing-is-null, --no-key-is-null \
-and --skip-bad do not.
-The status is 0 where the files are the same, 1 where they differ, and 2 where they can't be compared.";
+Files whose names end in .ndjson or .jsonl have a JSON object in each line, and
+others are CSV. For JSON, --key takes paths such as order.id or items[0].sku.
+--only, --ignore and the two tolerances take paths in which [] is every item, as
+items[].price. --common, --numbers, --text, --null, --delimiter and --no-header
+are for CSV alone; --missing-is-null, --no-key-is-null, --skip-bad and the two
+tolerances are for JSON alone.
+
+The status is 0 where the files are the same, 1 where they differ, and 2 where
+they can't be compared.";
 
 /// Returns an argument that takes what its option does.
 fn taking<'a>(arg: Arg<'a>, takes: Takes) -> Arg<'a> {

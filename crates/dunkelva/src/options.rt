@@ -53,7 +53,7 @@ const SWITCH: CliOption = CliOption {
 };
 
 /// The options of the command.
-static OPTIONS: [CliOption; 21] = [
+static OPTIONS: [CliOption; 22] = [
     CliOption {
         id: "key",
         takes: Takes::List,
@@ -192,6 +192,11 @@ static OPTIONS: [CliOption; 21] = [
         value: "WHEN",
         default: Some("auto"),
         help: "Print in colours; auto does on a terminal, unless NO_COLOR is set",
+        ..SWITCH
+    },
+    CliOption {
+        id: "markdown",
+        help: "Print the report as Markdown, for a pull request",
         ..SWITCH
     },
     CliOption {

@@ -4,6 +4,7 @@ use crate::files::{Source, open, total_of};
 use crate::progress::{Cleared, Counted, Progress};
 use crate::trouble::{document_trouble, table_trouble};
 use anyhow::{Result, anyhow};
+use diff_markdown::markdown::push_markdown;
 use diff_page::page::push_page;
 use diff_run::error::RunError;
 use diff_run::options::Options;
@@ -49,6 +50,8 @@ impl From<Outcome> for Ending {
 pub(crate) enum Target<'a> {
     /// Standard output.
     Output,
+    /// Standard output, as Markdown.
+    Markdown,
     /// A file of this name, as a page to look at.
     Page(&'a str),
 }
@@ -109,6 +112,29 @@ fn report_to<W: Write>(
     }
 }
 
+/// Compares two inputs of these names, and prints the report as Markdown.
+fn print_markdown(
+    rt: &HostRuntime,
+    left: Input<'_, Source>,
+    right: Input<'_, Source>,
+    names: (&str, &str),
+    progress: &Progress<'_>,
+    task: &Task<'_>,
+) -> Result<Ending> {
+    let mut report = Vec::new(rt.alloc());
+    let ending = report_to(rt, left, right, progress, task, &mut report)?;
+    let mut text = Vec::new(rt.alloc());
+    push_markdown(rt.alloc(), &mut text, names.0, names.1, &report)?;
+    let mut out = Cleared {
+        writer: io::writer(rt),
+        progress,
+    };
+    match out.write_all(&text) {
+        Ok(()) => Ok(ending),
+        Err(cause) => unwritten(cause),
+    }
+}
+
 /// Compares two inputs, and writes the page of the report to a file.
 fn write_page(
     rt: &HostRuntime,
@@ -129,11 +155,12 @@ fn write_page(
     }
 }
 
-/// Compares two inputs, and returns the status.
+/// Compares two inputs of these names, and returns the status.
 fn compare(
     rt: &HostRuntime,
     left: Input<'_, Source>,
     right: Input<'_, Source>,
+    names: (&str, &str),
     task: &Task<'_>,
     target: Target<'_>,
 ) -> Result<u8> {
@@ -145,6 +172,7 @@ fn compare(
             let mut out = Cleared { writer, progress };
             report_to(rt, left, right, progress, task, &mut out)
         }
+        Target::Markdown => print_markdown(rt, left, right, names, &progress, task),
         Target::Page(path) => write_page(rt, left, right, &progress, task, path),
     };
     progress.erase();
@@ -166,7 +194,8 @@ pub(crate) fn compare_named(
         return Err(anyhow!("only one of the two can be standard input"));
     }
     let has_standard = left == "-" || right == "-";
+    let names = (left, right);
     let left = open(rt, left, has_standard)?;
     let right = open(rt, right, has_standard)?;
-    compare(rt, left, right, task, target)
+    compare(rt, left, right, names, task, target)
 }

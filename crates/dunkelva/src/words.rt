@@ -85,6 +85,7 @@ const MOST_IN_PAGE: usize = 10_000;
 pub(crate) fn target_of<'a>(matches: &ArgMatches<'a>) -> Target<'a> {
     match matches.get_str("html") {
         Some(path) => Target::Page(path),
+        None if matches.get_flag("markdown") => Target::Markdown,
         None => Target::Output,
     }
 }
@@ -105,9 +106,9 @@ pub(crate) fn limit_of(matches: &ArgMatches<'_>) -> usize {
     }
 }
 
-/// Returns the form of the report. A page has its report as JSON lines.
+/// Returns the form of the report. Pages and Markdown are made of JSON lines.
 pub(crate) fn format_of(matches: &ArgMatches<'_>) -> Format {
-    if matches.contains_id("html") {
+    if matches.contains_id("html") || matches.get_flag("markdown") {
         return Format::Json;
     }
     match matches.get_str("format") {
