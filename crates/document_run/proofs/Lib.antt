@@ -1,2 +1,6 @@
+pub mod ExampleDocuments
+pub mod ExampleLines
+pub mod ExampleReport
+pub mod ExampleSides
 pub mod LawLemmas
 pub mod SideLemmas
