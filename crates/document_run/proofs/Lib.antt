@@ -1,6 +1,7 @@
 pub mod ExampleDocuments
 pub mod ExampleLines
 pub mod ExampleReport
+pub mod ExampleRules
 pub mod ExampleSides
 pub mod LawLemmas
 pub mod SideLemmas
