@@ -1,4 +1,5 @@
 pub mod DocumentLemmas
+mod ExampleTables
 mod Examples
 mod KnownLemmas
 mod LineLemmas
