@@ -1,5 +1,8 @@
+pub mod ChainLemmas
 mod Examples
+pub mod FirstLemmas
+pub mod FoundLemmas
 pub mod ListingLemmas
 pub mod MatchingLemmas
 pub mod UniqueLemmas
-pub mod WaitingLemmas
+pub mod WaitsLemmas

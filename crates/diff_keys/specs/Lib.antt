@@ -1,8 +1,12 @@
+pub mod Chains
 pub mod Errors
+pub mod Found
+pub mod Hashes
 pub mod Listing
 pub mod Matching
 pub mod NthLaws
 pub mod OrderLaws
+pub mod Outcome
 pub mod Partners
 pub mod Rising
 pub mod RisingLaws

@@ -27,6 +27,10 @@ count_of k (x ∷ xs) = one_more (bytes_eq x k) (count_of k xs)
 abbrev pub number_of : Keys → ℕ → ℕ
 number_of keys i = count_of (key_at keys i) (take i keys)
 
+-- row j has the key k
+abbrev pub HasKey : Keys → List ℕ → ℕ → Type 0
+HasKey keys k j = (j < length keys) × (key_at keys j ≡ k)
+
 -- row i of the left table and row j of the right one are partners
 pub record ArePartners (left right : Keys) (i j : ℕ) : Type 0 where
   pub left_row : i < length left

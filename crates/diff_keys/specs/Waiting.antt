@@ -1,7 +1,7 @@
 -- The row of a key with a number, as the search for partners keeps it.
-use Rattle.std.specs.Prelude.{◌≡◌, ◌<◌, ℕ, zero, suc, Bool, true, false, List, [], ◌∷◌, Option, Some, None, get_or, length, take, option_map}
+use Rattle.std.specs.Prelude.{ℕ, zero, suc, Bool, true, false, List, [], ◌∷◌, Option, Some, None, take, option_map}
 use Rattle.std.specs.Str.{bytes_eq}
-use Rattle.diff_keys.specs.Partners.{Keys, key_at, count_of}
+use Rattle.diff_keys.specs.Partners.{Keys, count_of}
 
 -- this row where it has the key and the number is 0, else a later one
 abbrev pub this_or_later : Bool → ℕ → (ℕ → Option ℕ) → Option ℕ
@@ -17,12 +17,3 @@ nth k n (x ∷ xs) = this_or_later (bytes_eq x k) n (λ m. nth k m xs)
 -- the first row from row j on that has the key k
 abbrev pub next_from : List ℕ → ℕ → Keys → Option ℕ
 next_from k j keys = nth k (count_of k (take j keys)) keys
-
--- what is kept for a row: the next one of its key; for no row, none
-abbrev pub later_of : List (Option ℕ) → Option ℕ → Option ℕ
-later_of next None = None
-later_of next (Some j) = get_or next j None
-
--- each row from row j on is kept with the next one of its key
-abbrev pub KeepsNext : Keys → ℕ → List (Option ℕ) → Type 0
-KeepsNext keys j next = (t : ℕ) → t < length keys → j < suc t → get_or next t None ≡ next_from (key_at keys t) (suc t) keys

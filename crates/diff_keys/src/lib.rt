@@ -3,9 +3,12 @@
 //! is matched with the first, the second with the second.
 #![tactic(auto)]
 
+pub mod blocks;
 pub mod error;
+pub mod hash;
 mod listing;
 pub mod matching;
+pub mod outcome;
 mod partners;
 pub mod unique;
 mod waiting;

@@ -1,11 +1,131 @@
 //! The partner of each row of a table.
 
-ghost use Rattle.std.specs.Prelude.{◌≡◌, ◌<◌, ◌≤◌, ◌^◌, ℕ, length, vec_len, get_or, None, IfOk};
-ghost use Rattle.diff_keys.specs.Partners.{IsPartner};
+ghost use Rattle.std.specs.Prelude.{◌≡◌, ◌<◌, ◌≤◌, ◌^◌, ℕ, All, length, map, vec_len, get_or, None, IfOk, IfSome};
+ghost use Rattle.diff_keys.specs.Chains.{AreWaiting};
+ghost use Rattle.diff_keys.specs.Found.{AreClasses, AreGuesses, AreRows, HaveFound};
+ghost use Rattle.diff_keys.specs.Partners.{HasKey, IsPartner};
 
-use crate::waiting::all_waiting;
+use crate::blocks::block_end;
+use crate::waiting::{Waiting, all_waiting, class_of};
 use polars_arrays_flat::byte_rows::ByteRows;
 use std::alloc::{AllocError, Global};
+
+/// Returns the class of each left row from `start` up to `end`, of `count` classes.
+fn classes_for<L: ByteRows>(
+    alloc: Global,
+    left: &L,
+    start: usize,
+    end: usize,
+    count: usize,
+) -> Result<Vec<usize>, AllocError>
+    requires some { 0 < count }
+    requires rise { start ≤ end }
+    requires within { end ≤ length (L.strings left.now) }
+    ensures { IfOk result (λ classes. AreClasses (L.strings left.now) count start end classes.items) }
+{
+    let mut classes = Vec::with_capacity(alloc, end - start)?;
+    for i in start..end {
+        classes.push(class_of(left.bytes(i), count))?;
+    }
+    Ok(classes)
+}
+
+/// Returns the first waiting row of each of these classes.
+fn heads_of(
+    alloc: Global,
+    classes: &[usize],
+    waiting: &Waiting,
+) -> Result<Vec<Option<u32>>, AllocError>
+    requires { All (λ c. c < length waiting.now.heads.items) classes.now }
+    ensures { IfOk result (λ rows. rows.items ≡ map (λ c. get_or waiting.now.heads.items c None) classes.now) }
+{
+    let mut rows = Vec::with_capacity(alloc, classes.len())?;
+    for k in 0..classes.len() {
+        rows.push(waiting.head(classes[k]))?;
+    }
+    Ok(rows)
+}
+
+/// Returns a row if it has this key.
+#[inline(always)]
+fn row_of_key<R: ByteRows>(keys: &R, row: Option<u32>, key: &[u8]) -> Option<u32>
+    requires { IfSome row (λ j. j < length (R.strings keys.now)) }
+    ensures { IfSome result (HasKey (R.strings keys.now) key.now) }
+{
+    let j = row?;
+    if keys.bytes(j as usize) == key {
+        return Some(j);
+    }
+    None
+}
+
+/// Returns for each left row from `start` up to `end` the row at its place, if that has its key.
+fn guesses_for<L: ByteRows, R: ByteRows>(
+    alloc: Global,
+    left: &L,
+    start: usize,
+    end: usize,
+    right: &R,
+    rows: &[Option<u32>],
+) -> Result<Vec<Option<u32>>, AllocError>
+    requires rows { AreRows (R.strings right.now) start end rows.now }
+    requires rise { start ≤ end }
+    requires within { end ≤ length (L.strings left.now) }
+    ensures { IfOk result (λ guesses. AreGuesses (L.strings left.now) (R.strings right.now) start end guesses.items) }
+{
+    let mut guesses = Vec::with_capacity(alloc, end - start)?;
+    for i in start..end {
+        guesses.push(row_of_key(right, rows[i - start], left.bytes(i)))?;
+    }
+    Ok(guesses)
+}
+
+/// Appends the partners of the left rows from `start` up to `end`.
+fn push_partners<L: ByteRows, R: ByteRows>(
+    found: &mut Vec<Option<u32>>,
+    left: &L,
+    start: usize,
+    end: usize,
+    right: &R,
+    waiting: &mut Waiting,
+    classes: &[usize],
+    guesses: &[Option<u32>],
+) -> Result<(), AllocError>
+    requires found { HaveFound (L.strings left.now) (R.strings right.now) start waiting.old found.old.items }
+    requires rise { start ≤ end }
+    requires within { end ≤ length (L.strings left.now) }
+    requires classes { AreClasses (L.strings left.now) (length waiting.old.heads.items) start end classes.now }
+    requires guesses { AreGuesses (L.strings left.now) (R.strings right.now) start end guesses.now }
+    ensures { IfOk result (λ _. HaveFound (L.strings left.now) (R.strings right.now) end waiting.new found.new.items) }
+{
+    for i in start..end {
+        let (class, guess) = (classes[i - start], guesses[i - start]);
+        found.push(waiting.take(right, left.bytes(i), class, guess))?;
+    }
+    Ok(())
+}
+
+/// Appends the partners of a block of left rows. The right rows that the keys lead to are all read
+/// before any is taken, so that few reads wait for others.
+fn push_block<L: ByteRows, R: ByteRows>(
+    alloc: Global,
+    found: &mut Vec<Option<u32>>,
+    left: &L,
+    start: usize,
+    end: usize,
+    right: &R,
+    waiting: &mut Waiting,
+) -> Result<(), AllocError>
+    requires found { HaveFound (L.strings left.now) (R.strings right.now) start waiting.old found.old.items }
+    requires rise { start ≤ end }
+    requires within { end ≤ length (L.strings left.now) }
+    ensures { IfOk result (λ _. HaveFound (L.strings left.now) (R.strings right.now) end waiting.new found.new.items) }
+{
+    let classes = classes_for(alloc, left, start, end, waiting.heads.len())?;
+    let rows = heads_of(alloc, &classes, waiting)?;
+    let guesses = guesses_for(alloc, left, start, end, right, &rows)?;
+    push_partners(found, left, start, end, right, waiting, &classes, &guesses)
+}
 
 /// Returns for each left row its partner among the right rows, or `None`.
 pub(crate) fn partners<L: ByteRows, R: ByteRows>(
@@ -19,8 +139,11 @@ pub(crate) fn partners<L: ByteRows, R: ByteRows>(
 {
     let mut waiting = all_waiting(alloc, right)?;
     let mut found = Vec::with_capacity(alloc, left.count())?;
-    for i in 0..left.count() {
-        found.push(waiting.take(left.bytes(i)))?;
+    let mut start = 0;
+    while start < left.count() {
+        let end = block_end(start, left.count());
+        push_block(alloc, &mut found, left, start, end, right, &mut waiting)?;
+        start = end;
     }
     Ok(found)
 }

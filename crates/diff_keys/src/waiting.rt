@@ -1,58 +1,107 @@
 //! The rows of a table that wait for a partner.
 
-ghost use Rattle.std.specs.HashMap.{get_by};
-ghost use Rattle.std.specs.Option.{ForSome, option_flatten};
-ghost use Rattle.std.specs.Prelude.{◌≡◌, ◌<◌, ◌≤◌, ◌^◌, ℕ, List, length, vec_len, IfOk, if◌then◌else◌};
-ghost use Rattle.std.specs.Str.{bytes_eq};
-ghost use Rattle.diff_keys.specs.Waiting.{KeepsNext, later_of, next_from};
+ghost use Rattle.std.specs.Prelude.{◌≡◌, ◌≢◌, ◌<◌, ◌≤◌, ◌^◌, ℕ, Some, None, get_or, length, IfOk, IfSome};
+ghost use Rattle.diff_keys.specs.Chains.{AreChained, AreWaiting, HasTaken, class_of};
+ghost use Rattle.diff_keys.specs.Partners.{HasKey, Keys, key_at};
 
+use crate::hash::key_hash;
 use polars_arrays_flat::byte_rows::ByteRows;
 use std::alloc::{AllocError, Global};
-use std::collections::HashMap;
 
-/// The rows of a table that wait for a partner, each key's in a chain from the first one on.
+/// The rows of a table that wait for a partner. Keys fall into classes by their hashes, and the rows
+/// of each class are chained in rising order.
 #[derive(Drop)]
-pub(crate) struct Waiting<'a> {
-    // The first such row of each key, or none, where all its rows were taken.
-    pub(crate) first: HashMap<&'a [u8], Option<u32>>,
-    // For each row the next one of its key.
+pub(crate) struct Waiting {
+    // The first row of each class.
+    pub(crate) heads: Vec<Option<u32>>,
+    // For each row the next one of its class.
     pub(crate) next: Vec<Option<u32>>,
 }
 
+/// How many classes there are for each row, so that few rows share one.
+const CLASSES: usize = 4;
+
+/// Returns the class of a key, of `count` classes.
+#[inline(always)]
+pub(crate) fn class_of(key: &[u8], count: usize) -> usize
+    requires { 0 < count }
+    ensures { result ≡ class_of count key.now }
+{
+    (key_hash(key) % count as u64) as usize
+}
+
 /// Returns all rows of a table as waiting.
-pub(crate) fn all_waiting<'a, R: ByteRows>(
-    alloc: Global,
-    keys: &'a R,
-) -> Result<Waiting<'a>, AllocError>
+pub(crate) fn all_waiting<R: ByteRows>(alloc: Global, keys: &R) -> Result<Waiting, AllocError>
     requires { length (R.strings keys.now) ≤ 2 ^ 32 }
-    ensures first { IfOk result (λ rows. (k : List ℕ) → option_flatten (get_by (λ x. bytes_eq k x.now) rows.first) ≡ next_from k 0 (R.strings keys.now)) }
-    ensures next { IfOk result (λ rows. KeepsNext (R.strings keys.now) 0 rows.next.items) }
-    ensures len { IfOk result (λ rows. vec_len rows.next ≡ length (R.strings keys.now)) }
+    ensures { IfOk result (λ rows. AreChained (R.strings keys.now) (λ x. 0 ≤ x) rows.heads.items rows.next.items) }
 {
     let count = keys.count();
-    let mut first = HashMap::with_capacity(alloc, count)?;
+    let classes = count.saturating_mul(CLASSES).saturating_add(1);
+    let mut heads: Vec<Option<u32>> = vec![in alloc; None; classes]?;
     let mut next: Vec<Option<u32>> = vec![in alloc; None; count]?;
     let mut j = count;
     while j > 0 {
         j -= 1;
-        let later = first.insert(keys.bytes(j), Some(j as u32))?;
-        next[j] = later.flatten();
+        let class = class_of(keys.bytes(j), heads.len());
+        next[j] = heads[class];
+        heads[class] = Some(j as u32);
     }
-    Ok(Waiting { first, next })
+    Ok(Waiting { heads, next })
 }
 
-impl<'a> Waiting<'a> {
-    /// Takes the first row of a key out of those that wait.
-    pub(crate) fn take(&mut self, key: &'a [u8]) -> Option<u32>
-        requires { ForSome (option_flatten (get_by (λ x. bytes_eq key.now x.now) self.old.first)) (λ j. j < vec_len self.old.next) }
-        ensures row { result ≡ option_flatten (get_by (λ x. bytes_eq key.now x.now) self.old.first) }
-        ensures next { self.new.next.items ≡ self.old.next.items }
-        ensures others { (k : List ℕ) → option_flatten (get_by (λ x. bytes_eq k x.now) self.new.first)
-            ≡ (if bytes_eq key.now k then later_of self.old.next.items (option_flatten (get_by (λ x. bytes_eq key.now x.now) self.old.first)) else option_flatten (get_by (λ x. bytes_eq k x.now) self.old.first)) }
+impl Waiting {
+    /// Returns the first row of a class.
+    #[inline(always)]
+    pub(crate) fn head(&self, class: usize) -> Option<u32>
+        requires { class < length self.now.heads.items }
+        ensures { result ≡ get_or self.now.heads.items class None }
     {
-        let waiting = self.first.get_mut(key)?;
-        let row = (*waiting)?;
-        *waiting = self.next[row as usize];
-        Some(row)
+        self.heads[class]
+    }
+
+    /// Takes the first row of a key out of those that wait. `class` is that of the key, and `guess`
+    /// a row of the key, if one is known.
+    #[inline(always)]
+    pub(crate) fn take<R: ByteRows>(
+        &mut self,
+        keys: &R,
+        key: &[u8],
+        class: usize,
+        guess: Option<u32>,
+    ) -> Option<u32>
+        requires waiting { (left : Keys) × (i : ℕ) × AreWaiting left (R.strings keys.now) i self.old }
+        requires class { class ≡ class_of (length self.old.heads.items) key.now }
+        requires guess { IfSome guess (HasKey (R.strings keys.now) key.now) }
+        ensures taken { (left : Keys) (i : ℕ) → i < length left → key_at left i ≡ key.now → AreWaiting left (R.strings keys.now) i self.old → HasTaken left (R.strings keys.now) i result self.new }
+        ensures classes { length self.new.heads.items ≡ length self.old.heads.items }
+    {
+        let head = self.heads[class]?;
+        if guess == Some(head) || keys.bytes(head as usize) == key {
+            self.heads[class] = self.next[head as usize];
+            return Some(head);
+        }
+        self.take_behind(keys, key, head)
+    }
+
+    /// Takes the first row of a key out of those that wait behind the first one of its class, which
+    /// has another key.
+    #[inline(never)]
+    fn take_behind<R: ByteRows>(&mut self, keys: &R, key: &[u8], head: u32) -> Option<u32>
+        requires waiting { (left : Keys) × (i : ℕ) × AreWaiting left (R.strings keys.now) i self.old }
+        requires some { 0 < length self.old.heads.items }
+        requires head { get_or self.old.heads.items (class_of (length self.old.heads.items) key.now) None ≡ Some head }
+        requires other { key_at (R.strings keys.now) head ≢ key.now }
+        ensures taken { (left : Keys) (i : ℕ) → i < length left → key_at left i ≡ key.now → AreWaiting left (R.strings keys.now) i self.old → HasTaken left (R.strings keys.now) i result self.new }
+        ensures classes { self.new.heads ≡ self.old.heads }
+    {
+        let mut before = head as usize;
+        while let Some(row) = self.next[before] {
+            if keys.bytes(row as usize) == key {
+                self.next[before] = self.next[row as usize];
+                return Some(row);
+            }
+            before = row as usize;
+        }
+        None
     }
 }

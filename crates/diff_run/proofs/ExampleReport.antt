@@ -19,8 +19,8 @@ use Rattle.diff_run.specs.Lone.{alone_lines}
 use Rattle.diff_run.specs.Run.{AreSidesOf, IsReportOf, outcome_of}
 use Rattle.diff_run.specs.declared.options.Format.TheVariants.{Text}
 use Rattle.diff_run.specs.declared.options.Options.{Options}
-use Rattle.diff_run.specs.declared.report.Outcome.{Outcome}
-use Rattle.diff_run.specs.declared.report.Outcome.TheVariants.{Different}
+use Rattle.diff_keys.specs.declared.outcome.Outcome.{Outcome}
+use Rattle.diff_keys.specs.declared.outcome.Outcome.TheVariants.{Different}
 use Rattle.diff_run.proofs.ExampleColumns.{IsExampleLayout, by_id, example_layout, new_names, old_names}
 use Rattle.diff_run.proofs.ExampleLines.{example_text, naming, parts, parts_of, same_naming, same_parts}
 use Rattle.diff_run.proofs.ExampleRows.{IsExampleComparison, example_comparison, new_rows, old_rows}

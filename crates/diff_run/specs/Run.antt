@@ -14,6 +14,7 @@ use Rattle.diff_csv.specs.Quotes.{ends_open}
 use Rattle.diff_csv.specs.Records.{AreRecordsOf, HaveOneLength}
 use Rattle.diff_csv.specs.Records as csv
 use Rattle.diff_json.specs.Report.{json_text}
+use Rattle.diff_keys.specs.Outcome as outcome
 use Rattle.diff_keys.specs.Unique.{AllDiffer}
 use Rattle.diff_report.specs.Counts.{column_counts}
 use Rattle.diff_report.specs.Report.{report_text}
@@ -25,15 +26,10 @@ use Rattle.diff_run.specs.Lone.{alone_lines}
 use Rattle.diff_run.specs.declared.options.Format.{Format}
 use Rattle.diff_run.specs.declared.options.Format.TheVariants.{Text, Json}
 use Rattle.diff_run.specs.declared.options.Options.{Options}
-use Rattle.diff_run.specs.declared.report.Outcome.{Outcome}
-use Rattle.diff_run.specs.declared.report.Outcome.TheVariants.{Same, Different}
+use Rattle.diff_keys.specs.declared.outcome.Outcome.{Outcome}
 use Rattle.diff_tables.specs.Comparison.{IsComparison}
 use Rattle.diff_tables.specs.Keys.{cells_at, row_keys}
 use Rattle.diff_tables.specs.declared.compare.Comparison.{Comparison}
-
--- no two rows differ, and each has a partner
-abbrev pub no_rows : Comparison → Bool
-no_rows c = (length c.changed.items == 0) && (length c.matching.removed.items == 0) && (length c.matching.added.items == 0)
 
 -- neither input has a column alone
 abbrev pub no_columns : Layout → Bool
@@ -41,7 +37,7 @@ no_columns layout = (length layout.left_alone.items == 0) && (length layout.righ
 
 -- the tables are the same where no row and no column makes a difference
 abbrev pub outcome_of : Options → Layout → Comparison → Outcome
-outcome_of options layout c = if no_rows c && (options.common || no_columns layout) then Same else Different
+outcome_of options layout c = outcome.outcome_of c.matching c.changed.items (options.common || no_columns layout)
 
 -- the lines of the columns that one input has alone
 abbrev pub columns_text : Options → List ℕ → List ℕ → Names → Names → Layout → List ℕ

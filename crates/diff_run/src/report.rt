@@ -21,20 +21,12 @@ use diff_columns::error::Side;
 use diff_columns::layout::Layout;
 use diff_json::report::push_json;
 use diff_keys::error::MatchError;
+use diff_keys::outcome::{self, Outcome};
 use diff_report::counts::count_by_column;
 use diff_report::report::push_report;
 use diff_report::sides::Sides;
 use diff_tables::compare::{Comparison, compare_tables};
 use std::alloc::{AllocError, Global};
-
-/// What a comparison found.
-#[derive(Clone, Copy, Debug, PartialEq, Eq)]
-pub enum Outcome {
-    /// The tables are the same.
-    Same,
-    /// The tables differ.
-    Different,
-}
 
 /// The report of two inputs, and what it comes to.
 #[derive(Drop)]
@@ -113,15 +105,9 @@ fn push_all(
 fn outcome_of(options: &Options<'_>, layout: &Layout, comparison: &Comparison) -> Outcome
     ensures { result ≡ outcome_of options.now layout.now comparison.now }
 {
-    let matching = &comparison.matching;
-    let same_rows = comparison.changed.is_empty()
-        && matching.removed.is_empty()
-        && matching.added.is_empty();
     let same_columns = layout.left_alone.is_empty() && layout.right_alone.is_empty();
-    if same_rows && (options.common || same_columns) {
-        return Outcome::Same;
-    }
-    Outcome::Different
+    let is_shared = options.common || same_columns;
+    outcome::outcome_of(&comparison.matching, &comparison.changed, is_shared)
 }
 
 /// Returns the report of two sides.

@@ -9,9 +9,10 @@ use crate::error::RunError;
 use crate::heads::heads_of;
 use crate::inputs::opened;
 use crate::options::Options;
-use crate::report::{Outcome, Report, report_of};
+use crate::report::{Report, report_of};
 use crate::sides::{Files, sides_of};
 use diff_columns::error::Side;
+use diff_keys::outcome::Outcome;
 use std::alloc::Global;
 use std::io::{Read, Write};
 

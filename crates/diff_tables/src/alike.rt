@@ -5,6 +5,7 @@ ghost use Rattle.polars_arrays_bytes.specs.OffsetStrings.{offset_strings};
 ghost use Rattle.polars_arrays_flat.specs.Validity.{window};
 ghost use Rattle.diff_tables.specs.Alike.{AreAsLong, AreSameCells, ListsAllBut, NameRowsOf, TellLengths, all_bytes};
 
+use diff_keys::blocks::block_end;
 use polars_arrays_bytes::binary::BinaryArray;
 use polars_arrays_flat::byte_rows::ByteRows;
 use polars_arrays_numbers::offset::Offset;
@@ -128,21 +129,6 @@ fn push_unlike<L: Offset, R: Offset>(
         }
     }
     Ok(())
-}
-
-/// The most pairs whose lengths are compared before the bytes of any of them are.
-const BLOCK: usize = 256;
-
-/// Returns where the block of pairs ends that begins at `start`.
-fn block_end(start: usize, count: usize) -> usize
-    requires { start < count }
-    ensures some { start < result }
-    ensures within { result ≤ count }
-{
-    if count - start <= BLOCK {
-        return count;
-    }
-    start + BLOCK
 }
 
 /// Lists the pairs of rows of `width` strings each that are not stored alike.

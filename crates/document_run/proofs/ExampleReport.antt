@@ -14,8 +14,8 @@ use Rattle.diff_keys.specs.Rising.{ListsRising}
 use Rattle.diff_keys.specs.declared.matching.Matching.{Matching}
 use Rattle.diff_run.proofs.ExampleRows.{IsExampleMatching, example_matching, new_keys, old_keys}
 use Rattle.diff_run.proofs.OnceLemmas.{one_listing}
-use Rattle.diff_run.specs.declared.report.Outcome.{Outcome}
-use Rattle.diff_run.specs.declared.report.Outcome.TheVariants.{Different}
+use Rattle.diff_keys.specs.declared.outcome.Outcome.{Outcome}
+use Rattle.diff_keys.specs.declared.outcome.Outcome.TheVariants.{Different}
 use Rattle.diff_tables.specs.Keys.{row_keys}
 use Rattle.diff_tables.specs.Tables.{TableRows}
 use Rattle.diff_words.specs.Colors.{color_text, painted}

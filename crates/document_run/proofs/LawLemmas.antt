@@ -3,7 +3,7 @@ use Rattle.std.proofs.Common.{◌≡◌, ◌∙◌, ◌<◌, ◌↔◌, ℕ, Lis
 use Rattle.std.proofs.lemmas.List.{length-map}
 use Rattle.std.specs.Prelude.{◌≢◌, slice_index}
 use Rattle.diff_keys.specs.RisingLaws.{listed_as}
-use Rattle.diff_run.specs.declared.report.Outcome.{Outcome}
+use Rattle.diff_keys.specs.declared.outcome.Outcome.{Outcome}
 use Rattle.diff_tables.proofs.CompareLemmas.{pairs_within}
 use Rattle.document_rows.proofs.DocumentLemmas.{tree_unique}
 use Rattle.document_rows.specs.Documents.{IsDocument, document_row}

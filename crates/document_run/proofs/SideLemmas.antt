@@ -11,7 +11,7 @@ use Rattle.diff_keys.specs.RisingLaws.{listed_as}
 use Rattle.diff_keys.specs.Unique.{IsFirstTwice}
 use Rattle.diff_report.proofs.NamedLemmas.{listed_all, listed_few}
 use Rattle.diff_report.specs.declared.sides.Side.{Side as Table}
-use Rattle.diff_run.specs.declared.report.Outcome.{Outcome}
+use Rattle.diff_keys.specs.declared.outcome.Outcome.{Outcome}
 use Rattle.diff_tables.proofs.CompareLemmas.{pairs_within}
 use Rattle.diff_tables.specs.Keys.{row_key, row_keys}
 use Rattle.diff_tables.specs.Tables.{TableRows}

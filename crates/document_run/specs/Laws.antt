@@ -5,7 +5,7 @@
 use Rattle.std.specs.Prelude.{◌≡◌, ℕ, List, length, slice_index}
 use Rattle.diff_keys.specs.Rising.{ListsRising}
 use Rattle.diff_keys.specs.declared.matching.Matching.{Matching}
-use Rattle.diff_run.specs.declared.report.Outcome.{Outcome}
+use Rattle.diff_keys.specs.declared.outcome.Outcome.{Outcome}
 use Rattle.document_run.specs.Run.{IsDocumentReportOf, left_documents, right_documents, rules_of, tree_at}
 use Rattle.document_run.specs.declared.options.DocumentOptions.{DocumentOptions}
 use Rattle.json_changes.specs.Rules.{no_rules}

@@ -11,14 +11,14 @@ use Rattle.std.specs.List.{range_with_len}
 use Rattle.std.specs.Prelude.{◌≡◌, ◌≢◌, ◌==◌, ◌&&◌, ℕ, Bool, true, if◌then◌else◌, List, [], get_or, length, map, slice_index}
 use Rattle.diff_columns.specs.Names.{names_of}
 use Rattle.diff_keys.specs.Matching.{IsMatching}
+use Rattle.diff_keys.specs.Outcome as outcome
 use Rattle.diff_keys.specs.Rising.{ListsRising}
 use Rattle.diff_keys.specs.Unique.{AllDiffer}
 use Rattle.diff_keys.specs.declared.matching.Matching.{Matching}
 use Rattle.diff_report.specs.declared.sides.Side.{Side}
 use Rattle.diff_run.specs.declared.options.Format.{Format}
 use Rattle.diff_run.specs.declared.options.Format.TheVariants as format
-use Rattle.diff_run.specs.declared.report.Outcome.{Outcome}
-use Rattle.diff_run.specs.declared.report.Outcome.TheVariants.{Same, Different}
+use Rattle.diff_keys.specs.declared.outcome.Outcome.{Outcome}
 use Rattle.diff_tables.specs.Keys.{row_keys}
 use Rattle.document_report.specs.Objects.{document_json_text}
 use Rattle.document_report.specs.Report.{document_report_text}
@@ -91,13 +91,9 @@ abbrev pub format_text : Format → DocumentSides → Matching → List ℕ → 
 format_text format.Text sides matching changed limit = document_report_text sides matching changed limit
 format_text format.Json sides matching changed limit = document_json_text sides matching changed limit
 
--- no two partners differ, and each document has a partner
-abbrev pub has_none : Matching → List ℕ → Bool
-has_none m changed = (length changed == 0) && (length m.removed.items == 0) && (length m.added.items == 0)
-
 -- what a comparison comes to
 abbrev pub outcome_of : Matching → List ℕ → Outcome
-outcome_of m changed = if has_none m changed then Same else Different
+outcome_of m changed = outcome.outcome_of m changed true
 
 -- no key comes twice among either documents
 abbrev pub HaveUniqueKeys : DocumentOptions → List (List ℕ) → List (List ℕ) → Type 0

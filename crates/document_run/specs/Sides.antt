@@ -4,7 +4,7 @@ use Rattle.diff_keys.specs.Matching.{IsMatching}
 use Rattle.diff_keys.specs.Rising.{ListsRising}
 use Rattle.diff_keys.specs.Unique.{AllDiffer}
 use Rattle.diff_report.specs.declared.sides.Side.{Side}
-use Rattle.diff_run.specs.declared.report.Outcome.{Outcome}
+use Rattle.diff_keys.specs.declared.outcome.Outcome.{Outcome}
 use Rattle.diff_tables.specs.Keys.{row_keys}
 use Rattle.document_rows.specs.Tables.{HaveDocuments, IsOtherDocument}
 use Rattle.document_run.specs.Run.{format_text, key_columns, outcome_of, paths_of, rules_of}

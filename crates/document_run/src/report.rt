@@ -2,14 +2,14 @@
 
 ghost use Rattle.std.specs.Prelude.{◌≡◌, IfOk, MatchResult};
 ghost use Rattle.document_run.specs.Faults.{IsRowsFault};
-ghost use Rattle.document_run.specs.Run.{format_text, outcome_of};
+ghost use Rattle.document_run.specs.Run.{format_text};
 ghost use Rattle.document_run.specs.Sides.{AreComparable, IsFoundOn, IsReportOn};
 
 use crate::error::DocumentError;
 use crate::found::{Found, found_on};
 use crate::options::DocumentOptions;
+use diff_keys::outcome::{Outcome, outcome_of};
 use diff_run::options::Format;
-use diff_run::report::Outcome;
 use document_report::objects::push_document_json;
 use document_report::report::push_document_report;
 use document_words::sides::DocumentSides;
@@ -46,17 +46,6 @@ fn text_of(
     Ok(text)
 }
 
-/// Returns whether all documents have a partner from which no difference is told.
-fn outcome_of(found: &Found) -> Outcome
-    ensures { result ≡ outcome_of found.now.matching found.now.changed.items }
-{
-    let matching = &found.matching;
-    if found.changed.is_empty() && matching.removed.is_empty() && matching.added.is_empty() {
-        return Outcome::Same;
-    }
-    Outcome::Different
-}
-
 /// Returns the report of two sides.
 pub(crate) fn report_of(
     alloc: Global,
@@ -70,6 +59,6 @@ pub(crate) fn report_of(
 {
     let found = found_on(alloc, sides, options)?;
     let text = text_of(alloc, sides, &found, options)?;
-    let outcome = outcome_of(&found);
+    let outcome = outcome_of(&found.matching, &found.changed, true);
     Ok(Report { text, outcome })
 }

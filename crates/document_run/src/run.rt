@@ -9,7 +9,7 @@ use crate::error::DocumentError;
 use crate::options::DocumentOptions;
 use crate::report::{Report, report_of};
 use crate::sides::sides_of;
-use diff_run::report::Outcome;
+use diff_keys::outcome::Outcome;
 use diff_run::run::Input;
 use std::alloc::Global;
 use std::io::{Read, Write};

@@ -1,8 +1,12 @@
-use Rattle.std.specs.HashMap.{get_by}
-use Rattle.std.specs.Option.{option_flatten}
-use Rattle.std.specs.Str.{bytes_eq}
-use Rattle.diff_keys.proofs.WaitingLemmas.{AreTaken}
+use Rattle.std.proofs.Common.{◌≤◌, ◌-◌, length}
+use Rattle.diff_keys.specs.Found.{HaveFound}
 use Rattle.diff_keys.proofs.partners.partners.Given as goal
 
-abbrev pub invariant-loop-i : goal.invariant-loop-i
-invariant-loop-i g l = AreTaken (g.L.ByteRows.strings l.left) (g.R.ByteRows.strings l.fn.right) l.i (λ q. option_flatten (get_by (λ x. bytes_eq q x.now) l.waiting.first)) l.waiting.next.items l.found.items
+abbrev pub invariant-loop-start : goal.invariant-loop-start
+invariant-loop-start g l = record {
+  within : l.start ≤ length (g.L.ByteRows.strings l.fn.left);
+  found : HaveFound (g.L.ByteRows.strings l.fn.left) (g.R.ByteRows.strings l.fn.right) l.start l.waiting l.found.items;
+}
+
+abbrev pub decreases-loop-start : goal.decreases-loop-start
+decreases-loop-start g l = length (g.L.ByteRows.strings l.fn.left) - l.start

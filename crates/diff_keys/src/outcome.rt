@@ -1,0 +1,27 @@
+//! What a comparison comes to.
+
+ghost use Rattle.std.specs.Prelude.{◌≡◌};
+ghost use Rattle.diff_keys.specs.Outcome.{outcome_of};
+
+use crate::matching::Matching;
+
+/// What a comparison of two inputs comes to.
+#[derive(Clone, Copy, Debug, PartialEq, Eq)]
+pub enum Outcome {
+    /// The inputs are the same.
+    Same,
+    /// The inputs differ.
+    Different,
+}
+
+/// Returns `Same` where no row is changed, removed or added and the columns are the same too, and
+/// else `Different`.
+pub fn outcome_of(matching: &Matching, changed: &[usize], same_columns: bool) -> Outcome
+    ensures { result ≡ outcome_of matching.now changed.now same_columns }
+{
+    let same_rows = changed.is_empty() && matching.removed.is_empty() && matching.added.is_empty();
+    if same_rows && same_columns {
+        return Outcome::Same;
+    }
+    Outcome::Different
+}
