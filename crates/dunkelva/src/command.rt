@@ -48,11 +48,16 @@ fn arg_of<'a>(alloc: Global, option: CliOption) -> Result<Arg<'a>, AllocError> {
 }
 
 /// Returns an input, which is a file or standard input.
-fn input<'a>(alloc: Global, id: &'a str, name: &'a str, help: &'a str) -> Arg<'a> {
+fn input<'a>(
+    alloc: Global,
+    id: &'a str,
+    name: &'a str,
+    help: &'a str,
+) -> Result<Arg<'a>, AllocError> {
     Arg::new(alloc, id)
         .value_name(name)
-        .required(true)
         .help(help)
+        .required_unless_present("config")
 }
 
 /// Adds options to a command.
@@ -78,13 +83,13 @@ fn diff<'a>(alloc: Global) -> Result<Command<'a>, AllocError> {
             "left",
             "LEFT",
             "The first file, or - for standard input",
-        ))?
+        )?)?
         .arg(input(
             alloc,
             "right",
             "RIGHT",
             "The second file, or - for standard input",
-        ))?;
+        )?)?;
     with_options(alloc, command, options())
 }
 

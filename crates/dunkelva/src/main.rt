@@ -3,6 +3,7 @@
 #![tactic(auto)]
 
 mod command;
+mod config;
 mod files;
 mod keys;
 mod kinds;
@@ -14,6 +15,7 @@ mod trouble;
 mod words;
 
 use crate::command::command;
+use crate::config::{Config, config_for, joined, named_file};
 use crate::keys::keys_of;
 use crate::kinds::{hold_documents, refuse_document_options, refuse_table_options};
 use crate::rules::rules_of;
@@ -89,9 +91,9 @@ fn diff_documents(
 }
 
 /// Compares the two files that the words name.
-fn diff(rt: &HostRuntime, matches: &ArgMatches<'_>) -> Result<u8> {
-    let left = matches.get_str("left").unwrap_or("-");
-    let right = matches.get_str("right").unwrap_or("-");
+fn diff(rt: &HostRuntime, matches: &ArgMatches<'_>, config: &Config) -> Result<u8> {
+    let left = named_file(matches.get_str("left"), &config.left)?;
+    let right = named_file(matches.get_str("right"), &config.right)?;
     if hold_documents(matches, left, right)? {
         return diff_documents(rt, matches, left, right);
     }
@@ -102,7 +104,9 @@ fn diff(rt: &HostRuntime, matches: &ArgMatches<'_>) -> Result<u8> {
 fn run_words(rt: &HostRuntime) -> Result<u8> {
     let alloc = rt.alloc();
     let words: Vec<String> = env::args(rt)?.collect(alloc)?;
-    let matches = match command(alloc)?.try_get_matches_from(words.as_slice()) {
+    let config = config_for(rt, &words)?;
+    let all = joined(alloc, &words, &config.words)?;
+    let matches = match command(alloc)?.try_get_matches_from(all.as_slice()) {
         Ok(matches) => matches,
         Err(error) => {
             error.print(rt)?;
@@ -110,7 +114,7 @@ fn run_words(rt: &HostRuntime) -> Result<u8> {
         }
     };
     match matches.subcommand() {
-        Some(("diff", matches)) => diff(rt, matches),
+        Some(("diff", matches)) => diff(rt, matches, &config),
         _ => Err(anyhow!("no command is given")),
     }
 }

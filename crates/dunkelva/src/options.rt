@@ -53,7 +53,7 @@ const SWITCH: CliOption = CliOption {
 };
 
 /// The options of the command.
-static OPTIONS: [CliOption; 22] = [
+static OPTIONS: [CliOption; 23] = [
     CliOption {
         id: "key",
         takes: Takes::List,
@@ -204,6 +204,13 @@ static OPTIONS: [CliOption; 22] = [
         takes: Takes::Text,
         value: "FILE",
         help: "Write a page to look at into FILE, of up to 10000 differences, and print nothing",
+        ..SWITCH
+    },
+    CliOption {
+        id: "config",
+        takes: Takes::Text,
+        value: "FILE",
+        help: "Take options from FILE, which is TOML; those of the command line win",
         ..SWITCH
     },
 ];

@@ -1,0 +1,259 @@
+//! Options that a file sets.
+//!
+//! The file is TOML. It has each option by its name, and the two files as `left` and `right`. What
+//! the command line gives takes the place of what the file sets.
+
+use crate::options::{CliOption, Takes, options};
+use anyhow::{Error, Result, anyhow};
+use std::alloc::{AllocError, Global};
+use std::fs;
+use toml::{Table, Value};
+
+/// What a file sets.
+#[derive(Drop)]
+pub(crate) struct Config {
+    /// Its options, as words of a command line.
+    pub(crate) words: Vec<String>,
+    pub(crate) left: Option<String>,
+    pub(crate) right: Option<String>,
+}
+
+/// Returns what is said of a value that its option does not take.
+fn misfit(name: &str, takes: &str, value: &Value) -> Error {
+    anyhow!("{name} takes {takes}, and not this {}", value.type_str())
+}
+
+/// Returns the text that a value is.
+fn text_of<'a>(name: &str, value: &'a Value) -> Result<&'a str> {
+    match value.as_str() {
+        Some(text) => Ok(text),
+        None => Err(misfit(name, "a text", value)),
+    }
+}
+
+/// Appends the word of an option that takes nothing, where it is set.
+fn push_switch(words: &mut Vec<String>, alloc: Global, name: &str, value: &Value) -> Result<()> {
+    match value.as_bool() {
+        Some(true) => words.push(format!(in alloc; "--{name}")?)?,
+        Some(false) => {}
+        None => return Err(misfit(name, "true or false", value)),
+    }
+    Ok(())
+}
+
+/// Appends the word of an option that takes a text.
+fn push_text(words: &mut Vec<String>, alloc: Global, name: &str, value: &Value) -> Result<()> {
+    let text = text_of(name, value)?;
+    words.push(format!(in alloc; "--{name}={text}")?)?;
+    Ok(())
+}
+
+/// Appends the word of an option that takes a number.
+fn push_number(words: &mut Vec<String>, alloc: Global, name: &str, value: &Value) -> Result<()> {
+    match value.as_integer() {
+        Some(number) => words.push(format!(in alloc; "--{name}={number}")?)?,
+        None => return Err(misfit(name, "a whole number", value)),
+    }
+    Ok(())
+}
+
+/// Appends a word for each text of a list. A text alone is a list of one.
+fn push_texts(words: &mut Vec<String>, alloc: Global, name: &str, value: &Value) -> Result<()> {
+    let Some(items) = value.as_array() else {
+        return push_text(words, alloc, name, value);
+    };
+    for item in items {
+        push_text(words, alloc, name, item)?;
+    }
+    Ok(())
+}
+
+/// Appends the word of a bound at a path. A bound is no float, since its digits would be lost.
+fn push_bound(
+    words: &mut Vec<String>,
+    alloc: Global,
+    name: &str,
+    path: &str,
+    bound: &Value,
+) -> Result<()> {
+    let word = match bound {
+        Value::String(text) => format!(in alloc; "--{name}={path}={text}")?,
+        Value::Integer(number) => format!(in alloc; "--{name}={path}={number}")?,
+        other => return Err(misfit(name, "bounds in quotes such as \"0.01\"", other)),
+    };
+    words.push(word)?;
+    Ok(())
+}
+
+/// Appends the words of an option whose texts are paths and bounds: a table, or texts as on the
+/// command line.
+fn push_bounds(words: &mut Vec<String>, alloc: Global, name: &str, value: &Value) -> Result<()> {
+    let Some(bounds) = value.as_table() else {
+        return push_texts(words, alloc, name, value);
+    };
+    for (path, bound) in bounds {
+        push_bound(words, alloc, name, path, bound)?;
+    }
+    Ok(())
+}
+
+/// Appends the words of an option that has this value.
+fn push_option(
+    words: &mut Vec<String>,
+    alloc: Global,
+    option: &CliOption,
+    value: &Value,
+) -> Result<()> {
+    match option.takes {
+        Takes::Nothing => push_switch(words, alloc, option.id, value),
+        Takes::Text | Takes::Word(_) => push_text(words, alloc, option.id, value),
+        Takes::Number => push_number(words, alloc, option.id, value),
+        Takes::List => push_texts(words, alloc, option.id, value),
+        Takes::Texts => push_bounds(words, alloc, option.id, value),
+    }
+}
+
+/// The option that names the file.
+const CONFIG: &str = "config";
+
+/// Returns whether a file may set what has this name.
+fn is_known(name: &str) -> bool {
+    if name == "left" || name == "right" {
+        return true;
+    }
+    options().iter().any(|option| option.id == name) && name != CONFIG
+}
+
+/// Refuses names that no option has.
+fn refuse_unknown(table: &Table) -> Result<()> {
+    for (name, _) in table {
+        if !is_known(name) {
+            return Err(anyhow!("no option that a file may set is named {name:?}"));
+        }
+    }
+    Ok(())
+}
+
+/// Returns what stands behind the hyphens of a word, up to an equals sign, and what stands behind
+/// that.
+fn split_word(word: &str) -> Option<(&str, Option<&str>)> {
+    let option = word.strip_prefix("--")?;
+    match option.split_once('=') {
+        Some((name, value)) => Some((name, Some(value))),
+        None => Some((option, None)),
+    }
+}
+
+/// Returns whether the words give an option.
+fn is_given(words: &[String], id: &str) -> bool {
+    for word in words {
+        match split_word(word) {
+            Some(("", None)) => return false,
+            Some((name, _)) if name == id => return true,
+            _ => {}
+        }
+    }
+    false
+}
+
+/// Returns the name of the file that the words give with `--config`.
+fn file_given(words: &[String]) -> Option<&str> {
+    for i in 0..words.len() {
+        match split_word(&words[i]) {
+            Some(("", None)) => return None,
+            Some((CONFIG, Some(path))) => return Some(path),
+            Some((CONFIG, None)) => return words.get(i.saturating_add(1)).map(String::as_str),
+            _ => {}
+        }
+    }
+    None
+}
+
+/// Returns the text that a table has at a name, if it has one there.
+fn member_text(alloc: Global, table: &Table, name: &str) -> Result<Option<String>> {
+    match table.get(name) {
+        Some(value) => Ok(Some(String::from_str(alloc, text_of(name, value)?)?)),
+        None => Ok(None),
+    }
+}
+
+/// Returns what a table sets beside the words of the command line.
+fn config_of(alloc: Global, table: &Table, given: &[String]) -> Result<Config> {
+    refuse_unknown(table)?;
+    let mut words = Vec::new(alloc);
+    for option in options() {
+        if let Some(value) = table.get(option.id) {
+            if !is_given(given, option.id) {
+                push_option(&mut words, alloc, option, value)?;
+            }
+        }
+    }
+    let left = member_text(alloc, table, "left")?;
+    let right = member_text(alloc, table, "right")?;
+    Ok(Config { words, left, right })
+}
+
+/// Returns the line of a text in which the byte at a place stands, from 1 on.
+fn line_at(text: &str, place: usize) -> usize {
+    let before = text.as_bytes().iter().take(place);
+    before.filter(|byte| **byte == b'\n').count().saturating_add(1)
+}
+
+/// Returns what is said of a text that is no TOML.
+fn no_table(text: &str, error: &toml::de::Error) -> Error {
+    match error.span() {
+        Some(span) => anyhow!("line {}: {}", line_at(text, span.start), error.message()),
+        None => anyhow!("out of memory"),
+    }
+}
+
+/// Reads what a file sets beside the words of the command line.
+fn read_config(rt: &HostRuntime, path: &str, given: &[String]) -> Result<Config> {
+    let text = fs::read_to_string(rt, path)?;
+    match toml::table_from_str(rt.alloc(), &text) {
+        Ok(table) => config_of(rt.alloc(), &table, given),
+        Err(error) => Err(no_table(&text, &error)),
+    }
+}
+
+/// Returns what is set beside the words of the command line: nothing, unless they name a file.
+pub(crate) fn config_for(rt: &HostRuntime, words: &[String]) -> Result<Config> {
+    let Some(path) = file_given(words) else {
+        return Ok(Config {
+            words: Vec::new(rt.alloc()),
+            left: None,
+            right: None,
+        });
+    };
+    match read_config(rt, path, words) {
+        Ok(config) => Ok(config),
+        Err(error) => Err(error.context(path)),
+    }
+}
+
+/// Returns the words of a command line with those that a file sets, which stand behind the command.
+pub(crate) fn joined<'a>(
+    alloc: Global,
+    words: &'a [String],
+    set: &'a [String],
+) -> Result<Vec<&'a str>, AllocError> {
+    let mut all = Vec::new(alloc);
+    for i in 0..words.len() {
+        all.push(words[i].as_str())?;
+        if i == 1 {
+            for word in set {
+                all.push(word.as_str())?;
+            }
+        }
+    }
+    Ok(all)
+}
+
+/// Returns the name of a file: the one of the command line, or else the one that a file sets.
+pub(crate) fn named_file<'a>(given: Option<&'a str>, set: &'a Option<String>) -> Result<&'a str> {
+    match (given, set) {
+        (Some(name), _) => Ok(name),
+        (None, Some(name)) => Ok(name.as_str()),
+        (None, None) => Err(anyhow!("two files are compared: give LEFT and RIGHT")),
+    }
+}
