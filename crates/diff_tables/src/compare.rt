@@ -2,6 +2,7 @@
 
 ghost use Rattle.std.specs.Prelude.{◌≡◌, ◌<◌, ℕ, List, true, All, length, map, slice_index, IfOk, MatchResult};
 ghost use Rattle.polars_arrays_bits.specs.Errors.{IsMemory};
+ghost use Rattle.polars_arrays_nested.specs.declared.any_array.AnyArray.TheVariants.{FixedSizeList};
 ghost use Rattle.diff_keys.specs.Matching.{IsMatching};
 ghost use Rattle.diff_keys.specs.Errors.{IsMemory as IsMatchMemory};
 ghost use Rattle.diff_keys.specs.Rising.{ListsRising};
@@ -20,6 +21,7 @@ use diff_keys::unique::{Twice, first_twice};
 use diff_pairs::changed::changed_pairs;
 use polars_arrays_bits::error::ComputeError;
 use polars_arrays_nested::any_array::AnyArray;
+use polars_arrays_nested::fixed_size_list::FixedSizeListArray;
 use std::alloc::{AllocError, Global};
 
 /// The rows of two tables, matched and compared.
@@ -35,18 +37,24 @@ pub struct Comparison {
 /// lie between ends of 64 bits if `wide`.
 fn changed_lists(
     alloc: Global,
-    left: AnyArray,
+    left: FixedSizeListArray,
     left_rows: Vec<u32>,
     right: &Table,
     right_rows: Vec<u32>,
     wide: bool,
 ) -> Result<Vec<usize>, ComputeError>
     requires wide { right.now.far ≡ true → wide ≡ true }
-    requires pairs { (rows : List (List (List ℕ))) × HoldsRows wide right.now.width rows left × ArePairs rows right.now.rows left_rows.items right_rows.items }
-    ensures { MatchResult result (λ changed. (rows : List (List (List ℕ))) → HoldsRows wide right.now.width rows left → ArePairs rows right.now.rows left_rows.items right_rows.items → ListsRising (IsDifferent rows right.now.rows left_rows.items right_rows.items) (length left_rows.items) changed.items) IsMemory }
+    requires pairs { (rows : List (List (List ℕ))) × HoldsRows wide right.now.width rows (FixedSizeList left) × ArePairs rows right.now.rows left_rows.items right_rows.items }
+    ensures { MatchResult result (λ changed. (rows : List (List (List ℕ))) → HoldsRows wide right.now.width rows (FixedSizeList left) → ArePairs rows right.now.rows left_rows.items right_rows.items → ListsRising (IsDifferent rows right.now.rows left_rows.items right_rows.items) (length left_rows.items) changed.items) IsMemory }
 {
     match right.list_array(alloc, wide) {
-        Ok(right) => changed_pairs(alloc, left, left_rows, right, right_rows),
+        Ok(right) => {
+            let (left, right) = (
+                AnyArray::FixedSizeList(left),
+                AnyArray::FixedSizeList(right),
+            );
+            changed_pairs(alloc, left, left_rows, right, right_rows)
+        }
         Err(error) => Err(error),
     }
 }

@@ -2,6 +2,7 @@
 
 ghost use Rattle.std.specs.Prelude.{◌≡◌, ◌<◌, ◌*◌, ℕ, Bool, List, [], true, length, get_or, IfOk, MatchResult};
 ghost use Rattle.polars_arrays_bits.specs.Errors.{IsMemory};
+ghost use Rattle.polars_arrays_nested.specs.declared.any_array.AnyArray.TheVariants.{FixedSizeList};
 ghost use Rattle.diff_tables.specs.Alike.{AreSameRows, ListsAllBut};
 ghost use Rattle.diff_tables.specs.Comparison.{ArePairs};
 ghost use Rattle.diff_tables.specs.Held.{HoldsCells, HoldsRows};
@@ -41,13 +42,13 @@ fn lists_of(
     width: usize,
     count: usize,
     cells: AnyArray,
-) -> Result<AnyArray, ComputeError>
+) -> Result<FixedSizeListArray, ComputeError>
     requires { (far : Bool) × (strings : List (List ℕ)) × HoldsCells far strings cells × (length strings ≡ width * count) }
-    ensures { MatchResult result (λ lists. (far : Bool) (strings : List (List ℕ)) → HoldsCells far strings cells → length strings ≡ width * count → HoldsRows far width (cut_rows width count strings) lists) IsMemory }
+    ensures { MatchResult result (λ lists. (far : Bool) (strings : List (List ℕ)) → HoldsCells far strings cells → length strings ≡ width * count → HoldsRows far width (cut_rows width count strings) (FixedSizeList lists)) IsMemory }
 {
     let values = Box::new(alloc, cells)?;
     match FixedSizeListArray::try_new(width, count, values, None) {
-        Ok(array) => Ok(AnyArray::FixedSizeList(array)),
+        Ok(array) => Ok(array),
         Err(_) => unreachable!(),
     }
 }
@@ -124,9 +125,13 @@ impl Table {
 
     /// Returns the array whose rows are the lists of each row's cells, between ends of 64 bits where
     /// that is asked for. No cell is copied. The one error is `Memory`.
-    pub(crate) fn list_array(&self, alloc: Global, wide: bool) -> Result<AnyArray, ComputeError>
+    pub(crate) fn list_array(
+        &self,
+        alloc: Global,
+        wide: bool,
+    ) -> Result<FixedSizeListArray, ComputeError>
         requires { self.now.far ≡ true → wide ≡ true }
-        ensures { MatchResult result (HoldsRows wide self.now.width self.now.rows) IsMemory }
+        ensures { MatchResult result (λ lists. HoldsRows wide self.now.width self.now.rows (FixedSizeList lists)) IsMemory }
     {
         match self.cells.array(alloc, wide) {
             Ok(cells) => lists_of(alloc, self.width, self.count, cells),
