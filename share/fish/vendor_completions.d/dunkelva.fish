@@ -25,5 +25,6 @@ complete -c dunkelva -n '__fish_seen_subcommand_from diff' -l summary -d 'Print 
 complete -c dunkelva -n '__fish_seen_subcommand_from diff' -l format -x -a 'text json' -d 'Print lines to read, or a JSON object in each line'
 complete -c dunkelva -n '__fish_seen_subcommand_from diff' -l color -x -a 'auto always never' -d 'Print in colours; auto does on a terminal, unless NO_COLOR is set'
 complete -c dunkelva -n '__fish_seen_subcommand_from diff' -l markdown -d 'Print the report as Markdown, for a pull request'
-complete -c dunkelva -n '__fish_seen_subcommand_from diff' -l html -x -d 'Write a page to look at into FILE, of up to 10000 differences, and print nothing'
+complete -c dunkelva -n '__fish_seen_subcommand_from diff' -l html -rF -d 'Write a page to look at into FILE, of up to 10000 differences, and print nothing'
+complete -c dunkelva -n '__fish_seen_subcommand_from diff' -l config -rF -d 'Take options from FILE, which is TOML; those of the command line win'
 complete -c dunkelva -n '__fish_seen_subcommand_from diff' -s h -l help -d 'Print help'
