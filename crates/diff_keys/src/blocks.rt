@@ -1,6 +1,6 @@
 //! Rows that are looked at block by block.
 
-ghost use Rattle.std.specs.Prelude.{◌<◌, ◌≤◌};
+ghost use Rattle.std.specs.Prelude.{◌≡◌, ◌<◌, ◌+◌, min};
 
 /// How many rows a block has. All of them are looked up before any is worked on, so that few reads
 /// of memory wait for others.
@@ -9,8 +9,7 @@ const BLOCK: usize = 256;
 /// Returns where the block ends that begins at row `start` of `count` rows.
 pub fn block_end(start: usize, count: usize) -> usize
     requires { start < count }
-    ensures some { start < result }
-    ensures within { result ≤ count }
+    ensures { result ≡ min count (start + 256) }
 {
     if count - start <= BLOCK {
         return count;
