@@ -196,7 +196,10 @@ fn config_of(alloc: Global, table: &Table, given: &[String]) -> Result<Config> {
 /// Returns the line of a text in which the byte at a place stands, from 1 on.
 fn line_at(text: &str, place: usize) -> usize {
     let before = text.as_bytes().iter().take(place);
-    before.filter(|byte| **byte == b'\n').count().saturating_add(1)
+    before
+        .filter(|byte| **byte == b'\n')
+        .count()
+        .saturating_add(1)
 }
 
 /// Returns what is said of a text that is no TOML.
