@@ -10,7 +10,7 @@ PROGRAM ?= $(if $(QUICK),$(UNPROVED),$(PROVED))
 BIN = $(DESTDIR)$(PREFIX)/bin
 SHARE = $(DESTDIR)$(PREFIX)/share
 
-.PHONY: help quick program prove test bench install install-files uninstall deb
+.PHONY: help quick program prove test bench site install install-files uninstall deb
 
 help: ## List what can be made
 	@sed -n 's/^\([a-z]*\):.*## /  \1\t/p' Makefile | expand -t 14
@@ -29,6 +29,9 @@ test: ## Run most stored inputs without a proof (minutes)
 
 bench: ## Time the kernels beside plain Rust (proves them first; then 15 minutes)
 	bench/run.sh
+
+site: ## Make the pages as a site (out/site; needs mkdocs)
+	packaging/make_site
 
 install: $(if $(QUICK),quick,program) install-files ## Build, and install below PREFIX; QUICK=1: without a proof
 	@echo "$(BIN)/dunkelva is installed$(if $(QUICK),. It is not proved,).";
