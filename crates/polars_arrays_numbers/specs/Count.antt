@@ -1,4 +1,4 @@
--- How far a counter has counted.
+-- The count of a counter.
 use Rattle.std.specs.Prelude.{ℕ, ◌+◌}
 use Rattle.polars_arrays_numbers.specs.declared.steps.Past.{Past, Start, After'}
 

@@ -1,7 +1,7 @@
--- Whole numbers that count or number places.
+-- Whole numbers read as natural numbers.
 use Rattle.std.specs.Prelude.{ℕ, ℤ, pos, negsuc, Option, Some, None}
 
--- a whole number as a natural number, where it is not negative
+-- a whole number as a natural number; none for a negative one
 abbrev pub natural_of : ℤ → Option ℕ
 natural_of (pos n) = Some n
 natural_of (negsuc n) = None

@@ -1,4 +1,5 @@
--- Laws of wrapping: there is one such number, it is what `wrap` of a number type gives, and to wrap on the way to a sum changes nothing.
+-- Laws of wrapping: the wrapped number is unique, number types' `wrap` returns it, and a sum may
+-- wrap at each step.
 use Rattle.std.specs.Prelude.{◌≡◌, ◌<◌, ◌≤ℤ◌, ◌<ℤ◌, ◌+◌, ◌-◌, ◌*◌, ◌/◌, ◌%◌, ◌^◌, ◌+ℤ◌, ◌-ℤ◌, ℕ, ℤ, pos, negsuc, unsigned_abs, FitsSigned, refl}
 use Rattle.std.specs.Int.{Width, w8, w16, w32, w64, w128, int_rem_euclid}
 use Rattle.std.proofs.Common.{ap, sym, subst, ◌∙◌, arith, mod-lt}
@@ -38,7 +39,7 @@ divided (negsuc a) m some =
       sum = omega (arith, ints, small, div-add-mod' a m);
     }
 
--- the remainder is the one number below m that differs by a multiple of m
+-- the remainder is the only number below m that differs from z by a multiple of m
 rest_is : (z : ℤ) (m below above rest : ℕ) → rest < m → z +ℤ pos (below * m) ≡ pos (above * m + rest) → int_rem_euclid z (pos m) ≡ pos rest
 rest_is z m below above rest small e =
     int_rem_euclid_is z (pos m) m below (above * m + rest) (omega (arith, small)) refl e ∙ ap pos (mod-mul-add above m rest small)
@@ -49,7 +50,7 @@ gap (pos m) (negsuc n) h = absurd (omega (arith, ints))
 gap (negsuc m) (pos n) h = (n + m + 1, omega (arith, ints))
 gap (negsuc m) (negsuc n) h = (m - n, omega (arith, ints))
 
--- the same over a modulus m in place of a power
+-- the laws below over any modulus m instead of a power of 2
 module _ (least : ℤ) (m : ℕ) (some : 0 < m) where
   only : (n x : ℤ) → least ≤ℤ x → x <ℤ (least +ℤ pos m) → Congruent m x n → x ≡ least +ℤ int_rem_euclid (n -ℤ least) (pos m)
   only n x low high e =
@@ -89,7 +90,7 @@ pub wrapped-only : (least greatest : ℤ) (width : ℕ) → HasAllOf least great
 wrapped-only least greatest width all n x is =
     only least (2 ^ width) (pow_pos width) n x is.from_least (omega (arith, ints, all, is.to_greatest)) is.congruent
 
--- and n wrapped is such a number
+-- n wrapped is in range and congruent to n
 pub wrapped-is : (least greatest : ℤ) (width : ℕ) → HasAllOf least greatest width → (n : ℤ) → IsWrapped least greatest width n (wrapped least width n)
 wrapped-is least greatest width all n =
     let h = within least (2 ^ width) (pow_pos width) n in
@@ -99,11 +100,11 @@ wrapped-is least greatest width all n =
       congruent = congruent least (2 ^ width) (pow_pos width) n;
     }
 
--- to wrap on the way to a sum changes nothing
+-- wrapping a summand does not change the wrapped sum
 pub wrapped-add : (least : ℤ) (width : ℕ) (a b : ℤ) → wrapped least width (wrapped least width a +ℤ b) ≡ wrapped least width (a +ℤ b)
 wrapped-add least width a b = ap (λ (r : ℤ). least +ℤ r) (add least (2 ^ width) (pow_pos width) a b)
 
--- an unsigned type of k bits wraps so
+-- an unsigned type of k bits wraps as defined
 pub unsigned_wrapped : (k : ℕ) (n : ℤ) → wrap_unsigned k n ≡ wrapped (pos 0) k n
 unsigned_wrapped k n =
     let whole : n -ℤ pos 0 ≡ n = omega (arith, ints) in
@@ -140,7 +141,7 @@ signed_range w x f =
     let b = (signed-bounds w x).0 f in
     (b.0, omega (arith, ints, b.1, twice w, pow_pos (hbits w)))
 
--- and a signed type of width w
+-- a signed type of width w wraps as defined
 pub signed_wrapped : (w : Width) (n : ℤ) → wrap_signed w n ≡ wrapped (negsuc (2 ^ hbits w - 1)) (bit_len w) n
 signed_wrapped w n =
     let h = signed_range w (wrap_signed w n) (signed-wrap_fits w n) in

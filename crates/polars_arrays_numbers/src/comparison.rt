@@ -4,24 +4,25 @@ ghost use Rattle.std.specs.Ordering.{int_eq};
 
 use crate::native_type::{NativeType, has_wide_values};
 
-/// A comparison of a left and a right element: it holds of the two, or it does not.
+/// A comparison of a left and a right element.
 pub trait Comparison<L, R> {
-    // Whether it holds of two elements.
+    // Truth of the comparison for two elements.
     ghost holds: { Self → L → R → Bool };
 
-    /// Whether it holds of the two elements.
+    /// Returns whether the comparison holds of two elements.
     fn compare(&self, left: L, right: R) -> bool
         ensures { result ≡ holds self.now left right };
 
-    /// Whether many answers are packed into bits one by one, and not by 64 flags and one vector operation: the
-    /// faster way for elements of more than 64 bits. The answers are the same either way.
+    /// Returns whether results are packed into bits one by one instead of by 64 flags and one
+    /// vector operation. That is faster for elements of more than 64 bits. The results are the same
+    /// either way.
     #[inline(always)]
     fn packs_by_bit(&self) -> bool {
         false
     }
 }
 
-/// Whether two numbers are one.
+/// Equality of two numbers.
 #[derive(Clone, Copy, Debug)]
 pub struct Equal;
 
@@ -39,7 +40,7 @@ impl<T: NativeType> Comparison<T, T> for Equal {
     }
 }
 
-/// Whether two numbers differ.
+/// Inequality of two numbers.
 #[derive(Clone, Copy, Debug)]
 pub struct Unequal;
 
@@ -57,7 +58,7 @@ impl<T: NativeType> Comparison<T, T> for Unequal {
     }
 }
 
-/// Whether the left number is less than the right one.
+/// The comparison "the left number is less than the right one".
 #[derive(Clone, Copy, Debug)]
 pub struct Less;
 
@@ -75,7 +76,7 @@ impl<T: NativeType> Comparison<T, T> for Less {
     }
 }
 
-/// Whether the left number is less than the right one or equal to it.
+/// The comparison "the left number is less than or equal to the right one".
 #[derive(Clone, Copy, Debug)]
 pub struct LessOrEqual;
 
@@ -93,7 +94,7 @@ impl<T: NativeType> Comparison<T, T> for LessOrEqual {
     }
 }
 
-/// Whether the left number is greater than the right one.
+/// The comparison "the left number is greater than the right one".
 #[derive(Clone, Copy, Debug)]
 pub struct Greater;
 
@@ -111,7 +112,7 @@ impl<T: NativeType> Comparison<T, T> for Greater {
     }
 }
 
-/// Whether the left number is greater than the right one or equal to it.
+/// The comparison "the left number is greater than or equal to the right one".
 #[derive(Clone, Copy, Debug)]
 pub struct GreaterOrEqual;
 

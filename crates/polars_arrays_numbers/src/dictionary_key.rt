@@ -6,7 +6,7 @@ use crate::native_type::NativeType;
 
 /// A type of keys, of 8 to 64 bits, signed or not.
 pub trait DictionaryKey: NativeType {
-    /// The entry that the key names, or `None` where it is negative.
+    /// Returns the index of the entry that the key names, or `None` if the key is negative.
     fn to_entry(self) -> Option<usize>
         ensures { result ≡ natural_of (Self.value self) };
 }

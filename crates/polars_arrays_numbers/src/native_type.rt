@@ -5,36 +5,37 @@ ghost use Rattle.polars_arrays_numbers.specs.Ranges.{greatest_of, least_of};
 
 use num_traits::{Bounded, FixedWidth};
 
-/// A type of whole numbers of fixed width, in two's complement where it is signed.
+/// A type of whole numbers of fixed width, in two's complement if it is signed.
 ///
 /// A clause reads a value `x` of such a type `T` as the whole number `T.value x`.
 pub trait NativeType: Copy + Ord + Bounded + FixedWidth + 'static {
-    /// How many bits a value has.
+    /// Returns the width of a value in bits.
     fn width() -> u32
         ensures { result ≡ bit_len Self.width };
 
-    /// Whether the type has numbers below 0. With the width it says which numbers the type has.
+    /// Returns whether the type has negative numbers. Sign and width determine the numbers of a
+    /// type.
     fn is_signed() -> bool
         ensures below_zero { IsTrue result ↔ (Self.low <ℤ pos 0) }
         ensures least { Self.low ≡ least_of result (bit_len Self.width) }
         ensures greatest { Self.high ≡ greatest_of result (bit_len Self.width) };
 }
 
-/// The least number of a type.
+/// Returns the least number of a type.
 pub fn least_value<T: NativeType>() -> T
     ensures { T.value result ≡ T.low }
 {
     T::min_value()
 }
 
-/// The greatest number of a type.
+/// Returns the greatest number of a type.
 pub fn greatest_value<T: NativeType>() -> T
     ensures { T.value result ≡ T.high }
 {
     T::max_value()
 }
 
-/// Whether the values have more than 64 bits.
+/// Returns whether the values have more than 64 bits.
 #[inline(always)]
 pub fn has_wide_values<T: NativeType>() -> bool
     ensures { IsTrue result ↔ (64 < bit_len T.width) }

@@ -4,13 +4,13 @@ ghost use Rattle.polars_arrays_numbers.specs.Naturals.{natural_of};
 
 use crate::native_type::NativeType;
 
-/// A type of offsets, as the Arrow layout has them: 32 or 64 bits, signed.
+/// A type of offsets in the Arrow layout: signed, of 32 or 64 bits.
 pub trait Offset: NativeType {
-    /// The offset as a place, or `None` where it is negative.
+    /// Returns the offset as an index, or `None` if it is negative.
     fn to_place(self) -> Option<usize>
         ensures { result ≡ natural_of (Self.value self) };
 
-    /// The offset as a place, without a test: the offset is known not to be negative.
+    /// Returns the offset as an index without a test. The offset must not be negative.
     fn place(self) -> usize
         requires { natural_of (Self.value self) ≢ None }
         ensures { natural_of (Self.value self) ≡ Some result };

@@ -11,7 +11,7 @@ enum Past {
     After(Snapshot<usize>, Snapshot<Past>),
 }
 
-/// A counter. Clauses read it as the exact count, which has no bound; `seen` stops at `u64::MAX`.
+/// A counter. Contracts see the exact count, which has no bound; `seen` stops at `u64::MAX`.
 #[derive(Drop)]
 pub struct Steps {
     seen: u64,
@@ -31,7 +31,7 @@ impl Model for Steps {
 }
 
 impl Steps {
-    /// A counter that has counted nothing.
+    /// Creates a counter at 0.
     pub fn new() -> Steps
         ensures { result ≡ 0 }
     {
@@ -41,7 +41,7 @@ impl Steps {
         }
     }
 
-    /// Counts `n` more.
+    /// Adds `n` to the count.
     pub fn add(&mut self, n: usize)
         ensures { self.new ≡ self.old + n }
     {
@@ -50,7 +50,7 @@ impl Steps {
         self.past = Past::After(Snapshot::of(&n), before);
     }
 
-    /// The count, or `u64::MAX` where it is greater.
+    /// Returns the count, or `u64::MAX` if it is greater.
     pub fn seen(&self) -> u64
         ensures { result ≡ min self.now (2 ^ 64 - 1) }
     {

@@ -1,8 +1,8 @@
--- Truth values packed into words of 64 bits, as in the Arrow layout: the lowest bit of the first word first.
+-- Truth values packed into 64-bit words in the Arrow layout: the first value is the lowest bit.
 use Rattle.std.specs.Prelude.{◌≡◌, ℕ, ◌+◌, ◌*◌, ◌/◌, ◌%◌, ◌^◌, ◌<◌, ◌≤◌, Bool, eqb, List, [], ◌∷◌, length, get_or, map, count_by}
 use Rattle.std.specs.List.{range_with_len}
 
--- whether bit i of a word is 1, counted from the lowest
+-- whether bit i of a word is 1; bit 0 is the lowest
 abbrev pub is_bit : ℕ → ℕ → Bool
 is_bit word i = eqb (word / 2 ^ i % 2) 1
 
@@ -14,11 +14,11 @@ bit_of words p = is_bit (get_or words (p / 64) 0) (p % 64)
 abbrev pub first_of : (ℕ → Bool) → ℕ → List Bool
 first_of f n = map f (range_with_len 0 n)
 
--- n bits of words from bit `at` on
+-- the n bits of words from bit `at` on
 abbrev pub window : ℕ → ℕ → List ℕ → List Bool
 window at n words = first_of (λ i. bit_of words (at + i)) n
 
--- the bits of a word are 64 values of f, from the k-th 64 on
+-- the bits of a word are values 64 k to 64 k + 63 of f
 pub record IsWord (f : ℕ → Bool) (k word : ℕ) : Type 0 where
   pub bits : (i : ℕ) → i < 64 → is_bit word i ≡ f (64 * k + i)
 
@@ -27,14 +27,14 @@ pub record AreWords (f : ℕ → Bool) (n : ℕ) (words : List ℕ) : Type 0 whe
   pub count : length words ≡ n
   pub each : (k : ℕ) → k < n → IsWord f k (get_or words k 0)
 
--- f of the elements at each place of three lists, as far as all three go
+-- f of the elements at each place of three lists, up to the end of the shortest
 abbrev pub zip3 : (Bool → Bool → Bool → Bool) → List Bool → List Bool → List Bool → List Bool
 zip3 f [] ys zs = []
 zip3 f (x ∷ xs) [] zs = []
 zip3 f (x ∷ xs) (y ∷ ys) [] = []
 zip3 f (x ∷ xs) (y ∷ ys) (z ∷ zs) = f x y z ∷ zip3 f xs ys zs
 
--- how many of the first n values that f gives are true
+-- the number of true values among the first n of f
 abbrev pub true_count : (ℕ → Bool) → ℕ → ℕ
 true_count f n = count_by (λ b. b) (first_of f n)
 
@@ -45,17 +45,17 @@ pub record IsWritten (old new : List ℕ) (from to : ℕ) (value : Bool) : Type 
   pub below : (p : ℕ) → p < from → bit_of new p ≡ bit_of old p
   pub above : (p : ℕ) → to ≤ p → bit_of new p ≡ bit_of old p
 
--- the new words have the bits of `word` from bit p on, as far as they go, and before it the bits of the old ones
+-- the new words hold `word` from bit p on, up to their end, and the old bits before it
 pub record IsPut (old new : List ℕ) (p word : ℕ) : Type 0 where
   pub count : length new ≡ length old
   pub before : (q : ℕ) → q < p → bit_of new q ≡ bit_of old q
   pub bits : (i : ℕ) → i < 64 → p + i < 64 * length old → bit_of new (p + i) ≡ is_bit word i
 
--- a word has become another one, each bit of it what h makes of it, where the word's bits are the k-th 64
+-- h has changed each bit of word k: bit i of the word is bit 64 k + i of all words
 pub record IsChangedWord (h : ℕ → Bool → Bool) (k old new : ℕ) : Type 0 where
   pub bits : (i : ℕ) → i < 64 → is_bit new i ≡ h (64 * k + i) (is_bit old i)
 
--- the new words have what h makes of the old ones' bits, in the words from `from` up to `to`, and elsewhere the bits of the old ones
+-- h has changed each bit of the words from `from` up to `to`; the other words are as before
 pub record IsChanged (h : ℕ → Bool → Bool) (old new : List ℕ) (from to : ℕ) : Type 0 where
   pub count : length new ≡ length old
   pub within : (p : ℕ) → 64 * from ≤ p → p < 64 * to → bit_of new p ≡ h p (bit_of old p)

@@ -1,4 +1,4 @@
--- Blocks of truth values, each of which becomes one that says whether they are all true.
+-- Blocks of truth values, each reduced to one bit: whether all of them are true.
 use Rattle.std.specs.Prelude.{◌≡◌, ℕ, ◌+◌, ◌*◌, ◌<◌, ◌≤◌, Bool, false, List, take, drop}
 use Rattle.std.specs.List.{list_all}
 use Rattle.polars_arrays_words.specs.Bits.{is_bit, first_of}
@@ -11,7 +11,7 @@ blocks_all width n bits = first_of (λ i. list_all (λ b. b) (take width (drop (
 abbrev pub block_true : ℕ → (ℕ → Bool) → ℕ → Bool
 block_true width f i = list_all (λ b. b) (first_of (λ j. f (width * i + j)) width)
 
--- the `count` lowest bits of a word say whether the bits of each block of another one are all 1, and the other ones are 0
+-- bit i of `folded`, for i < count, says whether block i of the word is all 1; the other bits are 0
 pub record IsFolded (width count word folded : ℕ) : Type 0 where
   pub bits : (i : ℕ) → i < count → is_bit folded i ≡ block_true width (is_bit word) i
   pub rest : (i : ℕ) → count ≤ i → i < 64 → is_bit folded i ≡ false

@@ -17,10 +17,10 @@ and_not a b = a && not b
 abbrev pub or_not : Bool → Bool → Bool
 or_not a b = a || not b
 
--- two rows are equal, null to null alone, where q says whether their values are equal and l and r whether they are present
+-- two rows are equal, with null equal to null alone; q: equal values, l and r: present rows
 abbrev pub merged_eq : Bool → Bool → Bool → Bool
 merged_eq q l r = ((q && l) && r) || not (l || r)
 
--- two rows are unequal, null to all but null, where q says whether their values are unequal and l and r whether they are present
+-- two rows are unequal, with null equal to null alone; q: unequal values, l and r: present rows
 abbrev pub merged_ne : Bool → Bool → Bool → Bool
 merged_ne q l r = ((q && l) && r) || xor l r

@@ -1,4 +1,4 @@
-//! Words that are changed in place, 64 bits at a time.
+//! Changes of words in place, 64 bits at a time.
 
 ghost use Rattle.std.specs.Prelude.{◌≡◌, ℕ, ◌^◌, ◌<◌, ◌≤◌, Bool, length};
 ghost use Rattle.polars_arrays_words.specs.Bits.{IsChanged, IsChangedWord};
@@ -6,28 +6,28 @@ ghost use Rattle.polars_arrays_words.specs.Bits.{IsChanged, IsChangedWord};
 use crate::operators::{BinaryOperator, TernaryOperator};
 use crate::source::BitSource;
 
-/// What each bit of words becomes.
+/// A change of each bit of words.
 pub trait WordChange {
     ghost bit: { Self → ℕ → Bool → Bool };
 
     ghost inner: { Self → ℕ };
 
-    /// How many of the first words `inner_word` can change.
+    /// Returns the number of leading words that `inner_word` can change.
     fn inner_words(&self) -> usize
         ensures { result ≡ inner self.now };
 
-    /// What word `k` becomes, with no test for an end.
+    /// Returns the changed word `k`, without a bounds check.
     fn inner_word(&self, k: usize, word: u64) -> u64
         requires { k < inner self.now }
         ensures { IsChangedWord (bit self.now) k word result };
 
-    /// What word `k` becomes.
+    /// Returns the changed word `k`.
     fn word(&self, k: usize, word: u64) -> u64
         requires { k < 2 ^ 58 }
         ensures { IsChangedWord (bit self.now) k word result };
 }
 
-/// Each bit becomes the operator's result with the source's.
+/// A change of each bit to the operator's result with the source's bit.
 #[derive(Drop)]
 pub struct JoinedWith<O, A> {
     pub operator: O,
@@ -55,7 +55,7 @@ impl<O: BinaryOperator, A: BitSource> WordChange for JoinedWith<O, A> {
     }
 }
 
-/// Each bit becomes the operator's result with those of two sources.
+/// A change of each bit to the operator's result with the bits of two sources.
 #[derive(Drop)]
 pub struct MergedWith<O, A, B> {
     pub operator: O,
@@ -88,7 +88,7 @@ impl<O: TernaryOperator, A: BitSource, B: BitSource> WordChange for MergedWith<O
     }
 }
 
-/// The first `to` words are changed with no test for an end.
+/// Changes the first `to` words without bounds checks.
 #[inline(always)]
 pub fn change_inner_words<C: WordChange>(words: &mut [u64], change: &C, to: usize)
     requires within { to ≤ length words.old }
@@ -100,7 +100,7 @@ pub fn change_inner_words<C: WordChange>(words: &mut [u64], change: &C, to: usiz
     }
 }
 
-/// The words from `from` to `to` are changed.
+/// Changes the words from `from` to `to`.
 #[inline(always)]
 pub fn change_words<C: WordChange>(words: &mut [u64], change: &C, from: usize, to: usize)
     requires order { from ≤ to }

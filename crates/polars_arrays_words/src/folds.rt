@@ -1,5 +1,5 @@
-//! Blocks of bits, of which one bit each says whether they are all true. Pairs and fours are folded a
-//! word at a time.
+//! Blocks of bits reduced to one bit each: whether all bits of the block are true. Blocks of two
+//! and of four bits are folded a word at a time.
 
 ghost use Rattle.std.specs.Prelude.{◌≡◌, ℕ, ◌+◌, ◌*◌, ◌^◌, ◌<◌, ◌≤◌, [], ◌∷◌, ◌&&◌, ◌||◌, length};
 ghost use Rattle.polars_arrays_words.specs.Bits.{is_bit, bit_of, IsWord};
@@ -10,7 +10,7 @@ use crate::runs::all_set;
 use crate::source::BitSource;
 use crate::words::{join_from, word_or_zero};
 
-// Each bit joined with the one that stands `by` places above it, and kept where the mask has it.
+// Joins each bit with the bit `by` places above it, and keeps those that the mask has.
 #[inline(always)]
 fn gather(word: u64, by: usize, mask: u64) -> u64
     requires { by < 64 }
@@ -19,9 +19,9 @@ fn gather(word: u64, by: usize, mask: u64) -> u64
     (word | (word >> by)) & mask
 }
 
-// Whether the bits of each pair of a word are both true, as the lowest 32 bits. The answers first stand
-// in every second bit. In steps, each of which doubles the runs of bits that stand together, they move
-// to the end.
+// Folds the pairs of a word: returns in the lowest 32 bits whether both bits of each pair are true.
+// The results first stand in every second bit. Each step then doubles the length of the runs that
+// stand together, until all are at the low end.
 #[inline(always)]
 fn fold_pairs(word: u64) -> u64
     ensures { IsFolded 2 32 word result }
@@ -34,7 +34,7 @@ fn fold_pairs(word: u64) -> u64
     gather(answers, 16, 0xFFFF_FFFF)
 }
 
-// The same of two words, as all bits of one.
+// Folds the pairs of two words into one word.
 #[inline(always)]
 fn fold_two_words(first: u64, second: u64) -> u64
     ensures { (i : ℕ) → i < 64 → is_bit result i ≡ block_true 2 (bit_of (first ∷ second ∷ [])) i }
@@ -42,7 +42,8 @@ fn fold_two_words(first: u64, second: u64) -> u64
     put(fold_pairs(first), fold_pairs(second), 32)
 }
 
-// Whether the bits of each four of a word are all true, as the lowest 16 bits, found in the same way.
+// Folds the fours of a word: returns in the lowest 16 bits whether all bits of each four are true.
+// The steps are those of `fold_pairs`.
 #[inline(always)]
 fn fold_fours(word: u64) -> u64
     ensures { IsFolded 4 16 word result }
@@ -55,7 +56,7 @@ fn fold_fours(word: u64) -> u64
     gather(answers, 24, 0xFFFF)
 }
 
-// The same of four words, as all bits of one.
+// Folds the fours of four words into one word.
 #[inline(always)]
 fn fold_four_words(first: u64, second: u64, third: u64, fourth: u64) -> u64
     ensures { (i : ℕ) → i < 64 → is_bit result i ≡ block_true 4 (bit_of (first ∷ second ∷ third ∷ fourth ∷ [])) i }
@@ -65,7 +66,7 @@ fn fold_four_words(first: u64, second: u64, third: u64, fourth: u64) -> u64
     put(three, fold_fours(fourth), 48)
 }
 
-// Word `k` of the bits from bit `by` of the first word on, with no test for an end.
+// Returns word `k` of the bits from bit `by` of the first word on, without a bounds check.
 #[inline(always)]
 fn inner_word_at(words: &[u64], by: usize, k: usize) -> u64
     requires by { by < 64 }
@@ -75,7 +76,7 @@ fn inner_word_at(words: &[u64], by: usize, k: usize) -> u64
     join_from(words[k], words[k + 1], by)
 }
 
-// The same with zeros past the end.
+// Returns word `k` of the bits from bit `by` of the first word on, with zeros past the end.
 #[inline(always)]
 fn word_at(words: &[u64], by: usize, k: usize) -> u64
     requires by { by < 64 }
@@ -85,8 +86,8 @@ fn word_at(words: &[u64], by: usize, k: usize) -> u64
     join_from(word_or_zero(words, k), word_or_zero(words, k + 1), by)
 }
 
-/// Whether the bits of each pair are both true, of those from bit `by` of the first word on, and false
-/// after them.
+/// Pairs of the bits from bit `by` of the first word on. Bit `i` is whether both bits of pair `i`
+/// are true, and false past the end.
 #[derive(Drop)]
 pub struct Pairs<'a> {
     pub words: &'a [u64],
@@ -125,7 +126,8 @@ impl BitSource for Pairs<'_> {
     }
 }
 
-/// The same of each four.
+/// Fours of the bits from bit `by` of the first word on. Bit `i` is whether all bits of four `i`
+/// are true, and false past the end.
 #[derive(Drop)]
 pub struct Fours<'a> {
     pub words: &'a [u64],
@@ -168,7 +170,8 @@ impl BitSource for Fours<'_> {
     }
 }
 
-/// The same of each of `count` blocks of `width` bits, block by block.
+/// Blocks of `width` bits from bit `by` of the first word on, `count` of them. Value `i` is whether
+/// all bits of block `i` are true. Blocks are folded one at a time.
 #[derive(Drop)]
 pub struct Blocks<'a> {
     pub words: &'a [u64],

@@ -1,5 +1,5 @@
-//! Bits of words of 64 bits, in slices of words: read from any bit on, counted, joined by operators,
-//! packed from truth values, folded by blocks, written, and changed in place.
+//! Bits of 64-bit words: read from any bit on, counted, joined by operators, packed from truth
+//! values, folded by blocks, written, and changed in place.
 #![tactic(auto)]
 
 pub mod changes;

@@ -121,9 +121,8 @@ impl BinaryOperator for OrNot {
     }
 }
 
-/// Equality where null equals itself alone: the operands are the bits of plain equality and the two
-/// sides' validity. Rows are unequal where one side is present alone, and where both are and the
-/// values are unequal; this takes one step less than to say where they are equal.
+/// Missing equality: null is equal to null alone. The operands are the bits of plain equality and
+/// the validity of the two sides. Computes inequality and negates it, which takes one step less.
 #[derive(Drop)]
 pub struct MergeEq;
 
@@ -138,9 +137,9 @@ impl TernaryOperator for MergeEq {
     }
 }
 
-/// Inequality where null equals itself alone: the operands are the bits of plain inequality and the two
-/// sides' validity. Where one side is present alone the second part says so, and elsewhere one side's
-/// validity is that of both.
+/// Missing inequality: null is equal to null alone. The operands are the bits of plain inequality
+/// and the validity of the two sides. Rows differ if exactly one side is present, or if both are
+/// and the values differ.
 #[derive(Drop)]
 pub struct MergeNe;
 

@@ -1,4 +1,4 @@
-//! Truth values that are asked for one by one, packed into words.
+//! Packing of truth values that are read one by one into words.
 
 ghost use Rattle.std.specs.Prelude.{◌≡◌, ℕ, ◌+◌, ◌-◌, ◌^◌, ◌<◌, ◌≤◌, Bool, List, false, not, ◌||◌, eqb, length, get_or, slice_index_or};
 ghost use Rattle.polars_arrays_words.specs.Bits.{is_bit};
@@ -8,29 +8,30 @@ use crate::source::BitSource;
 use crate::words::WORD_BITS;
 use std::simd::prelude::*;
 
-/// Truth values that can be asked for one by one.
+/// A list of truth values that are read one by one.
 pub trait TruthValues {
     // The truth values, the first one first.
     ghost values: { Self → List Bool };
 
-    /// How many truth values there are.
+    /// Returns the number of truth values.
     fn len(&self) -> usize
         ensures { result ≡ length (values self.now) };
 
-    /// The truth value at place `i`.
+    /// Returns the truth value at place `i`.
     fn value(&self, i: usize) -> bool
         requires { i < length (values self.now) }
         ensures { result ≡ slice_index_or (values self.now) i false };
 
-    /// Whether truth values are packed one by one, which is faster where each is found from more than 64 bits,
-    /// and not by 64 flags and one vector operation. No answer depends on it.
+    /// Returns whether truth values are packed one by one instead of by 64 flags and one vector
+    /// operation. That is faster if each is computed from more than 64 bits. The results are the
+    /// same either way.
     #[inline(always)]
     fn packs_by_bit(&self) -> bool {
         false
     }
 }
 
-// The word whose bits say which flags are not 0.
+// Returns the word whose bit `i` is whether flag `i` is not 0.
 #[inline(always)]
 fn pack_flags(flags: &[u8; 64]) -> u64
     ensures { (i : ℕ) → i < 64 → is_bit result i ≡ not (eqb (get_or flags.now i 0) 0) }
@@ -40,7 +41,7 @@ fn pack_flags(flags: &[u8; 64]) -> u64
         .to_bitmask()
 }
 
-// The same of sixteen flags, with zeros behind them.
+// Returns the word whose bit `i` is whether flag `i` of sixteen is not 0, and zeros above them.
 #[inline(always)]
 fn pack_sixteen_flags(flags: &[u8; 16]) -> u64
     ensures { (i : ℕ) → i < 64 → is_bit result i ≡ not (eqb (get_or flags.now i 0) 0) }
@@ -50,7 +51,7 @@ fn pack_sixteen_flags(flags: &[u8; 16]) -> u64
         .to_bitmask()
 }
 
-// Marks the next `count` truth values, which stand from place `at + done` on.
+// Marks the next `count` truth values, those from place `at + done` on.
 #[inline(always)]
 fn mark_next<V: TruthValues, const N: usize>(
     flags: &mut [u8; N],
@@ -70,8 +71,9 @@ fn mark_next<V: TruthValues, const N: usize>(
     }
 }
 
-// The word of the `count` truth values from place `at` on, with zeros behind them, by flags of a
-// byte each. They go by sixteens: a loop of that known length becomes code without branches.
+// Packs `count` truth values from place `at` on into a word, with zeros above them. They are first
+// written to flags of a byte each, sixteen at a time: a loop of that constant length is compiled
+// without branches.
 #[inline(always)]
 fn pack_by_flags<V: TruthValues>(values: &V, at: usize, count: usize) -> u64
     requires few { count ≤ 64 }
@@ -88,7 +90,7 @@ fn pack_by_flags<V: TruthValues>(values: &V, at: usize, count: usize) -> u64
     pack_flags(&flags)
 }
 
-/// The word with the bits of `more` put in from bit `by` on.
+/// Returns the word with the bits of `more` added from bit `by` on.
 #[inline(always)]
 pub fn put(word: u64, more: u64, by: usize) -> u64
     requires { by < 64 }
@@ -98,7 +100,8 @@ pub fn put(word: u64, more: u64, by: usize) -> u64
     word | (more << by)
 }
 
-// The word of the sixteen truth values from place `at` on, with zeros behind them. The flags stay in a register.
+// Packs the sixteen truth values from place `at` on into a word, with zeros above them. The flags
+// stay in a register.
 #[inline(always)]
 fn pack_sixteen<V: TruthValues>(values: &V, at: usize) -> u64
     requires within { at + 16 ≤ length (V.values values.now) }
@@ -110,8 +113,8 @@ fn pack_sixteen<V: TruthValues>(values: &V, at: usize) -> u64
     pack_sixteen_flags(&flags)
 }
 
-// The word of the `count` truth values from place `at` on, with zeros behind them, by sixteens. The last
-// sixteen may begin among those before them, so that none is packed by itself.
+// Packs `count` truth values from place `at` on into a word, sixteen at a time, with zeros above
+// them. The last sixteen may overlap those before them, so that no values are left to pack singly.
 #[inline(always)]
 fn pack_by_sixteens<V: TruthValues>(values: &V, at: usize, count: usize) -> u64
     requires some { 16 ≤ count }
@@ -132,7 +135,8 @@ fn pack_by_sixteens<V: TruthValues>(values: &V, at: usize, count: usize) -> u64
     word
 }
 
-// The same bit by bit, the last one first: each moves those behind it up by one place.
+// Packs `count` truth values from place `at` on into a word, with zeros above them, bit by bit from
+// the last one. Each bit moves those above it up by one place.
 #[inline(always)]
 fn pack_bits<V: TruthValues>(values: &V, at: usize, count: usize) -> u64
     requires few { count ≤ 64 }
@@ -148,7 +152,8 @@ fn pack_bits<V: TruthValues>(values: &V, at: usize, count: usize) -> u64
     word
 }
 
-// The same by eights: what is known of eight wide elements stays in registers until it is a byte.
+// Packs `count` truth values from place `at` on into a word, eight at a time, with zeros above
+// them. The results for eight wide elements stay in registers until they make a byte.
 #[inline(always)]
 fn pack_by_bytes<V: TruthValues>(values: &V, at: usize, count: usize) -> u64
     requires few { count ≤ 64 }
@@ -171,7 +176,7 @@ fn pack_by_bytes<V: TruthValues>(values: &V, at: usize, count: usize) -> u64
     word
 }
 
-// The word of the `count` truth values from place `at` on, with zeros behind them.
+// Packs `count` truth values from place `at` on into a word, with zeros above them.
 #[inline(always)]
 pub(crate) fn pack_word<V: TruthValues>(values: &V, at: usize, count: usize) -> u64
     requires few { count ≤ 64 }
@@ -186,9 +191,10 @@ pub(crate) fn pack_word<V: TruthValues>(values: &V, at: usize, count: usize) -> 
     }
 }
 
-/// The word of the `count` truth values from place `at` on, with zeros behind them, where `count` is found
-/// as the code runs.
-// Flags pay from sixteen on. Those of 64 would go by memory, where a number of them is not known to the compiler.
+/// Packs `count` truth values from place `at` on into a word, with zeros above them. For a `count`
+/// that is not a constant.
+// Flags pay from sixteen values on. An array of 64 flags would be kept in memory, since the
+// compiler does not know how many of them are used.
 #[inline(always)]
 pub fn pack_few<V: TruthValues>(values: &V, at: usize, count: usize) -> u64
     requires few { count ≤ 64 }
@@ -223,10 +229,10 @@ impl<'a, V: TruthValues> BitSource for Packed<'a, V> {
         self.values.len() / WORD_BITS
     }
 
-    // A call for each word costs as much as the masks that are joined with it.
+    // Inlined: a call for each word would cost as much as joining the masks.
     #[inline(always)]
     fn inner_word(&self, k: usize) -> u64 {
-        // No effect at run time. The proof reads from it that places are numbers of 64 bits.
+        // Has no effect at run time. The proof learns from it that places fit in 64 bits.
         let _len = self.values.len();
         pack_word(self.values, WORD_BITS * k, WORD_BITS)
     }

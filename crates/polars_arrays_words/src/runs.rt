@@ -1,4 +1,4 @@
-//! Whether runs of bits are true throughout.
+//! Tests of runs of bits.
 
 ghost use Rattle.std.specs.Prelude.{◌≡◌, ◌+◌, ◌^◌, ◌<◌, ◌≤◌};
 ghost use Rattle.std.specs.List.{list_all};
@@ -6,8 +6,8 @@ ghost use Rattle.polars_arrays_words.specs.Bits.{first_of, is_bit, window};
 
 use crate::words::{WORD_BITS, word_from};
 
-// Whether the `n` bits from bit `at` on, at most a word of them, of those that begin `by` bits into
-// the first word are all true.
+// Returns whether the `n` bits from bit `at` on are all true, for at most a word of them. Bits are
+// counted from bit `by` of the first word.
 #[inline(always)]
 fn few_set(words: &[u64], by: usize, at: usize, n: usize) -> bool
     requires by { by < 64 }
@@ -17,8 +17,9 @@ fn few_set(words: &[u64], by: usize, at: usize, n: usize) -> bool
     n <= word_from(words, by, at).trailing_ones() as usize
 }
 
-// The same for any number of bits, up to the first word that has a false one. It is called, so that for runs
-// of at most a word nothing is.
+// Returns whether the `n` bits from bit `at` on are all true, and stops at the first word with a
+// false bit. Bits are counted from bit `by` of the first word. Not inlined, so that runs of at most
+// a word need no call.
 #[inline(never)]
 fn many_set(words: &[u64], by: usize, at: usize, n: usize) -> bool
     requires by { by < 64 }
@@ -34,8 +35,8 @@ fn many_set(words: &[u64], by: usize, at: usize, n: usize) -> bool
     few_set(words, by, at + (n - rest), rest)
 }
 
-/// Whether the `n` bits from bit `at` on of those that begin `by` bits into the first word are all
-/// true.
+/// Returns whether the `n` bits from bit `at` on are all true. Bits are counted from bit `by` of
+/// the first word.
 #[inline(always)]
 pub fn all_set(words: &[u64], by: usize, at: usize, n: usize) -> bool
     requires by { by < 64 }
@@ -49,12 +50,13 @@ pub fn all_set(words: &[u64], by: usize, at: usize, n: usize) -> bool
     }
 }
 
-/// Whether the `n` bits from bit `at` on of one word are all true.
+/// Returns whether the `n` bits from bit `at` on of one word are all true.
 #[inline]
 pub fn word_set(word: u64, at: usize, n: usize) -> bool
     requires { at + n ≤ 64 }
     ensures { result ≡ list_all (λ b. b) (first_of (λ i. is_bit word (at + i)) n) }
 {
-    // No bits may stand behind the last one, and a word can't be moved by all of its bits.
+    // The run may be empty and begin at the word's end, and a word can't be shifted by all of its
+    // bits.
     n <= (word >> (at % WORD_BITS)).trailing_ones() as usize
 }

@@ -6,36 +6,36 @@ ghost use Rattle.polars_arrays_words.specs.Bits.{bit_of, window, true_count, IsW
 use crate::words::{WORD_BITS, join, join_from, join_lanes, word_or_zero};
 use std::alloc::{AllocError, Global};
 
-/// Bits that are read 64 at a time, each 64 of them as the bits of a word, the lowest first.
+/// A source of bits, read as words of 64, the lowest bit first.
 pub trait BitSource {
     ghost bit: { Self → ℕ → Bool };
 
     ghost inner: { Self → ℕ };
 
-    /// How many of the first words `inner_word` can read.
+    /// Returns the number of leading words that `inner_word` can read.
     fn inner_words(&self) -> usize
         ensures { result ≡ inner self.now };
 
-    /// Whether a word takes few steps, so that four of them belong in one turn of a loop.
-    // A loop of few steps takes up to two fifths longer where its last jump happens to lie badly in
-    // the processor's cache.
+    /// Returns whether reading a word takes few steps, so that loops read four words a turn.
+    // A loop of few steps takes up to two fifths longer if its last jump lies badly in the
+    // processor's cache.
     #[inline(always)]
     fn has_few_steps(&self) -> bool {
         false
     }
 
-    /// Word `k`, with no test for an end.
+    /// Returns word `k`, without a bounds check.
     fn inner_word(&self, k: usize) -> u64
         requires { k < inner self.now }
         ensures { IsWord (bit self.now) k result };
 
-    /// Word `k`.
+    /// Returns word `k`.
     fn word(&self, k: usize) -> u64
         requires { k < 2 ^ 58 }
         ensures { IsWord (bit self.now) k result };
 }
 
-/// The bits of words, from the first one's lowest on, and zeros after them.
+/// The bits of words from the lowest bit of the first word on, and zeros after them.
 #[derive(Drop)]
 pub struct Aligned<'a> {
     pub words: &'a [u64],
@@ -67,7 +67,7 @@ impl BitSource for Aligned<'_> {
     }
 }
 
-/// The bits of words, from bit `by` of the first one on, which is not its lowest, and zeros after them.
+/// The bits of words from bit `by` of the first word on, and zeros after them. `by` is not 0.
 #[derive(Drop)]
 pub struct Shifted<'a> {
     pub words: &'a [u64],
@@ -106,9 +106,9 @@ impl BitSource for Shifted<'_> {
     }
 }
 
-/// The bits of words, from bit `by` of the first one on, be it the lowest or a later one, and zeros after them.
-/// One loop over such a source serves both. It reads two words for each, one by one, and so is for loops in
-/// which that takes little of the time.
+/// The bits of words from bit `by` of the first word on, and zeros after them. `by` may be 0. One
+/// loop serves both cases. It reads two words for each word, so it suits loops that spend most of
+/// their time elsewhere.
 #[derive(Drop)]
 pub struct Placed<'a> {
     pub words: &'a [u64],
@@ -141,7 +141,7 @@ impl BitSource for Placed<'_> {
     }
 }
 
-// The four words from word `k` on, read with no test for an end, appended to those before them.
+// Appends four words from word `k` on, read without bounds checks.
 #[inline(always)]
 fn push_four_words<S: BitSource>(words: &mut Vec<u64>, source: &S, k: usize)
     requires inner { k + 4 ≤ S.inner source.now }
@@ -161,7 +161,7 @@ fn push_four_words<S: BitSource>(words: &mut Vec<u64>, source: &S, k: usize)
     words.push_reserved(fourth);
 }
 
-// The first `fours` times four words, read with no test for an end, appended to none.
+// Fills an empty vector with the first `4 * fours` words, read without bounds checks.
 #[inline(always)]
 fn push_fours<S: BitSource>(words: &mut Vec<u64>, source: &S, fours: usize)
     requires inner { 4 * fours ≤ S.inner source.now }
@@ -176,7 +176,7 @@ fn push_fours<S: BitSource>(words: &mut Vec<u64>, source: &S, fours: usize)
     }
 }
 
-// The words from `from` to `to`, read with no test for an end, appended to those before them.
+// Appends the words from `from` to `to`, read without bounds checks.
 #[inline(always)]
 fn push_inner_words<S: BitSource>(words: &mut Vec<u64>, source: &S, from: usize, to: usize)
     requires order { from ≤ to }
@@ -191,7 +191,7 @@ fn push_inner_words<S: BitSource>(words: &mut Vec<u64>, source: &S, from: usize,
     }
 }
 
-// The words from `from` to `to`, appended to those before them.
+// Appends the words from `from` to `to`.
 #[inline(always)]
 fn push_words<S: BitSource>(words: &mut Vec<u64>, source: &S, from: usize, to: usize)
     requires order { from ≤ to }
@@ -205,7 +205,7 @@ fn push_words<S: BitSource>(words: &mut Vec<u64>, source: &S, from: usize, to: u
     }
 }
 
-/// The first `count` words of a source.
+/// Collects the first `count` words of a source.
 #[inline(always)]
 pub fn collect_words<S: BitSource>(
     alloc: Global,
@@ -224,7 +224,7 @@ pub fn collect_words<S: BitSource>(
     Ok(words)
 }
 
-// How many bits of the four words from word `k` on are set, read with no test for an end.
+// Counts the set bits of four words from word `k` on, read without bounds checks.
 #[inline(always)]
 fn count_four_words<S: BitSource>(source: &S, k: usize) -> usize
     requires inner { k + 4 ≤ S.inner source.now }
@@ -238,8 +238,8 @@ fn count_four_words<S: BitSource>(source: &S, k: usize) -> usize
     (first + second + third + fourth) as usize
 }
 
-// How many bits of the first `fours` times four words are set, read with no test for an end. By
-// fours a loop has few steps of its own.
+// Counts the set bits of the first `4 * fours` words, read without bounds checks. Four words a turn
+// keep the cost of the loop itself low.
 #[inline(always)]
 fn count_inner_words<S: BitSource>(source: &S, fours: usize) -> usize
     requires inner { 4 * fours ≤ S.inner source.now }
@@ -253,7 +253,7 @@ fn count_inner_words<S: BitSource>(source: &S, fours: usize) -> usize
     counted
 }
 
-// How many bits of the first `to` words are set, where `before` bits of the first `from` are.
+// Counts the set bits of the first `to` words, given `before`, the count of the first `from` words.
 #[inline(always)]
 fn count_words<S: BitSource>(source: &S, before: usize, from: usize, to: usize) -> usize
     requires order { from ≤ to }
@@ -268,7 +268,7 @@ fn count_words<S: BitSource>(source: &S, before: usize, from: usize, to: usize) 
     counted
 }
 
-/// How many of the first `len` bits are set.
+/// Counts the set bits among the first `len` bits.
 #[inline(always)]
 pub fn count_bits<S: BitSource>(source: &S, len: usize) -> usize
     ensures { result ≡ true_count (S.bit source.now) len }
@@ -281,7 +281,7 @@ pub fn count_bits<S: BitSource>(source: &S, len: usize) -> usize
     counted + last.count_ones() as usize
 }
 
-/// How many of the `len` bits are set that begin `by` bits into the first word.
+/// Counts the set bits among the `len` bits from bit `by` of the first word on.
 pub fn count_window(words: &[u64], by: usize, len: usize) -> usize
     requires { by < 64 }
     ensures { result ≡ count_by (λ b. b) (window by len words.now) }

@@ -3,10 +3,10 @@
 ghost use Rattle.std.specs.Prelude.{◌≡◌, ℕ, ◌+◌, ◌-◌, ◌*◌, ◌/◌, ◌%◌, ◌^◌, ◌<◌, ◌≤◌, true, false, List, [], ◌∷◌, length, get_or, take, drop};
 ghost use Rattle.polars_arrays_words.specs.Bits.{is_bit, bit_of};
 
-/// How many bits a word has.
+/// The number of bits of a word.
 pub const WORD_BITS: usize = 64;
 
-// A word, or 0 past the end.
+// Returns word `k`, or 0 past the end.
 #[inline]
 pub(crate) fn word_or_zero(words: &[u64], k: usize) -> u64
     ensures { result ≡ get_or words.now k 0 }
@@ -14,8 +14,8 @@ pub(crate) fn word_or_zero(words: &[u64], k: usize) -> u64
     if k < words.len() { words[k] } else { 0 }
 }
 
-// The 64 bits from bit `by` of `low` on, where `high` is the next word. Bit 0 would be a word as it
-// is, and one shift more. This becomes one instruction, the best for a single word.
+// Returns the 64 bits from bit `by` of `low` on, where `high` is the next word and `by` is not 0.
+// It is compiled to one instruction, the fastest form for a single word.
 #[inline]
 pub(crate) fn join(low: u64, high: u64, by: usize) -> u64
     requires some { 0 < by }
@@ -25,10 +25,10 @@ pub(crate) fn join(low: u64, high: u64, by: usize) -> u64
     (low >> by) | (high << (64 - by))
 }
 
-// The same in a form for loops over words. The compiler makes one instruction of `join`, a shift of two
-// words, which exists for single words alone, and so a loop of it goes word by word. Of these two shifts,
-// which share no bit, it makes vectors. It would of `^` too, but for `^` of two joins: there it changes the
-// order of all four shifts, and finds no vectors.
+// Returns what `join` does, in a form for loops over words. The compiler makes `join` an
+// instruction that shifts two words, and that one has no vector form. It vectorizes these two
+// shifts, which share no bit. It would vectorize `^` as well, except `^` of two joins: there it
+// reorders all four shifts.
 #[inline]
 pub(crate) fn join_lanes(low: u64, high: u64, by: usize) -> u64
     requires some { 0 < by }
@@ -38,7 +38,8 @@ pub(crate) fn join_lanes(low: u64, high: u64, by: usize) -> u64
     (low >> by) + (high << (64 - by))
 }
 
-// The same as `join` from any bit on. This becomes one shift of two words, without a branch.
+// Returns what `join` does, for any `by` below 64. It is compiled to one shift of two words,
+// without a branch.
 #[inline]
 pub(crate) fn join_from(low: u64, high: u64, by: usize) -> u64
     requires { by < 64 }
@@ -47,8 +48,8 @@ pub(crate) fn join_from(low: u64, high: u64, by: usize) -> u64
     if by == 0 { low } else { join(low, high, by) }
 }
 
-/// The 64 bits from bit `at` on of those that begin `by` bits into the first word, and zeros past the
-/// end.
+/// Returns the 64 bits from bit `at` on, and zeros past the end. Bits are counted from bit `by` of
+/// the first word.
 #[inline]
 pub fn word_from(words: &[u64], by: usize, at: usize) -> u64
     requires { by < 64 }
@@ -63,7 +64,7 @@ pub fn word_from(words: &[u64], by: usize, at: usize) -> u64
     )
 }
 
-/// Bit `i` of those that begin `by` bits into the first word.
+/// Returns bit `i`, counted from bit `by` of the first word.
 #[inline]
 pub fn bit_from(words: &[u64], by: usize, i: usize) -> bool
     requires by { by < 64 }
@@ -74,19 +75,19 @@ pub fn bit_from(words: &[u64], by: usize, i: usize) -> bool
     (words[i / WORD_BITS + place / WORD_BITS] >> (place % WORD_BITS)) & 1 == 1
 }
 
-/// The words in which a run of bits lies.
+/// The words that hold a run of bits.
 #[derive(Drop)]
 pub struct Place {
-    /// The first of them.
+    /// Index of the first word.
     pub first: usize,
-    /// How many there are.
+    /// Number of words.
     pub count: usize,
-    /// How far into the first one the run begins.
+    /// Bit of the first word where the run begins.
     pub by: usize,
 }
 
 impl Place {
-    /// These words.
+    /// Returns these words as a slice.
     pub fn words_of<'a>(&self, words: &'a [u64]) -> &'a [u64]
         requires { self.now.first + self.now.count ≤ length words.now }
         ensures { result.now ≡ take self.now.count (drop self.now.first words.now) }
@@ -95,7 +96,7 @@ impl Place {
     }
 }
 
-/// Where `n` bits lie that begin `at` bits after bit `by` of the first word.
+/// Locates the `n` bits that begin `at` bits after bit `by` of the first word.
 pub fn place_of(by: usize, at: usize, n: usize) -> Place
     requires { by < 64 }
     ensures within_word { result.by < 64 }
@@ -113,7 +114,7 @@ pub fn place_of(by: usize, at: usize, n: usize) -> Place
     }
 }
 
-/// The word whose 64 bits are all `value`.
+/// Returns the word whose 64 bits are all `value`.
 #[inline]
 pub fn filled_word(value: bool) -> u64
     ensures { (i : ℕ) → i < 64 → is_bit result i ≡ value }
@@ -121,7 +122,7 @@ pub fn filled_word(value: bool) -> u64
     if value { u64::MAX } else { 0 }
 }
 
-/// The word whose `n` lowest bits are true, and the others false.
+/// Returns the word whose `n` lowest bits are true and the others false.
 #[inline]
 pub fn low_bits(n: usize) -> u64
     requires { n ≤ 64 }

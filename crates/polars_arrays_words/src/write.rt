@@ -1,4 +1,4 @@
-//! Bits that are written into words.
+//! Writes of bits into words.
 
 ghost use Rattle.std.specs.Prelude.{◌≡◌, ◌+◌, ◌*◌, ◌^◌, ◌<◌, ◌≤◌, Bool, length, slice_set};
 ghost use Rattle.polars_arrays_words.specs.Bits.{IsPut, IsWritten, first_of};
@@ -8,7 +8,7 @@ use crate::packing::{TruthValues, pack_few, pack_word, put};
 use crate::source::BitSource;
 use crate::words::{WORD_BITS, filled_word, word_or_zero};
 
-/// Bit `p` becomes `value`, and no other changes.
+/// Sets bit `p` to `value`.
 #[inline]
 pub fn write_bit(words: &mut [u64], p: usize, value: bool)
     requires { p < 64 * length words.old }
@@ -19,7 +19,7 @@ pub fn write_bit(words: &mut [u64], p: usize, value: bool)
     words[p / WORD_BITS] = if value { word | mask } else { word & !mask };
 }
 
-// The bits from `from` to `to` become `value`, and no others change.
+// Sets the bits from `from` to `to` to `value`.
 fn write_bits(words: &mut [u64], from: usize, to: usize, value: bool)
     requires order { from ≤ to }
     requires room { to ≤ 64 * length words.old }
@@ -30,7 +30,7 @@ fn write_bits(words: &mut [u64], from: usize, to: usize, value: bool)
     }
 }
 
-// All bits of the words from `from` to `to` become `value`, and no others change.
+// Sets all bits of the words from `from` to `to` to `value`.
 fn write_words(words: &mut [u64], from: usize, to: usize, value: bool)
     requires order { from ≤ to }
     requires room { to ≤ length words.old }
@@ -42,7 +42,7 @@ fn write_words(words: &mut [u64], from: usize, to: usize, value: bool)
     }
 }
 
-/// The bits from `from` to `to` become `value`, whole words at a time, and no others change.
+/// Sets the bits from `from` to `to` to `value`, whole words at a time.
 pub fn fill_bits(words: &mut [u64], from: usize, to: usize, value: bool)
     requires order { from ≤ to }
     requires room { to ≤ 64 * length words.old }
@@ -59,7 +59,7 @@ pub fn fill_bits(words: &mut [u64], from: usize, to: usize, value: bool)
     }
 }
 
-// Word `k` becomes `word`, where there is one.
+// Sets word `k`, or does nothing past the end.
 #[inline]
 fn set_word(words: &mut [u64], k: usize, word: u64)
     ensures { words.new ≡ slice_set words.old k word }
@@ -69,8 +69,8 @@ fn set_word(words: &mut [u64], k: usize, word: u64)
     }
 }
 
-// The 64 bits from bit `p` on become those of `word`, as far as there are words, and no bit before
-// them changes. Bits behind them may.
+// Writes the 64 bits of `word` from bit `p` on, up to the end of the words. Bits before `p` stay;
+// those after the 64 may change.
 #[inline]
 fn put_word(words: &mut [u64], p: usize, word: u64)
     ensures { IsPut words.old words.new p word }
@@ -82,8 +82,8 @@ fn put_word(words: &mut [u64], p: usize, word: u64)
     set_word(words, k + 1, (word >> 1) >> (WORD_BITS - 1 - by));
 }
 
-/// The bits from bit `from` on become the truth values, a word of them at a time, and no bit before
-/// them changes. Bits behind them may.
+/// Writes the truth values from bit `from` on, a word at a time. Bits before `from` stay; those
+/// after the values may change.
 pub fn append_values<V: TruthValues>(words: &mut [u64], from: usize, values: &V)
     requires room { from + length (V.values values.now) ≤ 64 * length words.old }
     requires fits { from + length (V.values values.now) < 2 ^ 64 }
@@ -102,8 +102,8 @@ pub fn append_values<V: TruthValues>(words: &mut [u64], from: usize, values: &V)
     );
 }
 
-/// The bits from bit `from` on become the first `len` bits of a source, a word of them at a time, and no bit
-/// before them changes. Bits behind them may.
+/// Writes the first `len` bits of a source from bit `from` on, a word at a time. Bits before `from`
+/// stay; those after them may change.
 pub fn append_bits<S: BitSource>(words: &mut [u64], from: usize, source: &S, len: usize)
     requires room { from + len ≤ 64 * length words.old }
     requires fits { from + len < 2 ^ 64 }
