@@ -1,4 +1,4 @@
--- What a buffer is to its callers, and what it is kept in.
+-- Buffers as contracts see them, and as they are stored.
 use Rattle.std.specs.Prelude.{Bool, true, false, List, refl}
 use Rattle.std.specs.Coded.{Coded, code_by, coded×, coded_bool, coded_list}
 use Rattle.std.specs.Rc.{rc_slice_items}
@@ -10,7 +10,7 @@ pub record Elements (A : Type 0) : Type 0 where
   pub items : List A
   pub owned : Bool
 
--- they are coded as the pair of the two
+-- coded as the pair of the two
 abbrev pub elements_code : {A : Type 0} → Coded A → Coded (Elements A)
 elements_code code =
     code_by (List _ × Bool) (coded× (coded_list code) coded_bool) (λ b. (b.items, b.owned)) (λ p. record { items = p.0; owned = p.1 }) (λ _. refl)

@@ -1,7 +1,7 @@
--- What a builder of a bitmap is to its callers.
+-- Bitmap builders as contracts see them.
 use Rattle.std.specs.Prelude.{ℕ, Bool, List}
 
--- the bits so far, and how many more may be pushed
+-- the bits pushed so far, and the number of bits that still fit
 pub record Draft : Type 0 where
   pub bits : List Bool
   pub room : ℕ

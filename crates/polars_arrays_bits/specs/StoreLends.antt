@@ -1,4 +1,4 @@
--- What a store ends as, once a window of it was lent to be written.
+-- The value of a store after a window of it was lent for writing.
 use Rattle.std.specs.Prelude.{ℕ, List}
 use Rattle.std.specs.Borrow.{Fml, RattleType, MutBor, Array, Lends}
 use Rattle.std.specs.Vec.{with_items_from}
@@ -12,6 +12,6 @@ written_from (Owned elements) start ws = Owned (with_items_from elements start w
 written_from (Shared elements) start ws = Shared elements
 
 module _ (T : RattleType) (s : MutBor (Store T.Denot)) where
-  -- the elements from `start` on are the last ones written through r
+  -- the elements from `start` on are those last written through r
   abbrev pub lends_window : ℕ → MutBor (List T.Denot) → Fml
   lends_window start r = Lends (the_row T) (Array T 0) s r (written_from s.now start)

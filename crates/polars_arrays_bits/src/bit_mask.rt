@@ -1,4 +1,4 @@
-//! Packed truth values that are borrowed.
+//! Borrowed windows of packed truth values.
 
 ghost use Rattle.std.specs.Prelude.{◌≡◌, ℕ, ◌+◌, ◌*◌, ◌<◌, ◌≤◌, false, not, length, take, drop, count_by, slice_get};
 ghost use Rattle.std.specs.List.{list_all};
@@ -14,11 +14,11 @@ use polars_arrays_words::source::{Aligned, BitSource, Shifted, count_window};
 use polars_arrays_words::words::{bit_from, low_bits, place_of, word_from};
 use std::marker::Model;
 
-/// A window of a bitmap that is borrowed.
+/// A borrowed window of a bitmap.
 #[derive(Drop)]
 pub struct BitMask<'a> {
     words: &'a [u64],
-    // where the window begins in the first word
+    // bit of the first word where the window begins
     at: usize,
     len: usize,
 }
@@ -35,7 +35,7 @@ impl<'a> Model for BitMask<'a> {
 }
 
 impl<'a> BitMask<'a> {
-    /// All bits of a bitmap.
+    /// Borrows all bits of a bitmap.
     pub fn from_bitmap(bitmap: &'a Bitmap) -> BitMask<'a>
         ensures { result ≡ bitmap.now }
     {
@@ -44,7 +44,7 @@ impl<'a> BitMask<'a> {
         BitMask { words, at, len }
     }
 
-    // The words in which the window lies, and where it begins in the first.
+    // Returns the words that hold the window, and the bit of the first word where it begins.
     pub(crate) fn packed(&self) -> (&'a [u64], usize)
         ensures begin { result.1 < 64 }
         ensures within { result.1 + length self.now ≤ 64 * length result.0.now }
@@ -53,7 +53,7 @@ impl<'a> BitMask<'a> {
         (self.words, self.at)
     }
 
-    /// The `n` bits from `at` on.
+    /// Returns the window of `n` bits from `at` on.
     pub fn window(&self, at: usize, n: usize) -> BitMask<'a>
         requires { at + n ≤ length self.now }
         ensures { result ≡ take n (drop at self.now) }
@@ -66,14 +66,14 @@ impl<'a> BitMask<'a> {
         }
     }
 
-    /// How many bits there are.
+    /// Returns the number of bits.
     pub fn len(&self) -> usize
         ensures { result ≡ length self.now }
     {
         self.len
     }
 
-    /// Bit `i`.
+    /// Returns bit `i`.
     pub fn get(&self, i: usize) -> bool
         requires { i < length self.now }
         ensures { slice_get self.now i ≡ Some result }
@@ -81,7 +81,7 @@ impl<'a> BitMask<'a> {
         bit_from(self.words, self.at, i)
     }
 
-    /// The 64 bits from bit `64 * k` on as a word, the first one lowest.
+    /// Returns the 64 bits from bit `64 * k` on as a word, the first one lowest.
     #[inline]
     pub fn word(&self, k: usize) -> u64
         requires { 64 * k + 64 ≤ length self.now }
@@ -95,7 +95,8 @@ impl<'a> BitMask<'a> {
         Shifted { words, by }.inner_word(k)
     }
 
-    /// The `n` bits from `at` on, at most 64, as a word, the first one lowest, with zeros behind them.
+    /// Returns the `n` bits from `at` on, at most 64, as a word: the first one lowest, and zeros
+    /// above the last.
     #[inline]
     pub fn few_bits(&self, at: usize, n: usize) -> u64
         requires within { at + n ≤ length self.now }
@@ -106,7 +107,7 @@ impl<'a> BitMask<'a> {
         word_from(self.words, self.at, at) & low_bits(n)
     }
 
-    /// Whether the `n` bits from `at` on are all true.
+    /// Returns whether the `n` bits from `at` on are all true.
     #[inline(always)]
     pub fn all_set(&self, at: usize, n: usize) -> bool
         requires { at + n ≤ length self.now }
@@ -115,7 +116,7 @@ impl<'a> BitMask<'a> {
         all_set(self.words, self.at, at, n)
     }
 
-    /// How many bits are false.
+    /// Returns the number of false bits.
     pub fn unset_bits(&self) -> usize
         ensures { result ≡ count_by not self.now }
     {

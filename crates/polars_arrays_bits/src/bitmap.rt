@@ -1,4 +1,4 @@
-//! Packed truth values that are read.
+//! Immutable lists of packed truth values.
 
 ghost use Rattle.std.specs.Prelude.{◌≡◌, ℕ, ◌+◌, ◌*◌, ◌/◌, ◌%◌, ◌<◌, ◌≤◌, Bool, false, List, length, take, drop, get_or, slice_get, vec_len, replicate, MatchResult};
 ghost use Rattle.polars_arrays_words.specs.Bits.{is_bit, first_of, window};
@@ -16,13 +16,13 @@ use polars_arrays_words::words::{WORD_BITS, bit_from, filled_word, place_of};
 use std::alloc::Global;
 use std::marker::Model;
 
-/// A list of truth values, packed into words of 64 bits as in the Arrow layout. Slices and clones of a
-/// shared bitmap have its words.
+/// A list of truth values, packed into 64-bit words in the Arrow layout. Slices and clones of a
+/// shared bitmap share its words.
 #[derive(Drop)]
 pub struct Bitmap {
-    // bits outside the window mean nothing
+    // bits outside the window are arbitrary
     words: Buffer<u64>,
-    // where the window begins in the first word
+    // bit of the first word where the window begins
     at: usize,
     len: usize,
 }
@@ -39,14 +39,14 @@ impl Model for Bitmap {
 }
 
 impl Bitmap {
-    /// `len` bits that are all false. The error is `Memory`.
+    /// Creates `len` false bits. The error is `Memory`.
     pub fn new_zeroed(alloc: Global, len: usize) -> Result<Bitmap, ComputeError>
         ensures { MatchResult result (λ bits. bits ≡ replicate len false) IsMemory }
     {
         Bitmap::new_with_value(alloc, false, len)
     }
 
-    /// `len` bits that are all `value`. The error is `Memory`.
+    /// Creates `len` bits that are all `value`. The error is `Memory`.
     pub fn new_with_value(alloc: Global, value: bool, len: usize) -> Result<Bitmap, ComputeError>
         ensures { MatchResult result (λ bits. bits ≡ replicate len value) IsMemory }
     {
@@ -54,14 +54,14 @@ impl Bitmap {
         Ok(Bitmap::from_vec(words, len))
     }
 
-    /// The truth values of a slice. The error is `Memory`.
+    /// Packs the truth values of a slice. The error is `Memory`.
     pub fn from_bools(alloc: Global, values: &[bool]) -> Result<Bitmap, ComputeError>
         ensures { MatchResult result (λ bits. bits ≡ values.now) IsMemory }
     {
         Bitmap::from_values(alloc, &Bools { values })
     }
 
-    /// Truth values that are asked for one by one. The error is `Memory`.
+    /// Packs truth values that are read one by one. The error is `Memory`.
     pub fn from_values<V: TruthValues>(alloc: Global, values: &V) -> Result<Bitmap, ComputeError>
         ensures { MatchResult result (λ bits. bits ≡ V.values values.now) IsMemory }
     {
@@ -69,7 +69,7 @@ impl Bitmap {
         Bitmap::from_source(alloc, &source, values.len())
     }
 
-    // The first `len` bits of a source.
+    // Collects the first `len` bits of a source.
     pub(crate) fn from_source<S: BitSource>(
         alloc: Global,
         source: &S,
@@ -81,8 +81,8 @@ impl Bitmap {
         Ok(Bitmap::from_vec(words, len))
     }
 
-    /// The `n` bits from bit `at` on of words of 64 bits: bit `i` is bit `(at + i) % 64`, from the lowest,
-    /// of word `(at + i) / 64` (the Arrow layout).
+    /// Creates a bitmap of the `n` bits from bit `at` on of 64-bit words: bit `i` is bit
+    /// `(at + i) % 64`, counted from the lowest, of word `(at + i) / 64` (the Arrow layout).
     pub fn from_words(words: Buffer<u64>, at: usize, n: usize) -> Bitmap
         requires { at + n ≤ 64 * length words.items }
         ensures len { length result ≡ n }
@@ -98,14 +98,14 @@ impl Bitmap {
         }
     }
 
-    /// How many bits there are.
+    /// Returns the number of bits.
     pub fn len(&self) -> usize
         ensures { result ≡ length self.now }
     {
         self.len
     }
 
-    /// Bit `i`.
+    /// Returns bit `i`.
     pub fn get_bit(&self, i: usize) -> bool
         requires { i < length self.now }
         ensures { slice_get self.now i ≡ Some result }
@@ -113,7 +113,7 @@ impl Bitmap {
         bit_from(self.words.as_slice(), self.at, i)
     }
 
-    /// Bit `i`, or None past the end.
+    /// Returns bit `i`, or `None` past the end.
     pub fn get(&self, i: usize) -> Option<bool>
         ensures { result ≡ slice_get self.now i }
     {
@@ -124,7 +124,7 @@ impl Bitmap {
         }
     }
 
-    /// Keeps `n` bits from `at` on. No bit moves.
+    /// Keeps the `n` bits from `at` on. No bit is moved.
     pub fn slice(&mut self, at: usize, n: usize)
         requires { at + n ≤ length self.old }
         ensures { self.new ≡ take n (drop at self.old) }
@@ -135,7 +135,8 @@ impl Bitmap {
         self.len = n;
     }
 
-    /// The same bits, in words that later clones share and do not copy. No word moves. The error is `Memory`.
+    /// Makes the words shared: later clones share them instead of copying. The words are not moved.
+    /// The error is `Memory`.
     pub fn share(self, alloc: Global) -> Result<Bitmap, ComputeError>
         ensures { MatchResult result (λ shared. shared ≡ self) IsMemory }
     {
@@ -144,7 +145,7 @@ impl Bitmap {
         Ok(Bitmap { words, at, len })
     }
 
-    /// A second bitmap of the same bits. Words that are shared are not copied. The error is `Memory`.
+    /// Clones the bitmap. Shared words are not copied. The error is `Memory`.
     pub fn clone_bitmap(&self, alloc: Global) -> Result<Bitmap, ComputeError>
         ensures { MatchResult result (λ copy. copy ≡ self.now) IsMemory }
     {
@@ -156,8 +157,8 @@ impl Bitmap {
         })
     }
 
-    /// The same bits, to be changed: in the same words where the bitmap owns them and begins with the first
-    /// one's lowest bit, else in new ones. The error is `Memory`.
+    /// Converts to a mutable bitmap. Reuses the words if the bitmap owns them and begins at the
+    /// lowest bit of the first, and copies them otherwise. The error is `Memory`.
     pub fn into_mut(self, alloc: Global) -> Result<MutableBitmap, ComputeError>
         ensures { MatchResult result (λ bits. bits ≡ self) IsMemory }
     {
@@ -175,7 +176,7 @@ impl Bitmap {
         }
     }
 
-    // The first `len` bits of words.
+    // Creates a bitmap of the first `len` bits of words.
     pub(crate) fn from_vec(words: Vec<u64>, len: usize) -> Bitmap
         requires { len ≤ 64 * vec_len words }
         ensures { result ≡ window 0 len words.items }
@@ -184,7 +185,7 @@ impl Bitmap {
         Bitmap { words, at: 0, len }
     }
 
-    // The words of the window, and where it begins in the first.
+    // Returns the words that hold the window, and the bit of the first word where it begins.
     pub(crate) fn packed(&self) -> (&[u64], usize)
         ensures begin { result.1 < 64 }
         ensures within { result.1 + length self.now ≤ 64 * length result.0.now }

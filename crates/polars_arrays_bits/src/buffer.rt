@@ -1,4 +1,4 @@
-//! Elements that are kept in one piece of memory, owned or shared.
+//! Elements in one piece of memory, owned or shared.
 
 ghost use Rattle.std.specs.Prelude.{◌≡◌, ◌+◌, ◌≤◌, ◌↔◌, List, Bool, true, false, IsTrue, IsFalse, IsOk, IsSome, IfSome, MatchResult, take, drop, length};
 ghost use Rattle.std.specs.Borrow.{sem};
@@ -9,7 +9,7 @@ use std::alloc::Global;
 use std::marker::Model;
 use std::rc::RcSlice;
 
-/// Where the elements of a buffer lie.
+/// The memory of a buffer.
 #[derive(Drop)]
 enum Store<T: Copy> {
     Owned(Vec<T>),
@@ -20,7 +20,7 @@ impl<T: Copy> Store<T> {
     ghost use Rattle.polars_arrays_bits.specs.Buffer.{stored, is_vector};
     ghost use Rattle.polars_arrays_bits.specs.StoreLends.{lends_window};
 
-    // The elements of a window of a vector, to be written.
+    // Borrows a window of an owned vector for writing.
     fn window_mut(&mut self, start: usize, len: usize) -> &mut [T]
         requires vector { IsTrue (is_vector self.old) }
         requires within { start + len ≤ length (stored self.old) }
@@ -34,7 +34,7 @@ impl<T: Copy> Store<T> {
     }
 }
 
-/// A window of elements that one buffer owns, or that buffers of one thread share.
+/// A window of elements that one buffer owns, or that several buffers of one thread share.
 #[derive(Drop)]
 pub struct Buffer<T: Copy> {
     store: Store<T>,
@@ -58,7 +58,7 @@ impl<T: Copy> Model for Buffer<T> {
 impl<T: Copy> Buffer<T> {
     ghost use Rattle.polars_arrays_bits.specs.BufferLends.{lends_elements, lends_elements_if};
 
-    /// The elements of a vector, owned.
+    /// Creates a buffer that owns the elements of a vector.
     pub fn from_vec(elements: Vec<T>) -> Buffer<T>
         ensures { result ≡ record { items = elements.items; owned = true } }
     {
@@ -70,14 +70,14 @@ impl<T: Copy> Buffer<T> {
         }
     }
 
-    /// How many elements there are.
+    /// Returns the number of elements.
     pub fn len(&self) -> usize
         ensures { result ≡ length self.now.items }
     {
         self.len
     }
 
-    /// The elements.
+    /// Returns the elements as a slice.
     pub fn as_slice(&self) -> &[T]
         ensures { result.now ≡ self.now.items }
     {
@@ -88,7 +88,7 @@ impl<T: Copy> Buffer<T> {
         &all[self.start..self.start + self.len]
     }
 
-    /// Keeps `n` elements from `at` on. No element moves.
+    /// Keeps the `n` elements from `at` on. No element is moved.
     pub fn slice(&mut self, at: usize, n: usize)
         requires { at + n ≤ length self.old.items }
         ensures { self.new ≡ record { items = take n (drop at self.old.items); owned = self.old.owned } }
@@ -97,14 +97,15 @@ impl<T: Copy> Buffer<T> {
         self.len = n;
     }
 
-    /// Whether the buffer owns its elements, and so may write them. A shared one never does again.
+    /// Returns whether the buffer owns its elements, and so may write them. A shared buffer never
+    /// owns them again.
     pub fn is_owned(&self) -> bool
         ensures { result ≡ self.now.owned }
     {
         matches!(&self.store, Store::Owned(_))
     }
 
-    /// The elements to be written, of a buffer that owns them.
+    /// Borrows the elements of an owned buffer for writing.
     pub fn as_mut_slice(&mut self) -> &mut [T]
         requires { IsTrue self.old.owned }
         ensures* written { sem 𝓛 (lends_elements T.row self.entry result) }
@@ -113,7 +114,7 @@ impl<T: Copy> Buffer<T> {
         self.store.window_mut(self.start, self.len)
     }
 
-    // `is_owned`, asked through a `&mut`.
+    // Returns what `is_owned` does, through a `&mut`.
     fn owns(&mut self) -> bool
         ensures unchanged { self.new ≡ self.old }
         ensures owned { result ≡ self.old.owned }
@@ -121,7 +122,7 @@ impl<T: Copy> Buffer<T> {
         self.is_owned()
     }
 
-    /// The elements to be written, exactly where the buffer owns them.
+    /// Borrows the elements for writing, or returns `None` if they are shared.
     pub fn get_mut(&mut self) -> Option<&mut [T]>
         ensures* written { sem 𝓛 (lends_elements_if T.row self.entry result) }
         ensures owned { IsSome result ↔ IsTrue self.old.owned }
@@ -134,8 +135,8 @@ impl<T: Copy> Buffer<T> {
         }
     }
 
-    /// The vector of the elements, where the buffer owns them and they are all of it, else the same buffer back.
-    /// No element moves.
+    /// Converts to the vector of the elements if the buffer owns them and they are the whole
+    /// vector, and returns the buffer unchanged otherwise. No element is moved.
     pub fn into_vec(self) -> Result<Vec<T>, Buffer<T>>
         ensures same { MatchResult result (λ elements. elements.items ≡ self.items) (λ buffer. buffer ≡ self) }
         ensures owned { IsOk result → IsTrue self.owned }
@@ -156,8 +157,8 @@ impl<T: Copy> Buffer<T> {
         }
     }
 
-    /// The same elements, in a slice that later clones share and do not copy. No element moves. The error is
-    /// `Memory`, and comes only of elements that are owned.
+    /// Makes the elements shared: later clones share them instead of copying. No element is moved.
+    /// The error is `Memory`, which only an owned buffer can cause.
     pub fn share(self, _alloc: Global) -> Result<Buffer<T>, ComputeError>
         ensures shared { MatchResult result (λ shared. shared ≡ record { items = self.items; owned = false }) IsMemory }
         ensures stays { IsFalse self.owned → IsOk result }
@@ -174,7 +175,7 @@ impl<T: Copy> Buffer<T> {
         })
     }
 
-    /// A second buffer of the same elements. Owned ones are copied, shared ones are not. The error is `Memory`.
+    /// Clones the buffer. Owned elements are copied, shared ones are not. The error is `Memory`.
     pub fn clone_buffer(&self, alloc: Global) -> Result<Buffer<T>, ComputeError>
         ensures { MatchResult result (λ copy. copy ≡ self.now) IsMemory }
     {

@@ -1,4 +1,4 @@
-//! Packed truth values that are pushed one after the other.
+//! Builders of bitmaps.
 
 ghost use Rattle.std.specs.Prelude.{◌≡◌, ◌+◌, ◌-◌, ◌*◌, ◌<◌, ◌≤◌, [], ◌∷◌, ◌++◌, length, replicate, MatchResult};
 ghost use Rattle.polars_arrays_words.specs.Bits.{first_of};
@@ -16,10 +16,10 @@ use polars_arrays_words::write::{append_bits, append_values, fill_bits, write_bi
 use std::alloc::Global;
 use std::marker::Model;
 
-/// A bitmap in the making, with room for so many bits more.
+/// A bitmap under construction, with room for a number of further bits.
 #[derive(Drop)]
 pub struct BitmapBuilder {
-    // bits from `len` on mean nothing
+    // bits from `len` on are arbitrary
     words: Vec<u64>,
     len: usize,
     room: usize,
@@ -38,7 +38,7 @@ impl Model for BitmapBuilder {
 }
 
 impl BitmapBuilder {
-    /// No bits, with room for at least `n`. The error is `Memory`.
+    /// Creates an empty builder with room for at least `n` bits. The error is `Memory`.
     pub fn with_capacity(alloc: Global, n: usize) -> Result<BitmapBuilder, ComputeError>
         ensures empty { MatchResult result (λ builder. builder.bits ≡ []) IsMemory }
         ensures room { MatchResult result (λ builder. n ≤ builder.room) IsMemory }
@@ -51,14 +51,14 @@ impl BitmapBuilder {
         })
     }
 
-    /// How many bits were pushed.
+    /// Returns the number of bits pushed.
     pub fn len(&self) -> usize
         ensures { result ≡ length self.now.bits }
     {
         self.len
     }
 
-    /// How many bits more may be pushed.
+    /// Returns the number of bits that still fit.
     pub fn room(&self) -> usize
         ensures { result ≡ self.now.room }
     {
@@ -76,7 +76,7 @@ impl BitmapBuilder {
         self.room -= 1;
     }
 
-    /// Pushes `n` times the bit `value`, by whole words.
+    /// Pushes the bit `value` `n` times, whole words at a time.
     pub fn extend_constant(&mut self, n: usize, value: bool)
         requires { n ≤ self.old.room }
         ensures { self.new ≡ record { bits = self.old.bits ++ replicate n value; room = self.old.room - n } }
@@ -87,7 +87,7 @@ impl BitmapBuilder {
         self.room -= n;
     }
 
-    /// Pushes truth values that are asked for one by one, a word of them at a time.
+    /// Pushes truth values that are read one by one, a word at a time.
     pub fn extend_values<V: TruthValues>(&mut self, values: &V)
         requires { length (V.values values.now) ≤ self.old.room }
         ensures { self.new ≡ record { bits = self.old.bits ++ V.values values.now; room = self.old.room - length (V.values values.now) } }
@@ -98,7 +98,7 @@ impl BitmapBuilder {
         self.room -= count;
     }
 
-    // Pushes the first `n` bits of a source, a word of them at a time.
+    // Pushes the first `n` bits of a source, a word at a time.
     fn extend_source<S: BitSource>(&mut self, source: &S, n: usize)
         requires { n ≤ self.old.room }
         ensures { self.new ≡ record { bits = self.old.bits ++ first_of (S.bit source.now) n; room = self.old.room - n } }
@@ -108,14 +108,14 @@ impl BitmapBuilder {
         self.room -= n;
     }
 
-    /// Pushes a bit for each of `n` blocks of `width` bits, the first of which begins at the first bit: whether
-    /// the bits of the block are all true. Blocks of 2 and 4 bits are folded a word at a time.
+    /// Pushes a bit for each of `n` blocks of `width` bits: whether all bits of the block are true.
+    /// The first block begins at the first bit. Blocks of 2 and 4 bits are folded a word at a time.
     pub fn extend_blocks(&mut self, items: &BitMask<'_>, width: usize, n: usize)
         requires within { width * n ≤ length items.now }
         requires room { n ≤ self.old.room }
         ensures { self.new ≡ record { bits = self.old.bits ++ blocks_all width n items.now; room = self.old.room - n } }
     {
-        // No effect at run time. The proof reads from it that places are numbers of 64 bits.
+        // Has no effect at run time. The proof learns from it that places fit in 64 bits.
         let _len = items.len();
         let (words, by) = items.packed();
         match width {
@@ -133,7 +133,7 @@ impl BitmapBuilder {
         }
     }
 
-    /// The bits that were pushed.
+    /// Converts to a bitmap of the bits pushed.
     pub fn freeze(self) -> Bitmap
         ensures { result ≡ self.bits }
     {

@@ -1,4 +1,4 @@
-//! Truth values that are asked for in order, where a counter rises with what each of them costs.
+//! Truth values that are read in order, while a counter adds up what each of them costs.
 
 ghost use Rattle.std.specs.Prelude.{◌≡◌, ℕ, ◌+◌, ◌*◌, ◌/◌, ◌^◌, ◌<◌, ◌≤◌, [], Bool, List, false, IsTrue, length, vec_capacity, get_or, slice_index_or, IfOk, MatchResult};
 ghost use Rattle.polars_arrays_words.specs.Bits.{AreWords};
@@ -14,34 +14,34 @@ use polars_arrays_words::packing::put;
 use polars_arrays_words::words::WORD_BITS;
 use std::alloc::Global;
 
-/// Truth values that can be asked for one by one, each at a cost that a counter tells.
+/// A list of truth values that are read one by one, each at a cost that is added to a counter.
 pub trait CountedValues {
     // The truth values, the first one first.
     ghost values: { Self → List Bool };
 
-    // By how much the counter rises at each place.
+    // Costs of the places.
     ghost costs: { Self → ℕ → ℕ };
 
-    // At which places a guess is sure.
+    // Places where a guess is sure to be right.
     ghost sure: { Self → ℕ → Bool };
 
-    /// How many truth values there are.
+    /// Returns the number of truth values.
     fn len(&self) -> usize
         ensures { result ≡ length (values self.now) };
 
-    /// The truth value at place `i`, whose cost the counter rises by.
+    /// Returns the truth value at place `i`, and adds its cost to the counter.
     fn value(&self, i: usize, steps: &mut Steps) -> bool
         requires { i < length (values self.now) }
         ensures told { result ≡ slice_index_or (values self.now) i false }
         ensures counted { steps.new ≡ steps.old + costs self.now i };
 
-    /// What the truth value at place `i` looks like at a glance. Where that is sure it is the value, and
-    /// else it may be another one.
+    /// Returns a quick guess of the truth value at place `i`. If `is_sure`, it is the value;
+    /// otherwise it may be wrong.
     fn guess(&self, i: usize) -> bool
         requires { i < length (values self.now) }
         ensures { IsTrue (sure self.now i) → result ≡ slice_index_or (values self.now) i false };
 
-    /// Whether what `guess` says of place `i` is sure. The value then costs nothing.
+    /// Returns whether the guess at place `i` is sure to be right. The value then costs nothing.
     #[inline(always)]
     fn is_sure(&self, _i: usize) -> bool
         requires { _i < length (values self.now) }
@@ -52,7 +52,7 @@ pub trait CountedValues {
     }
 }
 
-// The byte of the eight truth values from place `at` on as they are guessed.
+// Packs the guesses of the eight truth values from place `at` on into a byte.
 #[inline(always)]
 fn guess_eight<V: CountedValues>(values: &V, at: usize) -> u64
     requires within { at + 8 ≤ length (V.values values.now) }
@@ -66,8 +66,8 @@ fn guess_eight<V: CountedValues>(values: &V, at: usize) -> u64
     word
 }
 
-// The word of the 64 truth values from place `at` on as they are guessed. It goes by eights: loops of a known
-// length that are as short as that become code without branches.
+// Packs the guesses of the 64 truth values from place `at` on into a word, eight at a time: loops
+// of so short a constant length are compiled without branches.
 #[inline(always)]
 fn guess_word<V: CountedValues>(values: &V, at: usize) -> u64
     requires within { at + 64 ≤ length (V.values values.now) }
@@ -82,8 +82,8 @@ fn guess_word<V: CountedValues>(values: &V, at: usize) -> u64
     word
 }
 
-// Whether the 64 guesses from place `at` on are sure, all of them. A loop of its own is faster than to ask with
-// each guess.
+// Returns whether all 64 guesses from place `at` on are sure to be right. A separate loop is faster
+// than a test with each guess.
 #[inline(always)]
 fn are_sure<V: CountedValues>(values: &V, at: usize) -> bool
     requires within { at + 64 ≤ length (V.values values.now) }
@@ -98,7 +98,7 @@ fn are_sure<V: CountedValues>(values: &V, at: usize) -> bool
     sure
 }
 
-// The word of the `count` truth values from place `at` on, with zeros behind them.
+// Packs the `count` truth values from place `at` on into a word, with zeros above them.
 #[inline(always)]
 fn pack_counted<V: CountedValues>(values: &V, at: usize, count: usize, steps: &mut Steps) -> u64
     requires few { count ≤ 64 }
@@ -114,8 +114,9 @@ fn pack_counted<V: CountedValues>(values: &V, at: usize, count: usize, steps: &m
     word
 }
 
-// The same word. Where all 64 truth values of a word are there, they are guessed first, and asked for one by
-// one only where some guess is not sure. Where the first one is not, no other is made.
+// Packs the `count` truth values from place `at` on into a word, with zeros above them. If there
+// are all 64, it guesses them first, and reads them one by one only if some guess is not sure. If
+// the first guess is not sure, it makes no others.
 #[inline(always)]
 fn count_word<V: CountedValues>(values: &V, at: usize, count: usize, steps: &mut Steps) -> u64
     requires few { count ≤ 64 }
@@ -133,7 +134,7 @@ fn count_word<V: CountedValues>(values: &V, at: usize, count: usize, steps: &mut
     pack_counted(values, at, count, steps)
 }
 
-// The words of all truth values, appended to none.
+// Fills an empty vector with the words of all truth values.
 #[inline(always)]
 fn push_counted<V: CountedValues>(words: &mut Vec<u64>, values: &V, count: usize, steps: &mut Steps)
     requires enough { length (V.values values.now) ≤ 64 * count }
@@ -151,8 +152,8 @@ fn push_counted<V: CountedValues>(words: &mut Vec<u64>, values: &V, count: usize
 }
 
 impl Bitmap {
-    /// Truth values that are asked for one by one, whose costs the counter rises by. The error is `Memory`,
-    /// after which the counter has not fallen.
+    /// Packs truth values that are read one by one, and adds their costs to the counter. The error
+    /// is `Memory`; the counter may then have increased.
     pub fn from_counted<V: CountedValues>(
         alloc: Global,
         values: &V,

@@ -1,17 +1,17 @@
-//! The errors of the calls that grow and of the calls that make an array.
+//! Errors of calls that allocate and of array constructors.
 
 ghost use Rattle.polars_arrays_bits.specs.Errors.{IsMemory};
 
 use std::alloc::{AllocError, AllocFailed};
 use thiserror::Error;
 
-/// Why a computation gave no answer.
+/// The reason why a computation has no result.
 #[derive(Debug, Drop, Error)]
 pub enum ComputeError {
-    /// A growth was refused.
+    /// An allocation failed.
     #[error("out of memory")]
     Memory(AllocError),
-    /// The kind of array has no such operation.
+    /// The kind of array does not support the operation.
     #[error("not supported")]
     Unsupported,
     /// A dictionary key is not below the number of entries, `len`.
@@ -35,16 +35,16 @@ impl<T: Drop> From<AllocFailed<T>> for ComputeError {
     }
 }
 
-/// Why parts make no array.
+/// The reason why parts do not make an array.
 #[derive(Debug, PartialEq, Eq, Drop, Error)]
 pub enum ArrayError {
-    /// The lengths of the parts do not fit each other.
+    /// The lengths of the parts do not match.
     #[error("lengths do not fit")]
     Length,
-    /// The offsets of a row do not rise, or leave the values.
+    /// The offsets of a row decrease, or lie outside the values.
     #[error("offsets of row {row} are not good")]
     Offsets { row: usize },
-    /// A field's values have not the struct's length or the field's type.
+    /// A field's values do not have the struct's length or the field's type.
     #[error("field {at} does not fit")]
     Field { at: usize },
     /// A view does not describe a row.

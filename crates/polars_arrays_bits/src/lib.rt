@@ -1,5 +1,6 @@
-//! Packed bits, buffers and errors, on which arrays of columns stand. The crate re-exports the number types
-//! and the counter of `polars_arrays_numbers`, and the packing of truth values of `polars_arrays_words`.
+//! Packed bits, buffers and errors, the basis of all arrays. The crate re-exports the number types
+//! and the counter of `polars_arrays_numbers`, and the packing of truth values of
+//! `polars_arrays_words`.
 #![tactic(auto)]
 
 pub use polars_arrays_numbers::{comparison, dictionary_key, native_type, offset, steps};

@@ -1,4 +1,4 @@
-//! Packed truth values that are written.
+//! Mutable lists of packed truth values.
 
 ghost use Rattle.std.specs.Prelude.{◌≡◌, ℕ, ◌*◌, ◌^◌, ◌<◌, ◌≤◌, Bool, false, true, ◌&&◌, ◌||◌, length, count_by, get_or, replicate, slice_get, slice_set, vec_len, MatchResult};
 ghost use Rattle.std.specs.Simd.Lanes.{zip2};
@@ -22,10 +22,10 @@ use polars_arrays_words::write::write_bit;
 use std::alloc::Global;
 use std::marker::Model;
 
-/// A list of truth values that may be changed in place, packed into words of 64 bits.
+/// A list of truth values that can be changed in place, packed into 64-bit words.
 #[derive(Drop)]
 pub struct MutableBitmap {
-    // bits from `len` on mean nothing
+    // bits from `len` on are arbitrary
     words: Vec<u64>,
     len: usize,
 }
@@ -42,7 +42,7 @@ impl Model for MutableBitmap {
 }
 
 impl MutableBitmap {
-    // `n` bits that are all `value`. The error is `Memory`.
+    // Creates `n` bits that are all `value`. The error is `Memory`.
     #[inline]
     fn filled(alloc: Global, value: bool, n: usize) -> Result<MutableBitmap, ComputeError>
         ensures { MatchResult result (λ bits. bits ≡ replicate n value) IsMemory }
@@ -51,21 +51,21 @@ impl MutableBitmap {
         Ok(MutableBitmap { words, len: n })
     }
 
-    /// `n` bits that are all false. The error is `Memory`.
+    /// Creates `n` false bits. The error is `Memory`.
     pub fn from_len_zeroed(alloc: Global, n: usize) -> Result<MutableBitmap, ComputeError>
         ensures { MatchResult result (λ bits. bits ≡ replicate n false) IsMemory }
     {
         MutableBitmap::filled(alloc, false, n)
     }
 
-    /// `n` bits that are all true. The error is `Memory`.
+    /// Creates `n` true bits. The error is `Memory`.
     pub fn from_len_set(alloc: Global, n: usize) -> Result<MutableBitmap, ComputeError>
         ensures { MatchResult result (λ bits. bits ≡ replicate n true) IsMemory }
     {
         MutableBitmap::filled(alloc, true, n)
     }
 
-    // The first `len` bits of a source, in words of its own. The error is `Memory`.
+    // Copies the first `len` bits of a source into new words. The error is `Memory`.
     pub(crate) fn from_source<S: BitSource>(
         alloc: Global,
         source: &S,
@@ -77,7 +77,7 @@ impl MutableBitmap {
         Ok(MutableBitmap { words, len })
     }
 
-    // The first `len` bits of words.
+    // Creates a bitmap of the first `len` bits of words.
     pub(crate) fn from_vec(words: Vec<u64>, len: usize) -> MutableBitmap
         requires { len ≤ 64 * vec_len words }
         ensures { result ≡ window 0 len words.items }
@@ -85,14 +85,14 @@ impl MutableBitmap {
         MutableBitmap { words, len }
     }
 
-    /// How many bits there are.
+    /// Returns the number of bits.
     pub fn len(&self) -> usize
         ensures { result ≡ length self.now }
     {
         self.len
     }
 
-    /// Bit `i`.
+    /// Returns bit `i`.
     pub fn get(&self, i: usize) -> bool
         requires { i < length self.now }
         ensures { slice_get self.now i ≡ Some result }
@@ -100,7 +100,7 @@ impl MutableBitmap {
         bit_from(self.words.as_slice(), 0, i)
     }
 
-    /// Bit `i` becomes `value`.
+    /// Sets bit `i` to `value`.
     pub fn set(&mut self, i: usize, value: bool)
         requires { i < length self.old }
         ensures { self.new ≡ slice_set self.old i value }
@@ -108,14 +108,14 @@ impl MutableBitmap {
         write_bit(self.words.as_mut_slice(), i, value);
     }
 
-    /// How many bits are true.
+    /// Returns the number of true bits.
     pub fn set_bits(&self) -> usize
         ensures { result ≡ count_by (λ b. b) self.now }
     {
         count_window(self.words.as_slice(), 0, self.len)
     }
 
-    // Each bit becomes what the change makes of it.
+    // Applies a change to each bit.
     fn change<C: WordChange>(&mut self, change: &C)
         ensures { self.new ≡ first_of (λ i. C.bit change.now i (get_or self.old i false)) (length self.old) }
     {
@@ -126,14 +126,14 @@ impl MutableBitmap {
         change_words(words, change, inner, count);
     }
 
-    // Each bit becomes the operator's result with the source's.
+    // Sets each bit to the operator's result with the source's bit.
     fn assign<O: BinaryOperator, S: BitSource + Drop>(&mut self, operator: O, source: S)
         ensures { self.new ≡ zip2 O.bit self.old (first_of (S.bit source) (length self.old)) }
     {
         self.change(&JoinedWith { operator, source });
     }
 
-    // Each bit becomes the operator's result with those of two sources.
+    // Sets each bit to the operator's result with the bits of two sources.
     fn assign_both<O: TernaryOperator, A: BitSource + Drop, B: BitSource + Drop>(
         &mut self,
         operator: O,
@@ -150,7 +150,7 @@ impl MutableBitmap {
         });
     }
 
-    // Each bit becomes the operator's result with the window's.
+    // Sets each bit to the operator's result with the window's bit.
     fn join<O: BinaryOperator>(&mut self, operator: O, other: &BitMask<'_>)
         requires { length other.now ≡ length self.old }
         ensures { self.new ≡ zip2 O.bit self.old other.now }
@@ -163,7 +163,7 @@ impl MutableBitmap {
         }
     }
 
-    // Each bit becomes the operator's result with those of two windows.
+    // Sets each bit to the operator's result with the bits of two windows.
     fn merge<O: TernaryOperator>(&mut self, operator: O, left: &BitMask<'_>, right: &BitMask<'_>)
         requires left { length left.now ≡ length self.old }
         requires right { length right.now ≡ length self.old }
@@ -177,7 +177,7 @@ impl MutableBitmap {
         }
     }
 
-    // Each bit becomes the operator's result with those of a source and of a window.
+    // Sets each bit to the operator's result with the bits of a source and of a window.
     fn merge_last<O: TernaryOperator, A: BitSource + Drop>(
         &mut self,
         operator: O,
@@ -195,7 +195,7 @@ impl MutableBitmap {
         }
     }
 
-    /// Each bit becomes true where the other bitmap's is.
+    /// Sets each bit to its OR with the other bitmap's bit.
     pub fn or_assign(&mut self, other: &MutableBitmap)
         requires { length other.now ≡ length self.old }
         ensures { self.new ≡ zip2 ◌||◌ self.old other.now }
@@ -204,7 +204,7 @@ impl MutableBitmap {
         self.assign(Or, Aligned { words });
     }
 
-    /// Each bit stays true where the other bitmap's is.
+    /// Sets each bit to its AND with the other bitmap's bit.
     pub fn and_assign(&mut self, other: &Bitmap)
         requires { length other.now ≡ length self.old }
         ensures { self.new ≡ zip2 ◌&&◌ self.old other.now }
@@ -212,7 +212,7 @@ impl MutableBitmap {
         self.and_assign_mask(&BitMask::from_bitmap(other));
     }
 
-    /// Each bit stays true where the window's is.
+    /// Sets each bit to its AND with the window's bit.
     pub fn and_assign_mask(&mut self, other: &BitMask<'_>)
         requires { length other.now ≡ length self.old }
         ensures { self.new ≡ zip2 ◌&&◌ self.old other.now }
@@ -220,7 +220,7 @@ impl MutableBitmap {
         self.join(And, other);
     }
 
-    /// Each bit stays true where the truth value at its place is, a word of them at a time.
+    /// Sets each bit to its AND with the truth value at its place, a word at a time.
     pub fn and_assign_values<V: TruthValues>(&mut self, values: &V)
         requires { length (V.values values.now) ≡ length self.old }
         ensures { self.new ≡ zip2 ◌&&◌ self.old (V.values values.now) }
@@ -228,7 +228,7 @@ impl MutableBitmap {
         self.assign(And, Packed { values });
     }
 
-    /// Each bit becomes true where the window's is false.
+    /// Sets each bit to `self | !other`, where `other` is the window's bit.
     pub fn or_not_assign_mask(&mut self, other: &BitMask<'_>)
         requires { length other.now ≡ length self.old }
         ensures { self.new ≡ zip2 or_not self.old other.now }
@@ -236,9 +236,9 @@ impl MutableBitmap {
         self.join(OrNot, other);
     }
 
-    /// Each bit `q` becomes `(q & l & r) | !(l | r)`: where bits say which rows' values are equal, and the
-    /// windows which rows are present on each side, they then say which rows are equal, null being equal to
-    /// null alone.
+    /// Sets each bit `q` to `(q & l & r) | !(l | r)`. If the bits are the rows with equal values,
+    /// and the windows the present rows of each side, the bits become the equal rows, null being
+    /// equal to null alone.
     pub fn merge_eq_assign(&mut self, left: &BitMask<'_>, right: &BitMask<'_>)
         requires left { length left.now ≡ length self.old }
         requires right { length right.now ≡ length self.old }
@@ -247,9 +247,9 @@ impl MutableBitmap {
         self.merge(MergeEq, left, right);
     }
 
-    /// Each bit `q` becomes `(q & l & r) | (l ^ r)`: where bits say which rows' values are unequal, and the
-    /// windows which rows are present on each side, they then say which rows are unequal, null being equal to
-    /// null alone.
+    /// Sets each bit `q` to `(q & l & r) | (l ^ r)`. If the bits are the rows with unequal values,
+    /// and the windows the present rows of each side, the bits become the unequal rows, null being
+    /// equal to null alone.
     pub fn merge_ne_assign(&mut self, left: &BitMask<'_>, right: &BitMask<'_>)
         requires left { length left.now ≡ length self.old }
         requires right { length right.now ≡ length self.old }
@@ -258,7 +258,7 @@ impl MutableBitmap {
         self.merge(MergeNe, left, right);
     }
 
-    /// The same bits, to be read.
+    /// Converts to an immutable bitmap.
     pub fn freeze(self) -> Bitmap
         ensures { result ≡ self }
     {

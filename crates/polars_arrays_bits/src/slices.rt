@@ -12,7 +12,7 @@ use polars_arrays_numbers::comparison::Comparison;
 use polars_arrays_words::packing::{TruthValues, pack_few};
 use std::alloc::Global;
 
-/// A comparison of the elements of two slices of one length, place by place: whether it holds of them.
+/// A comparison of the elements of two slices of equal length, as one truth value a place.
 #[derive(Drop)]
 pub struct Pairs<'a, L, R, E> {
     pub comparison: &'a E,
@@ -42,8 +42,7 @@ impl<'a, L: Copy, R: Copy, E: Comparison<L, R>> TruthValues for Pairs<'a, L, R, 
     }
 }
 
-/// For each place of two slices of one length, whether the comparison holds of the elements there. The error
-/// is `Memory`.
+/// Compares the elements of two slices of equal length, place by place. The error is `Memory`.
 pub fn compare_pairs<L: Copy, R: Copy, E: Comparison<L, R>>(
     alloc: Global,
     comparison: &E,
@@ -63,8 +62,8 @@ pub fn compare_pairs<L: Copy, R: Copy, E: Comparison<L, R>>(
     )
 }
 
-/// The same of two slices of at most 64 elements, as the bits of a word, the first one lowest, with zeros
-/// behind them. No memory is needed.
+/// Compares the elements of two slices of at most 64 elements, place by place. The results are the
+/// bits of a word, the first one lowest, with zeros above them. Does not allocate.
 #[inline(always)]
 pub fn compare_few<L: Copy, R: Copy, E: Comparison<L, R>>(
     comparison: &E,
@@ -87,8 +86,8 @@ pub fn compare_few<L: Copy, R: Copy, E: Comparison<L, R>>(
     )
 }
 
-/// The same for windows: `count` elements from place `left_at` on of the left slice, and as many
-/// from place `right_at` on of the right one. The error is `Memory`.
+/// Compares `count` elements from place `left_at` on of the left slice with those from place
+/// `right_at` on of the right one. The error is `Memory`.
 pub fn compare_windows<L: Copy, R: Copy, E: Comparison<L, R>>(
     alloc: Global,
     comparison: &E,
@@ -111,7 +110,7 @@ pub fn compare_windows<L: Copy, R: Copy, E: Comparison<L, R>>(
     )
 }
 
-/// Each bit stays true where the comparison holds of the elements at its place. No memory is needed.
+/// Sets each bit to its AND with the comparison of the elements at its place. Does not allocate.
 pub fn and_pairs<L: Copy, R: Copy, E: Comparison<L, R>>(
     bits: &mut MutableBitmap,
     comparison: &E,
@@ -156,7 +155,7 @@ impl<'a, L: Copy, R: Copy, E: Comparison<L, R>> TruthValues for Against<'a, L, R
     }
 }
 
-/// For each element of a slice, whether the comparison holds of it and `right`. The error is `Memory`.
+/// Compares each element of a slice with `right`. The error is `Memory`.
 pub fn compare_constant<L: Copy, R: Copy, E: Comparison<L, R>>(
     alloc: Global,
     comparison: &E,

@@ -1,23 +1,24 @@
--- The first fault of parts that are no array.
+-- The first fault of parts that do not make an array.
 use Rattle.std.specs.Prelude.{◌≡◌, ◌<◌, ℕ, ℤ, List, [], ◌∷◌, Option, length}
 use Rattle.polars_arrays_bits.specs.declared.error.ArrayError.{ArrayError}
 use Rattle.polars_arrays_bits.specs.declared.error.ArrayError.TheVariants.{Length, Offsets}
 use Rattle.polars_arrays_flat.specs.Validity.{HasBits}
 use Rattle.polars_arrays_bytes.specs.OffsetStrings.{OffsetStrings, places, row_count, IsWithin, IsGoodRow}
 
--- row `row` of n bytes is bad; without a row, row 0 is where the offset is missing or not within the bytes
+-- row `row` of n bytes is bad; without rows, row 0 is bad if the offset is missing or outside the
+-- bytes
 abbrev pub IsBadRow : ℕ → List (Option ℕ) → ℕ → Type 0
 IsBadRow n [] row = row ≡ 0
 IsBadRow n (only ∷ []) row = (row ≡ 0) × ¬ (IsWithin n only)
 IsBadRow n (first ∷ second ∷ rest) row =
     (row < row_count (first ∷ second ∷ rest)) × ¬ (IsGoodRow n (first ∷ second ∷ rest) row)
 
--- it is the first bad row
+-- `row` is the first bad row
 pub record IsFirstBad (n : ℕ) (all : List (Option ℕ)) (row : ℕ) : Type 0 where
   pub bad : IsBadRow n all row
   pub before : (k : ℕ) → k < row → IsGoodRow n all k
 
--- the error that parts give: the validity is looked at first
+-- the error that parts give; the validity is checked first
 abbrev pub IsFirstFault : {A : Type 0} → (A → ℤ) → OffsetStrings A → ArrayError → Type 0
 IsFirstFault value a Length = ¬ (HasBits (row_count a.offsets) a.validity)
 IsFirstFault value a (Offsets row) =

@@ -13,12 +13,12 @@ pub record OffsetStrings (A : Type 0) : Type 0 where
   pub values : List ℕ
   pub validity : Option (List Bool)
 
--- they are coded as the three
+-- coded as the three
 abbrev pub offset_code : {A : Type 0} → Coded A → Coded (OffsetStrings A)
 offset_code code =
     code_by (List _ × (List ℕ × Option (List Bool))) (coded× (coded_list code) (coded× (coded_list coded_ℕ) (coded_option (coded_list coded_bool)))) (λ a. (a.offsets, (a.values, a.validity))) (λ p. record { offsets = p.0; values = p.1.0; validity = p.1.1 }) (λ _. refl)
 
--- each offset as a place in the bytes, None where it is negative; `value` gives its whole number
+-- each offset as a place in the bytes, or None if it is negative; `value` gives its whole number
 abbrev pub places : {A : Type 0} → (A → ℤ) → List A → List (Option ℕ)
 places value offsets = map (λ offset. natural_of (value offset)) offsets
 
@@ -26,7 +26,7 @@ places value offsets = map (λ offset. natural_of (value offset)) offsets
 abbrev pub place_at : List (Option ℕ) → ℕ → Option ℕ
 place_at all i = slice_index_or all i None
 
--- how many rows lie between offsets: one fewer than there are offsets, and none without an offset (our own choice)
+-- the number of rows: one fewer than offsets, or none without offsets (our own choice)
 abbrev pub row_count : {A : Type 0} → List A → ℕ
 row_count offsets = length offsets - 1
 
@@ -43,7 +43,7 @@ string_between all values i = between values (place_at all i) (place_at all (i +
 abbrev pub strings_between : List (Option ℕ) → List ℕ → List (List ℕ)
 strings_between all values = map (string_between all values) (range_with_len 0 (row_count all))
 
--- the strings of an array, also those of masked rows
+-- the strings of an array, including those of masked rows
 abbrev pub offset_strings : {A : Type 0} → (A → ℤ) → OffsetStrings A → List (List ℕ)
 offset_strings value a = strings_between (places value a.offsets) a.values
 
@@ -51,12 +51,12 @@ offset_strings value a = strings_between (places value a.offsets) a.values
 abbrev pub offset_rows : {A : Type 0} → (A → ℤ) → OffsetStrings A → List Row
 offset_rows value a = rows_under a.validity (byte_slots (offset_strings value a))
 
--- a place is there, and among n bytes or at their end
+-- a place exists and is at most n
 abbrev pub IsWithin : ℕ → Option ℕ → Type 0
 IsWithin n None = ⊥
 IsWithin n (Some at) = at ≤ n
 
--- two places are there, do not fall, and bound a row of n bytes
+-- two places exist, do not decrease, and are at most n
 abbrev pub Bounds : ℕ → Option ℕ → Option ℕ → Type 0
 Bounds n (Some from) (Some to) = (from ≤ to) × (to ≤ n)
 Bounds n _ _ = ⊥
@@ -65,12 +65,12 @@ Bounds n _ _ = ⊥
 abbrev pub IsGoodRow : ℕ → List (Option ℕ) → ℕ → Type 0
 IsGoodRow n all i = Bounds n (place_at all i) (place_at all (i + 1))
 
--- the first place, which need not be 0, lies within n bytes, and so does each row
+-- the first place, which need not be 0, is at most n, and each row is good
 pub record AreGood (n : ℕ) (all : List (Option ℕ)) : Type 0 where
   pub first : IsWithin n (place_at all 0)
   pub rows : (i : ℕ) → i < row_count all → IsGoodRow n all i
 
--- the parts make an array: a validity that is there has a bit for each row, and the offsets are good
+-- the parts make an array: a validity has a bit for each row, and the offsets are good
 pub record AreBounded {A : Type 0} (value : A → ℤ) (a : OffsetStrings A) : Type 0 where
   pub bits : HasBits (row_count a.offsets) a.validity
   pub good : AreGood (length a.values) (places value a.offsets)

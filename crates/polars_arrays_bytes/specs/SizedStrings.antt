@@ -6,14 +6,14 @@ use Rattle.polars_arrays_flat.specs.Row.{Row}
 use Rattle.polars_arrays_flat.specs.StoredRows.{rows_under, byte_slots}
 use Rattle.polars_arrays_flat.specs.Validity.{HasBits, window}
 
--- how many bytes a string has, how many strings there are, their bytes, and the validity
+-- the number of bytes of a string, the number of strings, their bytes, and the validity
 pub record SizedStrings : Type 0 where
   pub size : ℕ
   pub count : ℕ
   pub values : List ℕ
   pub validity : Option (List Bool)
 
--- they are coded as the four
+-- coded as the four
 abbrev pub sized_code : Coded SizedStrings
 sized_code =
     code_by (ℕ × (ℕ × (List ℕ × Option (List Bool)))) (coded× coded_ℕ (coded× coded_ℕ (coded× (coded_list coded_ℕ) (coded_option (coded_list coded_bool))))) (λ a. (a.size, (a.count, (a.values, a.validity)))) (λ p. record { size = p.0; count = p.1.0; values = p.1.1.0; validity = p.1.1.1 }) (λ _. refl)
@@ -30,7 +30,7 @@ sized_strings size count values = map (sized_string size values) (range_with_len
 abbrev pub sized_rows : SizedStrings → List Row
 sized_rows a = rows_under a.validity (byte_slots (sized_strings a.size a.count a.values))
 
--- a validity that is there has a bit for each string, and the bytes are those of the strings and no more
+-- a validity has a bit for each string, and the bytes are exactly those of the strings
 pub record IsSized (size count : ℕ) (values : List ℕ) (validity : Option (List Bool)) : Type 0 where
   pub bits : HasBits count validity
   pub bytes : length values ≡ size * count

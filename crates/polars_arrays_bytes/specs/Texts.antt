@@ -8,7 +8,7 @@ use Rattle.polars_arrays_flat.specs.Validity.{HasBits}
 use Rattle.polars_arrays_bytes.specs.Faults.{IsFirstBad}
 use Rattle.polars_arrays_bytes.specs.OffsetStrings.{OffsetStrings, places, row_count, offset_strings, AreBounded}
 
--- each string by itself is UTF-8
+-- each string alone is UTF-8
 abbrev pub AreTexts : List (List ℕ) → Type 0
 AreTexts strings = All IsUtf8 strings
 
@@ -18,12 +18,13 @@ pub record IsFirstOther (strings : List (List ℕ)) (row : ℕ) : Type 0 where
   pub other : ¬ (IsUtf8 (slice_index_or strings row []))
   pub before : (k : ℕ) → k < row → IsUtf8 (slice_index_or strings k [])
 
--- the parts make an array of texts: they make one of byte strings, and these are texts
+-- the parts make an array of byte strings, and these are texts
 pub record AreTextParts {A : Type 0} (value : A → ℤ) (a : OffsetStrings A) : Type 0 where
   pub bounded : AreBounded value a
   pub texts : AreTexts (offset_strings value a)
 
--- the error that parts of an array of texts give: the validity is looked at first, then the offsets, then the bytes
+-- the error that parts of an array of texts give; the validity is checked first, then the offsets,
+-- then the bytes
 abbrev pub IsFirstTextFault : {A : Type 0} → (A → ℤ) → OffsetStrings A → ArrayError → Type 0
 IsFirstTextFault value a Length = ¬ (HasBits (row_count a.offsets) a.validity)
 IsFirstTextFault value a (Offsets row) =

@@ -25,7 +25,7 @@ use polars_arrays_numbers::offset::Offset;
 use std::alloc::Global;
 use std::marker::Model;
 
-/// Byte strings that lie between offsets, of which a validity masks some.
+/// An array of byte strings between offsets, with an optional validity.
 #[derive(Drop)]
 pub struct BinaryArray<O: Offset> {
     offsets: Buffer<O>,
@@ -46,14 +46,15 @@ impl<O: Offset> Model for BinaryArray<O> {
 }
 
 impl<O: Offset> BinaryArray<O> {
-    /// An array of the strings between neighbouring offsets: row `i` is the bytes from offset `i` up to
-    /// offset `i + 1`, and the first offset need not be 0. The error is
-    /// - `Length`, where the validity has not a bit for each row (rows are one fewer than offsets, or none),
-    /// - then `Offsets` with the first row whose offsets are not `0 <= offsets[i] <= offsets[i + 1] <=
-    ///   values.len()`, with row 0 where there is no offset, or where the only one is not 0 to
-    ///   `values.len()`.
+    /// Creates an array of the strings between neighbouring offsets: row `i` is the bytes from
+    /// offset `i` up to offset `i + 1`. The first offset need not be 0. The error is
+    /// - `Length`, if the validity does not have a bit for each row (rows are one fewer than
+    ///   offsets, or none),
+    /// - then `Offsets` with the first row whose offsets are not
+    ///   `0 <= offsets[i] <= offsets[i + 1] <= values.len()`; with row 0, if there is no offset, or
+    ///   if the only one is not in `0..=values.len()`.
     ///
-    /// Offsets have to be good at null rows too.
+    /// Offsets of null rows are checked too.
     #[tactic(auto, using(crate::proofs::OffsetWindows::faults))]
     pub fn try_new(
         offsets: Buffer<O>,
@@ -77,7 +78,7 @@ impl<O: Offset> BinaryArray<O> {
         }
     }
 
-    /// The offsets, one more than there are rows.
+    /// Returns the offsets, one more than rows.
     pub fn offsets(&self) -> &[O]
         ensures offsets { result.now ≡ self.now.offsets }
         ensures good { AreGood (length self.now.values) (places O.value result.now) }
@@ -85,7 +86,7 @@ impl<O: Offset> BinaryArray<O> {
         self.offsets.as_slice()
     }
 
-    // No effect at run time. A proof reads from it that the offsets are good.
+    // Has no effect at run time. A proof learns from it that the offsets are good.
     #[inline(always)]
     pub(crate) fn law_good(&self)
         ensures { AreGood (length self.now.values) (places O.value self.now.offsets) }
@@ -93,14 +94,14 @@ impl<O: Offset> BinaryArray<O> {
         let _offsets = &self.offsets;
     }
 
-    /// The bytes that the offsets lie in, also those of masked rows and of no row.
+    /// Returns the bytes that the offsets point into, including those of masked rows and of no row.
     pub fn values(&self) -> &[u8]
         ensures { result.now ≡ self.now.values }
     {
         self.values.as_slice()
     }
 
-    /// String `i`, also where its row is null.
+    /// Returns string `i`, even if its row is null.
     #[tactic(auto, using(crate::proofs::OffsetWindows::offset_rows))]
     pub fn value(&self, i: usize) -> &[u8]
         requires { i < row_count self.now.offsets }
@@ -109,14 +110,14 @@ impl<O: Offset> BinaryArray<O> {
         string_at(self.offsets(), self.values(), i)
     }
 
-    /// The array with its slices at hand, for a loop over its strings.
+    /// Borrows the array with its slices, for a loop over its strings.
     pub fn lent(&self) -> LentStrings<'_, O>
         ensures { result.array.now ≡ self.now }
     {
         LentStrings::new(self)
     }
 
-    /// Keeps `n` rows from row `at` on. No byte moves, and all bytes stay.
+    /// Keeps the `n` rows from row `at` on. No byte is moved or dropped.
     #[tactic(auto, using(crate::proofs::OffsetWindows::slices))]
     pub fn slice(&mut self, at: usize, n: usize)
         requires { at + n ≤ row_count self.old.offsets }
@@ -128,7 +129,7 @@ impl<O: Offset> BinaryArray<O> {
         slice_validity(&mut self.validity, at, n);
     }
 
-    /// A second array of the same strings and validity. The error is `Memory`.
+    /// Clones the array. The error is `Memory`.
     pub fn clone_array(&self, alloc: Global) -> Result<BinaryArray<O>, ComputeError>
         ensures { MatchResult result (λ copy. copy ≡ self.now) IsMemory }
     {
@@ -144,7 +145,7 @@ impl<O: Offset> BinaryArray<O> {
 }
 
 impl<O: OffsetType> BinaryArray<O> {
-    /// The array's type. It takes no memory, so that there is always one.
+    /// Returns the array's type. Does not allocate, so it succeeds always.
     pub fn dtype(&self, _alloc: Global) -> Result<ArrowDataType, ComputeError>
         ensures dtype { MatchResult result (λ dtype. kind_of dtype ≡ O.binary_kind) IsMemory }
         ensures succeeds { IsOk result }

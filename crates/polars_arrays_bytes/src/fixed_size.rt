@@ -21,12 +21,12 @@ use polars_arrays_flat::validity::{clone_validity, has_bits, null_count, slice_v
 use std::alloc::Global;
 use std::marker::Model;
 
-/// Byte strings that all have the same number of bytes, of which a validity masks some.
+/// An array of byte strings that all have the same number of bytes, with an optional validity.
 #[derive(Drop)]
 pub struct FixedSizeBinaryArray {
     // bytes a string
     size: usize,
-    // how many strings there are, since with no bytes a string the bytes do not tell
+    // number of strings; the bytes alone do not determine it if `size` is 0
     count: usize,
     values: Buffer<u8>,
     validity: Option<Bitmap>,
@@ -45,8 +45,9 @@ impl Model for FixedSizeBinaryArray {
 }
 
 impl FixedSizeBinaryArray {
-    /// An array of `len` strings of `size` bytes each, one after the other in `values`. The error is
-    /// `Length`, where the validity has not a bit for each string, or the values are not `size * len` bytes.
+    /// Creates an array of `len` strings of `size` bytes each, one after the other in `values`. The
+    /// error is `Length`, if the validity does not have a bit for each string, or if there are not
+    /// `size * len` bytes.
     pub fn try_new(
         size: usize,
         len: usize,
@@ -68,14 +69,14 @@ impl FixedSizeBinaryArray {
         })
     }
 
-    /// How many bytes each string has.
+    /// Returns the number of bytes of each string.
     pub fn size(&self) -> usize
         ensures { result ≡ self.now.size }
     {
         self.size
     }
 
-    /// The bytes of all strings, also of masked rows.
+    /// Returns the bytes of all strings, including those of masked rows.
     pub fn values(&self) -> &[u8]
         ensures values { result.now ≡ self.now.values }
         ensures bytes { length result.now ≡ self.now.size * self.now.count }
@@ -83,7 +84,7 @@ impl FixedSizeBinaryArray {
         self.values.as_slice()
     }
 
-    /// String `i`, also where its row is null.
+    /// Returns string `i`, even if its row is null.
     #[tactic(auto, using(crate::proofs::Windows::sized))]
     pub fn value(&self, i: usize) -> &[u8]
         requires { i < self.now.count }
@@ -92,7 +93,7 @@ impl FixedSizeBinaryArray {
         string_at(self.values.as_slice(), self.size, i)
     }
 
-    /// Keeps `n` rows from row `at` on. No byte moves.
+    /// Keeps the `n` rows from row `at` on. No byte is moved.
     #[tactic(auto, using(crate::proofs::Windows::sized))]
     pub fn slice(&mut self, at: usize, n: usize)
         requires { at + n ≤ self.old.count }
@@ -105,7 +106,7 @@ impl FixedSizeBinaryArray {
         self.count = n;
     }
 
-    /// A second array of the same strings and validity. The error is `Memory`.
+    /// Clones the array. The error is `Memory`.
     pub fn clone_array(&self, alloc: Global) -> Result<FixedSizeBinaryArray, ComputeError>
         ensures { MatchResult result (λ copy. copy ≡ self.now) IsMemory }
     {
@@ -119,7 +120,7 @@ impl FixedSizeBinaryArray {
         })
     }
 
-    /// The array's type. It takes no memory, so that there is always one.
+    /// Returns the array's type. Does not allocate, so it succeeds always.
     pub fn dtype(&self, _alloc: Global) -> Result<ArrowDataType, ComputeError>
         ensures dtype { MatchResult result (λ dtype. kind_of dtype ≡ FixedSizeBinaryKind self.now.size) IsMemory }
         ensures succeeds { IsOk result }
@@ -180,7 +181,7 @@ impl ByteRows for FixedSizeBinaryArray {
     ghost slots_law = { λ a. refl };
 }
 
-// String `i` of strings of `size` bytes.
+// Returns string `i` of strings of `size` bytes.
 #[inline]
 pub(crate) fn string_at(values: &[u8], size: usize, i: usize) -> &[u8]
     requires { size * i + size ≤ length values.now }

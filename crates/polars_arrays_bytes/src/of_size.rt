@@ -1,4 +1,4 @@
-//! Byte strings whose size is known when the code is compiled.
+//! Byte strings whose size is a constant.
 
 ghost use Rattle.std.specs.Prelude.{◌≡◌, ⊤, refl};
 ghost use Rattle.polars_arrays_bytes.specs.SizedStrings.{sized_strings};
@@ -14,7 +14,7 @@ use polars_arrays_flat::byte_rows::ByteRows;
 use polars_arrays_flat::mask::Mask;
 use std::alloc::Global;
 
-/// An array whose strings have `SIZE` bytes each. A loop over them is compiled for strings of that size.
+/// An array whose strings have `SIZE` bytes each. Loops over it are compiled for that size.
 #[derive(Drop)]
 pub struct OfSize<'a, const SIZE: usize> {
     /// The array.
@@ -23,7 +23,7 @@ pub struct OfSize<'a, const SIZE: usize> {
 }
 
 impl<'a, const SIZE: usize> OfSize<'a, SIZE> {
-    /// The array, whose strings have `SIZE` bytes each.
+    /// Wraps an array whose strings have `SIZE` bytes each.
     pub fn new(array: &'a FixedSizeBinaryArray) -> OfSize<'a, SIZE>
         requires { array.now.size ≡ SIZE }
         ensures { result.array.now ≡ array.now }

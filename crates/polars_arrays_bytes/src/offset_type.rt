@@ -1,4 +1,4 @@
-//! The types of offsets between which byte strings and texts lie.
+//! Offset types of byte strings and texts.
 
 ghost use Rattle.std.specs.Prelude.{◌≡◌};
 ghost use Rattle.polars_arrays_flat.specs.DataType.{kind_of};
@@ -7,19 +7,19 @@ ghost use Rattle.polars_arrays_flat.specs.Kind.{Kind, BinaryKind, LargeBinaryKin
 use polars_arrays_flat::data_type::ArrowDataType;
 use polars_arrays_numbers::offset::Offset;
 
-/// A type of offsets: for each there is a type of arrays of byte strings and one of arrays of texts.
+/// An offset type. Each has a type of arrays of byte strings and one of arrays of texts.
 pub trait OffsetType: Offset {
-    // The kind of an array of byte strings between these offsets.
+    // Kind of an array of byte strings with these offsets.
     ghost binary_kind: { Kind };
 
-    // The kind of an array of texts between these offsets.
+    // Kind of an array of texts with these offsets.
     ghost text_kind: { Kind };
 
-    /// The type of an array of byte strings between these offsets.
+    /// Returns the type of an array of byte strings with these offsets.
     fn binary_data_type() -> ArrowDataType
         ensures { kind_of result ≡ Self.binary_kind };
 
-    /// The type of an array of texts between these offsets.
+    /// Returns the type of an array of texts with these offsets.
     fn text_data_type() -> ArrowDataType
         ensures { kind_of result ≡ Self.text_kind };
 }

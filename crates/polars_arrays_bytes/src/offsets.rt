@@ -1,4 +1,4 @@
-//! Reading offsets: how many rows they bound, where each row lies, and the first row that is bad.
+//! Offsets: the number of rows, the place of each row, and the first bad row.
 
 ghost use Rattle.std.specs.Prelude.{◌≡◌, ◌+◌, ◌<◌, ◌≤◌, ◌↔◌, IsTrue, length, take};
 ghost use Rattle.std.specs.Option.{MatchOption};
@@ -10,14 +10,14 @@ ghost use Rattle.polars_arrays_numbers.specs.Naturals.{natural_of};
 use polars_arrays_bits::buffer::Buffer;
 use polars_arrays_numbers::offset::Offset;
 
-/// How many rows lie between offsets.
+/// Returns the number of rows between offsets.
 pub fn row_count<O: Offset>(offsets: &[O]) -> usize
     ensures { result ≡ row_count offsets.now }
 {
     offsets.len().saturating_sub(1)
 }
 
-/// The first row that is not good over `n` bytes, or row 0 where no offset tells where the rows begin.
+/// Returns the first row that is not good over `n` bytes, or row 0 if there is no offset.
 #[tactic(auto, using(crate::proofs::OffsetWindows::faults))]
 pub fn first_bad_row<O: Offset>(offsets: &[O], n: usize) -> Option<usize>
     ensures { MatchOption result (AreGood n (places O.value offsets.now)) (IsFirstBad n (places O.value offsets.now)) }
@@ -33,7 +33,7 @@ pub fn first_bad_row<O: Offset>(offsets: &[O], n: usize) -> Option<usize>
     None
 }
 
-// Whether there is a first offset, and it is a place within `n` bytes.
+// Returns whether there is a first offset, and it is at most `n`.
 fn starts_within<O: Offset>(offsets: &[O], n: usize) -> bool
     ensures { IsTrue result ↔ IsWithin n (place_at (places O.value offsets.now) 0) }
 {
@@ -43,7 +43,7 @@ fn starts_within<O: Offset>(offsets: &[O], n: usize) -> bool
     }
 }
 
-// Whether an offset is a place within `n` bytes.
+// Returns whether an offset is in `0..=n`.
 fn is_within<O: Offset>(offset: O, n: usize) -> bool
     ensures { IsTrue result ↔ IsWithin n (natural_of (O.value offset)) }
 {
@@ -53,7 +53,7 @@ fn is_within<O: Offset>(offset: O, n: usize) -> bool
     }
 }
 
-// Whether a row is good over `n` bytes.
+// Returns whether a row is good over `n` bytes.
 fn is_good_row<O: Offset>(offsets: &[O], n: usize, row: usize) -> bool
     requires { row + 1 < length offsets.now }
     ensures { IsTrue result ↔ IsGoodRow n (places O.value offsets.now) row }
@@ -61,7 +61,7 @@ fn is_good_row<O: Offset>(offsets: &[O], n: usize, row: usize) -> bool
     bounds(offsets[row], offsets[row + 1], n)
 }
 
-// Whether two offsets bound a row of `n` bytes.
+// Returns whether two offsets bound a row of `n` bytes.
 fn bounds<O: Offset>(from: O, to: O, n: usize) -> bool
     ensures { IsTrue result ↔ Bounds n (natural_of (O.value from)) (natural_of (O.value to)) }
 {
@@ -71,7 +71,7 @@ fn bounds<O: Offset>(from: O, to: O, n: usize) -> bool
     }
 }
 
-// The bytes of row `i`.
+// Returns the bytes of row `i`.
 #[inline]
 pub(crate) fn string_at<'a, O: Offset>(offsets: &[O], values: &'a [u8], i: usize) -> &'a [u8]
     requires row { i < row_count offsets.now }
@@ -82,7 +82,7 @@ pub(crate) fn string_at<'a, O: Offset>(offsets: &[O], values: &'a [u8], i: usize
     &values[from..to]
 }
 
-// The bytes from row `i` on, up to the last, and how many of them are the row's.
+// Returns all bytes from the start of row `i` on, and the length of the row.
 #[inline(always)]
 pub(crate) fn string_on<'a, O: Offset>(
     offsets: &[O],
@@ -98,12 +98,12 @@ pub(crate) fn string_on<'a, O: Offset>(
     (&values[from..], to - from)
 }
 
-/// Keeps the offsets of `n` rows from row `at` on.
+/// Keeps the offsets of the `n` rows from row `at` on.
 pub fn keep_rows<O: Offset>(offsets: &mut Buffer<O>, at: usize, n: usize)
     requires { at + n < length offsets.old.items }
     ensures { offsets.new ≡ record { items = window at (n + 1) offsets.old.items; owned = offsets.old.owned } }
 {
-    // The sum below is at most this length, and so fits a `usize`.
+    // The sum below is at most this length, so it fits a `usize`.
     let _len = offsets.len();
     offsets.slice(at, n + 1);
 }

@@ -27,7 +27,7 @@ use std::alloc::Global;
 use std::marker::Model;
 use std::str::{from_utf8, from_utf8_unchecked};
 
-/// Texts that lie between offsets, of which a validity masks some.
+/// An array of texts between offsets, with an optional validity.
 #[derive(Drop)]
 pub struct Utf8Array<O: Offset> {
     binary: BinaryArray<O>,
@@ -47,9 +47,9 @@ impl<O: Offset> Model for Utf8Array<O> {
 }
 
 impl<O: Offset> Utf8Array<O> {
-    /// An array of the texts between neighbouring offsets, whose UTF-8 is in `values`. The errors are those
-    /// of `BinaryArray::try_new`, and after them `NotUtf8` with the first row whose bytes alone are not
-    /// UTF-8, null or not.
+    /// Creates an array of the texts between neighbouring offsets, whose UTF-8 is in `values`. The
+    /// errors are those of `BinaryArray::try_new`, and after them `NotUtf8` with the first row,
+    /// null or not, whose bytes alone are not UTF-8.
     pub fn try_new(
         offsets: Buffer<O>,
         values: Buffer<u8>,
@@ -66,7 +66,7 @@ impl<O: Offset> Utf8Array<O> {
         }
     }
 
-    /// The same bytes and nulls as an array of byte strings.
+    /// Returns the array as an array of byte strings.
     pub fn as_binary(&self) -> &BinaryArray<O>
         ensures binary { result.now ≡ self.now }
         ensures texts { AreTexts (offset_strings O.value result.now) }
@@ -74,14 +74,14 @@ impl<O: Offset> Utf8Array<O> {
         &self.binary
     }
 
-    /// The same bytes and nulls with their slices at hand, for a loop over the texts.
+    /// Borrows the array with its slices, for a loop over the texts.
     pub fn lent(&self) -> LentStrings<'_, O>
         ensures { result.array.now ≡ self.now }
     {
         self.binary.lent()
     }
 
-    /// The offsets, one more than there are rows.
+    /// Returns the offsets, one more than rows.
     pub fn offsets(&self) -> &[O]
         ensures offsets { result.now ≡ self.now.offsets }
         ensures good { AreGood (length self.now.values) (places O.value result.now) }
@@ -89,7 +89,7 @@ impl<O: Offset> Utf8Array<O> {
         self.binary.offsets()
     }
 
-    /// Text `i`, also where its row is null.
+    /// Returns text `i`, even if its row is null.
     pub fn value(&self, i: usize) -> &str
         requires { i < row_count self.now.offsets }
         ensures { result.now ≡ slice_index_or (offset_strings O.value self.now) i [] }
@@ -98,7 +98,7 @@ impl<O: Offset> Utf8Array<O> {
         unsafe { from_utf8_unchecked(bytes) }
     }
 
-    /// Keeps `n` rows from row `at` on. No byte moves, and all bytes stay.
+    /// Keeps the `n` rows from row `at` on. No byte is moved or dropped.
     pub fn slice(&mut self, at: usize, n: usize)
         requires { at + n ≤ row_count self.old.offsets }
         ensures stored { self.new ≡ record { offsets = window at (n + 1) self.old.offsets; values = self.old.values; validity = validity_window at n self.old.validity } }
@@ -108,7 +108,7 @@ impl<O: Offset> Utf8Array<O> {
         self.binary.slice(at, n);
     }
 
-    /// A second array of the same texts and validity. The error is `Memory`.
+    /// Clones the array. The error is `Memory`.
     pub fn clone_array(&self, alloc: Global) -> Result<Utf8Array<O>, ComputeError>
         ensures { MatchResult result (λ copy. copy ≡ self.now) IsMemory }
     {
@@ -118,7 +118,7 @@ impl<O: Offset> Utf8Array<O> {
 }
 
 impl<O: OffsetType> Utf8Array<O> {
-    /// The array's type. It takes no memory, so that there is always one.
+    /// Returns the array's type. Does not allocate, so it succeeds always.
     pub fn dtype(&self, _alloc: Global) -> Result<ArrowDataType, ComputeError>
         ensures dtype { MatchResult result (λ dtype. kind_of dtype ≡ O.text_kind) IsMemory }
         ensures succeeds { IsOk result }
@@ -178,7 +178,7 @@ impl<O: Offset> ByteRows for Utf8Array<O> {
     ghost slots_law = { λ a. refl };
 }
 
-// The first byte string that is not UTF-8.
+// Returns the first byte string that is not UTF-8.
 fn first_bad_text<R: ByteRows>(rows: &R) -> Option<usize>
     ensures { MatchOption result (AreTexts (R.strings rows.now)) (IsFirstOther (R.strings rows.now)) }
 {
@@ -190,7 +190,7 @@ fn first_bad_text<R: ByteRows>(rows: &R) -> Option<usize>
     None
 }
 
-// Whether bytes are UTF-8.
+// Returns whether bytes are UTF-8.
 fn is_text(bytes: &[u8]) -> bool
     ensures { IsTrue result ↔ IsUtf8 bytes.now }
 {

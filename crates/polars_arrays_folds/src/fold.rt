@@ -1,4 +1,5 @@
-//! Numbers folded by an operator: all of them, those that a mask leaves, or the present rows of an array.
+//! Folds of numbers by an operator: of all numbers, of those under a mask, or of the present rows
+//! of an array.
 
 ghost use Rattle.std.specs.Option.{option_copied};
 ghost use Rattle.std.specs.Prelude.{◌≡◌, ℕ, eqb, not, length, map, option_map};
@@ -17,23 +18,23 @@ use polars_arrays_flat::primitive::PrimitiveArray;
 use polars_arrays_numbers::native_type::NativeType;
 use std::simd::prelude::*;
 
-// How many rows go at once: those of a word.
+// Number of rows folded at once: those of one word.
 const BLOCK: usize = 64;
 
-// The byte of a word in which each row's bit stands.
+// For each row of a word, the byte that has its bit.
 const BYTES: [usize; BLOCK] = [
     0, 0, 0, 0, 0, 0, 0, 0, 1, 1, 1, 1, 1, 1, 1, 1, 2, 2, 2, 2, 2, 2, 2, 2, 3, 3, 3, 3, 3, 3, 3, 3,
     4, 4, 4, 4, 4, 4, 4, 4, 5, 5, 5, 5, 5, 5, 5, 5, 6, 6, 6, 6, 6, 6, 6, 6, 7, 7, 7, 7, 7, 7, 7, 7,
 ];
 
-// The bit of that byte.
+// For each row of a word, the mask of its bit in that byte.
 const PLACES: [u8; BLOCK] = [
     1, 2, 4, 8, 16, 32, 64, 128, 1, 2, 4, 8, 16, 32, 64, 128, 1, 2, 4, 8, 16, 32, 64, 128, 1, 2, 4,
     8, 16, 32, 64, 128, 1, 2, 4, 8, 16, 32, 64, 128, 1, 2, 4, 8, 16, 32, 64, 128, 1, 2, 4, 8, 16,
     32, 64, 128, 1, 2, 4, 8, 16, 32, 64, 128,
 ];
 
-/// All numbers folded.
+/// Folds all numbers.
 #[inline]
 pub fn fold_all<T: NativeType, O: Operator<T>>(operator: &O, numbers: &[T]) -> T
     ensures { T.value result ≡ folded O.joined (O.neutral operator.now) (number_slots T.value numbers.now) }
@@ -45,7 +46,7 @@ pub fn fold_all<T: NativeType, O: Operator<T>>(operator: &O, numbers: &[T]) -> T
     total
 }
 
-/// All numbers folded by two operators at once.
+/// Folds all numbers by two operators in one pass.
 #[inline]
 pub fn fold_all_both<T: NativeType, A: Operator<T>, B: Operator<T>>(
     first: &A,
@@ -64,7 +65,8 @@ pub fn fold_all_both<T: NativeType, A: Operator<T>, B: Operator<T>>(
     (total, other)
 }
 
-// The number where its row is present, else the other one. This becomes a choice without a branch.
+// Returns the number if its row is present, and the other one otherwise. It is compiled without a
+// branch.
 #[inline(always)]
 fn choose<T: NativeType>(present: bool, number: T, other: T) -> T
     ensures { T.value result ≡ number_or (T.value other) (kept present (Int (T.value number))) }
@@ -72,7 +74,7 @@ fn choose<T: NativeType>(present: bool, number: T, other: T) -> T
     if present { number } else { other }
 }
 
-// A flag for each row of a word: a byte, which is 0 where the row's bit is.
+// Returns a byte for each row of a word: 0 if the row's bit is 0.
 #[inline(always)]
 fn flags_of(word: u64) -> [u8; BLOCK]
     ensures { map (λ flag. not (eqb flag 0)) result ≡ first_of (is_bit word) 64 }
@@ -81,7 +83,7 @@ fn flags_of(word: u64) -> [u8; BLOCK]
     (bytes & u8x64::from_array(PLACES)).to_array()
 }
 
-// The numbers folded whose flag is not 0. Without a branch a row this becomes vectors.
+// Folds the numbers whose flag is not 0. It has no branch a row and is vectorized.
 #[inline(always)]
 fn fold_flagged<T: NativeType, O: Operator<T>>(operator: &O, numbers: &[T], flags: &[u8]) -> T
     requires { length flags.now ≡ length numbers.now }
@@ -95,8 +97,7 @@ fn fold_flagged<T: NativeType, O: Operator<T>>(operator: &O, numbers: &[T], flag
     total
 }
 
-// The numbers folded whose bit of a word is 1: all at once where no row is masked, none where all are, else by a flag for
-// each.
+// Folds the numbers whose bit of a word is 1. Words of all ones and of all zeros need no flags.
 #[inline(always)]
 fn fold_word<T: NativeType, O: Operator<T>>(operator: &O, numbers: &[T], word: u64) -> T
     requires { length numbers.now ≡ 64 }
@@ -109,7 +110,7 @@ fn fold_word<T: NativeType, O: Operator<T>>(operator: &O, numbers: &[T], word: u
     }
 }
 
-// The numbers folded whose bit is 1, row by row.
+// Folds the numbers whose bit is 1, row by row.
 #[inline(always)]
 fn fold_by_row<T: NativeType, O: Operator<T>>(operator: &O, numbers: &[T], mask: &BitMask<'_>) -> T
     requires { length mask.now ≡ length numbers.now }
@@ -123,7 +124,7 @@ fn fold_by_row<T: NativeType, O: Operator<T>>(operator: &O, numbers: &[T], mask:
     total
 }
 
-/// The numbers folded whose bit is 1, by words of 64 rows.
+/// Folds the numbers whose bit is 1, 64 rows at a time.
 pub fn fold_present<T: NativeType, O: Operator<T>>(
     operator: &O,
     numbers: &[T],
@@ -145,7 +146,7 @@ pub fn fold_present<T: NativeType, O: Operator<T>>(
     operator.join(total, last)
 }
 
-/// The numbers folded whose bit of a validity is 1, or all without a validity.
+/// Folds the numbers whose bit of the validity is 1, or all numbers without a validity.
 pub fn fold_under<T: NativeType, O: Operator<T>>(
     operator: &O,
     numbers: &[T],
@@ -160,21 +161,21 @@ pub fn fold_under<T: NativeType, O: Operator<T>>(
     }
 }
 
-/// The present rows of an array folded.
+/// Folds the present rows of an array.
 pub fn fold_rows<T: NativeType, O: Operator<T>>(operator: &O, array: &PrimitiveArray<T>) -> T
     ensures { T.value result ≡ folded O.joined (O.neutral operator.now) (number_rows T.value array.now) }
 {
     fold_under(operator, array.values(), array.validity())
 }
 
-/// The present rows of an array folded, or None without one.
+/// Folds the present rows of an array, or returns `None` if there are none.
 pub fn reduce_rows<T: NativeType, O: Operator<T>>(
     operator: &O,
     array: &PrimitiveArray<T>,
 ) -> Option<T>
     ensures { option_map T.value result ≡ folded_if_any O.joined (O.neutral operator.now) (number_rows T.value array.now) }
 {
-    // No effect at run time. The proof reads from it that the validity has a bit for each row.
+    // Has no effect at run time. The proof learns from it that the validity has a bit for each row.
     let _validity = array.validity();
     if array.null_count() == array.len() {
         return None;

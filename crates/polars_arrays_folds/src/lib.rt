@@ -1,4 +1,5 @@
-//! Folds of the present rows of a column of numbers: one loop for sums, for bits, and for extremes.
+//! Folds of the present rows of a column of numbers. Sums, bitwise folds and extremes share one
+//! loop.
 #![tactic(auto)]
 
 pub mod fold;

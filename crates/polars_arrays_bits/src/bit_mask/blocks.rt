@@ -11,7 +11,7 @@ use polars_arrays_words::folds::{Blocks, Fours, Pairs};
 use std::alloc::Global;
 
 impl BitMask<'_> {
-    // Whether the bits of each pair are both true.
+    // Returns a bit for each pair of bits: whether both are true.
     fn all_in_pairs(&self, alloc: Global, n: usize) -> Result<Bitmap, ComputeError>
         requires { 2 * n ≤ length self.now }
         ensures { MatchResult result (λ bits. bits ≡ blocks_all 2 n self.now) IsMemory }
@@ -21,7 +21,7 @@ impl BitMask<'_> {
         Bitmap::from_source(alloc, &Pairs { words, by }, n)
     }
 
-    // Whether the bits of each four are all true.
+    // Returns a bit for each four bits: whether all are true.
     fn all_in_fours(&self, alloc: Global, n: usize) -> Result<Bitmap, ComputeError>
         requires { 4 * n ≤ length self.now }
         ensures { MatchResult result (λ bits. bits ≡ blocks_all 4 n self.now) IsMemory }
@@ -31,7 +31,7 @@ impl BitMask<'_> {
         Bitmap::from_source(alloc, &Fours { words, by }, n)
     }
 
-    // Whether the bits of each eight are all true, four by four.
+    // Returns a bit for each eight bits: whether all are true. Folds by fours, then by pairs.
     fn all_in_eights(&self, alloc: Global, n: usize) -> Result<Bitmap, ComputeError>
         requires few { n < 2 ^ 63 }
         requires within { 8 * n ≤ length self.now }
@@ -42,7 +42,7 @@ impl BitMask<'_> {
         Ok(eights)
     }
 
-    // Whether the bits of each sixteen are all true, four by four.
+    // Returns a bit for each sixteen bits: whether all are true. Folds by fours twice.
     fn all_in_sixteens(&self, alloc: Global, n: usize) -> Result<Bitmap, ComputeError>
         requires few { n < 2 ^ 62 }
         requires within { 16 * n ≤ length self.now }
@@ -53,12 +53,12 @@ impl BitMask<'_> {
         Ok(sixteens)
     }
 
-    // Whether the bits of each block are all true, block by block.
+    // Returns a bit for each block: whether all its bits are true. Tests one block at a time.
     fn all_one_by_one(&self, alloc: Global, width: usize, n: usize) -> Result<Bitmap, ComputeError>
         requires { width * n ≤ length self.now }
         ensures { MatchResult result (λ bits. bits ≡ blocks_all width n self.now) IsMemory }
     {
-        // No effect at run time. The proof reads from it that places are numbers of 64 bits.
+        // Has no effect at run time. The proof learns from it that places fit in 64 bits.
         let _len = self.len();
         let words = self.words;
         let by = self.at;
@@ -74,9 +74,9 @@ impl BitMask<'_> {
         )
     }
 
-    /// Whether the bits of each block are all true: of `n` blocks of `width` bits, the first of which begins
-    /// at the first bit. Of an empty block they all are. Blocks of 2, 4, 8 and 16 bits are folded a word at
-    /// a time. The error is `Memory`.
+    /// Returns a bit for each of `n` blocks of `width` bits: whether all bits of the block are
+    /// true. The first block begins at the first bit. An empty block counts as all true. Blocks of
+    /// 2, 4, 8 and 16 bits are folded a word at a time. The error is `Memory`.
     pub fn all_in_blocks(
         &self,
         alloc: Global,
@@ -86,7 +86,7 @@ impl BitMask<'_> {
         requires { width * n ≤ length self.now }
         ensures { MatchResult result (λ bits. bits ≡ blocks_all width n self.now) IsMemory }
     {
-        // No effect at run time. The proof reads from it that places are numbers of 64 bits.
+        // Has no effect at run time. The proof learns from it that places fit in 64 bits.
         let _len = self.len();
         match width {
             2 => self.all_in_pairs(alloc, n),

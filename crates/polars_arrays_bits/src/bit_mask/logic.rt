@@ -1,4 +1,4 @@
-//! Logic on windows that are borrowed, by words.
+//! Logic on borrowed windows, a word at a time.
 
 ghost use Rattle.std.specs.Prelude.{◌≡◌, Bool, not, ◌&&◌, ◌||◌, length, map, MatchResult};
 ghost use Rattle.std.specs.Simd.Lanes.{zip2};
@@ -16,7 +16,7 @@ use polars_arrays_words::source::{Aligned, BitSource, Shifted};
 use std::alloc::Global;
 
 impl BitMask<'_> {
-    // The operator at each bit of two windows.
+    // Applies an operator to each pair of bits of two windows.
     fn zip<O: BinaryOperator>(
         &self,
         alloc: Global,
@@ -34,7 +34,7 @@ impl BitMask<'_> {
         other.zip_last(alloc, operator, Shifted { words, by })
     }
 
-    // The operator at each bit of a source and of this window.
+    // Applies an operator to each bit of a source and the bit of this window.
     fn zip_last<O: BinaryOperator, A: BitSource + Drop>(
         &self,
         alloc: Global,
@@ -63,7 +63,7 @@ impl BitMask<'_> {
         Bitmap::from_source(alloc, &source, self.len)
     }
 
-    /// Where both bits are true. The error is `Memory`.
+    /// Returns the AND of each pair of bits. The error is `Memory`.
     pub fn and(&self, alloc: Global, other: &BitMask<'_>) -> Result<Bitmap, ComputeError>
         requires { length other.now ≡ length self.now }
         ensures { MatchResult result (λ bits. bits ≡ zip2 ◌&&◌ self.now other.now) IsMemory }
@@ -71,7 +71,7 @@ impl BitMask<'_> {
         self.zip(alloc, other, And)
     }
 
-    /// Where one of the two bits is true, or both are. The error is `Memory`.
+    /// Returns the OR of each pair of bits. The error is `Memory`.
     pub fn or(&self, alloc: Global, other: &BitMask<'_>) -> Result<Bitmap, ComputeError>
         requires { length other.now ≡ length self.now }
         ensures { MatchResult result (λ bits. bits ≡ zip2 ◌||◌ self.now other.now) IsMemory }
@@ -79,7 +79,7 @@ impl BitMask<'_> {
         self.zip(alloc, other, Or)
     }
 
-    /// Where exactly one of the two bits is true. The error is `Memory`.
+    /// Returns the exclusive OR of each pair of bits. The error is `Memory`.
     pub fn xor(&self, alloc: Global, other: &BitMask<'_>) -> Result<Bitmap, ComputeError>
         requires { length other.now ≡ length self.now }
         ensures { MatchResult result (λ bits. bits ≡ zip2 xor self.now other.now) IsMemory }
@@ -87,7 +87,7 @@ impl BitMask<'_> {
         self.zip(alloc, other, Xor)
     }
 
-    /// Where the two bits are the same. The error is `Memory`.
+    /// Returns whether the bits of each pair are equal. The error is `Memory`.
     pub fn xnor(&self, alloc: Global, other: &BitMask<'_>) -> Result<Bitmap, ComputeError>
         requires { length other.now ≡ length self.now }
         ensures { MatchResult result (λ bits. bits ≡ zip2 xnor self.now other.now) IsMemory }
@@ -95,7 +95,7 @@ impl BitMask<'_> {
         self.zip(alloc, other, Xnor)
     }
 
-    /// Where the bit is true and the other one is false. The error is `Memory`.
+    /// Returns `self & !other` for each pair of bits. The error is `Memory`.
     pub fn and_not(&self, alloc: Global, other: &BitMask<'_>) -> Result<Bitmap, ComputeError>
         requires { length other.now ≡ length self.now }
         ensures { MatchResult result (λ bits. bits ≡ zip2 and_not self.now other.now) IsMemory }
@@ -103,7 +103,7 @@ impl BitMask<'_> {
         self.zip(alloc, other, AndNot)
     }
 
-    /// Where the bit is true, or the other one is false. The error is `Memory`.
+    /// Returns `self | !other` for each pair of bits. The error is `Memory`.
     pub fn or_not(&self, alloc: Global, other: &BitMask<'_>) -> Result<Bitmap, ComputeError>
         requires { length other.now ≡ length self.now }
         ensures { MatchResult result (λ bits. bits ≡ zip2 or_not self.now other.now) IsMemory }
@@ -111,7 +111,7 @@ impl BitMask<'_> {
         self.zip(alloc, other, OrNot)
     }
 
-    /// Where the bit is false. The error is `Memory`.
+    /// Returns the negation of each bit. The error is `Memory`.
     pub fn not(&self, alloc: Global) -> Result<Bitmap, ComputeError>
         ensures { MatchResult result (λ bits. bits ≡ map not self.now) IsMemory }
     {
@@ -126,7 +126,7 @@ impl BitMask<'_> {
         Bitmap::from_source(alloc, &Mapped { operator, source }, self.len)
     }
 
-    /// A bitmap of the same bits, in words of its own. The error is `Memory`.
+    /// Copies the bits into a bitmap that owns its words. The error is `Memory`.
     pub fn to_bitmap(&self, alloc: Global) -> Result<Bitmap, ComputeError>
         ensures { MatchResult result (λ bits. bits ≡ self.now) IsMemory }
     {

@@ -1,4 +1,4 @@
-//! Equality and inequality of rows that may be null, on windows that are borrowed, by words.
+//! Equality and inequality of rows that may be null, on borrowed windows, a word at a time.
 
 ghost use Rattle.std.specs.Prelude.{◌≡◌, Bool, length, MatchResult};
 ghost use Rattle.polars_arrays_words.specs.Bits.{first_of, zip3};
@@ -14,7 +14,7 @@ use polars_arrays_words::source::{Aligned, BitSource, Placed, Shifted};
 use std::alloc::Global;
 
 impl BitMask<'_> {
-    // The operator at each bit of three windows.
+    // Applies an operator to each triple of bits of three windows.
     fn merge<O: TernaryOperator>(
         &self,
         alloc: Global,
@@ -34,7 +34,7 @@ impl BitMask<'_> {
         left.merge_last_two(alloc, operator, Shifted { words, by }, right)
     }
 
-    // The operator at each bit of a source, of this window and of another one.
+    // Applies an operator to each bit of a source, of this window and of another one.
     fn merge_last_two<O: TernaryOperator, A: BitSource + Drop>(
         &self,
         alloc: Global,
@@ -53,7 +53,7 @@ impl BitMask<'_> {
         third.merge_last(alloc, operator, first, Shifted { words, by })
     }
 
-    // The operator at each bit of two sources and of this window.
+    // Applies an operator to each bit of two sources and of this window.
     fn merge_last<O: TernaryOperator, A: BitSource + Drop, B: BitSource + Drop>(
         &self,
         alloc: Global,
@@ -86,8 +86,8 @@ impl BitMask<'_> {
         Bitmap::from_source(alloc, &source, self.len)
     }
 
-    // The operator at each bit of a source, of this window and of another one. One loop serves for windows at any
-    // places in words.
+    // Applies an operator to each bit of a source, of this window and of another one. One loop
+    // serves windows that begin at any bit of a word.
     fn merge_placed<O: TernaryOperator, A: BitSource + Drop>(
         &self,
         alloc: Global,
@@ -115,9 +115,9 @@ impl BitMask<'_> {
         Bitmap::from_source(alloc, &source, self.len)
     }
 
-    /// Where two rows are equal, null being equal to null alone: `(q & l & r) | !(l | r)`, where `q` says
-    /// which rows' values are equal, and `l` and `r` which rows are present on each side. The error is
-    /// `Memory`.
+    /// Returns for each row whether the two sides are equal, null being equal to null alone:
+    /// `(q & l & r) | !(l | r)`. `q` has the rows with equal values; `l` and `r` have the present
+    /// rows of each side. The error is `Memory`.
     pub fn merge_eq(
         alloc: Global,
         q: &BitMask<'_>,
@@ -131,9 +131,9 @@ impl BitMask<'_> {
         q.merge(alloc, l, r, MergeEq)
     }
 
-    /// Where two rows are unequal, null being equal to null alone: `(q & l & r) | (l ^ r)`, where `q` says
-    /// which rows' values are unequal, and `l` and `r` which rows are present on each side. The error is
-    /// `Memory`.
+    /// Returns for each row whether the two sides differ, null being equal to null alone:
+    /// `(q & l & r) | (l ^ r)`. `q` has the rows with unequal values; `l` and `r` have the present
+    /// rows of each side. The error is `Memory`.
     pub fn merge_ne(
         alloc: Global,
         q: &BitMask<'_>,
@@ -147,8 +147,9 @@ impl BitMask<'_> {
         q.merge(alloc, l, r, MergeNe)
     }
 
-    /// The same as `merge_eq` where truth values say which rows' values are equal: they are joined as they are
-    /// packed, and no bits of their own are made. The error is `Memory`.
+    /// Returns what `merge_eq` does, with equality of the values given as truth values. They are
+    /// joined with the masks while they are packed, without a bitmap of their own. The error is
+    /// `Memory`.
     pub fn merge_eq_values<V: TruthValues>(
         alloc: Global,
         q: &V,
@@ -162,7 +163,8 @@ impl BitMask<'_> {
         l.merge_placed(alloc, MergeEq, Packed { values: q }, r)
     }
 
-    /// The same as `merge_ne` where truth values say which rows' values are unequal. The error is `Memory`.
+    /// Returns what `merge_ne` does, with inequality of the values given as truth values. The error
+    /// is `Memory`.
     pub fn merge_ne_values<V: TruthValues>(
         alloc: Global,
         q: &V,

@@ -1,4 +1,4 @@
-//! How many bits are set.
+//! Counts of bits.
 
 ghost use Rattle.std.specs.Prelude.{◌≡◌, Bool, not, ◌&&◌, length, count_by};
 ghost use Rattle.std.specs.Simd.Lanes.{zip2};
@@ -9,21 +9,21 @@ use polars_arrays_words::operators::{And, Zipped};
 use polars_arrays_words::source::{Aligned, BitSource, Shifted, count_bits, count_window};
 
 impl Bitmap {
-    /// How many bits are true.
+    /// Returns the number of true bits.
     pub fn set_bits(&self) -> usize
         ensures { result ≡ count_by (λ b. b) self.now }
     {
         count_window(self.words.as_slice(), self.at, self.len)
     }
 
-    /// How many bits are false.
+    /// Returns the number of false bits.
     pub fn unset_bits(&self) -> usize
         ensures { result ≡ count_by not self.now }
     {
         self.len() - self.set_bits()
     }
 
-    /// How many bits are true in both bitmaps.
+    /// Returns the number of places where both bitmaps are true.
     pub fn num_intersections_with(&self, other: &Bitmap) -> usize
         requires { length other.now ≡ length self.now }
         ensures { result ≡ count_by (λ b. b) (zip2 ◌&&◌ self.now other.now) }
@@ -36,7 +36,7 @@ impl Bitmap {
         other.count_both(Shifted { words, by })
     }
 
-    // How many bits are true both in a source and in this bitmap.
+    // Counts the places where both a source and this bitmap are true.
     fn count_both<A: BitSource + Drop>(&self, left: A) -> usize
         ensures { result ≡ count_by (λ b. b) (zip2 ◌&&◌ (first_of (A.bit left) (length self.now)) self.now) }
     {

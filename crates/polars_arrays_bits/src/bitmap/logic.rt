@@ -1,4 +1,4 @@
-//! Logic on whole bitmaps, by words.
+//! Logic on whole bitmaps, a word at a time.
 
 ghost use Rattle.std.specs.Prelude.{◌≡◌, Bool, not, ◌&&◌, ◌||◌, length, map, MatchResult};
 ghost use Rattle.std.specs.Simd.Lanes.{zip2};
@@ -12,7 +12,7 @@ use crate::error::ComputeError;
 use std::alloc::Global;
 
 impl Bitmap {
-    /// Where both bits are true. The error is `Memory`.
+    /// Returns the AND of each pair of bits. The error is `Memory`.
     pub fn and(&self, alloc: Global, other: &Bitmap) -> Result<Bitmap, ComputeError>
         requires { length other.now ≡ length self.now }
         ensures { MatchResult result (λ bits. bits ≡ zip2 ◌&&◌ self.now other.now) IsMemory }
@@ -20,7 +20,7 @@ impl Bitmap {
         BitMask::from_bitmap(self).and(alloc, &BitMask::from_bitmap(other))
     }
 
-    /// Where one of the two bits is true, or both are. The error is `Memory`.
+    /// Returns the OR of each pair of bits. The error is `Memory`.
     pub fn or(&self, alloc: Global, other: &Bitmap) -> Result<Bitmap, ComputeError>
         requires { length other.now ≡ length self.now }
         ensures { MatchResult result (λ bits. bits ≡ zip2 ◌||◌ self.now other.now) IsMemory }
@@ -28,7 +28,7 @@ impl Bitmap {
         BitMask::from_bitmap(self).or(alloc, &BitMask::from_bitmap(other))
     }
 
-    /// Where exactly one of the two bits is true. The error is `Memory`.
+    /// Returns the exclusive OR of each pair of bits. The error is `Memory`.
     pub fn xor(&self, alloc: Global, other: &Bitmap) -> Result<Bitmap, ComputeError>
         requires { length other.now ≡ length self.now }
         ensures { MatchResult result (λ bits. bits ≡ zip2 xor self.now other.now) IsMemory }
@@ -36,7 +36,7 @@ impl Bitmap {
         BitMask::from_bitmap(self).xor(alloc, &BitMask::from_bitmap(other))
     }
 
-    /// Where the two bits are the same. The error is `Memory`.
+    /// Returns whether the bits of each pair are equal. The error is `Memory`.
     pub fn xnor(&self, alloc: Global, other: &Bitmap) -> Result<Bitmap, ComputeError>
         requires { length other.now ≡ length self.now }
         ensures { MatchResult result (λ bits. bits ≡ zip2 xnor self.now other.now) IsMemory }
@@ -44,7 +44,7 @@ impl Bitmap {
         BitMask::from_bitmap(self).xnor(alloc, &BitMask::from_bitmap(other))
     }
 
-    /// Where the bit is true and the other one is false. The error is `Memory`.
+    /// Returns `self & !other` for each pair of bits. The error is `Memory`.
     pub fn and_not(&self, alloc: Global, other: &Bitmap) -> Result<Bitmap, ComputeError>
         requires { length other.now ≡ length self.now }
         ensures { MatchResult result (λ bits. bits ≡ zip2 and_not self.now other.now) IsMemory }
@@ -52,7 +52,7 @@ impl Bitmap {
         BitMask::from_bitmap(self).and_not(alloc, &BitMask::from_bitmap(other))
     }
 
-    /// Where the bit is true, or the other one is false. The error is `Memory`.
+    /// Returns `self | !other` for each pair of bits. The error is `Memory`.
     pub fn or_not(&self, alloc: Global, other: &Bitmap) -> Result<Bitmap, ComputeError>
         requires { length other.now ≡ length self.now }
         ensures { MatchResult result (λ bits. bits ≡ zip2 or_not self.now other.now) IsMemory }
@@ -60,16 +60,16 @@ impl Bitmap {
         BitMask::from_bitmap(self).or_not(alloc, &BitMask::from_bitmap(other))
     }
 
-    /// Where the bit is false. The error is `Memory`.
+    /// Returns the negation of each bit. The error is `Memory`.
     pub fn not(&self, alloc: Global) -> Result<Bitmap, ComputeError>
         ensures { MatchResult result (λ bits. bits ≡ map not self.now) IsMemory }
     {
         BitMask::from_bitmap(self).not(alloc)
     }
 
-    /// Where two rows are equal, null being equal to null alone: `(q & l & r) | !(l | r)`, where `q` says
-    /// which rows' values are equal, and `l` and `r` which rows are present on each side. The error is
-    /// `Memory`.
+    /// Returns for each row whether the two sides are equal, null being equal to null alone:
+    /// `(q & l & r) | !(l | r)`. `q` has the rows with equal values; `l` and `r` have the present
+    /// rows of each side. The error is `Memory`.
     pub fn merge_eq(
         alloc: Global,
         q: &Bitmap,
@@ -88,9 +88,9 @@ impl Bitmap {
         )
     }
 
-    /// Where two rows are unequal, null being equal to null alone: `(q & l & r) | (l ^ r)`, where `q` says
-    /// which rows' values are unequal, and `l` and `r` which rows are present on each side. The error is
-    /// `Memory`.
+    /// Returns for each row whether the two sides differ, null being equal to null alone:
+    /// `(q & l & r) | (l ^ r)`. `q` has the rows with unequal values; `l` and `r` have the present
+    /// rows of each side. The error is `Memory`.
     pub fn merge_ne(
         alloc: Global,
         q: &Bitmap,
