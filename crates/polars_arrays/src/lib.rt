@@ -1,9 +1,9 @@
-//! Arrays of columns, under one roof. The number types, the comparisons of two numbers and the counter are
-//! those of `polars_arrays_numbers`; packed bits, buffers and errors those of `polars_arrays_bits`; the
-//! arrays of numbers and of truth values and all types those of `polars_arrays_flat`; byte strings and texts
-//! those of `polars_arrays_bytes` and, by views, of `polars_arrays_views`; arrays that hold arrays those of
-//! `polars_arrays_nested`. A caller lists this crate alone, and writes
-//! `polars_arrays::primitive::PrimitiveArray` for a name of any of these.
+//! Arrays of columns, re-exported by one crate: the number types, their comparisons and the counter
+//! of `polars_arrays_numbers`; packed bits, buffers and errors of `polars_arrays_bits`; arrays of
+//! numbers and of truth values, and types, of `polars_arrays_flat`; byte strings and texts of
+//! `polars_arrays_bytes` and, as views, of `polars_arrays_views`; and nested arrays of
+//! `polars_arrays_nested`. A caller depends on this crate alone, and writes
+//! `polars_arrays::primitive::PrimitiveArray` for a name of any of them.
 #![tactic(auto)]
 
 pub use polars_arrays_bits::{

@@ -8,11 +8,11 @@ use Rattle.std.specs.Ordering.{nat_cmp, is_lt}
 abbrev pub AreBytes : List ℕ → Type 0
 AreBytes xs = (k : ℕ) → get_or xs k 0 < 256
 
--- the first byte string is less: at the first place where the two differ, or as a proper beginning
+-- the first byte string is less: at the first place where they differ, or as a proper prefix
 abbrev pub bytes_lt : List ℕ → List ℕ → Bool
 bytes_lt xs ys = is_lt (slice_cmp nat_cmp xs ys)
 
--- the number of the first, the middle and the last of n bytes, the first being the greatest, or 0 where n is 0
+-- the number of the first, the middle and the last of n bytes, most significant first; 0 if n is 0
 abbrev pub few_number : ℕ → List ℕ → ℕ
 few_number zero xs = 0
 few_number (suc n) xs =

@@ -1,4 +1,4 @@
--- How byte strings compare by their parts, and by the numbers that their bytes spell.
+-- Comparison of byte strings by their parts, and by the big-endian numbers of their bytes.
 use Rattle.std.proofs.Common.{◌≡◌, ◌≤◌, ◌<◌, ◌+◌, ◌*◌, ℕ, zero, suc, List, [], ◌∷◌, length, take, drop, min, refl, sym, subst, ap, ◌∙◌, arith}
 use Rattle.std.specs.Int.{w32, w64, from_be_bytes}
 use Rattle.std.specs.Cmp.Lexicographic.{slice_cmp}
@@ -19,7 +19,7 @@ greater_from x y h = grind (arith, nat_tests)
 pub equal_from : (x y : ℕ) → x ≡ y → nat_cmp x y ≡ Equal
 equal_from x y h = grind (arith, nat_tests)
 
--- two numbers compare as those after them
+-- two numbers compare as their successors do
 pub cmp_suc : (m n : ℕ) → nat_cmp m n ≡ nat_cmp (suc m) (suc n)
 cmp_suc m n =
     by_ranked _ _ _ (nat_cmp m n) (ranked m n _ refl)
@@ -27,8 +27,7 @@ cmp_suc m n =
     (λ e p. e ∙ sym (equal_from (suc m) (suc n) (omega arith)))
     (λ e p. e ∙ sym (greater_from (suc m) (suc n) (omega arith)))
 
--- ---- parts
--- the first m elements decide, or else what stands from an earlier place on
+-- the first m elements decide, or else the elements from an earlier place on
 pub overlap : (m k : ℕ) (xs ys : List ℕ) → k ≤ m → slice_cmp nat_cmp xs ys ≡ ordering_then (slice_cmp nat_cmp (take m xs) (take m ys)) (slice_cmp nat_cmp (drop k xs) (drop k ys))
 overlap zero zero xs ys within = refl
 overlap zero (suc k) xs ys within = absurd (omega arith)
@@ -49,7 +48,7 @@ overlap (suc m) (suc k) (x ∷ xs) (y ∷ ys) within =
     (λ e p. rw e (overlap m k xs ys (omega arith)))
     (λ e p. rw e refl)
 
--- the elements that both have decide, or else the lengths
+-- the common elements decide, or else the lengths
 pub by_length : (n : ℕ) (xs ys : List ℕ) → n ≡ min (length xs) (length ys) → slice_cmp nat_cmp xs ys ≡ ordering_then (slice_cmp nat_cmp (take n xs) (take n ys)) (nat_cmp (length xs) (length ys))
 by_length zero [] [] e = refl
 by_length zero [] (y ∷ ys) e = sym (less_from 0 (suc (length ys)) (omega arith))
@@ -63,8 +62,7 @@ by_length (suc n) (x ∷ xs) (y ∷ ys) e =
     (λ f p. rw f (by_length n xs ys (omega arith) ∙ ap (ordering_then (slice_cmp nat_cmp (take n xs) (take n ys))) (cmp_suc (length xs) (length ys))))
     (λ f p. rw f refl)
 
--- ---- numbers
--- a greater digit outweighs what is behind it
+-- a greater digit outweighs all digits after it
 pub digit_step : (k a b r s : ℕ) → r < k → s < k → nat_cmp (a * k + r) (b * k + s) ≡ ordering_then (nat_cmp a b) (nat_cmp r s)
 digit_step k a b r s h g =
     by_ranked _ _ _ (nat_cmp a b) (ranked a b _ refl)
@@ -76,12 +74,12 @@ digit_step k a b r s h g =
     (λ f q. rw f (greater_from (b * k + r) (b * k + s) (omega arith))))))
     (λ e p. rw e (greater_from (a * k + r) (b * k + s) (omega (arith, row_fits b k a k p (omega arith)))))
 
--- what a byte before these bytes is worth
+-- the weight of a byte before these bytes
 abbrev worth : List ℕ → ℕ
 worth [] = 1
 worth (x ∷ xs) = 256 * worth xs
 
--- the number that bytes spell, the first being the greatest
+-- the big-endian number of bytes
 abbrev number : List ℕ → ℕ
 number [] = 0
 number (x ∷ xs) = x * worth xs + number xs
@@ -124,11 +122,11 @@ spell_eight : (xs : List ℕ) → length xs ≡ 8 → from_be_bytes w64 xs ≡ n
 spell_eight (a ∷ b ∷ c ∷ d ∷ e ∷ f ∷ g ∷ h ∷ []) size = eight_spell a b c d e f g h
 spell_eight xs size = absurd (omega arith)
 
--- four bytes compare as the numbers that they spell
+-- four bytes compare as their big-endian numbers
 pub four_decide : (xs ys : List ℕ) → length xs ≡ 4 → length ys ≡ 4 → AreBytes xs → AreBytes ys → nat_cmp (from_be_bytes w32 xs) (from_be_bytes w32 ys) ≡ slice_cmp nat_cmp xs ys
 four_decide xs ys p q x y = rw (spell_four xs p, spell_four ys q) (number_decides xs ys (p ∙ sym q) x y)
 
--- and eight
+-- eight bytes compare as their big-endian numbers
 pub eight_decide : (xs ys : List ℕ) → length xs ≡ 8 → length ys ≡ 8 → AreBytes xs → AreBytes ys → nat_cmp (from_be_bytes w64 xs) (from_be_bytes w64 ys) ≡ slice_cmp nat_cmp xs ys
 eight_decide xs ys p q x y = rw (spell_eight xs p, spell_eight ys q) (number_decides xs ys (p ∙ sym q) x y)
 

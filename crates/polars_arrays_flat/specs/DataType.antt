@@ -1,4 +1,4 @@
--- The kind that a type of the program stands for.
+-- The kind of a type of the program.
 use Rattle.std.specs.Prelude.{◌≡◌, List, [], ◌∷◌, string_bytes}
 use Rattle.polars_arrays_flat.specs.Kind.{Kind, NullKind, BooleanKind, Int8Kind, Int16Kind, Int32Kind, Int64Kind, Int128Kind, UInt8Kind, UInt16Kind, UInt32Kind, UInt64Kind, UInt128Kind, BinaryKind, LargeBinaryKind, Utf8Kind, LargeUtf8Kind, BinaryViewKind, Utf8ViewKind, FixedSizeBinaryKind, ListKind, LargeListKind, FixedSizeListKind, StructKind, DictionaryKind, NamedKinds, no_kinds, more_kinds}
 use Rattle.polars_arrays_flat.specs.declared.data_type.IntegerType.{IntegerType}
@@ -55,7 +55,7 @@ abbrev pub kinds_of : List Field → NamedKinds
 kinds_of [] = no_kinds
 kinds_of (field ∷ rest) = more_kinds (string_bytes field.name) (kind_of field.dtype) (kinds_of rest)
 
--- one name, byte for byte, and one kind
+-- equal names, byte for byte, and equal kinds
 pub record IsSameField (f g : Field) : Type 0 where
   pub name : string_bytes f.name ≡ string_bytes g.name
   pub kind : kind_of f.dtype ≡ kind_of g.dtype

@@ -2,7 +2,8 @@
 use Rattle.std.specs.Prelude.{ℕ, List}
 
 mutual
-  -- one kind for each name of the Arrow format; a fixed size has its bytes, a fixed list its items a row, and a dictionary the kind of its keys
+  -- a kind for each type of the Arrow format, with sizes, item kinds, and the kinds of keys and
+  -- entries
   pub data Kind : Type 0 where
     NullKind : Kind
     BooleanKind : Kind
@@ -29,7 +30,7 @@ mutual
     StructKind : NamedKinds → Kind
     DictionaryKind : Kind → Kind → Kind
 
-  -- kinds in order, each under a name of UTF-8 bytes
+  -- a list of kinds, each under a name of UTF-8 bytes
   pub data NamedKinds : Type 0 where
     no_kinds : NamedKinds
     more_kinds : List ℕ → Kind → NamedKinds → NamedKinds

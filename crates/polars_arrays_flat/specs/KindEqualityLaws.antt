@@ -1,4 +1,4 @@
--- The test of two kinds is equality, and so `==` of types and of fields keeps the laws of its trait.
+-- The test of two kinds is equality, so `==` of types and of fields keeps the laws of its trait.
 use Rattle.std.specs.Prelude.{◌≡◌, ◌↔◌, ℕ, List, Bool, true, false, ◌&&◌, IsTrue, nat_eq, string_bytes, refl}
 use Rattle.std.proofs.Common.{ap, sym}
 use Rattle.std.proofs.lemmas.Bool.{and_from, and_parts, eqb-true, eq-eqb}
@@ -18,7 +18,7 @@ bytes_eq-refl a = (bytes_eq-Decides a a).1 refl
 bytes_eq-same : (a b : List ℕ) → bytes_eq a b ≡ true → a ≡ b
 bytes_eq-same a b h = (bytes_eq-Decides a b).0 h
 
--- a kind passes the test against itself
+-- the test is true of a kind and itself
 mutual
   kind_eq-refl : (k : Kind) → kind_eq k k ≡ true
   kind_eq-refl NullKind = refl
@@ -51,7 +51,7 @@ mutual
   named_eq-refl (more_kinds a k ks) =
       and_from _ _ (bytes_eq-refl a) (and_from _ _ (kind_eq-refl k) (named_eq-refl ks))
 
--- kinds that pass the test are one
+-- kinds for which the test is true are equal
 mutual
   kind_eq-same : (j k : Kind) → kind_eq j k ≡ true → j ≡ k
   kind_eq-same NullKind NullKind h = refl
@@ -104,7 +104,7 @@ mutual
 kind_eq-is : (j k : Kind) → IsTrue (kind_eq j k) ↔ (j ≡ k)
 kind_eq-is j k = (kind_eq-same j k, λ e. rw e (kind_eq-refl k))
 
--- two tests of one fact agree
+-- two tests of one proposition agree
 tests_agree : (b c : Bool) (P : Type 0) → IsTrue b ↔ P → IsTrue c ↔ P → b ≡ c
 tests_agree true true P h i = refl
 tests_agree true false P h i = sym (i.1 (h.0 refl))
@@ -121,20 +121,20 @@ kind_eq-equiv = record {
 bytes_eq-equiv : IsEquivalence bytes_eq
 bytes_eq-equiv = nat_list_eq_equiv
 
--- what `==` of types owes to its trait
+-- the laws that its trait requires of `==` of types
 pub dtype_eq-laws : IsPartialEquivalence dtype_eq
 dtype_eq-laws = partial_equiv_from_equiv (on_equiv kind_of kind_eq-equiv)
 
--- what `==` of fields owes to its trait
+-- the laws that its trait requires of `==` of fields
 pub field_eq-laws : IsPartialEquivalence field_eq
 field_eq-laws =
     partial_equiv_from_equiv (and_equiv (on_equiv (λ f. string_bytes f.name) bytes_eq-equiv) (on_equiv (λ f. kind_of f.dtype) kind_eq-equiv))
 
--- `==` of types is true exactly of types of one kind
+-- `==` of types is true exactly of types of equal kinds
 pub dtype_eq-is : (d e : ArrowDataType) → IsTrue (dtype_eq d e) ↔ (kind_of d ≡ kind_of e)
 dtype_eq-is d e = kind_eq-is (kind_of d) (kind_of e)
 
--- `==` of fields is true exactly of fields of one name and one kind
+-- `==` of fields is true exactly of fields with equal names and kinds
 pub field_eq-is : (f g : Field) → IsTrue (field_eq f g) ↔ IsSameField f g
 field_eq-is f g = (
   λ t.
@@ -143,10 +143,10 @@ field_eq-is f g = (
   λ same. and_from _ _ ((bytes_eq-Decides _ _).1 same.name) ((kind_eq-is _ _).1 same.kind),
 )
 
--- so a test of whether two types are of one kind answers what `==` does
+-- a test of whether two types are of equal kinds returns what `==` does
 pub dtype_eq-tells : (b : Bool) (d e : ArrowDataType) → IsTrue b ↔ (kind_of d ≡ kind_of e) → b ≡ dtype_eq d e
 dtype_eq-tells b d e h = tests_agree b (dtype_eq d e) _ h (dtype_eq-is d e)
 
--- and a test of whether two fields are of one name and one kind
+-- a test of whether two fields have equal names and kinds returns what `==` does
 pub field_eq-tells : (b : Bool) (f g : Field) → IsTrue b ↔ IsSameField f g → b ≡ field_eq f g
 field_eq-tells b f g h = tests_agree b (field_eq f g) _ h (field_eq-is f g)

@@ -1,19 +1,20 @@
--- What an array of numbers ends as, once its stored values were lent to be written.
+-- The value of an array of numbers after its stored values were lent for writing.
 use Rattle.std.specs.Prelude.{List, length, Option}
 use Rattle.std.specs.Borrow.{Fml, RattleType, MutBor, Array, Lends, LendsIf}
 use Rattle.std.specs.List.{refill}
 use Rattle.polars_arrays_flat.specs.Numbers.{Numbers}
 use Rattle.polars_arrays_flat.specs.contracts.primitive.PrimitiveArray.{the_row}
 
--- a with ws as its stored values, as many as a has
+-- a with ws as its stored values, padded or cut to a's length
 abbrev pub with_values : {A : Type 0} → Numbers A → List A → Numbers A
 with_values a ws = record a { values = refill (length a.values) a.values ws }
 
 module _ (T : RattleType) (a : MutBor (Numbers T.Denot)) where
-  -- the stored values are the last ones written through r
+  -- the stored values are those last written through r
   abbrev pub lends_values : MutBor (List T.Denot) → Fml
   lends_values r = Lends (the_row T) (Array T 0) a r (with_values a.now)
 
-  -- the same where r is a reference, and at `None` the array stays as it is
+  -- the stored values are those last written through r, if r is a reference; at `None` the array is
+  -- unchanged
   abbrev pub lends_values_if : Option (MutBor (List T.Denot)) → Fml
   lends_values_if r = LendsIf (the_row T) (Array T 0) a r (with_values a.now) a.now

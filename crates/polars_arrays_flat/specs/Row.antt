@@ -1,4 +1,4 @@
--- What an array holds at one place, whatever way it is kept: a tree.
+-- The value of an array at one place, as a tree.
 use Rattle.std.specs.Prelude.{ℕ, ℤ, Bool, List, [], ◌∷◌}
 
 mutual
@@ -12,12 +12,12 @@ mutual
     Fields : RowList → Row
     Entry : Row → Row
 
-  -- rows in order
+  -- a list of rows
   pub data RowList : Type 0 where
     no_rows : RowList
     more_rows : Row → RowList → RowList
 
--- a list of rows, as a row holds it
+-- a list of rows as a row holds it
 abbrev pub row_list : List Row → RowList
 row_list [] = no_rows
 row_list (row ∷ rows) = more_rows row (row_list rows)

@@ -1,4 +1,4 @@
--- The rows of an array, from what is stored and what is masked.
+-- The rows of an array, made of its stored rows and its mask.
 use Rattle.std.specs.Prelude.{◌≡◌, ◌<◌, ℕ, ℤ, Bool, true, false, List, [], ◌∷◌, Option, Some, None, length, map, slice_index_or}
 use Rattle.polars_arrays_flat.specs.Row.{Row, Null, Int, Truth, Bytes}
 
@@ -6,35 +6,35 @@ use Rattle.polars_arrays_flat.specs.Row.{Row, Null, Int, Truth, Bytes}
 abbrev pub row : List Row → ℕ → Row
 row rows i = slice_index_or rows i Null
 
--- a row where it is present, else Null
+-- a row if it is present, else Null
 abbrev pub kept : Bool → Row → Row
 kept true row = row
 kept false row = Null
 
--- stored rows, with Null where the bit is 0
+-- stored rows, with Null in place of those whose bit is 0
 abbrev pub masked : List Bool → List Row → List Row
 masked [] rows = []
 masked (bit ∷ bits) [] = []
 masked (bit ∷ bits) (row ∷ rows) = kept bit row ∷ masked bits rows
 
--- the rows that stored rows are under a validity
+-- the rows of stored rows under a validity
 abbrev pub rows_under : Option (List Bool) → List Row → List Row
 rows_under None rows = rows
 rows_under (Some bits) rows = masked bits rows
 
--- the rows that stored numbers are, where `value` gives their whole numbers
+-- stored numbers as rows; `value` gives their whole numbers
 abbrev pub number_slots : {A : Type 0} → (A → ℤ) → List A → List Row
 number_slots value xs = map (λ x. Int (value x)) xs
 
--- the rows that stored truth values are
+-- stored truth values as rows
 abbrev pub truth_slots : List Bool → List Row
 truth_slots bits = map Truth bits
 
--- the rows that stored byte strings are; a text is its UTF-8
+-- stored byte strings as rows; a text is its UTF-8
 abbrev pub byte_slots : List (List ℕ) → List Row
 byte_slots strings = map Bytes strings
 
--- where a row is stored as Null neither of two arrays has a validity, and they are of one type
+-- if a row is stored as Null, neither of two arrays has a validity, and they are of one type
 abbrev pub NullSlots : List Row → Option (List Bool) → Option (List Bool) → Type 0 → ℕ → Type 0
 NullSlots slots left right one_type i =
     i < length slots → row slots i ≡ Null → (left ≡ None) × (right ≡ None) × one_type

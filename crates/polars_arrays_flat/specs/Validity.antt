@@ -1,21 +1,22 @@
--- Which rows are present: a bit for each row, 1 where it is (the Arrow layout), or no bits where all are.
+-- The present rows: a bit for each row, 1 if it is present (the Arrow layout), or no bits if all
+-- rows are.
 use Rattle.std.specs.Prelude.{◌≡◌, ℕ, Bool, true, false, not, List, Option, Some, None, IfSome, length, take, drop, count_by, slice_index_or, option_map}
 
--- whether row i is present; where it is not, the row is masked
+-- whether row i is present; a row that is not is masked
 abbrev pub is_present : Option (List Bool) → ℕ → Bool
 is_present None i = true
 is_present (Some bits) i = slice_index_or bits i false
 
--- a validity that is there has a bit for each of n rows
+-- a validity, if there is one, has a bit for each of n rows
 abbrev pub HasBits : ℕ → Option (List Bool) → Type 0
 HasBits n validity = IfSome validity (λ bits. length bits ≡ n)
 
--- how many rows are masked
+-- the number of masked rows
 abbrev pub masked_count : Option (List Bool) → ℕ
 masked_count None = 0
 masked_count (Some bits) = count_by not bits
 
--- n elements from place `at` on
+-- the n elements from place `at` on
 abbrev pub window : {A : Type 0} → ℕ → ℕ → List A → List A
 window at n xs = take n (drop at xs)
 

@@ -1,4 +1,4 @@
-//! What every array has.
+//! The trait of all arrays.
 
 ghost use Rattle.std.specs.Prelude.{◌≡◌, ℕ, List, Bool, Option, MatchResult, length};
 ghost use Rattle.std.specs.Option.{option_copied};
@@ -13,58 +13,59 @@ use polars_arrays_bits::bitmap::Bitmap;
 use polars_arrays_bits::error::ComputeError;
 use std::alloc::Global;
 
-/// Rows that are stored, of which a mask hides some. The rows of an array are its stored ones, with Null in
-/// place of those that are masked.
+/// An array: stored rows and a mask. The rows of an array are its stored rows, with Null in place
+/// of those that are masked.
 ///
-/// The validity is what an array keeps, bit by bit. The mask says which rows are null, and a kernel asks nothing else for it.
+/// The validity is what an array stores, bit by bit. The mask says which rows are null, and kernels
+/// use the mask alone.
 pub trait Array {
-    // The rows as they are stored, whatever the validity says.
+    // Stored rows, whatever the validity.
     ghost slots: { Self → List Row };
 
-    // The validity that the array keeps, where it keeps one.
+    // Validity that the array stores, if any.
     ghost validity_bits: { Self → Option (List Bool) };
 
-    // Which rows are present: a bit for each, or None where all are. Which rows are masked is said here alone.
+    // Present rows: a bit for each row, or None if all are present. Only the mask defines which
+    // rows are null.
     ghost mask: { Self → Option (List Bool) };
 
-    // How many rows are null by the validity.
+    // Number of rows that are null by the validity.
     ghost nulls: { Self → ℕ };
 
-    // Whether two arrays are of one type.
+    // Equality of the types of two arrays.
     ghost same_type: { Self → Self → Type 0 };
 
-    // What is asked of an array that holds arrays, since its type alone does not keep it: that it is good
-    // all the way down. An array of one level is always good.
+    // Soundness of nested arrays, which their type does not guarantee: the parts make an array on
+    // each level. An array of one level is always good.
     ghost good: { Self → Type 0 };
 
-    /// How many rows there are.
+    /// Returns the number of rows.
     fn len(&self) -> usize
         ensures { result ≡ length (slots self.now) };
 
-    /// The validity that the array keeps: a bit for each row, 0 where it masks the row (the Arrow layout), or None where
-    /// it masks none.
+    /// Returns the validity that the array stores: a bit for each row, 0 if the row is masked (the
+    /// Arrow layout), or `None` if no row is.
     fn validity(&self) -> Option<&Bitmap>
         requires good { good self.now }
         ensures validity { option_copied result ≡ validity_bits self.now }
         ensures bits { HasBits (length (slots self.now)) (validity_bits self.now) };
 
-    /// Which rows are present, lent by the array or made for it. The error is `Memory`.
+    /// Returns the mask, borrowed from the array or computed. The error is `Memory`.
     fn missing_mask(&self, alloc: Global) -> Result<Mask<'_>, ComputeError>
         requires good { good self.now }
         ensures mask { MatchResult result (λ present. present ≡ mask self.now) IsMemory }
         ensures bits { HasBits (length (slots self.now)) (mask self.now) };
 
-    /// How many rows are null by the validity.
+    /// Returns the number of rows that are null by the validity.
     fn null_count(&self) -> usize
         ensures nulls { result ≡ nulls self.now }
         ensures rows { good self.now → result ≡ null_total (rows_under (validity_bits self.now) (slots self.now)) };
 
-    // A row is stored as Null only where no array of the type has a validity.
+    // Rows are stored as Null only in types whose arrays have no validity.
     ghost null_law: { (a b : Self) (i : ℕ) → NullSlots (slots a) (mask a) (mask b) (same_type a b × same_type b a) i };
 }
 
-/// A law of every array: a row is the stored one where it is present, and null where it is masked, whatever
-/// is stored there.
+/// States a law of every array: a row is the stored one if it is present, and null if it is masked.
 #[tactic(auto, using(crate::proofs::RowWindows::places))]
 pub fn law_rows()
     ensures { MasksByPlace }

@@ -1,4 +1,4 @@
-//! The number types whose arrays have a type of their own.
+//! Number types whose arrays have an Arrow type.
 
 ghost use Rattle.std.specs.Prelude.{◌≡◌};
 ghost use Rattle.polars_arrays_flat.specs.DataType.{kind_of};
@@ -7,12 +7,12 @@ ghost use Rattle.polars_arrays_flat.specs.Kind.{Kind, Int8Kind, Int16Kind, Int32
 use crate::data_type::ArrowDataType;
 use polars_arrays_numbers::native_type::NativeType;
 
-/// A number type whose arrays have a type of their own.
+/// A number type whose arrays have an Arrow type.
 pub trait ArrowType: NativeType {
-    // The kind of an array of these numbers.
+    // Kind of an array of these numbers.
     ghost kind: { Kind };
 
-    /// The type of an array of these numbers.
+    /// Returns the type of an array of these numbers.
     fn arrow_data_type() -> ArrowDataType
         ensures { kind_of result ≡ kind };
 }

@@ -19,7 +19,7 @@ use polars_arrays_bits::error::{ArrayError, ComputeError};
 use std::alloc::Global;
 use std::marker::Model;
 
-/// Truth values, of which a validity masks some.
+/// An array of truth values, with an optional validity.
 #[derive(Drop)]
 pub struct BooleanArray {
     values: Bitmap,
@@ -42,8 +42,8 @@ impl Model for BooleanArray {
 }
 
 impl BooleanArray {
-    /// An array of stored values and a validity. The error is `Length`, where the validity has not a bit for
-    /// each value.
+    /// Creates an array of stored values and a validity. The error is `Length`, if the validity
+    /// does not have a bit for each value.
     pub fn try_new(values: Bitmap, validity: Option<Bitmap>) -> Result<BooleanArray, ArrayError>
         ensures made { OkIff result (HasBits (length values) validity) (record { values = values; validity = validity }) }
         ensures refused { IfErr result (λ e. e ≡ ArrayError.Length) }
@@ -55,14 +55,14 @@ impl BooleanArray {
         Ok(BooleanArray { values, validity })
     }
 
-    /// The stored values, also of masked rows.
+    /// Returns the stored values, including those of masked rows.
     pub fn values(&self) -> &Bitmap
         ensures { result.now ≡ self.now.values }
     {
         &self.values
     }
 
-    /// Keeps `n` rows from row `at` on. No value moves.
+    /// Keeps the `n` rows from row `at` on. No value is moved.
     #[tactic(auto, using(crate::proofs::RowWindows::windows))]
     pub fn slice(&mut self, at: usize, n: usize)
         requires { at + n ≤ length self.old.values }
@@ -73,7 +73,7 @@ impl BooleanArray {
         slice_validity(&mut self.validity, at, n);
     }
 
-    /// A second array of the same values and validity. The error is `Memory`.
+    /// Clones the array. The error is `Memory`.
     pub fn clone_array(&self, alloc: Global) -> Result<BooleanArray, ComputeError>
         ensures { MatchResult result (λ copy. copy ≡ self.now) IsMemory }
     {
@@ -82,7 +82,7 @@ impl BooleanArray {
         Ok(BooleanArray { values, validity })
     }
 
-    /// The array's type. It takes no memory, so that there is always one.
+    /// Returns the array's type. Does not allocate, so it succeeds always.
     pub fn dtype(&self, _alloc: Global) -> Result<ArrowDataType, ComputeError>
         ensures dtype { MatchResult result (λ dtype. kind_of dtype ≡ BooleanKind) IsMemory }
         ensures succeeds { IsOk result }

@@ -1,4 +1,5 @@
-//! Byte strings that stand at the beginning of longer slices. Those of up to sixteen bytes are compared as one block.
+//! Comparisons of byte strings that begin longer slices. Strings of up to sixteen bytes are
+//! compared as one block.
 
 ghost use Rattle.std.specs.Prelude.{◌≡◌, ◌≢◌, ◌≤◌, ◌<◌, ℕ, IsTrue, length, take, get_or};
 ghost use Rattle.std.specs.Str.{bytes_eq};
@@ -8,11 +9,11 @@ use crate::byte_equality::bytes_equal;
 use crate::byte_order::bytes_less;
 use std::simd::prelude::*;
 
-/// How many bytes a block holds.
+/// The number of bytes of a block.
 pub const BLOCK_BYTES: usize = 16;
 
-/// Whether the first `n` bytes of one slice are the first `m` bytes of another one. Up to sixteen bytes they
-/// are compared as one block, if both slices go on so far.
+/// Returns whether the first `n` bytes of `left` are the first `m` bytes of `right`. Up to sixteen
+/// bytes are compared as one block, if both slices have that many.
 #[inline(always)]
 pub fn beginnings_equal(left: &[u8], n: usize, right: &[u8], m: usize) -> bool
     requires left_in { n ≤ length left.now }
@@ -28,8 +29,9 @@ pub fn beginnings_equal(left: &[u8], n: usize, right: &[u8], m: usize) -> bool
     bytes_equal(&left[..n], &right[..m])
 }
 
-/// Whether the first `n` bytes of one slice are less than the first `m` bytes of another one, as `bytes_less`
-/// has it. Up to sixteen bytes they are compared as one block, if both slices go on so far.
+/// Returns whether the first `n` bytes of `left` are less than the first `m` bytes of `right`, in
+/// the order of `bytes_less`. Up to sixteen bytes are compared as one block, if both slices have
+/// that many.
 #[inline(always)]
 pub fn beginnings_less(left: &[u8], n: usize, right: &[u8], m: usize) -> bool
     requires left_in { n ≤ length left.now }
@@ -39,14 +41,15 @@ pub fn beginnings_less(left: &[u8], n: usize, right: &[u8], m: usize) -> bool
     if in_blocks(left, n, right, m) {
         let k = same_places(left, right);
         let common = n.min(m);
-        // The last place stands for one behind the block, whose bytes then don't count.
+        // If the blocks are equal, `k` is past the end. The last place stands in for it; its bytes
+        // then have no effect.
         let place = k.min(BLOCK_BYTES - 1);
         return ((k < common) & (left[place] < right[place])) | ((k >= common) & (n < m));
     }
     bytes_less(&left[..n], &right[..m])
 }
 
-/// A block that begins with the bytes, for a string that many others are compared with.
+/// Returns a block that begins with the bytes, for a string that many others are compared with.
 pub fn block_of(bytes: &[u8]) -> [u8; BLOCK_BYTES]
     requires { length bytes.now ≤ 16 }
     ensures { take (length bytes.now) result ≡ bytes.now }
@@ -56,7 +59,7 @@ pub fn block_of(bytes: &[u8]) -> [u8; BLOCK_BYTES]
     block
 }
 
-// Whether both slices begin with a block that holds the bytes asked for.
+// Returns whether both strings fit in a block, and both slices have one.
 #[inline(always)]
 fn in_blocks(left: &[u8], n: usize, right: &[u8], m: usize) -> bool
     ensures { IsTrue result → (n ≤ 16) × (m ≤ 16) × (16 ≤ length left.now) × (16 ≤ length right.now) }
@@ -64,7 +67,7 @@ fn in_blocks(left: &[u8], n: usize, right: &[u8], m: usize) -> bool
     (n.max(m) <= BLOCK_BYTES) & (left.len().min(right.len()) >= BLOCK_BYTES)
 }
 
-// How many bytes are the same from the first one on, or more than sixteen where all of the block are.
+// Returns the number of equal leading bytes of two blocks, or at least sixteen if they are equal.
 #[inline(always)]
 fn same_places(left: &[u8], right: &[u8]) -> usize
     requires left_in { 16 ≤ length left.now }

@@ -5,8 +5,9 @@ ghost use Rattle.std.specs.Int.{w32, w64, from_le_bytes, to_le_bytes};
 ghost use Rattle.std.specs.Str.{bytes_eq};
 ghost use Rattle.polars_arrays_flat.specs.Validity.{window};
 
-/// Whether two byte strings are equal. Up to 16 bytes they are compared as numbers, as far as the shorter
-/// one goes, whatever the other's length: a branch on the lengths would often be predicted wrongly.
+/// Returns whether two byte strings are equal. If the shorter one has up to 16 bytes, these are
+/// compared as numbers, whatever the length of the other: a branch on equal lengths would often be
+/// mispredicted.
 #[inline(always)]
 pub fn bytes_equal(left: &[u8], right: &[u8]) -> bool
     ensures { result ≡ bytes_eq left.now right.now }
@@ -23,7 +24,7 @@ pub fn bytes_equal(left: &[u8], right: &[u8]) -> bool
     }
 }
 
-// Whether the first `n` bytes are the same: the first four and the last four.
+// Returns whether the first `n` bytes are equal, by the first four and the last four.
 #[inline(always)]
 fn same_fours(left: &[u8], right: &[u8], n: usize) -> bool
     requires some { 4 ≤ n }
@@ -37,7 +38,7 @@ fn same_fours(left: &[u8], right: &[u8], n: usize) -> bool
     same_start & same_end
 }
 
-// Whether the first `n` bytes are the same: the first eight and the last eight.
+// Returns whether the first `n` bytes are equal, by the first eight and the last eight.
 #[inline(always)]
 fn same_eights(left: &[u8], right: &[u8], n: usize) -> bool
     requires some { 8 ≤ n }
@@ -51,7 +52,7 @@ fn same_eights(left: &[u8], right: &[u8], n: usize) -> bool
     same_start & same_end
 }
 
-// The four bytes from place `at` on as a number.
+// Returns the four bytes from place `at` on as a little-endian number.
 #[inline(always)]
 fn four_at(bytes: &[u8], at: usize) -> u32
     requires { at + 4 ≤ length bytes.now }
@@ -61,7 +62,7 @@ fn four_at(bytes: &[u8], at: usize) -> u32
     u32::from_le_bytes([bytes[at], bytes[at + 1], bytes[at + 2], bytes[at + 3]])
 }
 
-// The eight bytes from place `at` on as a number.
+// Returns the eight bytes from place `at` on as a little-endian number.
 #[inline(always)]
 fn eight_at(bytes: &[u8], at: usize) -> u64
     requires { at + 8 ≤ length bytes.now }

@@ -6,7 +6,8 @@ ghost use Rattle.std.specs.Int.{w32, w64, from_be_bytes};
 ghost use Rattle.std.specs.Ordering.{nat_cmp, is_lt, ordering_then};
 ghost use Rattle.polars_arrays_flat.specs.ByteOrder.{AreBytes, bytes_lt, few_number};
 
-/// Whether the left byte string is less: at the first place where the two differ, or as a proper beginning.
+/// Returns whether the left byte string is less: at the first place where they differ, or as a
+/// proper prefix.
 #[inline(always)]
 pub fn bytes_less(left: &[u8], right: &[u8]) -> bool
     ensures { result ≡ bytes_lt left.now right.now }
@@ -23,8 +24,8 @@ pub fn bytes_less(left: &[u8], right: &[u8]) -> bool
     pair_less(u64::from(p), u64::from(q), left.len(), right.len())
 }
 
-/// Whether a pair of numbers is less than another one: by the first numbers, or where these are equal by the
-/// second ones.
+/// Returns whether `(p, n)` is less than `(q, m)`: by the first numbers, or by the second ones if
+/// the first are equal.
 #[inline(always)]
 pub fn pair_less(p: u64, q: u64, n: usize, m: usize) -> bool
     ensures { result ≡ is_lt (ordering_then (nat_cmp p q) (nat_cmp n m)) }
@@ -32,7 +33,7 @@ pub fn pair_less(p: u64, q: u64, n: usize, m: usize) -> bool
     (p < q) | ((p == q) & (n < m))
 }
 
-// The same of byte strings that have more than eight places in common.
+// Returns what `bytes_less` does, for byte strings that have more than eight places in common.
 #[inline]
 fn long_less(left: &[u8], right: &[u8], common: usize) -> bool
     requires common { common ≡ min (length left.now) (length right.now) }
@@ -50,7 +51,7 @@ fn long_less(left: &[u8], right: &[u8], common: usize) -> bool
     pair_less(p, q, left.len(), right.len())
 }
 
-// The first and the last four of `n` bytes as a number, the first byte being the greatest.
+// Returns the first four and the last four of `n` bytes as a big-endian number.
 #[inline(always)]
 fn ends(bytes: &[u8], n: usize) -> u64
     requires some { 4 ≤ n }
@@ -62,7 +63,8 @@ fn ends(bytes: &[u8], n: usize) -> u64
     u64::from(four_at(bytes, 0)) * 4294967296 + u64::from(four_at(bytes, n - 4))
 }
 
-// The first, the middle and the last of up to three bytes as a number, the first being the greatest, or 0.
+// Returns the first, the middle and the last of up to three bytes as a big-endian number, or 0 for
+// none.
 #[inline(always)]
 fn few(bytes: &[u8], n: usize) -> u32
     requires few { n < 4 }
@@ -76,7 +78,7 @@ fn few(bytes: &[u8], n: usize) -> u32
     u32::from_be_bytes([0, bytes[0], bytes[n / 2], bytes[n - 1]])
 }
 
-// The four bytes from a place on as a number, the first being the greatest.
+// Returns the four bytes from a place on as a big-endian number.
 #[inline(always)]
 fn four_at(bytes: &[u8], at: usize) -> u32
     requires { at + 4 ≤ length bytes.now }
@@ -87,7 +89,7 @@ fn four_at(bytes: &[u8], at: usize) -> u32
     u32::from_be_bytes([b[0], b[1], b[2], b[3]])
 }
 
-// The eight bytes from a place on as a number, the first being the greatest.
+// Returns the eight bytes from a place on as a big-endian number.
 #[inline(always)]
 fn eight_at(bytes: &[u8], at: usize) -> u64
     requires { at + 8 ≤ length bytes.now }

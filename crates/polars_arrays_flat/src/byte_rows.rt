@@ -1,27 +1,27 @@
-//! Arrays whose stored rows are byte strings.
+//! Arrays that store byte strings.
 
 ghost use Rattle.std.specs.Prelude.{◌≡◌, ◌≤◌, ◌<◌, ℕ, List, [], length, take, slice_index_or};
 ghost use Rattle.polars_arrays_flat.specs.StoredRows.{byte_slots};
 
 use crate::array::Array;
 
-/// An array whose stored rows are byte strings, or texts by their UTF-8. They are asked for by their
-/// places, whatever the validity says.
+/// An array that stores byte strings, or texts as their UTF-8. They are read by place, whatever the
+/// validity.
 pub trait ByteRows: Array {
     // The byte strings, the first one first.
     ghost strings: { Self → List (List ℕ) };
 
-    /// How many byte strings there are.
+    /// Returns the number of byte strings.
     fn count(&self) -> usize
         ensures { result ≡ length (strings self.now) };
 
-    /// The byte string at place `i`.
+    /// Returns the byte string at place `i`.
     fn bytes(&self, i: usize) -> &[u8]
         requires { i < length (strings self.now) }
         ensures { result.now ≡ slice_index_or (strings self.now) i [] };
 
-    /// A slice that begins with the byte string at place `i` and may go on behind it, and the string's length,
-    /// so that a short string can be read as one block.
+    /// Returns a slice that begins with the byte string at place `i` and may be longer, and the
+    /// string's length. A short string can then be read as one block.
     #[inline(always)]
     fn bytes_on(&self, i: usize) -> (&[u8], usize)
         requires { i < length (strings self.now) }

@@ -1,4 +1,4 @@
-//! The types of arrays.
+//! Types of arrays.
 
 ghost use Rattle.std.specs.Prelude.{◌≡◌, ◌↔◌, IsTrue};
 ghost use Rattle.polars_arrays_flat.specs.DataType.{key_kind, kind_of, kinds_of, IsSameField};
@@ -17,9 +17,9 @@ pub enum IntegerType {
     UInt64,
 }
 
-/// The type of an array, named as in the Arrow format. Lists hold the type of their items,
-/// `FixedSizeBinary` bytes a row, `FixedSizeList` items a row, and `Dictionary` the type of its keys and
-/// that of its entries.
+/// The type of an array, named as in the Arrow format. Lists have the type of their items,
+/// `FixedSizeBinary` the number of bytes a row, `FixedSizeList` the number of items a row, and
+/// `Dictionary` the types of its keys and of its entries.
 #[cycle(data_type)]
 #[derive(Drop)]
 pub enum ArrowDataType {
@@ -49,7 +49,7 @@ pub enum ArrowDataType {
     Dictionary(IntegerType, Box<ArrowDataType>),
 }
 
-/// The name and the type of one part of a struct.
+/// The name and the type of a struct's field.
 #[cycle(data_type)]
 #[derive(Drop)]
 pub struct Field {
@@ -58,8 +58,8 @@ pub struct Field {
 }
 
 impl ArrowDataType {
-    /// Whether two types are the same: of one name and size, with the same items, the same keys and entries,
-    /// and fields of the same names and types in the same order. It takes no memory.
+    /// Returns whether two types are equal: in name and size, in the types of items, keys and
+    /// entries, and in the names and types of fields, in the same order. Does not allocate.
     #[cycle(same_kind)]
     pub fn same_kind(&self, other: &ArrowDataType) -> bool
         ensures { IsTrue result ↔ (kind_of self.now ≡ kind_of other.now) }
@@ -115,7 +115,7 @@ impl PartialEq for ArrowDataType {
 }
 
 impl Field {
-    /// Whether two fields have the same name, byte for byte, and the same type.
+    /// Returns whether two fields have equal names, byte for byte, and equal types.
     #[cycle(same_kind)]
     pub fn same_field(&self, other: &Field) -> bool
         ensures { IsTrue result ↔ IsSameField self.now other.now }
@@ -140,7 +140,7 @@ impl PartialEq for Field {
     }
 }
 
-/// Whether a type is a struct of those fields.
+/// Returns whether a type is a struct of the given fields.
 #[cycle(same_kind)]
 pub fn is_struct_of(fields: &[Field], dtype: &ArrowDataType) -> bool
     ensures { IsTrue result ↔ (StructKind (kinds_of fields.now) ≡ kind_of dtype.now) }
@@ -151,7 +151,7 @@ pub fn is_struct_of(fields: &[Field], dtype: &ArrowDataType) -> bool
     }
 }
 
-/// Whether two lists of fields have the same names and types in the same order.
+/// Returns whether two lists of fields have equal names and types in the same order.
 #[cycle(same_kind)]
 pub fn same_fields(left: &[Field], right: &[Field]) -> bool
     ensures { IsTrue result ↔ (kinds_of left.now ≡ kinds_of right.now) }
@@ -167,14 +167,14 @@ pub fn same_fields(left: &[Field], right: &[Field]) -> bool
     true
 }
 
-// Whether two texts are the same.
+// Returns whether two texts are equal.
 fn same_text(left: &str, right: &str) -> bool
     ensures { IsTrue result ↔ (left.now ≡ right.now) }
 {
     left == right
 }
 
-/// Whether two types of keys are the same.
+/// Returns whether two types of keys are equal.
 pub fn same_keys(left: IntegerType, right: IntegerType) -> bool
     ensures { IsTrue result ↔ (key_kind left ≡ key_kind right) }
 {

@@ -1,4 +1,4 @@
-//! Buffers whose elements are all the same.
+//! Buffers of one repeated element.
 
 ghost use Rattle.std.specs.Prelude.{◌≡◌, length, replicate, true, IsOk, IsTrue, MatchResult};
 ghost use Rattle.polars_arrays_bits.specs.Errors.{IsMemory};
@@ -7,7 +7,7 @@ use polars_arrays_bits::buffer::Buffer;
 use polars_arrays_bits::error::ComputeError;
 use std::alloc::Global;
 
-// A buffer of `len` elements that are all `value`.
+// Creates a buffer of `len` elements that are all `value`.
 pub(crate) fn repeated<T: Copy>(
     alloc: Global,
     value: T,
@@ -22,7 +22,8 @@ pub(crate) fn repeated<T: Copy>(
     Ok(Buffer::from_vec(elements))
 }
 
-// A buffer of as many elements that are all `value`: the same buffer, written in place, where it owns them.
+// Returns a buffer of the same length whose elements are all `value`. Writes in place if the buffer
+// owns its elements, and creates a new buffer otherwise.
 pub(crate) fn filled<T: Copy>(
     alloc: Global,
     mut buffer: Buffer<T>,

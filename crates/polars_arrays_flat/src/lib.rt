@@ -1,4 +1,4 @@
-//! Arrays of one level: stored values, of which a validity masks some.
+//! Arrays of one level: stored values and an optional validity.
 #![tactic(auto)]
 
 pub mod array;

@@ -1,4 +1,4 @@
-//! Which rows of an array are present.
+//! Masks: the present rows of an array.
 
 ghost use Rattle.std.specs.Prelude.{◌≡◌, ◌+◌, ◌≤◌, ◌↔◌, Some, None, IfSome, IsTrue, length};
 ghost use Rattle.std.specs.Option.{option_copied};
@@ -8,7 +8,7 @@ use polars_arrays_bits::bit_mask::BitMask;
 use polars_arrays_bits::bitmap::Bitmap;
 use std::marker::Model;
 
-// How the bits of a mask are kept.
+// The bits of a mask.
 #[derive(Drop)]
 pub(crate) enum Kept<'a> {
     All,
@@ -16,8 +16,8 @@ pub(crate) enum Kept<'a> {
     Owned(Bitmap),
 }
 
-/// A bit for each row, set where the row is present, or no bits where all rows are. The bits are lent by an
-/// array, or made for it.
+/// A mask: a bit for each row, set if the row is present, or no bits if all rows are. The bits are
+/// borrowed from an array, or owned.
 #[derive(Drop)]
 pub struct Mask<'a> {
     kept: Kept<'a>,
@@ -33,7 +33,7 @@ impl<'a> Model for Mask<'a> {
 }
 
 impl<'a> Mask<'a> {
-    /// All rows are present.
+    /// Creates a mask in which all rows are present.
     #[inline(always)]
     pub fn all() -> Mask<'a>
         ensures { result ≡ None }
@@ -41,7 +41,7 @@ impl<'a> Mask<'a> {
         Mask { kept: Kept::All }
     }
 
-    /// The bits of a validity, lent.
+    /// Borrows the bits of a validity.
     #[inline(always)]
     pub fn lent(validity: Option<&'a Bitmap>) -> Mask<'a>
         ensures { result ≡ option_copied validity.entry }
@@ -53,7 +53,7 @@ impl<'a> Mask<'a> {
         Mask { kept }
     }
 
-    /// The bits of `n` rows from row `at` on, lent.
+    /// Borrows the bits of the `n` rows from row `at` on.
     #[inline(always)]
     pub fn lent_window(bits: &'a Bitmap, at: usize, n: usize) -> Mask<'a>
         requires { at + n ≤ length bits.now }
@@ -64,7 +64,7 @@ impl<'a> Mask<'a> {
         }
     }
 
-    /// Bits that were made for the mask.
+    /// Creates a mask that owns its bits.
     pub fn owned(bits: Bitmap) -> Mask<'a>
         ensures { result ≡ Some bits }
     {
@@ -73,7 +73,7 @@ impl<'a> Mask<'a> {
         }
     }
 
-    /// The bits, or None where all rows are present.
+    /// Returns the bits, or `None` if all rows are present.
     #[inline(always)]
     pub fn bits(&self) -> Option<BitMask<'_>>
         ensures { result ≡ self.now }
@@ -85,14 +85,14 @@ impl<'a> Mask<'a> {
         }
     }
 
-    /// Whether there are no bits, so that all rows are present.
+    /// Returns whether there are no bits, so that all rows are present.
     pub fn is_all(&self) -> bool
         ensures { IsTrue result ↔ (self.now ≡ None) }
     {
         matches!(self.kept, Kept::All)
     }
 
-    /// Whether row `i` is there and present.
+    /// Returns whether row `i` exists and is present.
     pub fn is_present(&self, i: usize) -> bool
         ensures { result ≡ is_present self.now i }
     {

@@ -15,7 +15,7 @@ use polars_arrays_bits::error::ComputeError;
 use std::alloc::Global;
 use std::marker::Model;
 
-/// Rows that are all null. Contracts see how many there are.
+/// An array whose rows are all null. Contracts see it as its number of rows.
 #[derive(Drop)]
 pub struct NullArray {
     len: usize,
@@ -30,14 +30,14 @@ impl Model for NullArray {
 }
 
 impl NullArray {
-    /// An array of `len` nulls.
+    /// Creates an array of `len` nulls.
     pub fn new(len: usize) -> NullArray
         ensures { result ≡ len }
     {
         NullArray { len }
     }
 
-    /// Keeps `n` rows from row `at` on.
+    /// Keeps the `n` rows from row `at` on.
     #[tactic(auto, using(crate::proofs::RowWindows::windows))]
     pub fn slice(&mut self, at: usize, n: usize)
         requires { at + n ≤ self.old }
@@ -47,7 +47,7 @@ impl NullArray {
         self.len = n;
     }
 
-    /// A second array of as many rows. It takes no memory, so that there is always one.
+    /// Clones the array. Does not allocate, so it succeeds always.
     pub fn clone_array(&self, _alloc: Global) -> Result<NullArray, ComputeError>
         ensures copy { MatchResult result (λ copy. copy ≡ self.now) IsMemory }
         ensures succeeds { IsOk result }
@@ -55,7 +55,7 @@ impl NullArray {
         Ok(NullArray { len: self.len })
     }
 
-    /// The array's type. It takes no memory, so that there is always one.
+    /// Returns the array's type. Does not allocate, so it succeeds always.
     pub fn dtype(&self, _alloc: Global) -> Result<ArrowDataType, ComputeError>
         ensures dtype { MatchResult result (λ dtype. kind_of dtype ≡ NullKind) IsMemory }
         ensures succeeds { IsOk result }

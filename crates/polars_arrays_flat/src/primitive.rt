@@ -25,7 +25,7 @@ use polars_arrays_numbers::native_type::NativeType;
 use std::alloc::Global;
 use std::marker::Model;
 
-/// Numbers, of which a validity masks some.
+/// An array of numbers, with an optional validity.
 #[derive(Drop)]
 pub struct PrimitiveArray<T: Copy> {
     values: Buffer<T>,
@@ -49,14 +49,15 @@ impl<T: Copy> Model for PrimitiveArray<T> {
 impl<T: Copy> PrimitiveArray<T> {
     ghost use Rattle.polars_arrays_flat.specs.NumbersLends.{lends_values, lends_values_if};
 
-    /// Whether no other array holds the stored values.
+    /// Returns whether no other array shares the stored values.
     pub fn is_owned(&self) -> bool
         ensures { result ≡ self.now.owned }
     {
         self.values.is_owned()
     }
 
-    /// The stored values to be written, also of masked rows, of an array that owns them.
+    /// Borrows the stored values, including those of masked rows, for writing. The array must own
+    /// them.
     pub fn as_mut_values(&mut self) -> &mut [T]
         requires { IsTrue self.old.owned }
         ensures* written { sem 𝓛 (lends_values T.row self.entry result) }
@@ -65,7 +66,7 @@ impl<T: Copy> PrimitiveArray<T> {
         self.values.as_mut_slice()
     }
 
-    // `is_owned`, asked through a `&mut`.
+    // Returns what `is_owned` does, through a `&mut`.
     fn owns(&mut self) -> bool
         ensures unchanged { self.new ≡ self.old }
         ensures owned { result ≡ self.old.owned }
@@ -73,7 +74,8 @@ impl<T: Copy> PrimitiveArray<T> {
         self.is_owned()
     }
 
-    /// The stored values to be written, exactly where the array owns them.
+    /// Borrows the stored values, including those of masked rows, for writing, or returns `None` if
+    /// they are shared.
     pub fn get_mut_values(&mut self) -> Option<&mut [T]>
         ensures* written { sem 𝓛 (lends_values_if T.row self.entry result) }
         ensures owned { IsSome result ↔ IsTrue self.old.owned }
@@ -88,8 +90,8 @@ impl<T: Copy> PrimitiveArray<T> {
 }
 
 impl<T: NativeType> PrimitiveArray<T> {
-    /// An array of stored values and a validity. The error is `Length`, where the validity has not a bit for
-    /// each value.
+    /// Creates an array of stored values and a validity. The error is `Length`, if the validity
+    /// does not have a bit for each value.
     pub fn try_new(
         values: Buffer<T>,
         validity: Option<Bitmap>,
@@ -104,7 +106,7 @@ impl<T: NativeType> PrimitiveArray<T> {
         Ok(PrimitiveArray { values, validity })
     }
 
-    /// An array of a vector's numbers, none of them masked.
+    /// Creates an array of a vector's numbers, without a validity.
     pub fn from_vec(values: Vec<T>) -> PrimitiveArray<T>
         ensures stored { result ≡ record { values = values.items; validity = None; owned = true } }
         ensures rows { number_rows T.value result ≡ number_slots T.value values.items }
@@ -115,14 +117,14 @@ impl<T: NativeType> PrimitiveArray<T> {
         }
     }
 
-    /// The stored values, also of masked rows.
+    /// Returns the stored values, including those of masked rows.
     pub fn values(&self) -> &[T]
         ensures { result.now ≡ self.now.values }
     {
         self.values.as_slice()
     }
 
-    /// Keeps `n` rows from row `at` on. No value moves.
+    /// Keeps the `n` rows from row `at` on. No value is moved.
     #[tactic(auto, using(crate::proofs::RowWindows::windows))]
     pub fn slice(&mut self, at: usize, n: usize)
         requires { at + n ≤ length self.old.values }
@@ -133,7 +135,7 @@ impl<T: NativeType> PrimitiveArray<T> {
         slice_validity(&mut self.validity, at, n);
     }
 
-    /// Takes the validity out. No row is masked from then on.
+    /// Removes and returns the validity. No row is masked afterwards.
     pub fn take_validity(&mut self) -> Option<Bitmap>
         ensures taken { result ≡ self.old.validity }
         ensures left { self.new ≡ record self.old { validity = None } }
@@ -143,7 +145,7 @@ impl<T: NativeType> PrimitiveArray<T> {
         self.validity.take()
     }
 
-    /// The same stored values under another validity.
+    /// Replaces the validity.
     pub fn with_validity(self, validity: Option<Bitmap>) -> PrimitiveArray<T>
         requires { HasBits (length self.values) validity }
         ensures stored { result ≡ record self { validity = validity } }
@@ -153,8 +155,8 @@ impl<T: NativeType> PrimitiveArray<T> {
         PrimitiveArray { values, validity }
     }
 
-    /// The same rows, in stored values that later clones share and do not copy. No value moves. The error is
-    /// `Memory`, and comes only of values that are owned.
+    /// Makes the stored values shared: later clones share them instead of copying. No value is
+    /// moved. The error is `Memory`, which only an array that owns its values can cause.
     pub fn share(self, alloc: Global) -> Result<PrimitiveArray<T>, ComputeError>
         ensures stored { MatchResult result (λ shared. shared ≡ record self { owned = false }) IsMemory }
         ensures rows { IfOk result (λ shared. number_rows T.value shared ≡ number_rows T.value self) }
@@ -165,8 +167,7 @@ impl<T: NativeType> PrimitiveArray<T> {
         Ok(PrimitiveArray { values, validity })
     }
 
-    /// A second array of the same values and validity. Values that are shared are not copied. The error is
-    /// `Memory`.
+    /// Clones the array. Shared values are not copied. The error is `Memory`.
     pub fn clone_array(&self, alloc: Global) -> Result<PrimitiveArray<T>, ComputeError>
         ensures { MatchResult result (λ copy. copy ≡ self.now) IsMemory }
     {
@@ -177,7 +178,7 @@ impl<T: NativeType> PrimitiveArray<T> {
 }
 
 impl<T: ArrowType> PrimitiveArray<T> {
-    /// The array's type. It takes no memory, so that there is always one.
+    /// Returns the array's type. Does not allocate, so it succeeds always.
     pub fn dtype(&self, _alloc: Global) -> Result<ArrowDataType, ComputeError>
         ensures dtype { MatchResult result (λ dtype. kind_of dtype ≡ T.kind) IsMemory }
         ensures succeeds { IsOk result }
@@ -187,8 +188,9 @@ impl<T: ArrowType> PrimitiveArray<T> {
 }
 
 impl<T: NativeType> PrimitiveArray<T> {
-    /// The same validity over stored values that are all `value`. Values that the array owns are overwritten in
-    /// place; else new ones are made, and then the error is `Memory`.
+    /// Sets all stored values to `value`, and keeps the validity. If the array owns its values,
+    /// they are overwritten in place, and there is no error. Otherwise new ones are allocated, and
+    /// the error is `Memory`.
     #[tactic(auto, using(crate::proofs::RowWindows::fills))]
     pub fn fill_with(self, alloc: Global, value: T) -> Result<PrimitiveArray<T>, ComputeError>
         ensures stored { MatchResult result (λ filled. filled ≡ record { values = replicate (length self.values) value; validity = self.validity; owned = true }) IsMemory }
@@ -202,7 +204,7 @@ impl<T: NativeType> PrimitiveArray<T> {
 }
 
 impl<T: NativeType + Zero> PrimitiveArray<T> {
-    /// An array of `len` masked rows, over stored values that are all 0. The error is `Memory`.
+    /// Creates an array of `len` masked rows, whose stored values are all 0. The error is `Memory`.
     #[tactic(auto, using(crate::proofs::RowWindows::fills))]
     pub fn full_null(alloc: Global, len: usize) -> Result<PrimitiveArray<T>, ComputeError>
         ensures stored { MatchResult result (λ nulls. nulls ≡ record { values = replicate len T.zero; validity = Some (replicate len false); owned = true }) IsMemory }

@@ -1,4 +1,4 @@
-//! What arrays do with an optional validity.
+//! Functions of an optional validity.
 
 ghost use Rattle.std.specs.Prelude.{◌≡◌, ◌↔◌, ◌+◌, ◌≤◌, ◌<◌, ℕ, List, IsTrue, IfSome, MatchResult, length};
 ghost use Rattle.std.specs.Option.{option_copied};
@@ -12,7 +12,7 @@ use polars_arrays_bits::bitmap::Bitmap;
 use polars_arrays_bits::error::ComputeError;
 use std::alloc::Global;
 
-/// Whether a validity that is there has `len` bits.
+/// Returns whether a validity, if there is one, has `len` bits.
 pub fn has_bits(len: usize, validity: &Option<Bitmap>) -> bool
     ensures { IsTrue result ↔ HasBits len validity.now }
 {
@@ -22,7 +22,7 @@ pub fn has_bits(len: usize, validity: &Option<Bitmap>) -> bool
     }
 }
 
-/// Whether row `i` is present, where a validity that is there has a bit for it.
+/// Returns whether row `i` is present. A validity, if there is one, must have a bit for it.
 #[inline]
 pub fn is_present(validity: Option<&Bitmap>, i: usize) -> bool
     requires { IfSome (option_copied validity) (λ bits. i < length bits) }
@@ -31,7 +31,7 @@ pub fn is_present(validity: Option<&Bitmap>, i: usize) -> bool
     validity.is_none_or(|bits| bits.get_bit(i))
 }
 
-/// How many rows are masked. Over byte strings these are the rows that are null.
+/// Returns the number of masked rows. If the stored rows are byte strings, these are the null rows.
 #[tactic(auto, using(crate::proofs::NullCounts::nulls_counted))]
 pub fn null_count(validity: &Option<Bitmap>) -> usize
     ensures masked { result ≡ masked_count validity.now }
@@ -43,7 +43,7 @@ pub fn null_count(validity: &Option<Bitmap>) -> usize
     }
 }
 
-/// Keeps the bits of `n` rows from row `at` on.
+/// Keeps the bits of the `n` rows from row `at` on.
 #[tactic(auto, using(crate::proofs::RowWindows::windows))]
 pub fn slice_validity(validity: &mut Option<Bitmap>, at: usize, n: usize)
     requires { IfSome validity.old (λ bits. at + n ≤ length bits) }
@@ -55,7 +55,7 @@ pub fn slice_validity(validity: &mut Option<Bitmap>, at: usize, n: usize)
     }
 }
 
-/// A second validity of the same bits. The error is `Memory`.
+/// Clones a validity. The error is `Memory`.
 pub fn clone_validity(
     alloc: Global,
     validity: &Option<Bitmap>,

@@ -15,18 +15,21 @@ use Rattle.polars_arrays_nested.specs.ListOffsets.{offset_at, span}
 use Rattle.polars_arrays_nested.specs.declared.any_array.AnyArray.{AnyArray, Null, Boolean, Int8, Int16, Int32, Int64, Int128, UInt8, UInt16, UInt32, UInt64, UInt128, Binary, LargeBinary, Utf8, LargeUtf8, BinaryView, Utf8View, FixedSizeBinary, List', FixedSizeList', Struct', Dictionary', Row_of-AnyArray, end_of-AnyArray, more_of-AnyArray}
 use Rattle.polars_arrays_views.specs.Parts.{view_rows}
 
--- `count` rows from row `from` on, where `f` gives each
+-- `count` rows from row `from` on; `f` gives each
 abbrev pub rows_from : (ℕ → Row) → ℕ → ℕ → RowList
 rows_from f from zero = no_rows
 rows_from f from (suc count) = more_rows (f from) (rows_from f (from + 1) count)
 
--- the row that a present key makes of its entry: Null of a null entry (our own choice), else the entry
+-- the row of a present key, made of its entry: Null for a null entry (our own choice), else the
+-- entry
 abbrev pub entry_row : Row → Row
 entry_row Missing = Missing
 entry_row entry = Entry entry
 
 abbrev mutual
-  -- row i of an array: Null where it is masked; of a list its items between two offsets, of a list of one width as many items from width * i on, of a struct its fields' rows at that place, of a dictionary the entry that the key names, or Null where that is (the Arrow layout)
+  -- row i of an array, or Null if it is masked (the Arrow layout): the items between two offsets of
+  -- a list, or the `width` items from width * i on; the fields' rows of a struct; the entry that a
+  -- dictionary's key names, or Null if that is
   pub row : AnyArray → ℕ → Row
   row (Null a) i = Missing
   row (Boolean a) i = row_at (truth_rows a) i

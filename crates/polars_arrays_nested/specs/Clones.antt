@@ -1,4 +1,4 @@
--- What a second copy of an array has.
+-- Clones of arrays.
 use Rattle.std.specs.Prelude.{◌≡◌, ◌<◌, ℕ, List, length, slice_index_or}
 use Rattle.polars_arrays_nested.specs.AnyRows.{row}
 use Rattle.polars_arrays_nested.specs.GoodParts.{IsGood}
@@ -8,7 +8,8 @@ use Rattle.polars_arrays_nested.specs.Lengths.{len_of}
 use Rattle.polars_arrays_nested.specs.Types.{type_of}
 use Rattle.polars_arrays_nested.specs.declared.any_array.AnyArray.{AnyArray}
 
--- a has the rows of b, each window of them with its leaf slots and kept alike, and b's type, and is good where b is
+-- a is a clone of b: it has the rows and the type of b, its windows have the leaf slots of b's and
+-- are kept alike, and it is good if b is
 pub record IsClone (a b : AnyArray) : Type 0 where
   pub one_type : type_of a ≡ type_of b
   pub as_long : len_of a ≡ len_of b
@@ -17,7 +18,7 @@ pub record IsClone (a b : AnyArray) : Type 0 where
   pub alike : (i m : ℕ) → KeptAlike a b i i m
   pub good : IsGood b → IsGood a
 
--- each of some arrays is a second copy of the one at its place
+-- each array of a list is a clone of the one at its place in the other list
 pub record AreClones (xs ys : List AnyArray) : Type 0 where
   pub as_many : length xs ≡ length ys
   pub each : (i : ℕ) (d : AnyArray) → i < length ys → IsClone (slice_index_or xs i d) (slice_index_or ys i d)

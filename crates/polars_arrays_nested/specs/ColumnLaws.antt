@@ -1,4 +1,4 @@
--- Rows, type, leaf slots and goodness of a struct, and what it is kept alike with, by its columns.
+-- Laws of structs by their columns: rows, type, leaf slots, `KeptAlike` and `IsGood`.
 use Rattle.std.specs.Prelude.{◌≡◌, ℕ, ◌+◌, List, [], ◌∷◌}
 use Rattle.std.proofs.Common.{refl, ap, ◌∙◌, sym, subst}
 use Rattle.polars_arrays_flat.specs.DataType.{kinds_of}
@@ -63,7 +63,7 @@ leaves-struct s from n =
     leaves_across_is _ (hidden-the_row-AnyArray-0 s.values) from n
     ∙ ap (λ l. columns_leaves l from n) (items_hidden-the_row-AnyArray-0 s.values)
 
--- windows of structs are kept alike where those of their columns are
+-- windows of structs are kept alike if those of their columns are
 pub alike-struct : (s t : StructArray) (i j n : ℕ) → ColumnsAlike (columns s) (columns t) i j n → KeptAlike (Struct s) (Struct t) i j n
 alike-struct s t i j n alike =
     across_alike _ _ (hidden-the_row-AnyArray-0 s.values) (hidden-the_row-AnyArray-0 t.values) i j n
@@ -77,7 +77,7 @@ good-struct s h = (
   subst (λ l. AreColumns (struct_fields s) s.len l) (items_hidden-the_row-AnyArray-0 s.values) (fields-columns _ (struct_fields s) s.len (hidden-the_row-AnyArray-0 s.values) h.1),
 )
 
--- and a struct that has these is good
+-- a struct with a good column for each field is good
 pub struct-good : (s : StructArray) → HasBits s.len (struct_validity s) → AreColumns (struct_fields s) s.len (columns s) → IsGood (Struct s)
 struct-good s bits good = (
   bits,

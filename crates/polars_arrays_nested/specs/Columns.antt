@@ -1,4 +1,4 @@
--- What is said of a struct's columns, as the list that `StructArray::values` gives.
+-- Properties of a struct's columns, as the list that `StructArray::values` gives.
 use Rattle.std.specs.Prelude.{◌≡◌, ℕ, ◌+◌, List, [], ◌∷◌, ⊤}
 use Rattle.polars_arrays_flat.specs.DataType.{kind_of}
 use Rattle.polars_arrays_flat.specs.Row.{RowList, no_rows, more_rows}
@@ -16,18 +16,18 @@ abbrev pub rows_at : List AnyArray → ℕ → RowList
 rows_at [] i = no_rows
 rows_at (first ∷ rest) i = more_rows (row first i) (rows_at rest i)
 
--- the leaf slots of columns, added up
+-- the sum of the leaf slots of columns
 abbrev pub columns_leaves : List AnyArray → ℕ → ℕ → ℕ
 columns_leaves [] from n = 0
 columns_leaves (first ∷ rest) from n = leaves first from n + columns_leaves rest from n
 
--- windows of columns are kept alike, each as the one at its place
+-- windows of columns are kept alike, place by place
 abbrev pub ColumnsAlike : List AnyArray → List AnyArray → ℕ → ℕ → ℕ → Type 0
 ColumnsAlike [] [] i j n = ⊤
 ColumnsAlike (first ∷ rest) (first' ∷ rest') i j n = KeptAlike first first' i j n × ColumnsAlike rest rest' i j n
 ColumnsAlike _ _ i j n = ⊥
 
--- there is one good column for each field, of its type and of `len` rows
+-- each field has a good column of its type and of `len` rows
 abbrev pub AreColumns : List Field → ℕ → List AnyArray → Type 0
 AreColumns [] len [] = ⊤
 AreColumns (field ∷ fields) len (first ∷ rest) =

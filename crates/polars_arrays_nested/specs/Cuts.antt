@@ -1,4 +1,4 @@
--- What a slice leaves.
+-- Slices of arrays.
 use Rattle.std.specs.Prelude.{◌≡◌, ◌+◌, ◌<◌, ◌≤◌, ℕ}
 use Rattle.polars_arrays_nested.specs.AnyRows.{row}
 use Rattle.polars_arrays_nested.specs.GoodParts.{IsGood}
@@ -8,7 +8,8 @@ use Rattle.polars_arrays_nested.specs.Lengths.{len_of}
 use Rattle.polars_arrays_nested.specs.Types.{type_of}
 use Rattle.polars_arrays_nested.specs.declared.any_array.AnyArray.{AnyArray}
 
--- a has the n rows of b from row `at` on, each window of them with its leaf slots and kept alike, and b's type, and is good
+-- a has the n rows of b from row `at` on, and b's type, its windows have the leaf slots of b's and
+-- are kept alike, and it is good
 pub record IsCut (a b : AnyArray) (at n : ℕ) : Type 0 where
   pub one_type : type_of a ≡ type_of b
   pub as_long : len_of a ≡ n

@@ -1,4 +1,4 @@
--- The keys of dictionaries, as places among the entries.
+-- The keys of dictionaries as places among the entries.
 use Rattle.std.specs.Prelude.{◌≡◌, ◌<◌, ℕ, pos, Bool, true, List, Option, Some, None, length}
 use Rattle.polars_arrays_bytes.specs.OffsetStrings.{places, place_at}
 use Rattle.polars_arrays_flat.specs.DataType.{key_kind}
@@ -10,7 +10,7 @@ use Rattle.polars_arrays_nested.specs.Places.{place_or_zero}
 use Rattle.polars_arrays_nested.specs.declared.dict_keys.DictKeys.{DictKeys}
 use Rattle.polars_arrays_nested.specs.declared.dict_keys.DictKeys.TheVariants.{Int8, Int16, Int32, Int64, UInt8, UInt16, UInt32, UInt64}
 
--- each stored key as a place among the entries, also of masked rows, None where it is negative
+-- each stored key as a place among the entries, also of masked rows; None if it is negative
 abbrev pub key_places : DictKeys → List (Option ℕ)
 key_places (Int8 a) = places (λ x. x) a.values
 key_places (Int16 a) = places (λ x. x) a.values
@@ -21,7 +21,7 @@ key_places (UInt16 a) = places (λ x. pos x) a.values
 key_places (UInt32 a) = places (λ x. pos x) a.values
 key_places (UInt64 a) = places (λ x. pos x) a.values
 
--- which keys are present
+-- the validity of the keys
 abbrev pub key_validity : DictKeys → Option (List Bool)
 key_validity (Int8 a) = a.validity
 key_validity (Int16 a) = a.validity
@@ -47,20 +47,20 @@ key_type (UInt64 a) = name.UInt64
 abbrev pub kind_of_keys : DictKeys → Kind
 kind_of_keys keys = key_kind (key_type keys)
 
--- how many keys there are
+-- the number of keys
 abbrev pub key_count : DictKeys → ℕ
 key_count keys = length (key_places keys)
 
--- the entry that key i names, as good keys have it
+-- the entry that key i names; keys must be good
 abbrev pub key_at : DictKeys → ℕ → ℕ
 key_at keys i = place_or_zero (place_at (key_places keys) i)
 
--- a place is there, and one of n entries
+-- a place exists and is below n
 abbrev pub IsEntry : ℕ → Option ℕ → Type 0
 IsEntry n None = ⊥
 IsEntry n (Some at) = at < n
 
--- key i is masked, or names one of n entries: a key under a null may be anything
+-- key i is masked or names one of n entries; a masked key is arbitrary
 abbrev pub IsGoodKey : ℕ → Option (List Bool) → List (Option ℕ) → ℕ → Type 0
 IsGoodKey n validity all i = is_present validity i ≡ true → IsEntry n (place_at all i)
 
@@ -68,7 +68,7 @@ IsGoodKey n validity all i = is_present validity i ≡ true → IsEntry n (place
 abbrev pub NameEntries : ℕ → Option (List Bool) → List (Option ℕ) → Type 0
 NameEntries n validity all = (i : ℕ) → i < length all → IsGoodKey n validity all i
 
--- row `row` is the first with a present key that names none of n entries
+-- row `row` is the first whose present key names none of n entries
 pub record IsFirstBadKey (n : ℕ) (validity : Option (List Bool)) (all : List (Option ℕ)) (row : ℕ) : Type 0 where
   pub within : row < length all
   pub bad : ¬ (IsGoodKey n validity all row)

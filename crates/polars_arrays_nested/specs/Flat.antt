@@ -1,8 +1,8 @@
--- Arrays that hold no arrays.
+-- Arrays that contain no arrays.
 use Rattle.std.specs.Prelude.{Bool, true, false}
 use Rattle.polars_arrays_nested.specs.declared.any_array.AnyArray.{AnyArray, List', FixedSizeList', Struct', Dictionary'}
 
--- whether an array holds no arrays: it is neither of lists nor of structs, and has no dictionary
+-- whether an array contains no arrays: it is no list, struct or dictionary
 abbrev pub is_flat : AnyArray → Bool
 is_flat (List' offsets p values validity) = false
 is_flat (FixedSizeList' width len p values validity) = false

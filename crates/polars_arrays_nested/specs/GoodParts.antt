@@ -1,4 +1,4 @@
--- What arrays that hold arrays ask of their parts, all over the tree.
+-- Requirements of nested arrays on their parts, at all levels.
 use Rattle.std.specs.Prelude.{◌≡◌, ◌*◌, ℕ, Bool, List, [], ◌∷◌, Option, ⊤}
 use Rattle.polars_arrays_bytes.specs.OffsetStrings.{AreGood}
 use Rattle.polars_arrays_flat.specs.DataType.{kind_of}
@@ -12,22 +12,25 @@ use Rattle.polars_arrays_nested.specs.declared.any_array.AnyArray.{AnyArray, Nul
 use Rattle.polars_arrays_nested.specs.declared.dict_keys.DictKeys.{DictKeys}
 use Rattle.polars_arrays_nested.specs.declared.list_offsets.ListOffsets.{ListOffsets}
 
--- offsets and a validity that make lists of n items: a bit for each list, and each list within the items
+-- the offsets and the validity make lists of n items: a bit for each list, and each list within the
+-- items
 pub record AreLists (n : ℕ) (offsets : ListOffsets) (validity : Option (List Bool)) : Type 0 where
   pub bits : HasBits (list_count offsets) validity
   pub good : AreGood n (list_places offsets)
 
--- n items and a validity that make `len` lists of `width` items: a bit for each list, and the items are those of the lists and no more
+-- n items and a validity make `len` lists of `width` items: a bit for each list, and exactly the
+-- items of the lists
 pub record AreFixedLists (n width len : ℕ) (validity : Option (List Bool)) : Type 0 where
   pub bits : HasBits len validity
   pub items : n ≡ width * len
 
--- keys that make rows of n entries: each present key names one
+-- the keys make rows of n entries: each present key names one
 pub record AreKeys (n : ℕ) (keys : DictKeys) : Type 0 where
   pub named : NameEntries n (key_validity keys) (key_places keys)
 
 abbrev mutual
-  -- an array and all arrays inside it are made of good parts; one of one level always is, by its type
+  -- an array and all arrays inside it are made of good parts; arrays of one level always are, by
+  -- their types
   pub IsGood : AnyArray → Type 0
   IsGood (Null a) = ⊤
   IsGood (Boolean a) = ⊤
@@ -54,7 +57,7 @@ abbrev mutual
   IsGood (Struct' fields len p values validity) = HasBits len validity × AreFields fields.items len values
   IsGood (Dictionary' keys p values) = AreKeys (len_of values) keys × IsGood values
 
-  -- there is one good array for each field, of its type and of `len` rows
+  -- each field has a good array of its type and of `len` rows
   pub AreFields : {m : _} → List Field → ℕ → Row_of-AnyArray m → Type 0
   AreFields [] len end_of-AnyArray = ⊤
   AreFields (field ∷ fields) len (more_of-AnyArray first rest) =

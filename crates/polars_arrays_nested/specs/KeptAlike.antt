@@ -1,4 +1,4 @@
--- When windows of two arrays are kept alike, so that a comparison of the one costs what a comparison of the other does.
+-- Windows of two arrays that are kept alike: comparing the one costs what comparing the other does.
 use Rattle.std.specs.Prelude.{◌≡◌, ◌<◌, ◌+◌, ◌*◌, ℕ, Bool, true, List, Option, ⊤}
 use Rattle.polars_arrays_flat.specs.Validity.{is_present}
 use Rattle.polars_arrays_nested.specs.DictKeys.{key_at, key_validity}
@@ -7,19 +7,21 @@ use Rattle.polars_arrays_nested.specs.declared.any_array.AnyArray.{AnyArray, Nul
 use Rattle.polars_arrays_nested.specs.declared.dict_keys.DictKeys.{DictKeys}
 use Rattle.polars_arrays_nested.specs.declared.list_offsets.ListOffsets.{ListOffsets}
 
--- lists i and j are both present or both masked, and have as many items, which are kept alike
+-- lists i and j are both present or both masked, and have equally long and alike items
 pub record AlikeLists (Items : ℕ → ℕ → ℕ → Type 0) (offsets : ListOffsets) (validity : Option (List Bool)) (offsets' : ListOffsets) (validity' : Option (List Bool)) (i j : ℕ) : Type 0 where
   pub masks : is_present validity i ≡ is_present validity' j
   pub spans : span offsets i ≡ span offsets' j
   pub items : Items (offset_at offsets i) (offset_at offsets' j) (span offsets i)
 
--- keys i and j are both present or both masked, and where they are present their entries are kept alike
+-- keys i and j are both present or both masked, and the entries of present keys are kept alike
 pub record AlikeKeys (Entries : ℕ → ℕ → ℕ → Type 0) (keys keys' : DictKeys) (i j : ℕ) : Type 0 where
   pub masks : is_present (key_validity keys) i ≡ is_present (key_validity keys') j
   pub entries : is_present (key_validity keys) i ≡ true → Entries (key_at keys i) (key_at keys' j) 1
 
 abbrev mutual
-  -- n rows of an array from row i on, and as many of another of its kind from row j on, are kept alike: the same lists and keys are present, with as many items, and so on down the tree, under masked rows of structs and of lists of one width too
+  -- n rows of an array from row i on, and n rows of another of its kind from row j on, are kept
+  -- alike: the same lists and keys are present, with equally many items, and so on down the tree,
+  -- also under masked structs and lists of one width
   pub KeptAlike : AnyArray → AnyArray → ℕ → ℕ → ℕ → Type 0
   KeptAlike (Null a) (Null b) i j n = ⊤
   KeptAlike (Boolean a) (Boolean b) i j n = ⊤
@@ -50,7 +52,7 @@ abbrev mutual
       (k : ℕ) → k < n → AlikeKeys (λ x y m. KeptAlike values values' x y m) keys keys' (i + k) (j + k)
   KeptAlike _ _ i j n = ⊥
 
-  -- those of each two arrays are
+  -- the arrays at each place of two lists are kept alike
   pub AcrossAlike : {m : _} {m' : _} → Row_of-AnyArray m → Row_of-AnyArray m' → ℕ → ℕ → ℕ → Type 0
   AcrossAlike end_of-AnyArray end_of-AnyArray i j n = ⊤
   AcrossAlike (more_of-AnyArray first rest) (more_of-AnyArray first' rest') i j n =

@@ -1,4 +1,4 @@
--- The leaf slots of any array: what a comparison of it may cost.
+-- The leaf slots of any array, an upper bound for the cost of comparing it.
 use Rattle.std.specs.Prelude.{◌≡◌, ◌≤◌, ◌+◌, ◌-◌, ◌*◌, ℕ, zero, suc, cond}
 use Rattle.polars_arrays_flat.specs.Validity.{is_present}
 use Rattle.polars_arrays_nested.specs.DictKeys.{key_at, key_validity}
@@ -13,7 +13,8 @@ total f from zero = 0
 total f from (suc count) = total f from count + f (from + count)
 
 abbrev mutual
-  -- the leaf slots in the n rows from row `from` on: of an array of one level its rows, of lists those of their items, of structs those of all fields, of a dictionary those of each present row's entry, and of nulls none
+  -- the leaf slots in the n rows from row `from` on: the rows of an array of one level, the items
+  -- of lists, the fields of structs, the entry of each present row of a dictionary; nulls have none
   pub leaves : AnyArray → ℕ → ℕ → ℕ
   leaves (Null a) from n = 0
   leaves (Boolean a) from n = n
@@ -41,12 +42,12 @@ abbrev mutual
   leaves (Dictionary' keys p values) from n =
       total (λ k. cond (is_present (key_validity keys) k) (leaves values (key_at keys k) 1) 0) from n
 
-  -- those of each array, added up
+  -- the sum of the leaf slots of arrays
   pub leaves_across : {m : _} → Row_of-AnyArray m → ℕ → ℕ → ℕ
   leaves_across end_of-AnyArray from n = 0
   leaves_across (more_of-AnyArray first rest) from n = leaves first from n + leaves_across rest from n
 
--- of two windows, the second beginning where the first ends, the leaf slots are those of both together
+-- two adjacent windows have the leaf slots of both together
 abbrev pub LeavesAddUp : Type 0
 LeavesAddUp =
     (a : AnyArray) (from m n : ℕ) → IsGood a → from + m + n ≤ len_of a → leaves a from (m + n) ≡ leaves a from m + leaves a (from + m) n

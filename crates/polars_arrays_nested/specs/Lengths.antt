@@ -1,11 +1,11 @@
--- How many rows any array has, and its validity.
+-- The length of any array, and its validity.
 use Rattle.std.specs.Prelude.{ℕ, Bool, List, Option, None, length}
 use Rattle.polars_arrays_bytes.specs.OffsetStrings.{row_count}
 use Rattle.polars_arrays_nested.specs.DictKeys.{key_count, key_validity}
 use Rattle.polars_arrays_nested.specs.ListOffsets.{list_count}
 use Rattle.polars_arrays_nested.specs.declared.any_array.AnyArray.{AnyArray, Null, Boolean, Int8, Int16, Int32, Int64, Int128, UInt8, UInt16, UInt32, UInt64, UInt128, Binary, LargeBinary, Utf8, LargeUtf8, BinaryView, Utf8View, FixedSizeBinary, List', FixedSizeList', Struct', Dictionary'}
 
--- how many rows an array has
+-- the number of rows of an array
 abbrev pub len_of : AnyArray → ℕ
 len_of (Null a) = a
 len_of (Boolean a) = length a.values
@@ -31,7 +31,8 @@ len_of (FixedSizeList' width len p values validity) = len
 len_of (Struct' fields len p values validity) = len
 len_of (Dictionary' keys p values) = key_count keys
 
--- the validity of an array, where it has one; a dictionary's is that of its keys, and a null array has none (our own choice)
+-- the validity of an array, if any; a dictionary's is that of its keys, and a null array has none
+-- (our own choice)
 abbrev pub validity_of : AnyArray → Option (List Bool)
 validity_of (Null a) = None
 validity_of (Boolean a) = a.validity

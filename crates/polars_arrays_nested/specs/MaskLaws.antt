@@ -1,4 +1,4 @@
--- What bits of presence say of the rows: which of them are not Null.
+-- Laws of bits of presence: they are set exactly for the rows that are not Null.
 use Rattle.std.proofs.Common.{◌≡◌, ◌≢◌, ◌-◌, ◌<◌, ◌&&◌, ℕ, ℤ, zero, suc, Bool, true, false, not, List, [], ◌∷◌, length, map, get_or, replicate, refl, ap, sym, ◌∙◌, arith}
 use Rattle.std.specs.Prelude.{Option, Some, None}
 use Rattle.std.proofs.lemmas.List.{length-map}
@@ -36,12 +36,12 @@ row-masked (bit ∷ bits) [] i = nothing_kept (get_or (bit ∷ bits) i false)
 row-masked (bit ∷ bits) (slot ∷ slots) zero = refl
 row-masked (bit ∷ bits) (slot ∷ slots) (suc i) = row-masked bits slots i
 
--- a row under a validity is the stored one where it is present, else Null
+-- a row under a validity is the stored row if it is present, else Null
 under_is : (validity : Option (List Bool)) (slots : List Row) (i : ℕ) → row_at (rows_under validity slots) i ≡ kept (is_present validity i) (row_at slots i)
 under_is None slots i = refl
 under_is (Some bits) slots i = row-masked bits slots i
 
--- where the stored row is not Null, a row is Null exactly where it is masked
+-- if the stored row is not Null, a row is Null exactly if it is masked
 kept_told : (bit : Bool) (x : Row) → is_null x ≡ false → bit ≡ not (is_null (kept bit x))
 kept_told true x there = rw there refl
 kept_told false x there = refl
@@ -81,7 +81,7 @@ none_there zero i = refl
 none_there (suc n) zero = refl
 none_there (suc n) (suc i) = none_there n i
 
--- an entry makes a null row exactly where it is null
+-- the row of an entry is null exactly if the entry is
 entry-null : (x : Row) → is_null (entry_row x) ≡ is_null x
 entry-null Missing = refl
 entry-null (Int n) = refl
@@ -91,7 +91,7 @@ entry-null (Rows xs) = refl
 entry-null (Fields xs) = refl
 entry-null (Entry x) = refl
 
--- a present entry makes the row of it
+-- the row of an entry that is not null is the entry
 pub entry-there : (x : Row) → is_null x ≡ false → entry_row x ≡ Entry x
 entry-there Missing there = cc
 entry-there (Int n) there = refl
@@ -109,7 +109,7 @@ and_true : (x : Bool) → x && true ≡ x
 and_true true = refl
 and_true false = refl
 
--- keys that name present entries, where the entries' bits tell which are not Null
+-- bits of presence of the entries give those of the keys' rows
 entries-told : (keys : DictKeys) (entries : Option (List Bool)) (f : ℕ → Row) (i : ℕ) → i < key_count keys → (is_present (key_validity keys) i ≡ true → is_present entries (key_at keys i) ≡ not (is_null (f (key_at keys i)))) → is_present (entry_mask keys entries) i ≡ not (is_null (kept (is_present (key_validity keys) i) (entry_row (f (key_at keys i)))))
 entries-told keys None f i low told =
     sym (and_true (is_present (key_validity keys) i)) ∙ both-told (is_present (key_validity keys) i) true (f (key_at keys i)) told
@@ -117,12 +117,12 @@ entries-told keys (Some bits) f i low told =
     get_or-map-range_with_len (names_present keys (Some bits)) 0 (key_count keys) i i false low (omega arith)
     ∙ both-told (is_present (key_validity keys) i) (is_present (Some bits) (key_at keys i)) (f (key_at keys i)) told
 
--- the entry that a good present key names is there
+-- the entry that a good present key names exists
 named : (n : ℕ) (at : Option ℕ) → IsEntry n at → place_or_zero at < n
 named n (Some at) is = is
 named n None is = absurd is
 
--- the bits say which rows are not Null
+-- bit i of presence is set exactly if row i is not Null
 pub presence-told : (x : AnyArray) (i : ℕ) → IsGood x → i < len_of x → is_present (presence_of x) i ≡ not (is_null (row x i))
 presence-told (Null a) i good low = none_there a i
 presence-told (Boolean a) i good low = under_told a.validity _ i (slot_there Truth (λ x. refl) a.values i low)
@@ -150,7 +150,7 @@ presence-told (Struct' fields len p values validity) i good low = kept_told (is_
 presence-told (Dictionary' keys p values) i good low =
     entries-told keys (presence_of values) (row values) i low (λ here. presence-told values (key_at keys i) good.1 (named (len_of values) (place_at (key_places keys) i) (good.0.named i low here)))
 
--- what a present key makes of an entry is the entry, where it is not Null
+-- the row of a key is the entry itself, if the row is not Null
 kept-entry : (here there : Bool) (x : Row) → there ≡ not (is_null (kept here (entry_row x))) → kept here (entry_row x) ≡ kept there (Entry x)
 kept-entry false there x told = rw told refl
 kept-entry true there Missing told = rw told refl
@@ -161,12 +161,12 @@ kept-entry true there (Rows xs) told = rw told refl
 kept-entry true there (Fields xs) told = rw told refl
 kept-entry true there (Entry x) told = rw told refl
 
--- row i of a dictionary is the entry that its key names where the row is present, else Null
+-- row i of a dictionary is the entry that its key names if the row is present, else Null
 pub dictionary-row : (a : DictionaryArray) (i : ℕ) → IsGood (Dictionary a) → i < key_count (dictionary_keys a) → row (Dictionary a) i ≡ kept (is_present (mask_of (Dictionary a)) i) (Entry (row (dictionary_values a) (key_at (dictionary_keys a) i)))
 dictionary-row a i good low =
     kept-entry (is_present (key_validity (dictionary_keys a)) i) (is_present (mask_of (Dictionary a)) i) (row (dictionary_values a) (key_at (dictionary_keys a) i)) (presence-told (Dictionary a) i good low)
 
--- only of nulls the mask is another than the bits of presence
+-- the mask differs from the bits of presence for null arrays only
 pub mask-presence : (x : AnyArray) → NullKind ≢ type_of x → mask_of x ≡ presence_of x
 mask-presence (Null a) other = absurd (other refl)
 mask-presence _ other = refl

@@ -1,4 +1,4 @@
--- Which rows of any array are present.
+-- Masks of any array.
 use Rattle.std.specs.Prelude.{◌&&◌, ℕ, Bool, true, false, List, Option, Some, None, map, replicate}
 use Rattle.std.specs.List.{range_with_len}
 use Rattle.polars_arrays_flat.specs.Validity.{is_present}
@@ -7,31 +7,33 @@ use Rattle.polars_arrays_nested.specs.Lengths.{validity_of}
 use Rattle.polars_arrays_nested.specs.declared.any_array.AnyArray.{AnyArray, Null, Dictionary'}
 use Rattle.polars_arrays_nested.specs.declared.dict_keys.DictKeys.{DictKeys}
 
--- whether key i is present, and names an entry that is
+-- whether key i is present and names a present entry
 abbrev pub names_present : DictKeys → Option (List Bool) → ℕ → Bool
 names_present keys entries i = is_present (key_validity keys) i && is_present entries (key_at keys i)
 
--- the same of each key
+-- for each key, whether it is present and names a present entry
 abbrev pub named_bits : DictKeys → Option (List Bool) → List Bool
 named_bits keys entries = map (names_present keys entries) (range_with_len 0 (key_count keys))
 
--- which keys are present and name an entry that is; where all entries are, the keys' validity says it
+-- the mask of keys over entries: the keys' validity if all entries are present
 abbrev pub entry_mask : DictKeys → Option (List Bool) → Option (List Bool)
 entry_mask keys None = key_validity keys
 entry_mask keys (Some entries) = Some (named_bits keys (Some entries))
 
--- which rows are not Null, or None where the array keeps no bits that could say so: those that the validity leaves, of a null array none, and of a dictionary the present keys to such entries, down to the last dictionary
+-- a bit for each row, set if it is not Null, or None if the array has no validity at any level of
+-- its dictionaries; a null array has only zeros
 abbrev pub presence_of : AnyArray → Option (List Bool)
 presence_of (Null a) = Some (replicate a false)
 presence_of (Dictionary' keys p values) = entry_mask keys (presence_of values)
 presence_of a = validity_of a
 
--- whether bits are there
+-- whether there are bits
 abbrev pub has_bits : Option (List Bool) → Bool
 has_bits None = false
 has_bits (Some bits) = true
 
--- which rows are present, or None where none is masked: those that are not Null, save that no row of a null array is masked (our own choice)
+-- the mask: a bit for each row, or None if no row is masked; no row of a null array is masked (our
+-- own choice)
 abbrev pub mask_of : AnyArray → Option (List Bool)
 mask_of (Null a) = None
 mask_of a = presence_of a

@@ -1,4 +1,4 @@
--- The parts of arrays that hold arrays, as the calls that borrow them give them.
+-- The parts of nested arrays, as the functions that borrow them return them.
 use Rattle.std.specs.Prelude.{ℕ, Bool, List, Option}
 use Rattle.polars_arrays_flat.specs.declared.data_type.Field.{Field}
 use Rattle.polars_arrays_nested.specs.declared.any_array.AnyArray.{AnyArray}
@@ -9,19 +9,19 @@ use Rattle.polars_arrays_nested.specs.declared.list.ListArray.{ListArray}
 use Rattle.polars_arrays_nested.specs.declared.list_offsets.ListOffsets.{ListOffsets}
 use Rattle.polars_arrays_nested.specs.declared.struct_array.StructArray.{StructArray}
 
--- where each list begins and ends
+-- the offsets of lists
 abbrev pub list_offsets : ListArray → ListOffsets
 list_offsets a = a.offsets
 
--- the items of all lists, and those of no list
+-- the items of lists, including items of no list
 abbrev pub list_values : ListArray → AnyArray
 list_values a = a.values.value
 
--- which lists are present
+-- the validity of lists
 abbrev pub list_validity : ListArray → Option (List Bool)
 list_validity a = a.validity
 
--- how many items each list has
+-- the number of items of each list
 abbrev pub fixed_width : FixedSizeListArray → ℕ
 fixed_width a = a.width
 
@@ -29,7 +29,7 @@ fixed_width a = a.width
 abbrev pub fixed_values : FixedSizeListArray → AnyArray
 fixed_values a = a.values.value
 
--- which lists of one width are present
+-- the validity of lists of one width
 abbrev pub fixed_validity : FixedSizeListArray → Option (List Bool)
 fixed_validity a = a.validity
 
@@ -37,18 +37,18 @@ fixed_validity a = a.validity
 abbrev pub struct_fields : StructArray → List Field
 struct_fields a = a.fields.items
 
--- an array for each field
+-- the arrays of a struct's fields
 abbrev pub columns : StructArray → List AnyArray
 columns a = a.values.items
 
--- which rows of a struct are present
+-- the validity of a struct
 abbrev pub struct_validity : StructArray → Option (List Bool)
 struct_validity a = a.validity
 
--- for each row the number of its entry
+-- the keys of a dictionary array
 abbrev pub dictionary_keys : DictionaryArray → DictKeys
 dictionary_keys a = a.keys
 
--- the entries
+-- the entries of a dictionary array
 abbrev pub dictionary_values : DictionaryArray → AnyArray
 dictionary_values a = a.values.value

@@ -1,4 +1,4 @@
--- The rows of arrays that hold arrays as they are stored, whatever the validity says.
+-- The stored rows of nested arrays, whatever the validity.
 use Rattle.std.specs.Prelude.{◌*◌, ℕ, List, map}
 use Rattle.std.specs.List.{range_with_len}
 use Rattle.polars_arrays_flat.specs.Row.{Row, Rows, Fields, Entry}
@@ -25,7 +25,7 @@ stored_list a i =
 abbrev pub stored_lists : ListArray → List Row
 stored_lists a = listed (stored_list a) (list_count (list_offsets a))
 
--- list i of one width: as many items from width * i on
+-- list i of one width: the `width` items from width * i on
 abbrev pub stored_fixed_list : FixedSizeListArray → ℕ → Row
 stored_fixed_list a i = Rows (rows_from (row (fixed_values a)) (fixed_width a * i) (fixed_width a))
 
@@ -33,7 +33,7 @@ stored_fixed_list a i = Rows (rows_from (row (fixed_values a)) (fixed_width a * 
 abbrev pub stored_fixed_lists : FixedSizeListArray → List Row
 stored_fixed_lists a = listed (stored_fixed_list a) a.len
 
--- struct i: the row of each column there
+-- struct i: the rows of all columns at that place
 abbrev pub stored_struct : StructArray → ℕ → Row
 stored_struct a i = Fields (rows_at (columns a) i)
 

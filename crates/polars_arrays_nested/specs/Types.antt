@@ -6,12 +6,12 @@ use Rattle.polars_arrays_nested.specs.declared.any_array.AnyArray.{AnyArray, Nul
 use Rattle.polars_arrays_nested.specs.declared.list_offsets.ListOffsets.{ListOffsets}
 use Rattle.polars_arrays_nested.specs.declared.list_offsets.ListOffsets.TheVariants.{Small, Large}
 
--- the kind of lists of such items between these offsets
+-- the kind of lists of such items with these offsets
 abbrev pub kind_of_lists : ListOffsets → Kind → Kind
 kind_of_lists (Small offsets) item = ListKind item
 kind_of_lists (Large offsets) item = LargeListKind item
 
--- the type of an array; a struct's is that of its fields
+-- the type of an array; a struct's is made of its fields
 abbrev pub type_of : AnyArray → Kind
 type_of (Null a) = NullKind
 type_of (Boolean a) = BooleanKind

@@ -27,7 +27,8 @@ use polars_arrays_views::binary_view::BinaryViewArray;
 use polars_arrays_views::text_view::Utf8ViewArray;
 use std::alloc::Global;
 
-// A match on an array: one expression for every kind, where the kinds that hold arrays may each have their own.
+// A match on an array: one expression for every kind. The kinds that hold arrays may have
+// expressions of their own.
 macro_rules! each_array {
     ($any:expr, $array:ident => $each:expr) => {
         each_array!(
@@ -67,7 +68,7 @@ macro_rules! each_array {
 
 pub(crate) use each_array;
 
-// For arrays of these kinds the same kind of array, of what an expression gives for each in Ok.
+// A map of an array to one of the same kind, by an expression that returns its parts in `Ok`.
 macro_rules! map_array {
     ($any:expr, $array:ident => $each:expr, $($kind:ident)+, _ => $other:expr) => {
         match $any {
@@ -77,7 +78,7 @@ macro_rules! map_array {
     };
 }
 
-/// An array of any kind, those that hold arrays among them.
+/// An array of any kind, including those that hold arrays.
 #[cycle(arrays)]
 #[derive(Drop)]
 pub enum AnyArray {
@@ -107,7 +108,7 @@ pub enum AnyArray {
 }
 
 impl AnyArray {
-    /// How many rows there are.
+    /// Returns the number of rows.
     #[tactic(auto, using(crate::proofs::Lengths::lengths))]
     pub fn len(&self) -> usize
         ensures { result ≡ len_of self.now }
@@ -122,8 +123,8 @@ impl AnyArray {
         )
     }
 
-    /// The validity that the array keeps: a bit for each row, 0 where it masks the row, or None where it masks none. A
-    /// dictionary's is that of its keys.
+    /// Returns the validity that the array stores: a bit for each row, 0 if the row is masked, or
+    /// `None` if no row is. A dictionary's validity is that of its keys.
     #[tactic(auto, using(crate::proofs::Lengths::lengths))]
     pub fn validity(&self) -> Option<&Bitmap>
         requires { IsGood self.now }
@@ -133,7 +134,7 @@ impl AnyArray {
         each_array!(self, array => array.validity())
     }
 
-    /// Keeps `n` rows from row `at` on.
+    /// Keeps the `n` rows from row `at` on.
     #[cycle(slices)]
     #[tactic(auto, using(crate::proofs::Cuts::leaf_cuts))]
     pub fn slice(&mut self, at: usize, n: usize)
@@ -144,7 +145,7 @@ impl AnyArray {
         each_array!(self, array => array.slice(at, n))
     }
 
-    /// A second array of the same rows and type. The error is `Memory`.
+    /// Clones the array. The error is `Memory`.
     #[cycle(clones)]
     #[tactic(auto, using(crate::proofs::Clones::copies))]
     pub fn clone_array(&self, alloc: Global) -> Result<AnyArray, ComputeError>
@@ -158,8 +159,8 @@ impl AnyArray {
         )
     }
 
-    // The same of an array that holds no arrays. It is a function of its own since each level of an array that does takes a
-    // third less stack so.
+    // Clones an array that holds no arrays. A separate function, so that each level of a nested
+    // array takes a third less stack.
     #[tactic(auto, using(crate::proofs::Flat::flat))]
     fn clone_flat(&self, alloc: Global) -> Result<AnyArray, ComputeError>
         requires { IsTrue (is_flat self.now) }

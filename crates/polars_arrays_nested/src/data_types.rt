@@ -1,4 +1,4 @@
-//! The types of arrays as values, and second copies of these.
+//! Types of arrays as values, and their clones.
 
 ghost use Rattle.std.specs.Prelude.{◌≡◌, MatchResult};
 ghost use Rattle.polars_arrays_bits.specs.Errors.{IsMemory};
@@ -16,7 +16,7 @@ use polars_arrays_flat::data_type::{ArrowDataType, Field};
 use std::alloc::Global;
 
 impl ListArray {
-    /// The array's type. The error is `Memory`.
+    /// Returns the array's type. The error is `Memory`.
     #[cycle(dtypes)]
     pub fn dtype(&self, alloc: Global) -> Result<ArrowDataType, ComputeError>
         ensures { MatchResult result (λ dtype. kind_of dtype ≡ type_of (List self.now)) IsMemory }
@@ -32,7 +32,7 @@ impl ListArray {
 }
 
 impl FixedSizeListArray {
-    /// The array's type. The error is `Memory`.
+    /// Returns the array's type. The error is `Memory`.
     #[cycle(dtypes)]
     pub fn dtype(&self, alloc: Global) -> Result<ArrowDataType, ComputeError>
         ensures { MatchResult result (λ dtype. kind_of dtype ≡ type_of (FixedSizeList self.now)) IsMemory }
@@ -44,7 +44,7 @@ impl FixedSizeListArray {
 }
 
 impl StructArray {
-    /// The array's type. The error is `Memory`.
+    /// Returns the array's type. The error is `Memory`.
     #[tactic(auto, using(crate::proofs::FieldKinds::struct_types))]
     pub fn dtype(&self, alloc: Global) -> Result<ArrowDataType, ComputeError>
         ensures { MatchResult result (λ dtype. kind_of dtype ≡ type_of (Struct self.now)) IsMemory }
@@ -55,7 +55,7 @@ impl StructArray {
 }
 
 impl DictionaryArray {
-    /// The array's type. The error is `Memory`.
+    /// Returns the array's type. The error is `Memory`.
     #[cycle(dtypes)]
     pub fn dtype(&self, alloc: Global) -> Result<ArrowDataType, ComputeError>
         ensures { MatchResult result (λ dtype. kind_of dtype ≡ type_of (Dictionary self.now)) IsMemory }
@@ -67,7 +67,7 @@ impl DictionaryArray {
 }
 
 impl AnyArray {
-    /// The array's type. The error is `Memory`.
+    /// Returns the array's type. The error is `Memory`.
     #[cycle(dtypes)]
     pub fn dtype(&self, alloc: Global) -> Result<ArrowDataType, ComputeError>
         ensures { MatchResult result (λ dtype. kind_of dtype ≡ type_of self.now) IsMemory }
@@ -76,7 +76,7 @@ impl AnyArray {
     }
 }
 
-/// A second copy of a type. The error is `Memory`.
+/// Clones a type. The error is `Memory`.
 #[cycle(clone_types)]
 pub fn clone_type(alloc: Global, dtype: &ArrowDataType) -> Result<ArrowDataType, ComputeError>
     ensures { MatchResult result (λ copy. kind_of copy ≡ kind_of dtype.now) IsMemory }
@@ -115,7 +115,7 @@ pub fn clone_type(alloc: Global, dtype: &ArrowDataType) -> Result<ArrowDataType,
     }
 }
 
-// A second copy of a type, on the heap.
+// Clones a type into a box.
 #[cycle(clone_types)]
 fn boxed_type(alloc: Global, dtype: &ArrowDataType) -> Result<Box<ArrowDataType>, ComputeError>
     ensures { MatchResult result (λ copy. kind_of copy.value ≡ kind_of dtype.now) IsMemory }
@@ -125,7 +125,7 @@ fn boxed_type(alloc: Global, dtype: &ArrowDataType) -> Result<Box<ArrowDataType>
     Ok(copy)
 }
 
-/// A second copy of fields. The error is `Memory`.
+/// Clones a list of fields. The error is `Memory`.
 #[cycle(clone_types)]
 pub fn clone_fields(alloc: Global, fields: &[Field]) -> Result<Vec<Field>, ComputeError>
     ensures { MatchResult result (λ copies. kinds_of copies.items ≡ kinds_of fields.now) IsMemory }
@@ -138,7 +138,7 @@ pub fn clone_fields(alloc: Global, fields: &[Field]) -> Result<Vec<Field>, Compu
     Ok(copies)
 }
 
-// A second copy of a field.
+// Clones a field.
 #[cycle(clone_types)]
 fn clone_field(alloc: Global, field: &Field) -> Result<Field, ComputeError>
     ensures { MatchResult result (λ copy. IsSameField copy field.now) IsMemory }

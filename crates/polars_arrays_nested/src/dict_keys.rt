@@ -17,7 +17,7 @@ use polars_arrays_flat::validity::is_present;
 use polars_arrays_numbers::dictionary_key::DictionaryKey;
 use std::alloc::Global;
 
-// A match on keys, with one expression for every type of key.
+// A match on keys, with one expression for all types of keys.
 macro_rules! each_type {
     ($keys:expr, $of_type:ident => $each:expr) => {
         match $keys {
@@ -33,7 +33,7 @@ macro_rules! each_type {
     };
 }
 
-/// For each row the number of its entry, of which a validity masks some.
+/// The keys of a dictionary array: for each row the index of its entry, with an optional validity.
 #[derive(Drop)]
 pub enum DictKeys {
     Int8(PrimitiveArray<i8>),
@@ -47,7 +47,7 @@ pub enum DictKeys {
 }
 
 impl DictKeys {
-    /// How many keys there are.
+    /// Returns the number of keys.
     #[tactic(auto, using(crate::proofs::Places::places_of))]
     pub fn len(&self) -> usize
         ensures { result ≡ key_count self.now }
@@ -55,7 +55,7 @@ impl DictKeys {
         each_type!(self, keys => keys.len())
     }
 
-    /// A bit for each key, set where it is present, or None where no key is masked.
+    /// Returns a bit for each key, set if it is present, or `None` if no key is masked.
     #[tactic(auto, using(crate::proofs::Places::places_of))]
     pub fn validity(&self) -> Option<&Bitmap>
         ensures mask { option_copied result ≡ key_validity self.now }
@@ -64,14 +64,14 @@ impl DictKeys {
         each_type!(self, keys => keys.validity())
     }
 
-    /// How many keys are masked.
+    /// Returns the number of masked keys.
     pub fn null_count(&self) -> usize
         ensures { result ≡ masked_count (key_validity self.now) }
     {
         each_type!(self, keys => keys.null_count())
     }
 
-    /// The type of the keys.
+    /// Returns the type of the keys.
     pub fn key_type(&self) -> IntegerType
         ensures { result ≡ key_type self.now }
     {
@@ -87,8 +87,8 @@ impl DictKeys {
         }
     }
 
-    /// Key `i` as a place among the entries, also where it is masked. A negative one, which only a masked
-    /// row of an array may have, gives 0.
+    /// Returns key `i` as the index of an entry, even if it is masked. A negative key, which only a
+    /// masked row can have, gives 0.
     #[inline(always)]
     #[tactic(auto, using(crate::proofs::Places::places_of))]
     pub fn key(&self, i: usize) -> usize
@@ -98,14 +98,14 @@ impl DictKeys {
         each_type!(self, keys => entry_of(keys.values(), i))
     }
 
-    /// The first present key that names none of `n` entries.
+    /// Returns the first row whose present key names none of `n` entries.
     pub fn first_bad_key(&self, n: usize) -> Option<usize>
         ensures { MatchOption result (NameEntries n (key_validity self.now) (key_places self.now)) (IsFirstBadKey n (key_validity self.now) (key_places self.now)) }
     {
         each_type!(self, keys => first_bad(keys, n))
     }
 
-    /// Keeps `n` keys from key `at` on. No key moves.
+    /// Keeps the `n` keys from key `at` on. No key is moved.
     #[tactic(auto, using(crate::proofs::Places::places_of))]
     pub fn slice(&mut self, at: usize, n: usize)
         requires { at + n ≤ key_count self.old }
@@ -116,7 +116,7 @@ impl DictKeys {
         each_type!(self, keys => keys.slice(at, n))
     }
 
-    /// A second copy of the keys. Values that are shared are not copied. The error is `Memory`.
+    /// Clones the keys. Shared values are not copied. The error is `Memory`.
     pub fn clone_keys(&self, alloc: Global) -> Result<DictKeys, ComputeError>
         ensures { MatchResult result (λ copy. copy ≡ self.now) IsMemory }
     {
@@ -133,7 +133,7 @@ impl DictKeys {
     }
 }
 
-// Key `i` as a place, or 0 where it is negative.
+// Returns key `i` as an index, or 0 if it is negative.
 #[inline(always)]
 #[tactic(auto, using(crate::proofs::Places::places_of))]
 fn entry_of<K: DictionaryKey>(keys: &[K], i: usize) -> usize
@@ -143,7 +143,7 @@ fn entry_of<K: DictionaryKey>(keys: &[K], i: usize) -> usize
     keys[i].to_entry().unwrap_or(0)
 }
 
-// The first present key that names none of `n` entries.
+// Returns the first row whose present key names none of `n` entries.
 fn first_bad<K: DictionaryKey>(keys: &PrimitiveArray<K>, n: usize) -> Option<usize>
     ensures { MatchOption result (NameEntries n keys.now.validity (places K.value keys.now.values)) (IsFirstBadKey n keys.now.validity (places K.value keys.now.values)) }
 {
@@ -155,7 +155,7 @@ fn first_bad<K: DictionaryKey>(keys: &PrimitiveArray<K>, n: usize) -> Option<usi
     None
 }
 
-// Whether the key of a row is masked, or names one of `n` entries.
+// Returns whether the key of a row is masked or names one of `n` entries.
 #[tactic(auto, using(crate::proofs::Places::places_of))]
 fn is_good_key<K: DictionaryKey>(keys: &PrimitiveArray<K>, row: usize, n: usize) -> bool
     requires { row < length keys.now.values }
@@ -168,7 +168,7 @@ fn is_good_key<K: DictionaryKey>(keys: &PrimitiveArray<K>, row: usize, n: usize)
     }
 }
 
-// Whether the key of a row names one of `n` entries.
+// Returns whether the key of a row names one of `n` entries.
 #[tactic(auto, using(crate::proofs::Places::places_of))]
 fn names_entry<K: DictionaryKey>(keys: &[K], row: usize, n: usize) -> bool
     requires { row < length keys.now }

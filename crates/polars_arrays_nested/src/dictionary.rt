@@ -1,4 +1,4 @@
-//! Arrays of entries of a dictionary.
+//! Arrays of keys into a dictionary.
 
 ghost use Rattle.std.specs.Prelude.{◌≡◌, ◌<◌, ◌+◌, ◌≤◌, ℕ, true, IfOk, IfErr, refl, MatchResult};
 ghost use Rattle.std.specs.Result.{OkIff};
@@ -30,7 +30,8 @@ use polars_arrays_flat::array::Array;
 use polars_arrays_flat::mask::Mask;
 use std::alloc::Global;
 
-/// Rows that name entries of another array by keys, of which a validity masks some. A row whose key is present is null too where the entry is.
+/// An array of keys, with an optional validity, and the entries they name. A row is null if its key
+/// is masked or its entry is null.
 #[cycle(arrays)]
 #[derive(Drop)]
 pub struct DictionaryArray {
@@ -39,9 +40,9 @@ pub struct DictionaryArray {
 }
 
 impl DictionaryArray {
-    /// An array of the entries that the keys name, null where the key or the entry is. The error is `Key` with the first
-    /// row whose key is present and negative, or not below the number of entries. A key under a null may be
-    /// anything.
+    /// Creates an array of the entries that the keys name. A row is null if its key or its entry
+    /// is. The error is `Key` with the first row whose key is present and negative, or not below
+    /// the number of entries. A masked key is arbitrary.
     #[tactic(auto, using(crate::proofs::Faults::faults))]
     pub fn try_new(keys: DictKeys, values: Box<AnyArray>) -> Result<DictionaryArray, ArrayError>
         requires { IsGood values.value }
@@ -59,14 +60,14 @@ impl DictionaryArray {
         }
     }
 
-    /// For each row the number of its entry.
+    /// Returns the keys: for each row the index of its entry.
     pub fn keys(&self) -> &DictKeys
         ensures { result.now ≡ dictionary_keys self.now }
     {
         &self.keys
     }
 
-    /// The entries, and those that no key names.
+    /// Returns the entries, including those that no key names.
     pub fn values(&self) -> &AnyArray
         ensures values { result.now ≡ dictionary_values self.now }
         ensures smaller { size-AnyArray result.now < size-DictionaryArray self.now }
@@ -74,7 +75,7 @@ impl DictionaryArray {
         &self.values
     }
 
-    /// The number of the entry that the key of a present row names.
+    /// Returns the index of the entry that the key of a present row names.
     #[inline(always)]
     pub fn key_value(&self, i: usize) -> usize
         requires good { IsGood (Dictionary self.now) }
@@ -86,7 +87,7 @@ impl DictionaryArray {
         self.keys.key(i)
     }
 
-    /// Whether row `i` is null: its key is, or the entry that it names.
+    /// Returns whether row `i` is null: its key is masked, or its entry is null.
     #[tactic(auto, using(crate::proofs::Presence::rows_told))]
     pub fn is_null_row(&self, i: usize) -> bool
         requires good { IsGood (Dictionary self.now) }
@@ -96,7 +97,7 @@ impl DictionaryArray {
         !has_entry(self, i)
     }
 
-    /// Keeps `n` rows from row `at` on.
+    /// Keeps the `n` rows from row `at` on.
     #[tactic(auto, using(crate::proofs::Cuts::kept_parts))]
     pub fn slice(&mut self, at: usize, n: usize)
         requires good { IsGood (Dictionary self.old) }
@@ -106,7 +107,7 @@ impl DictionaryArray {
         self.keys.slice(at, n);
     }
 
-    /// A second array of the same rows and type. The error is `Memory`.
+    /// Clones the array. The error is `Memory`.
     #[cycle(clones)]
     #[tactic(auto, using(crate::proofs::Clones::copies))]
     pub fn clone_array(&self, alloc: Global) -> Result<DictionaryArray, ComputeError>

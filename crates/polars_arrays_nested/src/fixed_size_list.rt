@@ -27,21 +27,22 @@ use polars_arrays_flat::mask::Mask;
 use polars_arrays_flat::validity::{clone_validity, has_bits, null_count, slice_validity};
 use std::alloc::Global;
 
-/// Lists that all have the same number of items, of which a validity masks some.
+/// An array of lists that all have the same number of items, with an optional validity.
 #[cycle(arrays)]
 #[derive(Drop)]
 pub struct FixedSizeListArray {
     // items a list
     width: usize,
-    // how many lists there are, since with no items a list the items do not tell
+    // number of lists; the items alone do not determine it if `width` is 0
     len: usize,
     values: Box<AnyArray>,
     validity: Option<Bitmap>,
 }
 
 impl FixedSizeListArray {
-    /// An array of `len` lists of `width` items each, one after the other in `values`. The error is `Length`,
-    /// where the validity has not a bit for each list, or the values are not `width * len` rows.
+    /// Creates an array of `len` lists of `width` items each, one after the other in `values`. The
+    /// error is `Length`, if the validity does not have a bit for each list, or if `values` does
+    /// not have `width * len` rows.
     pub fn try_new(
         width: usize,
         len: usize,
@@ -65,21 +66,21 @@ impl FixedSizeListArray {
         })
     }
 
-    /// How many lists there are.
+    /// Returns the number of lists.
     pub fn len(&self) -> usize
         ensures { result ≡ len_of (FixedSizeList self.now) }
     {
         self.len
     }
 
-    /// How many items each list has.
+    /// Returns the number of items of each list.
     pub fn width(&self) -> usize
         ensures { result ≡ fixed_width self.now }
     {
         self.width
     }
 
-    /// The items of all lists.
+    /// Returns the items of all lists.
     pub fn values(&self) -> &AnyArray
         ensures values { result.now ≡ fixed_values self.now }
         ensures smaller { size-AnyArray result.now < size-FixedSizeListArray self.now }
@@ -87,21 +88,21 @@ impl FixedSizeListArray {
         &self.values
     }
 
-    /// Keeps `n` rows from row `at` on.
+    /// Keeps the `n` rows from row `at` on.
     #[cycle(slices)]
     pub fn slice(&mut self, at: usize, n: usize)
         requires good { IsGood (FixedSizeList self.old) }
         requires within { at + n ≤ len_of (FixedSizeList self.old) }
         ensures { IsCut (FixedSizeList self.new) (FixedSizeList self.old) at n }
     {
-        // The products below are at most this number, and so fit a `usize`.
+        // The products below are at most this number, so they fit a `usize`.
         let _items = self.values.len();
         self.values.slice(self.width * at, self.width * n);
         slice_validity(&mut self.validity, at, n);
         self.len = n;
     }
 
-    /// A second array of the same rows and type. The error is `Memory`.
+    /// Clones the array. The error is `Memory`.
     #[cycle(clones)]
     #[tactic(auto, using(crate::proofs::Clones::copies))]
     pub fn clone_array(&self, alloc: Global) -> Result<FixedSizeListArray, ComputeError>

@@ -16,13 +16,14 @@ ghost use Rattle.polars_arrays_nested.specs.declared.fixed_size_list.FixedSizeLi
 ghost use Rattle.polars_arrays_nested.specs.declared.list.ListArray.{ListArray};
 ghost use Rattle.polars_arrays_nested.specs.declared.struct_array.StructArray.{StructArray};
 
-/// The leaf slots of two windows, the second beginning where the first ends, are those of both together.
+/// States that two adjacent windows have the leaf slots of both together.
 #[tactic(auto, using(crate::proofs::LeafSlots::leaf_slots))]
 pub fn law_leaves()
     ensures { LeavesAddUp }
 {}
 
-/// The rows of an array that holds arrays are its stored rows, with null where the mask has 0.
+/// States that the rows of a nested array are its stored rows, with null in place of those whose
+/// mask bit is 0.
 #[tactic(auto, using(crate::proofs::RowLists::stored_rows))]
 pub fn law_rows()
     ensures lists { (a : ListArray) → IsGood (List a) → rows (List a) ≡ rows_under (list_validity a) (stored_lists a) }

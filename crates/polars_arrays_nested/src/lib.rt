@@ -1,4 +1,4 @@
-//! Arrays that hold arrays: lists, lists of one width, structs and dictionaries, and any array.
+//! Nested arrays: lists, lists of one width, structs and dictionaries. Also arrays of any kind.
 #![tactic(auto)]
 
 pub mod any_array;

@@ -29,7 +29,7 @@ use polars_arrays_flat::mask::Mask;
 use polars_arrays_flat::validity::{clone_validity, has_bits, null_count, slice_validity};
 use std::alloc::Global;
 
-/// Lists of items that lie between offsets, of which a validity masks some.
+/// An array of lists of items between offsets, with an optional validity.
 #[cycle(arrays)]
 #[derive(Drop)]
 pub struct ListArray {
@@ -39,14 +39,15 @@ pub struct ListArray {
 }
 
 impl ListArray {
-    /// An array of the lists between neighbouring offsets: row `i` is the items from offset `i` up to offset
-    /// `i + 1`, and the first offset need not be 0. The error is
-    /// - `Length`, where the validity has not a bit for each row (rows are one fewer than offsets, or none),
-    /// - then `Offsets` with the first row whose offsets are not `0 <= offsets[i] <= offsets[i + 1] <=
-    ///   values.len()`, with row 0 where there is no offset, or where the only one is not 0 to
-    ///   `values.len()`.
+    /// Creates an array of the lists between neighbouring offsets: row `i` is the items from offset
+    /// `i` up to offset `i + 1`. The first offset need not be 0. The error is
+    /// - `Length`, if the validity does not have a bit for each row (rows are one fewer than
+    ///   offsets, or none),
+    /// - then `Offsets` with the first row whose offsets are not
+    ///   `0 <= offsets[i] <= offsets[i + 1] <= values.len()`; with row 0, if there is no offset, or
+    ///   if the only one is not in `0..=values.len()`.
     ///
-    /// Offsets have to be good at null rows too.
+    /// Offsets of null rows are checked too.
     #[tactic(auto, using(crate::proofs::Faults::faults))]
     pub fn try_new(
         offsets: ListOffsets,
@@ -76,14 +77,14 @@ impl ListArray {
         }
     }
 
-    /// Where each list begins and ends among the items.
+    /// Returns the offsets of the lists among the items.
     pub fn offsets(&self) -> &ListOffsets
         ensures { result.now ≡ list_offsets self.now }
     {
         &self.offsets
     }
 
-    /// The items of all lists, and those of no list.
+    /// Returns the items, including those of no list.
     pub fn values(&self) -> &AnyArray
         ensures values { result.now ≡ list_values self.now }
         ensures smaller { size-AnyArray result.now < size-ListArray self.now }
@@ -91,7 +92,7 @@ impl ListArray {
         &self.values
     }
 
-    /// Keeps `n` rows from row `at` on.
+    /// Keeps the `n` rows from row `at` on.
     #[tactic(auto, using(crate::proofs::Cuts::kept_parts))]
     pub fn slice(&mut self, at: usize, n: usize)
         requires good { IsGood (List self.old) }
@@ -102,7 +103,7 @@ impl ListArray {
         slice_validity(&mut self.validity, at, n);
     }
 
-    /// A second array of the same rows and type. The error is `Memory`.
+    /// Clones the array. The error is `Memory`.
     #[cycle(clones)]
     #[tactic(auto, using(crate::proofs::Clones::copies))]
     pub fn clone_array(&self, alloc: Global) -> Result<ListArray, ComputeError>

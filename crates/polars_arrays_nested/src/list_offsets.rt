@@ -15,7 +15,7 @@ use polars_arrays_bytes::offsets::{first_bad_row, keep_rows, row_count};
 use polars_arrays_numbers::offset::Offset;
 use std::alloc::Global;
 
-/// Where the items of each list begin and end among all items: one offset more than there are lists.
+/// The offsets of lists among all items, one more than lists.
 #[derive(Drop)]
 pub enum ListOffsets {
     Small(Buffer<i32>),
@@ -23,7 +23,7 @@ pub enum ListOffsets {
 }
 
 impl ListOffsets {
-    /// How many lists there are: one fewer than offsets, and none without an offset.
+    /// Returns the number of lists: one fewer than offsets, and none without an offset.
     #[tactic(auto, using(crate::proofs::Places::places_of))]
     pub fn len(&self) -> usize
         ensures { result ≡ list_count self.now }
@@ -34,14 +34,15 @@ impl ListOffsets {
         }
     }
 
-    /// Whether the offsets have 64 bits.
+    /// Returns whether the offsets have 64 bits.
     pub fn is_large(&self) -> bool
         ensures { result ≡ is_large self.now }
     {
         matches!(self, ListOffsets::Large(_))
     }
 
-    /// Offset `i` as a place among the items. A negative one, which no array has, gives 0.
+    /// Returns offset `i` as a place among the items. A negative offset, which no array has, gives
+    /// 0.
     #[tactic(auto, using(crate::proofs::Places::places_of))]
     pub fn offset(&self, i: usize) -> usize
         requires { i < length (list_places self.now) }
@@ -53,7 +54,7 @@ impl ListOffsets {
         }
     }
 
-    /// The first list that is not good over `n` items, or list 0 where no offset tells where the lists begin.
+    /// Returns the first list that is not good over `n` items, or list 0 if there is no offset.
     pub fn first_bad_row(&self, n: usize) -> Option<usize>
         ensures { MatchOption result (AreGood n (list_places self.now)) (IsFirstBad n (list_places self.now)) }
     {
@@ -63,7 +64,7 @@ impl ListOffsets {
         }
     }
 
-    /// Keeps the offsets of `n` lists from list `at` on. No offset moves.
+    /// Keeps the offsets of the `n` lists from list `at` on. No offset is moved.
     #[tactic(auto, using(crate::proofs::Places::places_of))]
     pub fn slice(&mut self, at: usize, n: usize)
         requires { at + n < length (list_places self.old) }
@@ -76,7 +77,7 @@ impl ListOffsets {
         }
     }
 
-    /// A second copy of the offsets. A buffer that is shared is not copied. The error is `Memory`.
+    /// Clones the offsets. A shared buffer is not copied. The error is `Memory`.
     pub fn clone_offsets(&self, alloc: Global) -> Result<ListOffsets, ComputeError>
         ensures { MatchResult result (λ copy. copy ≡ self.now) IsMemory }
     {
@@ -93,7 +94,7 @@ impl ListOffsets {
     }
 }
 
-// Offset `i` as a place, or 0 where it is negative.
+// Returns offset `i` as a place, or 0 if it is negative.
 #[tactic(auto, using(crate::proofs::Places::places_of))]
 fn place_of<O: Offset>(offsets: &[O], i: usize) -> usize
     requires { i < length offsets.now }

@@ -1,6 +1,7 @@
-//! Which rows of an array of any kind are present, of the whole array and of windows of it.
+//! Masks of arrays of any kind and of their windows.
 //!
-//! A row is null where a validity masks it, and in a dictionary also where the entry is null that its key names. No other place says so.
+//! A row is null if a validity masks it, or if it is a dictionary's key to a null entry. No other
+//! code decides which rows are null.
 
 ghost use Rattle.std.specs.Prelude.{◌≡◌, ◌+◌, ◌≤◌, ◌<◌, ℕ, false, IfSome, MatchResult, length};
 ghost use Rattle.std.specs.Option.{option_copied};
@@ -26,7 +27,7 @@ use polars_arrays_flat::array::Array;
 use polars_arrays_flat::mask::Mask;
 use std::alloc::Global;
 
-// Whether row `i` is there and present.
+// Returns whether row `i` exists and is present.
 #[inline(always)]
 fn has_row(validity: Option<&Bitmap>, i: usize) -> bool
     ensures { result ≡ is_present (option_copied validity.entry) i }
@@ -37,7 +38,8 @@ fn has_row(validity: Option<&Bitmap>, i: usize) -> bool
     }
 }
 
-// Whether an array keeps bits that say which rows are not null: a validity, its own or that of its last entries, or nulls.
+// Returns whether an array has bits of presence: a validity, its own or that of its last entries,
+// or only nulls.
 #[tactic(auto, using(crate::proofs::Presence::entries))]
 fn keeps_bits(array: &AnyArray) -> bool
     requires { IsGood array.now }
@@ -52,7 +54,7 @@ fn keeps_bits(array: &AnyArray) -> bool
     }
 }
 
-// Whether row `i` is not null.
+// Returns whether row `i` is not null.
 #[tactic(auto, using(crate::proofs::Presence::entries))]
 fn is_there(array: &AnyArray, i: usize) -> bool
     requires good { IsGood array.now }
@@ -68,7 +70,7 @@ fn is_there(array: &AnyArray, i: usize) -> bool
     }
 }
 
-// Whether key `i` of a dictionary is present, and names an entry that is.
+// Returns whether key `i` of a dictionary is present and names a present entry.
 #[tactic(auto, using(crate::proofs::Presence::entries))]
 pub(crate) fn has_entry(array: &DictionaryArray, i: usize) -> bool
     requires good { IsGood (Dictionary array.now) }
@@ -79,7 +81,8 @@ pub(crate) fn has_entry(array: &DictionaryArray, i: usize) -> bool
     has_row(keys.validity(), i) && is_there(array.values(), array.key_value(i))
 }
 
-// For each of `n` keys from key `at` on whether it is present, and names an entry that is.
+// Truth values for the `n` keys from key `at` on: whether the key is present and names a present
+// entry.
 #[derive(Drop)]
 struct NamedEntries<'m, 'a> {
     keys: &'m DictKeys,
@@ -103,14 +106,15 @@ impl TruthValues for NamedEntries<'_, '_> {
     #[tactic(auto, using(crate::proofs::Presence::windows))]
     #[inline]
     fn value(&self, i: usize) -> bool {
-        // No effect at run time. The proof reads from it that the sum is a number of 64 bits.
+        // Has no effect at run time. The proof learns from it that the sum fits in 64 bits.
         let _keys = self.keys.len();
         let row = self.at + i;
         has_row(self.validity, row) && self.entries.is_present(self.keys.key(row))
     }
 }
 
-// Which of `n` keys from key `at` on are present and name entries that are, each entry followed to the last one. The error is `Memory`.
+// Computes the mask of the `n` keys from key `at` on, following each key through all dictionaries
+// to its last entry. The error is `Memory`.
 #[tactic(auto, using(crate::proofs::Presence::windows))]
 fn followed_window(
     alloc: Global,
@@ -122,7 +126,7 @@ fn followed_window(
     requires within { at + n ≤ len_of (Dictionary array.now) }
     ensures { MatchResult result (λ bits. bits ≡ window at n (named_bits (dictionary_keys array.now) (presence_of (dictionary_values array.now)))) IsMemory }
 {
-    // No effect at run time. The proof reads from it that the sums are numbers of 64 bits.
+    // Has no effect at run time. The proof learns from it that the sums fit in 64 bits.
     let _rows = array.keys().len();
     let mut bits = BitmapBuilder::with_capacity(alloc, n)?;
     for i in 0..n {
@@ -131,7 +135,8 @@ fn followed_window(
     Ok(bits.freeze())
 }
 
-// The same, with the bits of the entries at hand where they are a validity. The error is `Memory`.
+// Computes the mask of the `n` keys from key `at` on from the mask of all entries. The error is
+// `Memory`.
 #[tactic(auto, using(crate::proofs::Presence::windows, crate::proofs::Presence::entries))]
 fn named_window(
     alloc: Global,
@@ -163,7 +168,7 @@ fn named_window(
     }
 }
 
-// Which of `n` rows from row `at` on are present. The error is `Memory`.
+// Returns the mask of the `n` rows from row `at` on. The error is `Memory`.
 #[tactic(auto, using(crate::proofs::Presence::windows))]
 fn dictionary_window(
     alloc: Global,
@@ -183,7 +188,7 @@ fn dictionary_window(
     Ok(lent_window(array.keys().validity(), at, n))
 }
 
-// Which rows of a dictionary are present. The error is `Memory`.
+// Returns the mask of a dictionary array. The error is `Memory`.
 #[tactic(auto, using(crate::proofs::Presence::windows))]
 pub(crate) fn dictionary_mask(
     alloc: Global,
@@ -194,12 +199,12 @@ pub(crate) fn dictionary_mask(
     ensures bits { HasBits (len_of (Dictionary array.now)) (mask_of (Dictionary array.now)) }
 {
     let keys = array.keys();
-    // No effect at run time. The proof reads from it that a validity has a bit for each key.
+    // Has no effect at run time. The proof learns from it that a validity has a bit for each key.
     let _validity = keys.validity();
     dictionary_window(alloc, array, 0, keys.len())
 }
 
-// The bits of `n` rows from row `at` on, lent.
+// Borrows the bits of the `n` rows from row `at` on.
 #[inline(always)]
 fn lent_window<'a>(validity: Option<&'a Bitmap>, at: usize, n: usize) -> Mask<'a>
     requires { IfSome (option_copied validity) (λ bits. at + n ≤ length bits) }
@@ -212,7 +217,7 @@ fn lent_window<'a>(validity: Option<&'a Bitmap>, at: usize, n: usize) -> Mask<'a
 }
 
 impl AnyArray {
-    /// Which rows are present, lent by the array or made for it. The error is `Memory`.
+    /// Returns the mask, borrowed from the array or computed. The error is `Memory`.
     #[tactic(auto, using(crate::proofs::Lengths::lengths))]
     pub fn missing_mask(&self, alloc: Global) -> Result<Mask<'_>, ComputeError>
         requires { IsGood self.now }
@@ -222,8 +227,8 @@ impl AnyArray {
         each_array!(self, array => array.missing_mask(alloc))
     }
 
-    /// Which of the `n` rows from row `at` on are present. No more bits are made than there are such rows, so that the
-    /// windows of an array cost no more than their rows. The error is `Memory`.
+    /// Returns the mask of the `n` rows from row `at` on. At most `n` bits are computed, so the
+    /// cost does not depend on the array's length. The error is `Memory`.
     #[tactic(auto, using(crate::proofs::Presence::windows))]
     #[inline(always)]
     pub fn window_mask(&self, alloc: Global, at: usize, n: usize) -> Result<Mask<'_>, ComputeError>
@@ -238,7 +243,8 @@ impl AnyArray {
         }
     }
 
-    /// Whether a row may be null: where not, none is. A validity in which no bit is unset leaves it open.
+    /// Returns `false` only if no row is null. It may return `true` for an array without nulls: a
+    /// validity may have no bit unset.
     #[tactic(auto, using(crate::proofs::Presence::rows_told))]
     pub fn may_have_nulls(&self) -> bool
         requires { IsGood self.now }
@@ -247,7 +253,8 @@ impl AnyArray {
         keeps_bits(self)
     }
 
-    /// Whether row `i` is null: a validity masks it, the array is one of nulls, or it names an entry that is null.
+    /// Returns whether row `i` is null: a validity masks it, the array is one of nulls, or it names
+    /// a null entry.
     #[tactic(auto, using(crate::proofs::Presence::rows_told))]
     pub fn is_null_row(&self, i: usize) -> bool
         requires good { IsGood self.now }

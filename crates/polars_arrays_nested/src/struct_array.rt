@@ -32,22 +32,22 @@ use polars_arrays_flat::mask::Mask;
 use polars_arrays_flat::validity::{clone_validity, has_bits, null_count, slice_validity};
 use std::alloc::Global;
 
-/// Rows that have a value for each field, of which a validity masks some.
+/// An array of rows with a value for each field, with an optional validity.
 #[cycle(arrays)]
 #[derive(Drop)]
 pub struct StructArray {
     fields: Vec<Field>,
-    // how many rows there are, since without fields the values do not tell
+    // number of rows; without fields the values do not determine it
     len: usize,
     values: Vec<AnyArray>,
     validity: Option<Bitmap>,
 }
 
 impl StructArray {
-    /// An array of `len` structs, of which each field has its values in one array. The error is
-    /// - `Length`, where the validity has not a bit for each row,
-    /// - then `Field` with the first place whose array has not `len` rows or not the type of the field there;
-    ///   where all pairs fit and one list is shorter, this is its length.
+    /// Creates an array of `len` structs, with an array of values for each field. The error is
+    /// - `Length`, if the validity does not have a bit for each row,
+    /// - then `Field` with the first place whose array does not have `len` rows or the type of the
+    ///   field there; if all pairs fit and one list is shorter, this is its length.
     #[tactic(auto, using(crate::proofs::Structs::made))]
     pub fn try_new(
         fields: Vec<Field>,
@@ -75,28 +75,28 @@ impl StructArray {
         }
     }
 
-    /// How many rows there are.
+    /// Returns the number of rows.
     pub fn len(&self) -> usize
         ensures { result ≡ len_of (Struct self.now) }
     {
         self.len
     }
 
-    /// The names and types of the columns.
+    /// Returns the names and types of the columns.
     pub fn fields(&self) -> &[Field]
         ensures { result.now ≡ struct_fields self.now }
     {
         &self.fields
     }
 
-    /// An array for each field.
+    /// Returns the arrays of the fields.
     pub fn values(&self) -> &[AnyArray]
         ensures { result.now ≡ columns self.now }
     {
         &self.values
     }
 
-    /// The array of field `i`.
+    /// Returns the array of field `i`.
     pub fn column(&self, i: usize) -> &AnyArray
         requires { i < length (columns self.now) }
         ensures column { (other : AnyArray) → slice_index_or (columns self.now) i other ≡ result.now }
@@ -106,7 +106,7 @@ impl StructArray {
         &self.values[i]
     }
 
-    /// Keeps `n` rows from row `at` on.
+    /// Keeps the `n` rows from row `at` on.
     #[cycle(slices)]
     pub fn slice(&mut self, at: usize, n: usize)
         requires good { IsGood (Struct self.old) }
@@ -120,7 +120,7 @@ impl StructArray {
         self.len = n;
     }
 
-    /// A second array of the same rows and type. The error is `Memory`.
+    /// Clones the array. The error is `Memory`.
     #[cycle(clones)]
     #[tactic(auto, using(crate::proofs::Clones::copies))]
     pub fn clone_array(&self, alloc: Global) -> Result<StructArray, ComputeError>
@@ -138,7 +138,7 @@ impl StructArray {
     }
 }
 
-// Second copies of arrays. The error is `Memory`.
+// Clones arrays. The error is `Memory`.
 #[cycle(clones)]
 fn clone_columns(alloc: Global, columns: &[AnyArray]) -> Result<Vec<AnyArray>, ComputeError>
     ensures { MatchResult result (λ copies. AreClones copies.items columns.now) IsMemory }
@@ -151,7 +151,7 @@ fn clone_columns(alloc: Global, columns: &[AnyArray]) -> Result<Vec<AnyArray>, C
     Ok(copies)
 }
 
-// The first place at which the array does not fit the field.
+// Returns the first place at which the array does not fit the field.
 #[tactic(auto, using(crate::proofs::Structs::fits))]
 fn first_misfit(fields: &[Field], len: usize, values: &[AnyArray]) -> Option<usize>
     ensures { MatchOption result ((k : ℕ) → FitsAt fields.now len values.now k) (IsFirstMisfit fields.now len values.now) }
@@ -164,7 +164,7 @@ fn first_misfit(fields: &[Field], len: usize, values: &[AnyArray]) -> Option<usi
     None
 }
 
-// Whether the array at a place fits the field there.
+// Returns whether the array at a place fits the field there.
 #[tactic(auto, using(crate::proofs::Structs::fits))]
 fn fits_at(fields: &[Field], len: usize, values: &[AnyArray], at: usize) -> bool
     ensures { IsTrue result ↔ FitsAt fields.now len values.now at }

@@ -1,4 +1,4 @@
-//! When arrays are of one type.
+//! Equality of the types of arrays.
 
 ghost use Rattle.std.specs.Prelude.{◌≡◌, ◌↔◌, IsTrue};
 ghost use Rattle.polars_arrays_flat.specs.DataType.{kind_of};
@@ -12,7 +12,8 @@ use crate::list::ListArray;
 use crate::struct_array::StructArray;
 use polars_arrays_flat::data_type::{ArrowDataType, is_struct_of, same_fields, same_keys};
 
-// A match on an array: of kinds that are types by themselves, whether the other array is of that type.
+// A match on an array. For kinds without parameters, it returns whether the other array is of the
+// same kind.
 macro_rules! same_type_as {
     ($other:expr, $any:expr, $($kind:ident)+, $($rest:tt)*) => {
         match $any {
@@ -23,7 +24,7 @@ macro_rules! same_type_as {
 }
 
 impl AnyArray {
-    /// Whether the array is of a type. It takes no memory.
+    /// Returns whether the array is of a type. Does not allocate.
     pub fn has_type(&self, dtype: &ArrowDataType) -> bool
         ensures { IsTrue result ↔ (type_of self.now ≡ kind_of dtype.now) }
     {
@@ -64,7 +65,7 @@ impl AnyArray {
         }
     }
 
-    /// Whether two arrays are of one type. It takes no memory.
+    /// Returns whether two arrays are of one type. Does not allocate.
     #[cycle(same_type)]
     pub fn same_type(&self, other: &AnyArray) -> bool
         ensures { IsTrue result ↔ (type_of self.now ≡ type_of other.now) }
@@ -86,7 +87,7 @@ impl AnyArray {
 }
 
 impl ListArray {
-    // Whether another array is of this one's type.
+    // Returns whether another array is of this one's type.
     #[cycle(same_type)]
     fn is_type_of(&self, other: &AnyArray) -> bool
         ensures { IsTrue result ↔ (type_of (List self.now) ≡ type_of other.now) }
@@ -102,7 +103,7 @@ impl ListArray {
 }
 
 impl FixedSizeListArray {
-    // Whether another array is of this one's type.
+    // Returns whether another array is of this one's type.
     #[cycle(same_type)]
     fn is_type_of(&self, other: &AnyArray) -> bool
         ensures { IsTrue result ↔ (type_of (FixedSizeList self.now) ≡ type_of other.now) }
@@ -117,7 +118,7 @@ impl FixedSizeListArray {
 }
 
 impl StructArray {
-    // Whether another array is of this one's type.
+    // Returns whether another array is of this one's type.
     fn is_type_of(&self, other: &AnyArray) -> bool
         ensures { IsTrue result ↔ (type_of (Struct self.now) ≡ type_of other.now) }
     {
@@ -129,7 +130,7 @@ impl StructArray {
 }
 
 impl DictionaryArray {
-    // Whether another array is of this one's type.
+    // Returns whether another array is of this one's type.
     #[cycle(same_type)]
     fn is_type_of(&self, other: &AnyArray) -> bool
         ensures { IsTrue result ↔ (type_of (Dictionary self.now) ≡ type_of other.now) }

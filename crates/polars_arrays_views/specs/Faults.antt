@@ -1,4 +1,4 @@
--- The first fault of parts that make no array.
+-- The first fault of parts that do not make an array.
 use Rattle.std.specs.Prelude.{◌<◌, ℕ, List, [], length, slice_index_or}
 use Rattle.polars_arrays_bits.specs.declared.error.ArrayError.{ArrayError}
 use Rattle.polars_arrays_bits.specs.declared.error.ArrayError.TheVariants.{Length, Offsets, Field, View, NotUtf8, Key}
@@ -6,12 +6,13 @@ use Rattle.polars_arrays_flat.specs.Validity.{HasBits}
 use Rattle.polars_arrays_views.specs.Parts.{ViewParts}
 use Rattle.polars_arrays_views.specs.Views.{GoodView}
 
--- row `row` is the first whose view stands for no row over these buffers
+-- row `row` is the first whose view is not good over these buffers
 abbrev pub IsFirstBadView : List (List ℕ) → List (List ℕ) → ℕ → Type 0
 IsFirstBadView buffers views row =
     (row < length views) × (¬ (GoodView buffers (slice_index_or views row []))) × ((k : ℕ) → k < row → GoodView buffers (slice_index_or views k []))
 
--- when each error comes (our own choice): lengths before views, and the first row that is not good; no other error comes
+-- when each error comes (our own choice): lengths before views, then the first bad row; no other
+-- error comes
 abbrev pub IsFirstFault : ViewParts → ArrayError → Type 0
 IsFirstFault a Length = ¬ (HasBits (length a.views) a.validity)
 IsFirstFault a (View row) = HasBits (length a.views) a.validity × IsFirstBadView a.buffers a.views row

@@ -1,4 +1,4 @@
--- What an array of views is to its callers, and its rows.
+-- Arrays of views as contracts see them, and their rows.
 use Rattle.std.specs.Prelude.{ℕ, Bool, List, Option, length, map}
 use Rattle.std.specs.List.{All}
 use Rattle.polars_arrays_bits.specs.Buffer.{Elements}
@@ -7,7 +7,7 @@ use Rattle.polars_arrays_flat.specs.StoredRows.{rows_under, byte_slots}
 use Rattle.polars_arrays_flat.specs.Validity.{HasBits}
 use Rattle.polars_arrays_views.specs.Views.{GoodView, row_bytes}
 
--- a view for each row, also of masked rows, the bytes of each buffer, and the validity
+-- a view for each row, including masked rows, the bytes of each buffer, and the validity
 pub record ViewParts : Type 0 where
   pub views : List (List ℕ)
   pub buffers : List (List ℕ)
@@ -17,18 +17,19 @@ pub record ViewParts : Type 0 where
 abbrev pub contents : List (Elements ℕ) → List (List ℕ)
 contents buffers = map (λ b. b.items) buffers
 
--- the byte strings that views over buffers stand for
+-- the byte strings of views over buffers
 abbrev pub strings_of : List (List ℕ) → List (List ℕ) → List (List ℕ)
 strings_of buffers views = map (row_bytes buffers) views
 
--- the byte strings of an array, also of masked rows
+-- the byte strings of an array, including those of masked rows
 abbrev pub view_strings : ViewParts → List (List ℕ)
 view_strings a = strings_of a.buffers a.views
 
--- the rows of an array: its byte strings, and Null where the validity masks them
+-- the rows of an array: its byte strings, with Null in place of masked ones
 abbrev pub view_rows : ViewParts → List Row
 view_rows a = rows_under a.validity (byte_slots (view_strings a))
 
--- parts that make an array: a validity that is there has a bit for each view, and each view is good, also of masked rows
+-- the parts make an array: a validity has a bit for each view, and each view is good, also of
+-- masked rows
 abbrev pub GoodParts : ViewParts → Type 0
 GoodParts a = HasBits (length a.views) a.validity × All (GoodView a.buffers) a.views

@@ -1,4 +1,4 @@
--- Rows that are texts, and the first fault of parts that make no array of texts.
+-- Rows that are texts, and the first fault of parts that do not make an array of texts.
 use Rattle.std.specs.Prelude.{◌<◌, ℕ, List, [], length, slice_index_or}
 use Rattle.std.specs.List.{All}
 use Rattle.std.specs.Str.{IsUtf8}
@@ -8,7 +8,7 @@ use Rattle.polars_arrays_flat.specs.Validity.{HasBits}
 use Rattle.polars_arrays_views.specs.Faults.{IsFirstBadView}
 use Rattle.polars_arrays_views.specs.Parts.{ViewParts, view_strings, GoodParts}
 
--- each row is UTF-8 by its bytes alone, also where it is masked
+-- the bytes of each row alone are UTF-8, also of masked rows
 abbrev pub AllText : ViewParts → Type 0
 AllText a = All IsUtf8 (view_strings a)
 
@@ -17,7 +17,8 @@ abbrev pub IsFirstNotText : List (List ℕ) → ℕ → Type 0
 IsFirstNotText strings row =
     (row < length strings) × (¬ (IsUtf8 (slice_index_or strings row []))) × ((k : ℕ) → k < row → IsUtf8 (slice_index_or strings k []))
 
--- when each error comes (our own choice): the array of the bytes is made before its rows are read as texts
+-- when each error comes (our own choice): errors of the array of bytes, then the first row that is
+-- not UTF-8
 abbrev pub IsFirstTextFault : ViewParts → ArrayError → Type 0
 IsFirstTextFault a Length = ¬ (HasBits (length a.views) a.validity)
 IsFirstTextFault a (View row) = HasBits (length a.views) a.validity × IsFirstBadView a.buffers a.views row

@@ -1,4 +1,4 @@
--- What the sixteen bytes of a view say, and the row that they stand for (the Arrow layout). All numbers in a view are little endian.
+-- The sixteen bytes of a view, and its row (the Arrow layout). Numbers in a view are little-endian.
 use Rattle.std.specs.Prelude.{◌≡◌, ◌≤◌, ◌<◌, ◌+◌, ◌*◌, ◌&&◌, ◌||◌, ℕ, zero, suc, Bool, List, [], ◌∷◌, if◌then◌else◌, nat_le, nat_lt, nat_eq, length, take, drop, slice_index, slice_index_or, EachIndex}
 use Rattle.std.specs.Str.{bytes_eq}
 use Rattle.polars_arrays_flat.specs.ByteOrder.{AreBytes}
@@ -8,28 +8,28 @@ pub record IsView (v : List ℕ) : Type 0 where
   pub size : length v ≡ 16
   pub bytes : (k : ℕ) → slice_index v k < 256
 
--- the number that the four bytes from i on spell, the least first
+-- the little-endian number of the four bytes from i on
 abbrev pub u32_at : ℕ → List ℕ → ℕ
 u32_at i v =
     slice_index v i + slice_index v (i + 1) * 256 + slice_index v (i + 2) * 65536 + slice_index v (i + 3) * 16777216
 
--- how long the row is
+-- the length of the row
 unfoldable pub view_len : List ℕ → ℕ
 view_len v = u32_at 0 v
 
--- whether the row lies in the view itself
+-- whether the row lies in the view
 abbrev pub is_short : List ℕ → Bool
 is_short v = nat_le (view_len v) 12
 
--- the number of the buffer that a row of more than 12 bytes lies in
+-- the index of the buffer that holds a row of more than 12 bytes
 unfoldable pub view_buffer : List ℕ → ℕ
 view_buffer v = u32_at 8 v
 
--- where such a row begins in its buffer
+-- the byte of the buffer where such a row begins
 unfoldable pub view_offset : List ℕ → ℕ
 view_offset v = u32_at 12 v
 
--- the row's first four bytes, zeros standing where it has fewer
+-- the row's first four bytes, padded with zeros
 abbrev pub view_prefix : List ℕ → List ℕ
 view_prefix v = take 4 (drop 4 v)
 
@@ -37,7 +37,7 @@ view_prefix v = take 4 (drop 4 v)
 abbrev pub buffer_at : List (List ℕ) → ℕ → List ℕ
 buffer_at buffers i = slice_index_or buffers i []
 
--- the row of a view: up to 12 bytes it lies in the view itself, above that in a buffer
+-- the row of a view: it lies in the view up to 12 bytes, and in a buffer above that
 unfoldable pub row_bytes : List (List ℕ) → List ℕ → List ℕ
 row_bytes buffers v =
     if nat_le (view_len v) 12 then take (view_len v) (drop 4 v) else take (view_len v) (drop (view_offset v) (buffer_at buffers (view_buffer v)))
@@ -46,19 +46,19 @@ row_bytes buffers v =
 abbrev pub AllZero : List ℕ → Type 0
 AllZero xs = EachIndex xs (λ k. slice_index xs k ≡ 0)
 
--- the row lies in a buffer that exists, and the prefix is its first four bytes
+-- the row lies in an existing buffer, and the prefix is its first four bytes
 pub record InBuffer (buffers : List (List ℕ)) (v : List ℕ) : Type 0 where
   pub buffer : view_buffer v < length buffers
   pub fits : view_offset v + view_len v ≤ length (buffer_at buffers (view_buffer v))
   pub prefix : view_prefix v ≡ take 4 (drop (view_offset v) (buffer_at buffers (view_buffer v)))
 
--- sixteen bytes that stand for a row: a short row has zeros behind it, and a long one lies in a buffer
+-- a view of a row: a short row is padded with zeros, a long one lies in a buffer
 pub record GoodView (buffers : List (List ℕ)) (v : List ℕ) : Type 0 where
   pub view : IsView v
   pub short : view_len v ≤ 12 → AllZero (drop (4 + view_len v) v)
   pub long : 12 < view_len v → InBuffer buffers v
 
--- the first n bytes, zeros standing where there are fewer
+-- the first n bytes, padded with zeros
 abbrev pub padded : ℕ → List ℕ → List ℕ
 padded zero xs = []
 padded (suc n) [] = 0 ∷ padded n []
@@ -68,19 +68,21 @@ padded (suc n) (x ∷ xs) = x ∷ padded n xs
 abbrev pub short_view : List ℕ → List ℕ
 short_view xs = length xs ∷ 0 ∷ 0 ∷ 0 ∷ padded 12 xs
 
--- a view that has the prefix of a byte string, and the whole of it where it has at most 12 bytes
+-- a view with the prefix of a byte string, and with all of it if it has at most 12 bytes
 pub record HoldsScalar (v xs : List ℕ) : Type 0 where
   pub bytes : AreBytes xs
   pub prefix : view_prefix v ≡ padded 4 xs
   pub good : length xs ≤ 12 → GoodView [] v
   pub row : length xs ≤ 12 → row_bytes [] v ≡ xs
 
--- whether equality of two rows is looked up in buffers (our own choice): the lengths are equal and above 12, and the first four bytes agree
+-- whether equality of two rows reads buffers (our own choice): equal lengths above 12 and equal
+-- prefixes
 abbrev pub followed_eq : List ℕ → List ℕ → Bool
 followed_eq xs ys =
     nat_eq (length xs) (length ys) && nat_lt 12 (length xs) && bytes_eq (take 4 xs) (take 4 ys)
 
--- whether order of two rows is looked up in buffers (our own choice): the first four bytes agree, zeros standing where there are fewer, and one row is longer than 12
+-- whether order of two rows reads buffers (our own choice): equal prefixes, and one row is longer
+-- than 12
 abbrev pub followed_lt : List ℕ → List ℕ → Bool
 followed_lt xs ys =
     bytes_eq (padded 4 xs) (padded 4 ys) && (nat_lt 12 (length xs) || nat_lt 12 (length ys))

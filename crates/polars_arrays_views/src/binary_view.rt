@@ -25,8 +25,8 @@ use polars_arrays_flat::validity::{clone_validity, has_bits, null_count, slice_v
 use std::alloc::Global;
 use std::marker::Model;
 
-/// Byte strings, of which a validity masks some. Those of at most 12 bytes lie in their views, longer ones
-/// in buffers.
+/// An array of byte strings, with an optional validity. Strings of at most 12 bytes are stored in
+/// their views, longer ones in buffers.
 #[derive(Drop)]
 pub struct BinaryViewArray {
     views: Buffer<View>,
@@ -45,9 +45,9 @@ impl Model for BinaryViewArray {
 }
 
 impl BinaryViewArray {
-    /// An array of a view for each row, the buffers that long rows lie in, and a validity. The error is
-    /// `Length`, where the validity has not a bit for each view, or else `View`, which names the first row
-    /// whose view stands for no row over the buffers, masked rows among them.
+    /// Creates an array of a view for each row, the buffers of long rows, and a validity. The error
+    /// is `Length`, if the validity does not have a bit for each view; otherwise `View` with the
+    /// first row, masked or not, whose view describes no row of the buffers.
     pub fn try_new(
         views: Buffer<View>,
         buffers: Vec<Buffer<u8>>,
@@ -70,7 +70,7 @@ impl BinaryViewArray {
         }
     }
 
-    /// The views, also of masked rows.
+    /// Returns the views, including those of masked rows.
     pub fn views(&self) -> &[View]
         ensures value { result.now ≡ self.now.views }
         ensures good { All (GoodView self.now.buffers) self.now.views }
@@ -78,14 +78,14 @@ impl BinaryViewArray {
         self.views.as_slice()
     }
 
-    /// The buffers that the rows of more than 12 bytes lie in.
+    /// Returns the buffers of the rows of more than 12 bytes.
     pub fn buffers(&self) -> &[Buffer<u8>]
         ensures { contents result.now ≡ self.now.buffers }
     {
         &self.buffers
     }
 
-    /// The view of row `i`, masked or not.
+    /// Returns the view of row `i`, masked or not.
     #[inline]
     pub fn view(&self, i: usize) -> &View
         requires { i < length self.now.views }
@@ -96,7 +96,7 @@ impl BinaryViewArray {
         &self.views()[i]
     }
 
-    /// The bytes of row `i`, masked or not.
+    /// Returns the bytes of row `i`, masked or not.
     #[inline]
     pub fn value(&self, i: usize) -> &[u8]
         requires { i < length self.now.views }
@@ -110,7 +110,7 @@ impl BinaryViewArray {
         }
     }
 
-    /// Keeps `n` rows from row `at` on. No byte moves.
+    /// Keeps the `n` rows from row `at` on. No byte is moved.
     pub fn slice(&mut self, at: usize, n: usize)
         requires { at + n ≤ length self.old.views }
         ensures stored { self.new ≡ record { views = window at n self.old.views; buffers = self.old.buffers; validity = validity_window at n self.old.validity } }
@@ -121,7 +121,7 @@ impl BinaryViewArray {
         slice_validity(&mut self.validity, at, n);
     }
 
-    /// A second array of the same views, buffers and validity. The error is `Memory`.
+    /// Clones the array. The error is `Memory`.
     pub fn clone_array(&self, alloc: Global) -> Result<BinaryViewArray, ComputeError>
         ensures { MatchResult result (λ copy. copy ≡ self.now) IsMemory }
     {
@@ -135,7 +135,7 @@ impl BinaryViewArray {
         })
     }
 
-    /// The array's type. It takes no memory, so that there is always one.
+    /// Returns the array's type. Does not allocate, so it succeeds always.
     pub fn dtype(&self, _alloc: Global) -> Result<ArrowDataType, ComputeError>
         ensures dtype { MatchResult result (λ dtype. kind_of dtype ≡ BinaryViewKind) IsMemory }
         ensures succeeds { IsOk result }
@@ -190,7 +190,7 @@ impl ByteRows for BinaryViewArray {
     ghost slots_law = { λ a. refl };
 }
 
-// The first row whose view stands for no row over these buffers.
+// Returns the first row whose view describes no row of these buffers.
 fn first_bad_view(views: &[View], buffers: &[Buffer<u8>]) -> Option<usize>
     ensures { MatchOption result (All (GoodView (contents buffers.now)) views.now) (IsFirstBadView (contents buffers.now) views.now) }
 {
@@ -202,7 +202,7 @@ fn first_bad_view(views: &[View], buffers: &[Buffer<u8>]) -> Option<usize>
     None
 }
 
-// Second buffers of the same bytes, one for each. The error is `Memory`.
+// Clones each buffer. The error is `Memory`.
 fn clone_buffers(alloc: Global, buffers: &[Buffer<u8>]) -> Result<Vec<Buffer<u8>>, ComputeError>
     ensures { MatchResult result (λ copies. copies.items ≡ buffers.now) IsMemory }
 {

@@ -1,5 +1,5 @@
-//! Arrays of byte strings and texts, of which sixteen bytes a row hold or point at the row's bytes, and
-//! equality and order of their rows.
+//! Arrays of byte strings and texts with a view a row: sixteen bytes that hold the row or point to
+//! it. Also equality and order of their rows.
 #![tactic(auto)]
 
 pub mod binary_view;

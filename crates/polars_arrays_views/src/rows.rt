@@ -1,4 +1,4 @@
-//! Equality and order of single rows, also of rows that are masked.
+//! Equality and order of single rows, masked or not.
 
 ghost use Rattle.std.specs.Prelude.{◌≡◌, ◌<◌, ◌+◌, ℕ, List, [], IsTrue, if◌then◌else◌, length, slice_index_or, false};
 ghost use Rattle.std.specs.Str.{bytes_eq};
@@ -12,8 +12,8 @@ use crate::view::View;
 use polars_arrays_flat::byte_order::bytes_less;
 use polars_arrays_numbers::steps::Steps;
 
-/// Whether row `i` of one array and row `j` of another have the same bytes. A pair that is looked up in
-/// buffers is counted.
+/// Returns whether row `i` of one array and row `j` of another have equal bytes. A comparison that
+/// reads buffers is counted.
 #[inline]
 pub fn rows_equal(
     left: &BinaryViewArray,
@@ -29,7 +29,7 @@ pub fn rows_equal(
 {
     let v = left.view(i);
     let w = right.view(j);
-    // both tests, so that no branch depends on the bytes of short rows
+    // evaluates both tests, so that no branch depends on the bytes of short rows
     if v.len() <= 12 {
         return v.same_head(w) & v.same_tail(w);
     }
@@ -40,7 +40,8 @@ pub fn rows_equal(
     left.value(i) == right.value(j)
 }
 
-/// Whether two views are the same. Where the first row lies in its view this says whether the rows are equal.
+/// Returns whether two views are equal. If the first row lies in its view, this is whether the rows
+/// are equal.
 #[inline(always)]
 pub fn guess_equal(v: &View, w: &View) -> bool
     ensures { (buffers others : List (List ℕ)) → GoodView buffers v.now → GoodView others w.now → IsTrue (is_short v.now) → result ≡ bytes_eq (row_bytes buffers v.now) (row_bytes others w.now) }
@@ -48,7 +49,8 @@ pub fn guess_equal(v: &View, w: &View) -> bool
     v.same_bytes(w)
 }
 
-/// Whether a row lies in its view, having at most 12 bytes. Its equality with another is then not looked up in buffers.
+/// Returns whether a row lies in its view, with at most 12 bytes. Comparing it for equality then
+/// reads no buffer.
 #[inline(always)]
 pub fn lies_in_view(v: &View) -> bool
     ensures short { result ≡ is_short v.now }
@@ -57,8 +59,8 @@ pub fn lies_in_view(v: &View) -> bool
     v.is_short()
 }
 
-/// Whether row `i` of one array is less than row `j` of another, byte by byte. A pair that is looked up in
-/// buffers is counted.
+/// Returns whether row `i` of one array is less than row `j` of another, byte by byte. A comparison
+/// that reads buffers is counted.
 #[inline]
 pub fn row_less(
     left: &BinaryViewArray,
@@ -85,7 +87,7 @@ pub fn row_less(
     bytes_less(left.value(i), right.value(j))
 }
 
-/// Whether row `i` has the bytes of `scalar`.
+/// Returns whether row `i` has the bytes of `scalar`.
 #[inline]
 pub fn row_equals_bytes(left: &BinaryViewArray, i: usize, scalar: &ScalarRow) -> bool
     requires { i < length left.now.views }
@@ -94,7 +96,7 @@ pub fn row_equals_bytes(left: &BinaryViewArray, i: usize, scalar: &ScalarRow) ->
     let v = left.view(i);
     let w = scalar.view();
     let size = scalar.len();
-    // one way for all rows
+    // one case for all rows
     if size <= 12 {
         return w.same_head(v) & w.same_tail(v);
     }
@@ -107,7 +109,7 @@ pub fn row_equals_bytes(left: &BinaryViewArray, i: usize, scalar: &ScalarRow) ->
     left.value(i) == scalar.bytes()
 }
 
-/// Whether row `i` is less than `scalar`, byte by byte.
+/// Returns whether row `i` is less than `scalar`, byte by byte.
 #[inline]
 pub fn row_less_bytes(left: &BinaryViewArray, i: usize, scalar: &ScalarRow) -> bool
     requires { i < length left.now.views }
@@ -125,7 +127,7 @@ pub fn row_less_bytes(left: &BinaryViewArray, i: usize, scalar: &ScalarRow) -> b
     bytes_less(left.value(i), scalar.bytes())
 }
 
-/// Whether `scalar` is less than row `j`, byte by byte.
+/// Returns whether `scalar` is less than row `j`, byte by byte.
 #[inline]
 pub fn bytes_less_row(scalar: &ScalarRow, right: &BinaryViewArray, j: usize) -> bool
     requires { j < length right.now.views }

@@ -1,4 +1,4 @@
-//! The byte string that rows are compared with.
+//! Byte strings that rows are compared with.
 
 ghost use Rattle.std.specs.Prelude.{◌≡◌, length};
 ghost use Rattle.polars_arrays_views.specs.Views.{HoldsScalar};
@@ -6,8 +6,8 @@ ghost use Rattle.polars_arrays_views.specs.Views.{HoldsScalar};
 use crate::view::View;
 use std::marker::Model;
 
-/// A byte string that rows are compared with, beside a view that has its prefix, and the whole of it where
-/// it has at most 12 bytes.
+/// A byte string that rows are compared with, and a view that has its prefix, or all of it if it
+/// has at most 12 bytes.
 #[derive(Drop)]
 pub struct ScalarRow<'a> {
     bytes: &'a [u8],
@@ -26,7 +26,7 @@ impl<'a> Model for ScalarRow<'a> {
 }
 
 impl<'a> ScalarRow<'a> {
-    /// The byte string, made ready once for all rows.
+    /// Prepares a byte string for comparisons with many rows.
     pub fn new(bytes: &'a [u8]) -> ScalarRow<'a>
         ensures { result ≡ bytes.now }
     {
@@ -34,7 +34,7 @@ impl<'a> ScalarRow<'a> {
         ScalarRow { bytes, view }
     }
 
-    /// How many bytes there are.
+    /// Returns the number of bytes.
     #[inline(always)]
     pub fn len(&self) -> usize
         ensures { result ≡ length self.now }
@@ -42,7 +42,7 @@ impl<'a> ScalarRow<'a> {
         self.bytes.len()
     }
 
-    /// The byte string.
+    /// Returns the byte string.
     #[inline(always)]
     pub fn bytes(&self) -> &[u8]
         ensures { result.now ≡ self.now }
@@ -50,7 +50,7 @@ impl<'a> ScalarRow<'a> {
         self.bytes
     }
 
-    /// The view that has the prefix, or all bytes.
+    /// Returns the view that has the prefix or all bytes.
     #[inline(always)]
     pub fn view(&self) -> &View
         ensures { HoldsScalar result.now self.now }
@@ -59,7 +59,7 @@ impl<'a> ScalarRow<'a> {
     }
 }
 
-// The view of a byte string, or of a long one the prefix alone.
+// Returns a view of a byte string; of a long one it has only the prefix.
 fn scalar_view(bytes: &[u8]) -> View
     ensures { HoldsScalar result bytes.now }
 {

@@ -27,7 +27,7 @@ use std::alloc::Global;
 use std::marker::Model;
 use std::str::{from_utf8, from_utf8_unchecked};
 
-/// Texts in UTF-8, of which a validity masks some, kept as an array of their bytes.
+/// An array of texts in UTF-8, with an optional validity, stored as an array of their bytes.
 #[derive(Drop)]
 pub struct Utf8ViewArray {
     binary: BinaryViewArray,
@@ -45,10 +45,10 @@ impl Model for Utf8ViewArray {
 }
 
 impl Utf8ViewArray {
-    /// An array of a view for each row, the buffers that long rows lie in, and a validity. The error is
-    /// `Length`, where the validity has not a bit for each view, or else `View`, which names the first row
-    /// whose view stands for no row over the buffers, or else `NotUtf8`, which names the first row whose
-    /// bytes alone are not UTF-8, masked rows among them.
+    /// Creates an array of a view for each row, the buffers of long rows, and a validity. The error
+    /// is `Length`, if the validity does not have a bit for each view; otherwise `View` with the
+    /// first row whose view describes no row of the buffers; otherwise `NotUtf8` with the first row
+    /// whose bytes alone are not UTF-8. Masked rows are checked too.
     pub fn try_new(
         views: Buffer<View>,
         buffers: Vec<Buffer<u8>>,
@@ -65,7 +65,7 @@ impl Utf8ViewArray {
         }
     }
 
-    /// The array of the texts' bytes.
+    /// Returns the array of the texts' bytes.
     pub fn as_binview(&self) -> &BinaryViewArray
         ensures bytes { result.now ≡ self.now }
         ensures text { AllText self.now }
@@ -73,7 +73,7 @@ impl Utf8ViewArray {
         &self.binary
     }
 
-    /// Returns the views, also of masked rows.
+    /// Returns the views, including those of masked rows.
     pub fn views(&self) -> &[View]
         ensures value { result.now ≡ self.now.views }
         ensures good { All (GoodView self.now.buffers) self.now.views }
@@ -81,7 +81,7 @@ impl Utf8ViewArray {
         self.binary.views()
     }
 
-    /// The text of row `i`, masked or not.
+    /// Returns the text of row `i`, masked or not.
     #[inline]
     pub fn value(&self, i: usize) -> &str
         requires { i < length self.now.views }
@@ -91,7 +91,7 @@ impl Utf8ViewArray {
         unsafe { from_utf8_unchecked(bytes) }
     }
 
-    /// Keeps `n` rows from row `at` on. No byte moves.
+    /// Keeps the `n` rows from row `at` on. No byte is moved.
     pub fn slice(&mut self, at: usize, n: usize)
         requires { at + n ≤ length self.old.views }
         ensures stored { self.new ≡ record { views = window at n self.old.views; buffers = self.old.buffers; validity = validity_window at n self.old.validity } }
@@ -101,7 +101,7 @@ impl Utf8ViewArray {
         self.binary.slice(at, n);
     }
 
-    /// A second array of the same views, buffers and validity. The error is `Memory`.
+    /// Clones the array. The error is `Memory`.
     pub fn clone_array(&self, alloc: Global) -> Result<Utf8ViewArray, ComputeError>
         ensures { MatchResult result (λ copy. copy ≡ self.now) IsMemory }
     {
@@ -109,7 +109,7 @@ impl Utf8ViewArray {
         Ok(Utf8ViewArray { binary })
     }
 
-    /// The array's type. It takes no memory, so that there is always one.
+    /// Returns the array's type. Does not allocate, so it succeeds always.
     pub fn dtype(&self, _alloc: Global) -> Result<ArrowDataType, ComputeError>
         ensures dtype { MatchResult result (λ dtype. kind_of dtype ≡ Utf8ViewKind) IsMemory }
         ensures succeeds { IsOk result }
@@ -164,7 +164,7 @@ impl ByteRows for Utf8ViewArray {
     ghost slots_law = { λ a. refl };
 }
 
-// The first row whose bytes alone are not UTF-8.
+// Returns the first row whose bytes alone are not UTF-8.
 fn first_not_text(array: &BinaryViewArray) -> Option<usize>
     ensures { MatchOption result (AllText array.now) (IsFirstNotText (view_strings array.now)) }
 {
@@ -176,7 +176,7 @@ fn first_not_text(array: &BinaryViewArray) -> Option<usize>
     None
 }
 
-// Whether bytes are UTF-8.
+// Returns whether bytes are UTF-8.
 fn is_text(bytes: &[u8]) -> bool
     ensures { IsTrue result ↔ IsUtf8 bytes.now }
 {

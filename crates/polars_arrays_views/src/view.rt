@@ -1,4 +1,4 @@
-//! Views: sixteen bytes that are a row's length and bytes, or say where its bytes lie.
+//! Views: sixteen bytes that hold a row's length and bytes, or say where its bytes lie.
 
 ghost use Rattle.std.specs.Prelude.{◌≡◌, ◌≤◌, ◌<◌, ◌+◌, ◌↔◌, ℕ, List, IsTrue, length, take, drop};
 ghost use Rattle.std.specs.Int.{w32, w64, w128, from_le_bytes, from_be_bytes};
@@ -11,9 +11,9 @@ use polars_arrays_flat::byte_order::pair_less;
 use std::marker::Model;
 use std::simd::prelude::*;
 
-/// Any sixteen bytes. As a view of a row they are its length in four bytes, then up to 12 bytes of the row
-/// and zeros behind them, or, of a longer row, its first four bytes, the number of its buffer and where it
-/// begins there. Numbers are little endian and unsigned, four bytes each.
+/// A view: any sixteen bytes. The first four are the row's length. Then come up to 12 bytes of the
+/// row, padded with zeros; for a longer row they are its first four bytes, the index of its buffer,
+/// and its offset in that buffer. Numbers are little-endian and unsigned, of four bytes each.
 #[derive(Clone, Copy, PartialEq, Eq, Debug)]
 pub struct View {
     bytes: [u8; 16],
@@ -30,14 +30,14 @@ impl Model for View {
 }
 
 impl View {
-    /// The view that is these bytes.
+    /// Creates a view of these bytes.
     pub fn new(bytes: [u8; 16]) -> View
         ensures { result ≡ bytes }
     {
         View { bytes }
     }
 
-    /// The view that holds a row of at most 12 bytes.
+    /// Creates the view that holds a row of at most 12 bytes.
     pub fn of_short(bytes: &[u8]) -> View
         requires { length bytes.now ≤ 12 }
         ensures stored { result ≡ short_view bytes.now }
@@ -50,14 +50,14 @@ impl View {
         View { bytes: all }
     }
 
-    /// The sixteen bytes as one number, the first byte being the least.
+    /// Returns the sixteen bytes as a little-endian number.
     pub fn as_u128(&self) -> u128
         ensures { result ≡ from_le_bytes w128 self.now }
     {
         u128::from_le_bytes(self.bytes)
     }
 
-    /// How many bytes the row has.
+    /// Returns the number of bytes of the row.
     #[inline]
     #[tactic(auto, unfolding(crate::specs::Views::view_len))]
     pub fn len(&self) -> usize
@@ -69,7 +69,7 @@ impl View {
         u32::from_le_bytes([b[0], b[1], b[2], b[3]]) as usize
     }
 
-    /// Whether the row lies in the view itself, having at most 12 bytes.
+    /// Returns whether the row lies in the view, with at most 12 bytes.
     #[inline(always)]
     pub fn is_short(&self) -> bool
         ensures { result ≡ is_short self.now }
@@ -77,7 +77,7 @@ impl View {
         self.len() <= 12
     }
 
-    /// The number of the buffer that a row of more than 12 bytes lies in.
+    /// Returns the index of the buffer that holds a row of more than 12 bytes.
     #[inline]
     #[tactic(auto, unfolding(crate::specs::Views::view_buffer))]
     pub fn buffer(&self) -> usize
@@ -87,7 +87,7 @@ impl View {
         u32::from_le_bytes([b[8], b[9], b[10], b[11]]) as usize
     }
 
-    /// At which byte of its buffer a row of more than 12 bytes begins.
+    /// Returns the byte of the buffer where a row of more than 12 bytes begins.
     #[inline]
     #[tactic(auto, unfolding(crate::specs::Views::view_offset))]
     pub fn offset(&self) -> usize
@@ -98,7 +98,7 @@ impl View {
         u32::from_le_bytes([b[12], b[13], b[14], b[15]]) as usize
     }
 
-    /// The bytes of a row of at most 12 bytes.
+    /// Returns the bytes of a row of at most 12 bytes.
     #[inline]
     pub fn inlined(&self) -> &[u8]
         requires { view_len self.now ≤ 12 }
@@ -108,7 +108,7 @@ impl View {
         &self.bytes[4..4 + len]
     }
 
-    /// The bytes of a longer row, which lies in one of these buffers.
+    /// Returns the bytes of a row that lies in one of these buffers.
     #[inline]
     pub fn in_buffer<'a>(&self, buffers: &'a [Buffer<u8>]) -> &'a [u8]
         requires { InBuffer (contents buffers.now) self.now }
@@ -119,7 +119,7 @@ impl View {
         &buffer.as_slice()[at..at + self.len()]
     }
 
-    /// Whether the view stands for a row over these buffers.
+    /// Returns whether the view describes a row of these buffers.
     pub fn is_good(&self, buffers: &[Buffer<u8>]) -> bool
         ensures { IsTrue result ↔ GoodView (contents buffers.now) self.now }
     {
@@ -131,7 +131,8 @@ impl View {
         }
     }
 
-    // Whether a row of more than 12 bytes lies in one of these buffers, and the prefix is its own.
+    // Returns whether a row of more than 12 bytes lies in one of these buffers and begins with the
+    // prefix.
     fn is_in_buffer(&self, buffers: &[Buffer<u8>]) -> bool
         requires { 12 < view_len self.now }
         ensures { IsTrue result ↔ InBuffer (contents buffers.now) self.now }
@@ -146,7 +147,7 @@ impl View {
         }
     }
 
-    /// Whether the lengths and the prefixes agree.
+    /// Returns whether the lengths and the prefixes are equal.
     #[inline]
     pub fn same_head(&self, other: &View) -> bool
         ensures { IsTrue result ↔ (take 8 self.now ≡ take 8 other.now) }
@@ -154,7 +155,7 @@ impl View {
         self.head() == other.head()
     }
 
-    /// Whether the last eight bytes agree.
+    /// Returns whether the last eight bytes are equal.
     #[inline]
     pub fn same_tail(&self, other: &View) -> bool
         ensures { IsTrue result ↔ (drop 8 self.now ≡ drop 8 other.now) }
@@ -162,7 +163,7 @@ impl View {
         self.tail() == other.tail()
     }
 
-    /// Whether all sixteen bytes agree, by one comparison.
+    /// Returns whether all sixteen bytes are equal, by one comparison.
     #[inline(always)]
     pub fn same_bytes(&self, other: &View) -> bool
         ensures { IsTrue result ↔ (self.now ≡ other.now) }
@@ -171,7 +172,7 @@ impl View {
         differ.to_bitmask() == 0
     }
 
-    /// The prefix as a number, the first byte being the greatest.
+    /// Returns the prefix as a big-endian number.
     #[inline]
     pub fn prefix(&self) -> u32
         ensures { result ≡ from_be_bytes w32 (view_prefix self.now) }
@@ -180,7 +181,8 @@ impl View {
         u32::from_be_bytes([b[4], b[5], b[6], b[7]])
     }
 
-    /// Whether the row is less than another one, where both have at most 12 bytes and zeros behind them.
+    /// Returns whether the row is less than another one. Both must have at most 12 bytes, padded
+    /// with zeros.
     #[inline(always)]
     pub fn inlined_less(&self, other: &View) -> bool
         requires short { view_len self.now ≤ 12 }
@@ -195,7 +197,7 @@ impl View {
         (p < q) | ((p == q) & pair_less(s, t, self.len(), other.len()))
     }
 
-    // The last eight bytes as a number, the first of them being the greatest.
+    // Returns the last eight bytes as a big-endian number.
     #[inline(always)]
     fn rest(&self) -> u64
         ensures { result ≡ from_be_bytes w64 (drop 8 self.now) }
@@ -204,7 +206,7 @@ impl View {
         u64::from_be_bytes([b[8], b[9], b[10], b[11], b[12], b[13], b[14], b[15]])
     }
 
-    // The first eight bytes as a number.
+    // Returns the first eight bytes as a little-endian number.
     #[inline]
     fn head(&self) -> u64
         ensures value { result ≡ from_le_bytes w64 (take 8 self.now) }
@@ -214,7 +216,7 @@ impl View {
         u64::from_le_bytes([b[0], b[1], b[2], b[3], b[4], b[5], b[6], b[7]])
     }
 
-    // The last eight bytes as a number.
+    // Returns the last eight bytes as a little-endian number.
     #[inline]
     fn tail(&self) -> u64
         ensures value { result ≡ from_le_bytes w64 (drop 8 self.now) }
@@ -225,7 +227,7 @@ impl View {
     }
 }
 
-// Whether each byte is zero.
+// Returns whether all bytes are zero.
 fn is_zero(bytes: &[u8]) -> bool
     ensures { IsTrue result ↔ AllZero bytes.now }
 {

@@ -197,7 +197,7 @@ impl TruthValues for Blocks<'_> {
         all_set(self.words, self.by, self.width * i, self.width)
     }
 
-    // A block lies in two words.
+    // A value reads bits of two words, so packing bit by bit is faster.
     #[inline(always)]
     fn packs_by_bit(&self) -> bool {
         true

@@ -138,8 +138,8 @@ impl TernaryOperator for MergeEq {
 }
 
 /// Missing inequality: null is equal to null alone. The operands are the bits of plain inequality
-/// and the validity of the two sides. Rows differ if exactly one side is present, or if both are
-/// and the values differ.
+/// and the validity of the two sides. If exactly one side is present, `y ^ z` is 1. Otherwise `y`
+/// alone says whether both are.
 #[derive(Drop)]
 pub struct MergeNe;
 
