@@ -14,7 +14,6 @@ module _ (T : RattleType) (b : MutBor (Elements T.Denot)) where
   abbrev pub lends_elements : MutBor (List T.Denot) → Fml
   lends_elements r = Lends (the_row T) (Array T 0) b r (with_elements b.now)
 
-  -- the elements are those last written through r, if r is a reference; at `None` the buffer is
-  -- unchanged
+  -- the elements are those last written through r; with r None the buffer is unchanged
   abbrev pub lends_elements_if : Option (MutBor (List T.Denot)) → Fml
   lends_elements_if r = LendsIf (the_row T) (Array T 0) b r (with_elements b.now) b.now

@@ -5,8 +5,7 @@ use Rattle.polars_arrays_bits.specs.declared.error.ArrayError.TheVariants.{Lengt
 use Rattle.polars_arrays_flat.specs.Validity.{HasBits}
 use Rattle.polars_arrays_bytes.specs.OffsetStrings.{OffsetStrings, places, row_count, IsWithin, IsGoodRow}
 
--- row `row` of n bytes is bad; without rows, row 0 is bad if the offset is missing or outside the
--- bytes
+-- row `row` of n bytes is bad; without rows, row 0 is bad if the offset is missing or above n
 abbrev pub IsBadRow : ℕ → List (Option ℕ) → ℕ → Type 0
 IsBadRow n [] row = row ≡ 0
 IsBadRow n (only ∷ []) row = (row ≡ 0) × ¬ (IsWithin n only)

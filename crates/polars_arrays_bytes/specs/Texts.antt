@@ -23,8 +23,7 @@ pub record AreTextParts {A : Type 0} (value : A → ℤ) (a : OffsetStrings A) :
   pub bounded : AreBounded value a
   pub texts : AreTexts (offset_strings value a)
 
--- the error that parts of an array of texts give; the validity is checked first, then the offsets,
--- then the bytes
+-- the error of parts that are no texts: of the validity first, then the offsets, then the bytes
 abbrev pub IsFirstTextFault : {A : Type 0} → (A → ℤ) → OffsetStrings A → ArrayError → Type 0
 IsFirstTextFault value a Length = ¬ (HasBits (row_count a.offsets) a.validity)
 IsFirstTextFault value a (Offsets row) =

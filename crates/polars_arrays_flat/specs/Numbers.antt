@@ -2,8 +2,7 @@
 use Rattle.std.specs.Prelude.{Bool, List, Option, refl}
 use Rattle.std.specs.Coded.{Coded, code_by, coded×, coded_bool, coded_list, coded_option}
 
--- the stored values, including those of masked rows, the validity, and whether the array alone owns
--- the values
+-- the stored values (also of masked rows), the validity, and whether the array alone has the values
 pub record Numbers (A : Type 0) : Type 0 where
   pub values : List A
   pub validity : Option (List Bool)

@@ -14,7 +14,6 @@ module _ (T : RattleType) (a : MutBor (Numbers T.Denot)) where
   abbrev pub lends_values : MutBor (List T.Denot) → Fml
   lends_values r = Lends (the_row T) (Array T 0) a r (with_values a.now)
 
-  -- the stored values are those last written through r, if r is a reference; at `None` the array is
-  -- unchanged
+  -- the stored values are those last written through r; with r None the array is unchanged
   abbrev pub lends_values_if : Option (MutBor (List T.Denot)) → Fml
   lends_values_if r = LendsIf (the_row T) (Array T 0) a r (with_values a.now) a.now

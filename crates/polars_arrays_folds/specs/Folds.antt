@@ -3,8 +3,7 @@ use Rattle.std.specs.Prelude.{◌≡◌, ℤ, Bool, cond, eqb, List, [], ◌∷�
 use Rattle.polars_arrays_flat.specs.ArrayRows.{null_total}
 use Rattle.polars_arrays_flat.specs.Row.{Row, Int}
 
--- the operator is associative and commutative, and the number that folds begin with can be joined
--- any number of times
+-- the operator is associative and commutative, and may join the first number any number of times
 pub record Folds (joined : ℤ → ℤ → ℤ) (neutral : ℤ) : Type 0 where
   pub any_groups : (a b c : ℤ) → joined (joined a b) c ≡ joined a (joined b c)
   pub any_order : (a b : ℤ) → joined a b ≡ joined b a

@@ -20,8 +20,7 @@ abbrev pub rows_from : (ℕ → Row) → ℕ → ℕ → RowList
 rows_from f from zero = no_rows
 rows_from f from (suc count) = more_rows (f from) (rows_from f (from + 1) count)
 
--- the row of a present key, made of its entry: Null for a null entry (our own choice), else the
--- entry
+-- the row of a present key: Null if its entry is null (our own choice), else the entry
 abbrev pub entry_row : Row → Row
 entry_row Missing = Missing
 entry_row entry = Entry entry

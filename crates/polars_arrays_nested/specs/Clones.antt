@@ -8,8 +8,7 @@ use Rattle.polars_arrays_nested.specs.Lengths.{len_of}
 use Rattle.polars_arrays_nested.specs.Types.{type_of}
 use Rattle.polars_arrays_nested.specs.declared.any_array.AnyArray.{AnyArray}
 
--- a is a clone of b: it has the rows and the type of b, its windows have the leaf slots of b's and
--- are kept alike, and it is good if b is
+-- a has the rows and type of b, windows with the same leaf slots, kept alike, and is good if b is
 pub record IsClone (a b : AnyArray) : Type 0 where
   pub one_type : type_of a ≡ type_of b
   pub as_long : len_of a ≡ len_of b

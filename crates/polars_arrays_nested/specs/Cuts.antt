@@ -8,8 +8,7 @@ use Rattle.polars_arrays_nested.specs.Lengths.{len_of}
 use Rattle.polars_arrays_nested.specs.Types.{type_of}
 use Rattle.polars_arrays_nested.specs.declared.any_array.AnyArray.{AnyArray}
 
--- a has the n rows of b from row `at` on, and b's type, its windows have the leaf slots of b's and
--- are kept alike, and it is good
+-- a has the n rows of b from row `at` on, b's type, windows that are kept alike, and is good
 pub record IsCut (a b : AnyArray) (at n : ℕ) : Type 0 where
   pub one_type : type_of a ≡ type_of b
   pub as_long : len_of a ≡ n

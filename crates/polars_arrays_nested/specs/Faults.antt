@@ -16,8 +16,7 @@ use Rattle.polars_arrays_nested.specs.declared.any_array.AnyArray.{AnyArray}
 use Rattle.polars_arrays_nested.specs.declared.dict_keys.DictKeys.{DictKeys}
 use Rattle.polars_arrays_nested.specs.declared.list_offsets.ListOffsets.{ListOffsets}
 
--- the error of parts that do not make lists of n items; the validity is checked first, then the
--- offsets
+-- the error of parts that make no lists of n items; the validity is checked before the offsets
 abbrev pub IsListFault : ℕ → ListOffsets → Option (List Bool) → ArrayError → Type 0
 IsListFault n offsets validity Length = ¬ (HasBits (list_count offsets) validity)
 IsListFault n offsets validity (Offsets row) =
@@ -29,8 +28,7 @@ abbrev pub IsKeyFault : ℕ → DictKeys → ArrayError → Type 0
 IsKeyFault n keys (Key row) = IsFirstBadKey n (key_validity keys) (key_places keys) row
 IsKeyFault n keys _ = ⊥
 
--- a column fits its field: it has `len` rows and the field's type; past the end of both lists they
--- fit, past the end of one they do not
+-- a column has `len` rows and its field's type; past both lists all fits, past one alone nothing
 abbrev pub Fits : ℕ → Option Field → Option AnyArray → Type 0
 Fits len (Some field) (Some column) = (len_of column ≡ len) × (type_of column ≡ kind_of field.dtype)
 Fits len None None = ⊤
@@ -40,20 +38,17 @@ Fits len _ _ = ⊥
 abbrev pub FitsAt : List Field → ℕ → List AnyArray → ℕ → Type 0
 FitsAt fields len values k = Fits len (slice_get fields k) (slice_get values k)
 
--- the parts make `len` structs: a validity has a bit for each, and each field has a column that
--- fits it
+-- the parts make `len` structs: a bit for each in a validity, and a fitting column for each field
 pub record AreStructs (fields : List Field) (len : ℕ) (values : List AnyArray) (validity : Option (List Bool)) : Type 0 where
   pub bits : HasBits len validity
   pub fits : (k : ℕ) → FitsAt fields len values k
 
--- place `at` is the first whose column does not fit its field; if all pairs fit, it is the end of
--- the shorter list
+-- place `at` is the first whose column does not fit its field, or the end of the shorter list
 pub record IsFirstMisfit (fields : List Field) (len : ℕ) (values : List AnyArray) (at : ℕ) : Type 0 where
   pub misfit : ¬ (FitsAt fields len values at)
   pub before : (k : ℕ) → k < at → FitsAt fields len values k
 
--- the error of parts that do not make structs; the validity is checked first, then the columns in
--- order
+-- the error of parts that make no structs; the validity is checked before the columns
 abbrev pub IsStructFault : List Field → ℕ → List AnyArray → Option (List Bool) → ArrayError → Type 0
 IsStructFault fields len values validity Length = ¬ (HasBits len validity)
 IsStructFault fields len values validity (fault.Field at) =

@@ -31,8 +31,7 @@ len_of (FixedSizeList' width len p values validity) = len
 len_of (Struct' fields len p values validity) = len
 len_of (Dictionary' keys p values) = key_count keys
 
--- the validity of an array, if any; a dictionary's is that of its keys, and a null array has none
--- (our own choice)
+-- the validity of an array; a dictionary's is its keys', and a null array has none (our own choice)
 abbrev pub validity_of : AnyArray → Option (List Bool)
 validity_of (Null a) = None
 validity_of (Boolean a) = a.validity

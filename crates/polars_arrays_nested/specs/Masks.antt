@@ -20,8 +20,7 @@ abbrev pub entry_mask : DictKeys → Option (List Bool) → Option (List Bool)
 entry_mask keys None = key_validity keys
 entry_mask keys (Some entries) = Some (named_bits keys (Some entries))
 
--- a bit for each row, set if it is not Null, or None if the array has no validity at any level of
--- its dictionaries; a null array has only zeros
+-- a bit for each row, set if it is not Null, or None if neither the array nor its entries have bits
 abbrev pub presence_of : AnyArray → Option (List Bool)
 presence_of (Null a) = Some (replicate a false)
 presence_of (Dictionary' keys p values) = entry_mask keys (presence_of values)
@@ -32,8 +31,7 @@ abbrev pub has_bits : Option (List Bool) → Bool
 has_bits None = false
 has_bits (Some bits) = true
 
--- the mask: a bit for each row, or None if no row is masked; no row of a null array is masked (our
--- own choice)
+-- the mask: a bit for each row, or None; no row of a null array is masked (our own choice)
 abbrev pub mask_of : AnyArray → Option (List Bool)
 mask_of (Null a) = None
 mask_of a = presence_of a

@@ -12,8 +12,7 @@ pub record IsWrapped (least greatest : ℤ) (width : ℕ) (n x : ℤ) : Type 0 w
   pub to_greatest : x ≤ℤ greatest
   pub congruent : Congruent (2 ^ width) x n
 
--- n wrapped: the least value plus the remainder of n less the least value, divided by 2 to the
--- width
+-- n wrapped: the least value plus the remainder of (n - least) divided by 2 to the width
 abbrev pub wrapped : ℤ → ℕ → ℤ → ℤ
 wrapped least width n = least +ℤ int_rem_euclid (n -ℤ least) (pos (2 ^ width))
 

@@ -1,5 +1,4 @@
--- Laws of wrapping: the wrapped number is unique, number types' `wrap` returns it, and a sum may
--- wrap at each step.
+-- Laws of wrapping: the wrapped number is unique, `wrap` returns it, and a sum may wrap midway.
 use Rattle.std.specs.Prelude.{◌≡◌, ◌<◌, ◌≤ℤ◌, ◌<ℤ◌, ◌+◌, ◌-◌, ◌*◌, ◌/◌, ◌%◌, ◌^◌, ◌+ℤ◌, ◌-ℤ◌, ℕ, ℤ, pos, negsuc, unsigned_abs, FitsSigned, refl}
 use Rattle.std.specs.Int.{Width, w8, w16, w32, w64, w128, int_rem_euclid}
 use Rattle.std.proofs.Common.{ap, sym, subst, ◌∙◌, arith, mod-lt}

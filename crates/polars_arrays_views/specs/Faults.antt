@@ -11,8 +11,7 @@ abbrev pub IsFirstBadView : List (List ℕ) → List (List ℕ) → ℕ → Type
 IsFirstBadView buffers views row =
     (row < length views) × (¬ (GoodView buffers (slice_index_or views row []))) × ((k : ℕ) → k < row → GoodView buffers (slice_index_or views k []))
 
--- when each error comes (our own choice): lengths before views, then the first bad row; no other
--- error comes
+-- the error of bad parts (our own choice): `Length` before the first bad view, and no other
 abbrev pub IsFirstFault : ViewParts → ArrayError → Type 0
 IsFirstFault a Length = ¬ (HasBits (length a.views) a.validity)
 IsFirstFault a (View row) = HasBits (length a.views) a.validity × IsFirstBadView a.buffers a.views row

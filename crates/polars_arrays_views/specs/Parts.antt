@@ -29,7 +29,6 @@ view_strings a = strings_of a.buffers a.views
 abbrev pub view_rows : ViewParts → List Row
 view_rows a = rows_under a.validity (byte_slots (view_strings a))
 
--- the parts make an array: a validity has a bit for each view, and each view is good, also of
--- masked rows
+-- the parts make an array: a validity has a bit for each view, and each view is good, masked or not
 abbrev pub GoodParts : ViewParts → Type 0
 GoodParts a = HasBits (length a.views) a.validity × All (GoodView a.buffers) a.views

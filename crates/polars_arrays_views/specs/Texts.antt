@@ -17,8 +17,7 @@ abbrev pub IsFirstNotText : List (List ℕ) → ℕ → Type 0
 IsFirstNotText strings row =
     (row < length strings) × (¬ (IsUtf8 (slice_index_or strings row []))) × ((k : ℕ) → k < row → IsUtf8 (slice_index_or strings k []))
 
--- when each error comes (our own choice): errors of the array of bytes, then the first row that is
--- not UTF-8
+-- the error of bad parts (our own choice): that of the array of bytes before the first bad text
 abbrev pub IsFirstTextFault : ViewParts → ArrayError → Type 0
 IsFirstTextFault a Length = ¬ (HasBits (length a.views) a.validity)
 IsFirstTextFault a (View row) = HasBits (length a.views) a.validity × IsFirstBadView a.buffers a.views row

@@ -75,14 +75,12 @@ pub record HoldsScalar (v xs : List ℕ) : Type 0 where
   pub good : length xs ≤ 12 → GoodView [] v
   pub row : length xs ≤ 12 → row_bytes [] v ≡ xs
 
--- whether equality of two rows reads buffers (our own choice): equal lengths above 12 and equal
--- prefixes
+-- whether equality of two rows reads buffers (our own choice): equal prefixes and lengths above 12
 abbrev pub followed_eq : List ℕ → List ℕ → Bool
 followed_eq xs ys =
     nat_eq (length xs) (length ys) && nat_lt 12 (length xs) && bytes_eq (take 4 xs) (take 4 ys)
 
--- whether order of two rows reads buffers (our own choice): equal prefixes, and one row is longer
--- than 12
+-- whether order of two rows reads buffers (our own choice): equal prefixes, one row longer than 12
 abbrev pub followed_lt : List ℕ → List ℕ → Bool
 followed_lt xs ys =
     bytes_eq (padded 4 xs) (padded 4 ys) && (nat_lt 12 (length xs) || nat_lt 12 (length ys))

@@ -4,19 +4,19 @@ use Rattle.polars_arrays_flat.specs.Validity.{is_present}
 use Rattle.polars_compare_leaves.specs.declared.joining.Relation.{Relation}
 use Rattle.polars_compare_leaves.specs.declared.joining.Relation.TheVariants.{Equal, Unequal}
 
--- the bit that stands for "equal"
+-- the bit that means "equal"
 abbrev pub told : Relation → Bool
 told Equal = true
 told Unequal = false
 
--- a raw bit where both rows are present; where one is, they are unequal, and where neither is, equal
+-- the raw bit if both rows are present; unequal if one is, and equal if neither is
 abbrev pub joined_bit : Bool → Bool → Bool → Bool → Bool
 joined_bit equal raw true true = raw
 joined_bit equal raw true false = not equal
 joined_bit equal raw false true = not equal
 joined_bit equal raw false false = equal
 
--- bits in which each raw bit is joined with the presence of both rows, where `equal` stands for "equal"
+-- raw bits joined with the presence of both rows; `equal` is the bit that means "equal"
 pub record Joined (equal : Bool) (left right : Option (List Bool)) (raw bits : List Bool) : Type 0 where
   pub size : length bits ≡ length raw
   pub at_each : (i : ℕ) → i < length raw

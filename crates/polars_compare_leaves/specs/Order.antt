@@ -6,7 +6,7 @@ use Rattle.polars_arrays_flat.specs.Row.{Row, Int, Truth, Bytes}
 use Rattle.polars_arrays_flat.specs.StoredRows.{row}
 use Rattle.polars_arrays_flat.specs.Validity.{is_present}
 
--- numbers as whole numbers, false before true, bytes lexicographically, where a proper beginning is less
+-- numbers as whole numbers, false before true, bytes lexicographically, a proper prefix first
 abbrev pub row_less : Row → Row → Bool
 row_less (Int m) (Int n) = int_lt m n
 row_less (Truth a) (Truth b) = not a && b
@@ -25,7 +25,7 @@ row_greater x y = row_less y x
 abbrev pub row_at_least : Row → Row → Bool
 row_at_least x y = not (row_less x y)
 
--- Bits of a test of rows that asks no validity: one for each row, right wherever both rows are present; at other rows any bit may stand.
+-- Bits of a test of stored rows: one for each row, right if both rows are present, else arbitrary.
 pub record RawOrder (test : Row → Row → Bool) (left_mask right_mask : Option (List Bool)) (left right : List Row) (bits : List Bool) : Type 0 where
   pub size : length bits ≡ length left
   pub at_present : (i : ℕ) → i < length left → IsTrue (is_present left_mask i) → IsTrue (is_present right_mask i)

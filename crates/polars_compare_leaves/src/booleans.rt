@@ -1,4 +1,4 @@
-//! Comparisons of stored truth values, 64 at a time, whatever the validity says.
+//! Comparisons of stored truth values, 64 at a time, whatever the validity.
 
 ghost use Rattle.std.specs.Prelude.{◌≡◌, ◌+◌, ◌≤◌, Bool, length, map, MatchResult};
 ghost use Rattle.std.specs.Simd.Lanes.{zip2};
@@ -19,16 +19,16 @@ use polars_arrays_numbers::comparison::{
 };
 use std::alloc::Global;
 
-/// A comparison of two truth values that is one of their rows.
+/// A comparison of two truth values that is a comparison of their rows.
 pub trait TruthComparison {
-    // Of which rows it holds.
+    // The comparison of rows.
     ghost rows: { Row → Row → Bool };
 
-    /// Whether it holds of two truth values.
+    /// Compares two truth values.
     fn compare(&self, left: bool, right: bool) -> bool
         ensures { result ≡ rows (Truth left) (Truth right) };
 
-    /// Of which bits of two windows of one length it holds, place by place. The error is `Memory`.
+    /// Compares the bits of two windows of equal length, place by place. The error is `Memory`.
     fn compare_masks(
         &self,
         alloc: Global,
@@ -141,8 +141,8 @@ impl TruthComparison for GreaterOrEqual {
     }
 }
 
-/// Of which stored rows of two windows a comparison holds, place by place: `n` rows from row `a` on of the
-/// left array, and as many from row `b` on of the right one. The error is `Memory`.
+/// Compares `n` stored rows from row `a` on of the left array with those from row `b` on of the
+/// right one, place by place. The error is `Memory`.
 pub fn compare_truth_windows<E: TruthComparison>(
     alloc: Global,
     comparison: &E,
@@ -163,7 +163,7 @@ pub fn compare_truth_windows<E: TruthComparison>(
     comparison.compare_masks(alloc, &left, &right)
 }
 
-/// Of which stored rows and one truth value a comparison holds. The error is `Memory`.
+/// Compares each stored row with a truth value. The error is `Memory`.
 pub fn compare_truth<E: TruthComparison>(
     alloc: Global,
     comparison: &E,

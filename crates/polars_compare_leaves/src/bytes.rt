@@ -1,4 +1,4 @@
-//! Comparisons of stored byte strings, place by place, whatever the validity says.
+//! Comparisons of stored byte strings, place by place, whatever the validity.
 
 ghost use Rattle.std.specs.Prelude.{◌≡◌, ◌+◌, ◌^◌, ◌<◌, ◌≤◌, Bool, length, map, take, MatchResult};
 ghost use Rattle.std.specs.Simd.Lanes.{zip2};
@@ -21,16 +21,16 @@ use polars_arrays_numbers::comparison::{
 };
 use std::alloc::Global;
 
-/// A comparison of two byte strings that is one of their rows.
+/// A comparison of two byte strings that is a comparison of their rows.
 pub trait ByteComparison {
-    // Of which rows it holds.
+    // The comparison of rows.
     ghost rows: { Row → Row → Bool };
 
-    /// Whether it holds of two byte strings.
+    /// Compares two byte strings.
     fn compare(&self, left: &[u8], right: &[u8]) -> bool
         ensures { result ≡ rows (Bytes left.now) (Bytes right.now) };
 
-    /// The same, made for a right string that many left ones are compared with.
+    /// Compares two byte strings, in a form for one right string and many left ones.
     #[inline(always)]
     fn compare_constant(&self, left: &[u8], right: &[u8]) -> bool
         ensures { result ≡ rows (Bytes left.now) (Bytes right.now) }
@@ -38,8 +38,8 @@ pub trait ByteComparison {
         self.compare(left, right)
     }
 
-    /// The same of the first `n` bytes of one slice and the first `m` bytes of another one. Short strings are
-    /// compared as one block each, where the slices go on behind them.
+    /// Compares the first `n` bytes of one slice with the first `m` bytes of another one. Short
+    /// strings are compared as one block each, if both slices are long enough.
     fn compare_on(&self, left: &[u8], n: usize, right: &[u8], m: usize) -> bool
         requires left_in { n ≤ length left.now }
         requires right_in { m ≤ length right.now }
@@ -140,7 +140,7 @@ impl ByteComparison for GreaterOrEqual {
     }
 }
 
-// A comparison of `n` byte strings from place `a` on with as many from place `b` on, place by place.
+// A comparison of `n` byte strings from place `a` on with those from place `b` on, place by place.
 #[derive(Drop)]
 struct StringPairs<'a, L: ByteRows, R: ByteRows, E> {
     comparison: &'a E,
@@ -176,8 +176,8 @@ impl<'a, L: ByteRows, R: ByteRows, E: ByteComparison> TruthValues for StringPair
     }
 }
 
-/// Of which stored rows of two windows a comparison holds, place by place: `n` byte strings from place `a` on
-/// of the left ones, and as many from place `b` on of the right ones. The error is `Memory`.
+/// Compares `n` stored byte strings from place `a` on of the left array with those from place `b`
+/// on of the right one, place by place. The error is `Memory`.
 #[inline]
 pub fn compare_byte_windows<L: ByteRows, R: ByteRows, E: ByteComparison>(
     alloc: Global,
@@ -194,7 +194,7 @@ pub fn compare_byte_windows<L: ByteRows, R: ByteRows, E: ByteComparison>(
         (window a n (byte_slots (L.strings left.now)))
         (window b n (byte_slots (R.strings right.now)))) IsMemory }
 {
-    // No effect at run time. The proof reads from them that places are numbers of 64 bits.
+    // Have no effect at run time. The proof learns from them that places fit in 64 bits.
     let _left_count = left.count();
     let _right_count = right.count();
     let pairs = StringPairs {
@@ -208,7 +208,7 @@ pub fn compare_byte_windows<L: ByteRows, R: ByteRows, E: ByteComparison>(
     Bitmap::from_values(alloc, &pairs)
 }
 
-// A comparison of byte strings with one.
+// A comparison of byte strings with one byte string.
 #[derive(Drop)]
 struct StringsAgainst<'a, L, E> {
     comparison: &'a E,
@@ -266,8 +266,8 @@ impl<'a, L: ByteRows, E: ByteComparison> TruthValues for StringsOnBlock<'a, L, E
     }
 }
 
-/// Of which stored rows and one byte string a comparison holds. A short string is read as one block, as short
-/// rows are. The error is `Memory`.
+/// Compares each stored row with a byte string. A short string is read as one block, as short rows
+/// are. The error is `Memory`.
 pub fn compare_bytes<L: ByteRows, E: ByteComparison>(
     alloc: Global,
     comparison: &E,

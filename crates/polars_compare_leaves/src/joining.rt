@@ -1,4 +1,4 @@
-//! The null combination: raw truth values, joined with two masks.
+//! The join of raw truth values with two masks, which decides how nulls compare.
 
 ghost use Rattle.std.specs.Prelude.{◌≡◌, Bool, List, length, MatchResult};
 ghost use Rattle.polars_arrays_bits.specs.Bits.{zip3};
@@ -14,15 +14,15 @@ use polars_arrays_bits::packing::TruthValues;
 use polars_arrays_flat::mask::Mask;
 use std::alloc::Global;
 
-/// What the bits of a comparison tell: where rows are equal, or where they are unequal.
+/// The meaning of a comparison's set bits: rows that are equal, or rows that are unequal.
 #[derive(Clone, Copy, Debug, PartialEq, Eq)]
 pub enum Relation {
     Equal,
     Unequal,
 }
 
-/// The raw truth values of a comparison: bits that are there, or values that are packed as they are
-/// asked for. A source combines lists of bits; what null is equal to, `join_masks` says for all.
+/// The raw truth values of a comparison: a bitmap, or values that are packed while they are read.
+/// Implementations only combine bits; `join_masks` decides for all what null is equal to.
 pub trait RawValues {
     // The truth values, the first one first.
     ghost values: { Self → List Bool };
@@ -58,7 +58,7 @@ pub trait RawValues {
             (λ bits. bits ≡ zip3 merged_ne (values self) left.now right.now) IsMemory };
 }
 
-// The bits of a bitmap are changed in its own words, where it owns them.
+// Changes a bitmap in place if it owns its words.
 impl RawValues for Bitmap {
     ghost values = { λ bits. bits };
 
@@ -90,8 +90,8 @@ impl RawValues for Bitmap {
     }
 }
 
-// Truth values that are asked for one by one are merged with two masks a word at a time, as they
-// are packed: no raw bits are made.
+// Merges truth values with two masks while they are packed, a word at a time, without a bitmap of
+// raw bits.
 impl<V: TruthValues> RawValues for &V {
     ghost values = { λ raw. V.values raw.now };
 
@@ -121,7 +121,7 @@ impl<V: TruthValues> RawValues for &V {
     }
 }
 
-// Joins raw truth values with the mask of one side, where all rows of the other side are present.
+// Joins raw truth values with the mask of one side. All rows of the other side are present.
 fn join_one<R: RawValues>(
     alloc: Global,
     relation: Relation,
@@ -163,9 +163,9 @@ fn join_both<R: RawValues>(
     }
 }
 
-/// Joins the raw truth values of a comparison with the masks of both sides, where there are any, of
-/// which windows are lent: a row that is present on both keeps its bit, and of the others those are
-/// equal that are null on both. The error is `Memory`.
+/// Joins the raw truth values of a comparison with the masks of both sides, if any; windows of
+/// masks are passed. A row that is present on both sides keeps its bit. Two nulls are equal, and a
+/// null and a present row are not. The error is `Memory`.
 #[inline(always)]
 pub fn join_masks<R: RawValues>(
     alloc: Global,
@@ -187,7 +187,7 @@ pub fn join_masks<R: RawValues>(
     }
 }
 
-/// Joins raw truth values with the masks of whole arrays or windows. The error is `Memory`.
+/// Joins raw truth values with the masks of whole arrays or of windows. The error is `Memory`.
 #[inline(always)]
 pub fn join_nulls<R: RawValues>(
     alloc: Global,

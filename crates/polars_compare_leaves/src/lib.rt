@@ -1,4 +1,5 @@
-//! Comparisons of the stored rows of arrays of one level, and the one place where nulls are decided.
+//! Comparisons of the stored rows of arrays of one level, and the join that decides how nulls
+//! compare.
 #![tactic(auto)]
 
 pub mod booleans;

@@ -1,4 +1,4 @@
-//! Comparisons of stored numbers, place by place, whatever the validity says.
+//! Comparisons of stored numbers, place by place, whatever the validity.
 
 ghost use Rattle.std.specs.Prelude.{◌≡◌, ℕ, ◌+◌, ◌<◌, ◌≤◌, false, ◌&&◌, length, map, MatchResult};
 ghost use Rattle.std.specs.Simd.Lanes.{zip2};
@@ -22,8 +22,8 @@ use polars_arrays_flat::primitive::PrimitiveArray;
 use polars_arrays_numbers::native_type::NativeType;
 use std::alloc::Global;
 
-/// Of which stored rows of two windows a comparison holds, place by place: `n` rows from row `a` on of the
-/// left array, and as many from row `b` on of the right one. The error is `Memory`.
+/// Compares `n` stored rows from row `a` on of the left array with those from row `b` on of the
+/// right one, place by place. The error is `Memory`.
 pub fn compare_number_windows<T: NativeType, E: RowComparison<T>>(
     alloc: Global,
     comparison: &E,
@@ -42,8 +42,8 @@ pub fn compare_number_windows<T: NativeType, E: RowComparison<T>>(
     compare_windows(alloc, comparison, left.values(), a, right.values(), b, n)
 }
 
-/// The same of two windows of at most 64 rows, as the bits of a word, the first row lowest, with zeros
-/// behind them. No memory is needed.
+/// Compares at most 64 stored rows of two windows, place by place. The results are the bits of a
+/// word, the first row lowest, with zeros above them. Does not allocate.
 #[inline(always)]
 pub fn compare_few_numbers<T: NativeType, E: RowComparison<T>>(
     comparison: &E,
@@ -65,8 +65,8 @@ pub fn compare_few_numbers<T: NativeType, E: RowComparison<T>>(
     compare_few(comparison, &left[a..a + n], &right[b..b + n])
 }
 
-/// Each bit stays true where the comparison holds of the stored rows of two windows at its place: the first
-/// bit is that of row `a` of the left array and of row `b` of the right one. No memory is needed.
+/// Sets each bit to its AND with the comparison of the stored rows at its place in two windows. The
+/// first bit is that of row `a` of the left array and row `b` of the right one. Does not allocate.
 pub fn and_number_windows<T: NativeType, E: RowComparison<T>>(
     bits: &mut MutableBitmap,
     comparison: &E,
@@ -86,8 +86,9 @@ pub fn and_number_windows<T: NativeType, E: RowComparison<T>>(
     and_pairs(bits, comparison, &left[a..a + n], &right[b..b + n]);
 }
 
-/// Of which stored rows of two arrays of one length a comparison holds, place by place, joined with the masks of
-/// both sides: what a bit of the comparison tells, the relation says. The error is `Memory`.
+/// Compares the stored rows of two arrays of equal length, place by place, and joins the results
+/// with the masks of both sides. `relation` says what a set bit of the comparison means. The error
+/// is `Memory`.
 #[inline(always)]
 pub fn join_numbers<T: NativeType, E: RowComparison<T>>(
     alloc: Global,
@@ -112,7 +113,7 @@ pub fn join_numbers<T: NativeType, E: RowComparison<T>>(
     join_nulls(alloc, relation, &pairs, left_mask, right_mask)
 }
 
-/// Of which stored rows and one number a comparison holds. The error is `Memory`.
+/// Compares each stored row with a number. The error is `Memory`.
 pub fn compare_number<T: NativeType, E: RowComparison<T>>(
     alloc: Global,
     comparison: &E,

@@ -1,4 +1,4 @@
-//! Comparisons of two numbers, as comparisons of the rows that they stand for.
+//! Comparisons of two numbers as comparisons of their rows.
 
 ghost use Rattle.std.specs.Prelude.{◌≡◌, Bool, refl};
 ghost use Rattle.polars_arrays_flat.specs.Row.{Row, Int};
@@ -11,12 +11,12 @@ use polars_arrays_numbers::comparison::{
 };
 use polars_arrays_numbers::native_type::NativeType;
 
-/// A comparison of two numbers of one type that is one of their rows.
+/// A comparison of two numbers of one type that is a comparison of their rows.
 pub trait RowComparison<T: NativeType>: Comparison<T, T> {
-    // Of which rows it holds.
+    // The comparison of rows.
     ghost rows: { Row → Row → Bool };
 
-    // It holds of two numbers exactly where it holds of their rows.
+    // It holds of two numbers exactly if it holds of their rows.
     ghost rows_law: { (comparison : Self) (l r : T) → Self.holds comparison l r ≡ rows (Int (T.value l)) (Int (T.value r)) };
 }
 

@@ -1,4 +1,5 @@
--- What bits tell of the rows of two windows: n rows from row a on of the left array, and as many from row b on of the right one.
+-- Bits of a comparison of two windows: n rows from row a on of the left array, from row b on of the
+-- right one.
 use Rattle.std.specs.Prelude.{◌≡◌, ◌+◌, ◌<◌, ◌&&◌, ℕ, Bool, false, IsTrue, List, Option, length, slice_index_or}
 use Rattle.std.specs.Simd.Lanes.{zip2}
 use Rattle.polars_arrays_words.specs.Bits.{first_of, is_bit}
@@ -14,57 +15,59 @@ abbrev pub BothPresent : AnyArray → ℕ → AnyArray → ℕ → ℕ → Type 
 BothPresent left a right b i =
     IsTrue (is_present (mask_of left) (a + i)) × IsTrue (is_present (mask_of right) (b + i))
 
--- each bit says whether two rows are the same, where `agree` says it of leaf rows
+-- each bit says whether two rows are the same; leaf rows are if they `agree`
 pub record SameBits (agree : Row → Row → Bool) (left : AnyArray) (a : ℕ) (right : AnyArray) (b n : ℕ) (bits : List Bool) : Type 0 where
   pub size : length bits ≡ n
   pub at_each : (i : ℕ) → i < n → slice_index_or bits i false ≡ same agree (row left (a + i)) (row right (b + i))
 
--- each bit of two rows that are both present says whether they are the same; at other rows any bit may stand
+-- each bit of two present rows says whether they are the same; other bits are arbitrary
 pub record RawBits (agree : Row → Row → Bool) (left : AnyArray) (a : ℕ) (right : AnyArray) (b n : ℕ) (bits : List Bool) : Type 0 where
   pub size : length bits ≡ n
   pub at_present : (i : ℕ) → i < n → BothPresent left a right b i
       → slice_index_or bits i false ≡ same agree (row left (a + i)) (row right (b + i))
 
--- Each bit of two rows that are both present says whether they agree; at other rows any bit may stand. `left` and `right` give a row by its place.
+-- Each bit of two present rows says whether they agree; other bits are arbitrary. `left` and
+-- `right` give a row by its place.
 pub record PresentBits (agree : Row → Row → Bool) (left : ℕ → Row) (left_mask : Option (List Bool)) (a : ℕ) (right : ℕ → Row) (right_mask : Option (List Bool)) (b n : ℕ) (bits : List Bool) : Type 0 where
   pub size : length bits ≡ n
   pub at_present : (i : ℕ) → i < n → IsTrue (is_present left_mask (a + i)) × IsTrue (is_present right_mask (b + i))
       → slice_index_or bits i false ≡ agree (left (a + i)) (right (b + i))
 
--- each bit of two leaf rows that are both present says whether they agree
+-- each bit of two present leaf rows says whether they agree
 abbrev pub LeafBits : (Row → Row → Bool) → AnyArray → ℕ → AnyArray → ℕ → ℕ → List Bool → Type 0
 LeafBits agree left a right b n = PresentBits agree (row left) (mask_of left) a (row right) (mask_of right) b n
 
--- the same of the n lowest bits of a word
+-- the n lowest bits of a word are `LeafBits`
 abbrev pub LeafWord : (Row → Row → Bool) → AnyArray → ℕ → AnyArray → ℕ → ℕ → ℕ → Type 0
 LeafWord agree left a right b n word = LeafBits agree left a right b n (first_of (is_bit word) n)
 
--- each bit stays set where its bit of `same` is, for some bits `same` of which `Bits` holds
+-- each bit is set if it was and its bit of `same` is, for some bits `same` for which `Bits` holds
 pub record JoinsBits (Bits : List Bool → Type 0) (old new : List Bool) : Type 0 where
   pub same : List Bool
   pub told : Bits same
   pub joined : new ≡ zip2 ◌&&◌ old same
 
--- each bit stays set where the two leaf rows of its place agree, if both are present; at other rows any bit may stand where one was set
+-- each bit is set if it was and the two leaf rows at its place agree; arbitrary if one is null
 abbrev pub JoinsLeafBits : (Row → Row → Bool) → AnyArray → ℕ → AnyArray → ℕ → List Bool → List Bool → Type 0
 JoinsLeafBits agree left a right b old = JoinsBits (LeafBits agree left a right b (length old)) old
 
--- Where row a of the left array and row b of the right one are both present, the bit says whether they agree; at other rows any bit may stand. `left` and `right` give a row by its place.
+-- If both rows are present, the bit says whether they agree; otherwise it is arbitrary. `left` and
+-- `right` give a row by its place.
 pub record PresentBit (agree : Row → Row → Bool) (left : ℕ → Row) (left_mask : Option (List Bool)) (a : ℕ) (right : ℕ → Row) (right_mask : Option (List Bool)) (b : ℕ) (bit : Bool) : Type 0 where
   pub at_present : IsTrue (is_present left_mask a) × IsTrue (is_present right_mask b) → bit ≡ agree (left a) (right b)
 
--- the same of two leaf rows
+-- a bit of two leaf rows
 abbrev pub LeafBit : (Row → Row → Bool) → AnyArray → ℕ → AnyArray → ℕ → Bool → Type 0
 LeafBit agree left a right b = PresentBit agree (row left) (mask_of left) a (row right) (mask_of right) b
 
--- bits for n rows are added to old ones; at rows that are both present they say whether these are the same
+-- bits for n rows are appended; those of present rows say whether they are the same
 pub record AddsRawBits (agree : Row → Row → Bool) (left : AnyArray) (a : ℕ) (right : AnyArray) (b n : ℕ) (old new : List Bool) : Type 0 where
   pub size : length new ≡ length old + n
   pub kept : (i : ℕ) → i < length old → slice_index_or new i false ≡ slice_index_or old i false
   pub at_present : (i : ℕ) → i < n → BothPresent left a right b i
       → slice_index_or new (length old + i) false ≡ same agree (row left (a + i)) (row right (b + i))
 
--- where two rows are both present, the bit says whether they are the same
+-- if two rows are both present, the bit says whether they are the same
 abbrev pub SamePresent : (Row → Row → Bool) → AnyArray → ℕ → AnyArray → ℕ → Bool → Type 0
 SamePresent agree left i right j bit =
     BothPresent left i right j 0 → bit ≡ same agree (row left i) (row right j)

@@ -7,7 +7,7 @@ use Rattle.polars_arrays_nested.specs.Parts.{dictionary_keys, dictionary_values}
 use Rattle.polars_arrays_nested.specs.declared.dictionary.DictionaryArray.{DictionaryArray}
 use Rattle.polars_compare_nested.specs.declared.entries.EntryPair.{EntryPair}
 
--- whether row i of the one and row j of the other are both present
+-- whether row i of one array and row j of the other are both present
 abbrev pub both_present : DictionaryArray → ℕ → DictionaryArray → ℕ → Bool
 both_present l i r j =
     is_present (key_validity (dictionary_keys l)) i && is_present (key_validity (dictionary_keys r)) j
@@ -20,7 +20,7 @@ pub record AreEntries (l : DictionaryArray) (i : ℕ) (r : DictionaryArray) (j :
   pub left_in : pair.left < len_of (dictionary_values l)
   pub right_in : pair.right < len_of (dictionary_values r)
 
--- the entries of two rows, or None where one of the rows is masked
+-- the entries of two rows, or None if a row is masked
 abbrev pub AreRowEntries : DictionaryArray → ℕ → DictionaryArray → ℕ → Option EntryPair → Type 0
 AreRowEntries l i r j None = both_present l i r j ≡ false
 AreRowEntries l i r j (Some pair) = AreEntries l i r j pair

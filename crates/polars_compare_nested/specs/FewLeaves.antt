@@ -1,4 +1,4 @@
--- Leaves of which none is null: their comparison needs no masks, and that of few no bitmap.
+-- Leaves without nulls: comparing them needs no masks, and comparing a few needs no bitmap.
 use Rattle.std.specs.Prelude.{◌≡◌, ◌≤◌, ◌<◌, ℕ, false, IsTrue}
 use Rattle.polars_arrays_flat.specs.ArrayRows.{is_null}
 use Rattle.polars_arrays_nested.specs.AnyRows.{row}
@@ -17,7 +17,7 @@ pub record AreLeavesWithoutNulls (left right : AnyArray) : Type 0 where
   pub left_there : NoNulls left
   pub right_there : NoNulls right
 
--- the same of n rows, which fit in a word
+-- leaves without nulls, in windows of n rows that fit in a word
 pub record AreFewLeaves (left right : AnyArray) (n : ℕ) : Type 0 where
   pub few : n ≤ 64
   pub whole : AreLeavesWithoutNulls left right

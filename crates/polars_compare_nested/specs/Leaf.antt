@@ -2,7 +2,7 @@
 use Rattle.std.specs.Prelude.{Bool, true, false}
 use Rattle.polars_arrays_flat.specs.Kind.{Kind, BooleanKind, Int8Kind, Int16Kind, Int32Kind, Int64Kind, Int128Kind, UInt8Kind, UInt16Kind, UInt32Kind, UInt64Kind, UInt128Kind, BinaryKind, LargeBinaryKind, Utf8Kind, LargeUtf8Kind, BinaryViewKind, Utf8ViewKind, FixedSizeBinaryKind}
 
--- whether an array of this kind has leaves for rows: it holds no array, and its rows are not all null
+-- whether arrays of this kind have leaves as rows: they hold no array, and are not of nulls
 abbrev pub is_leaf : Kind → Bool
 is_leaf BooleanKind = true
 is_leaf Int8Kind = true

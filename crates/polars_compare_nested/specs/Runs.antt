@@ -13,28 +13,28 @@ use Rattle.polars_compare_nested.specs.declared.runs.ItemRun.{ItemRun}
 use Rattle.polars_compare_nested.specs.declared.runs.NextRows.{NextRows}
 use Rattle.polars_compare_nested.specs.declared.runs.NextRows.TheVariants.{Apart, Run}
 
--- place i, as good offsets have it
+-- place i; the offsets must be good
 abbrev pub start_of : List (Option ℕ) → ℕ → ℕ
 start_of all i = place_or_zero (place_at all i)
 
--- how many items lie between places i and i + 1
+-- the number of items between places i and i + 1
 abbrev pub span_between : List (Option ℕ) → ℕ → ℕ
 span_between all i = start_of all (i + 1) - start_of all i
 
--- list i lies between two places, of which the second is no lower
+-- list i lies between two places that do not decrease
 abbrev pub IsSpan : List (Option ℕ) → ℕ → Type 0
 IsSpan all i = (place_at all i ≢ None) × (place_at all (i + 1) ≢ None) × (start_of all i ≤ start_of all (i + 1))
 
--- the same of each of n lists from list a on
+-- each of n lists from list a on lies between places that do not decrease
 abbrev pub AreSpans : List (Option ℕ) → ℕ → ℕ → Type 0
 AreSpans all a n = (i : ℕ) → i < n → IsSpan all (a + i)
 
--- whether list i of the one and list j of the other have as many items, and are both present or have none
+-- lists i and j match: they have equally many items, and are both present or have none
 abbrev pub is_match : ListArray → ℕ → ListArray → ℕ → Bool
 is_match l i r j =
     eqb (span (list_offsets l) i) (span (list_offsets r) j) && (is_present (list_validity l) i && is_present (list_validity r) j || eqb (span (list_offsets l) i) 0)
 
--- whether list i of the one and list i of the other have as many items, for n lists from lists a and b on
+-- for n pairs of lists from lists a and b on, whether they have equally many items
 abbrev pub same_counts : List (Option ℕ) → ℕ → List (Option ℕ) → ℕ → ℕ → List Bool
 same_counts all a others b n = first_of (λ i. eqb (span_between all (a + i)) (span_between others (b + i))) n
 
@@ -46,7 +46,7 @@ lists_of_width all a n width = first_of (λ i. eqb (span_between all (a + i)) wi
 abbrev pub HaveWidth : List (Option ℕ) → ℕ → ℕ → ℕ → Type 0
 HaveWidth all a n width = (i : ℕ) → i < n → span_between all (a + i) ≡ width
 
--- n lists match, one after another
+-- n adjacent lists match
 abbrev pub Match : ListArray → ℕ → ListArray → ℕ → ℕ → Type 0
 Match l a r b n = (k : ℕ) → k < n → IsTrue (is_match l (a + k) r (b + k))
 
@@ -54,7 +54,7 @@ Match l a r b n = (k : ℕ) → k < n → IsTrue (is_match l (a + k) r (b + k))
 abbrev pub TellMatches : ListArray → ℕ → ListArray → ℕ → ℕ → ℕ → Type 0
 TellMatches l a r b n word = (i : ℕ) → i < n → is_bit word i ≡ is_match l (a + i) r (b + i)
 
--- a run is the first of at most n lists: they match, and its windows are those of all their items
+-- a run: the first of at most n lists, which match, with the windows of all their items
 pub record IsRun (l : ListArray) (a : ℕ) (r : ListArray) (b n : ℕ) (run : ItemRun) : Type 0 where
   pub some : 1 ≤ run.len
   pub within : run.len ≤ n
@@ -65,24 +65,24 @@ pub record IsRun (l : ListArray) (a : ℕ) (r : ListArray) (b n : ℕ) (run : It
   pub left_in : run.left_start + run.count ≤ len_of (list_values l)
   pub right_in : run.right_start + run.count ≤ len_of (list_values r)
 
--- the first lists either do not match, or begin a run
+-- the first lists do not match, or they begin a run
 abbrev pub AreNext : ListArray → ℕ → ListArray → ℕ → ℕ → NextRows → Type 0
 AreNext l a r b n Apart = is_match l a r b ≡ false
 AreNext l a r b n (Run run) = IsRun l a r b n run
 
--- whether all items of list k have their bits set, where the first bit is that of the item at place `from`
+-- whether all items of list k have their bits set; the first bit is that of item `from`
 abbrev pub all_items : List Bool → List (Option ℕ) → ℕ → ℕ → Bool
 all_items items all from k = list_all (λ b. b) (window (start_of all k - from) (span_between all k) items)
 
--- the same of each of n lists from list a on
+-- for each of n lists from list a on, whether all items have their bits set
 abbrev pub all_lists : List Bool → List (Option ℕ) → ℕ → ℕ → ℕ → List Bool
 all_lists items all from a n = first_of (λ i. all_items items all from (a + i)) n
 
--- each of n lists from list a on lies within `count` items, the first of which is at place `from`
+-- each of n lists from list a on lies within the `count` items from item `from` on
 abbrev pub AreWithin : ℕ → List (Option ℕ) → ℕ → ℕ → ℕ → Type 0
 AreWithin count all from a n = (i : ℕ) → i < n → start_of all (a + i) - from + span_between all (a + i) ≤ count
 
--- a bit is added for each of n lists from list a on: whether the bits of its items are all set
+-- a bit is appended for each of n lists from list a on: whether the bits of its items are all set
 pub record AddsRun (items : List Bool) (all : List (Option ℕ)) (a n : ℕ) (old new : List Bool) : Type 0 where
   pub size : length new ≡ length old + n
   pub kept : (i : ℕ) → i < length old → slice_index_or new i false ≡ slice_index_or old i false

@@ -1,4 +1,4 @@
--- How many comparisons two windows of one type cost: one for each leaf slot of the left array that is compared with one of the right.
+-- The cost of comparing two windows: one for each leaf slot of the left array that is compared.
 use Rattle.std.specs.Prelude.{ℕ, zero, suc, ◌+◌, ◌*◌, ◌&&◌, eqb, cond, Bool, List, [], ◌∷◌, Option}
 use Rattle.polars_arrays_flat.specs.Validity.{is_present}
 use Rattle.polars_arrays_nested.specs.DictKeys.{key_at, key_validity}
@@ -7,25 +7,27 @@ use Rattle.polars_arrays_nested.specs.declared.any_array.AnyArray.{AnyArray, Nul
 use Rattle.polars_arrays_nested.specs.declared.dict_keys.DictKeys.{DictKeys}
 use Rattle.polars_arrays_nested.specs.declared.list_offsets.ListOffsets.{ListOffsets}
 
--- the sum of f over `count` pairs of places, the first of which are a and b
+-- the sum of f over `count` pairs of places from places a and b on
 abbrev pub total_pairs : (ℕ → ℕ → ℕ) → ℕ → ℕ → ℕ → ℕ
 total_pairs f a b zero = 0
 total_pairs f a b (suc count) = total_pairs f a b count + f (a + count) (b + count)
 
--- what lists i and j cost: two present lists of one length cost what their items do, others nothing; `items` says what two windows of items cost
+-- the cost of lists i and j: that of their items if both are present and equally long, else 0
 abbrev pub pair_tally : (ℕ → ℕ → ℕ → ℕ) → ListOffsets → Option (List Bool) → ListOffsets → Option (List Bool) → ℕ → ℕ → ℕ
 pair_tally items offsets validity offsets' validity' i j =
     cond (is_present validity i && is_present validity' j && eqb (span offsets i) (span offsets' j))
     (items (offset_at offsets i) (offset_at offsets' j) (span offsets i))
     0
 
--- what rows i and j of two dictionaries cost: two present keys cost what their entries do, others nothing; `entries` says what two windows of entries cost
+-- the cost of rows i and j of two dictionaries: that of their entries if both are present, else 0
 abbrev pub entry_tally : (ℕ → ℕ → ℕ → ℕ) → DictKeys → DictKeys → ℕ → ℕ → ℕ
 entry_tally entries keys keys' i j =
     cond (is_present (key_validity keys) i && is_present (key_validity keys') j) (entries (key_at keys i) (key_at keys' j) 1) 0
 
 abbrev mutual
-  -- what n rows from row a on of one array and as many from row b on of another of its type cost: a pair of leaves one comparison, nulls none, lists and dictionaries what each pair of rows costs, lists of one width what all their items cost, and structs what each pair of columns costs
+  -- the cost of n rows from row a on of one array and row b on of another: one for a pair of
+  -- leaves, none for nulls, the sum over pairs of rows for lists and dictionaries, that of all
+  -- items for lists of one width, and the sum over columns for structs
   pub tally : AnyArray → AnyArray → ℕ → ℕ → ℕ → ℕ
   tally (List' offsets p values validity) (List' offsets' p' values' validity') a b n =
       total_pairs (pair_tally (λ i j m. tally values values' i j m) offsets validity offsets' validity') a b n
@@ -59,7 +61,7 @@ abbrev mutual
   tally (Utf8View x) y a b n = n
   tally (FixedSizeBinary x) y a b n = n
 
-  -- what each pair of columns costs, added up
+  -- the sum of the costs of pairs of columns
   pub tally_across : {m : _} → Row_of-AnyArray m → List AnyArray → ℕ → ℕ → ℕ → ℕ
   tally_across end_of-AnyArray others a b n = 0
   tally_across (more_of-AnyArray first rest) [] a b n = 0

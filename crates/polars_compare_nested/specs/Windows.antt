@@ -1,4 +1,5 @@
--- What a comparison of two windows asks and answers: n rows from row a on of the left array, and as many from row b on of the right one.
+-- Comparisons of two windows: n rows from row a on of the left array, from row b on of the right
+-- one.
 use Rattle.std.specs.Prelude.{◌≡◌, ◌+◌, ◌≤◌, ℕ, Bool, List, Result, IfOk, MatchResult}
 use Rattle.polars_arrays_bits.specs.Errors.{IsMemory}
 use Rattle.polars_arrays_bits.specs.declared.error.ComputeError.{ComputeError}
@@ -8,7 +9,7 @@ use Rattle.polars_arrays_nested.specs.Types.{type_of}
 use Rattle.polars_arrays_nested.specs.declared.any_array.AnyArray.{AnyArray}
 use Rattle.polars_compare_nested.specs.Tally.{tally}
 
--- two windows that can be compared: of good arrays of one type, and within them
+-- two windows that can be compared: within good arrays of one type
 pub record AreWindows (left : AnyArray) (a : ℕ) (right : AnyArray) (b n : ℕ) : Type 0 where
   pub left_good : IsGood left
   pub right_good : IsGood right
@@ -16,7 +17,8 @@ pub record AreWindows (left : AnyArray) (a : ℕ) (right : AnyArray) (b n : ℕ)
   pub left_in : a + n ≤ len_of left
   pub right_in : b + n ≤ len_of right
 
--- two windows are compared: `Bits` holds of the bits, after which the count has risen from `old` to `new` by exactly the tally; or the error is Memory, and the count has not fallen
+-- two windows are compared: `Bits` holds of the result, and the count increased from `old` to `new`
+-- by exactly the tally; or the error is Memory, and the count has not decreased
 pub record Compares (Bits : AnyArray → ℕ → AnyArray → ℕ → ℕ → List Bool → Type 0) (left : AnyArray) (a : ℕ) (right : AnyArray) (b n old new : ℕ) (result : Result (List Bool) ComputeError) : Type 0 where
   pub told : MatchResult result (Bits left a right b n) IsMemory
   pub counted : IfOk result (λ _. new ≡ old + tally left right a b n)

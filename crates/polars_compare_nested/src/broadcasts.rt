@@ -1,4 +1,4 @@
-//! Lists compared with one list, which is given as an array of its items.
+//! Comparisons of lists with one list, given as an array of its items.
 
 ghost use Rattle.std.specs.Prelude.{◌≡◌, ◌+◌, ◌≤◌, MatchResult};
 ghost use Rattle.polars_arrays_bits.specs.Errors.{IsMemory};
@@ -26,8 +26,8 @@ use polars_arrays_nested::list::ListArray;
 use polars_arrays_numbers::steps::Steps;
 use std::alloc::Global;
 
-// Whether `count` items from item `from` on are the rows of an array, all of them and in order. The error is
-// `Memory`.
+// Returns whether the `count` items from item `from` on are exactly the rows of an array, in order.
+// The error is `Memory`.
 fn are_all_rows(
     alloc: Global,
     items: &AnyArray,
@@ -48,8 +48,8 @@ fn are_all_rows(
     Ok(BitMask::from_bitmap(&same).all_set(0, count))
 }
 
-/// Which lists have exactly the rows of an array for items, in order. The validity is not asked: a masked
-/// list is compared by the items that are stored for it. The error is `Memory`.
+/// Returns for each list whether its items are exactly the rows of an array, in order. Masked lists
+/// are compared by their stored items. The error is `Memory`.
 pub fn list_broadcast(
     alloc: Global,
     lists: &ListArray,
@@ -71,8 +71,8 @@ pub fn list_broadcast(
     Ok(bits.freeze())
 }
 
-/// Which lists of one width have exactly the rows of an array for items, in order. The validity is not
-/// asked: a masked list is compared by the items that are stored for it. The error is `Memory`.
+/// Returns for each list of one width whether its items are exactly the rows of an array, in order.
+/// Masked lists are compared by their stored items. The error is `Memory`.
 pub fn fixed_size_list_broadcast(
     alloc: Global,
     lists: &FixedSizeListArray,

@@ -1,4 +1,4 @@
-//! Downcasts: the array inside an `AnyArray` whose kind is known from another of its type.
+//! Downcasts: the array inside an `AnyArray` whose kind is known from another array of its type.
 #![tactic(auto, using(crate::proofs::Cases::cases))]
 
 ghost use Rattle.std.specs.Prelude.{◌≡◌, IsTrue};
@@ -12,7 +12,7 @@ use polars_arrays_nested::fixed_size_list::FixedSizeListArray;
 use polars_arrays_nested::list::ListArray;
 use polars_arrays_nested::struct_array::StructArray;
 
-/// The array inside, where it is known to be of this kind.
+/// Returns the array inside, which must be of this kind.
 macro_rules! downcast {
     ($array:expr, $kind:ident) => {
         match $array {

@@ -1,4 +1,4 @@
-//! The entries that rows of two dictionaries name.
+//! Entries that rows of two dictionaries name.
 
 ghost use Rattle.std.specs.Prelude.{◌<◌};
 ghost use Rattle.polars_arrays_nested.specs.GoodParts.{IsGood};
@@ -9,14 +9,15 @@ ghost use Rattle.polars_compare_nested.specs.Entries.{AreRowEntries};
 use polars_arrays_flat::validity::is_present;
 use polars_arrays_nested::dictionary::DictionaryArray;
 
-/// The numbers of two entries, one of each dictionary.
+/// The indices of two entries, one in each dictionary.
 #[derive(Drop)]
 pub(crate) struct EntryPair {
     pub(crate) left: usize,
     pub(crate) right: usize,
 }
 
-/// The entries of row `i` of the one and row `j` of the other, or None where one of the rows is masked.
+/// Returns the entries of row `i` of one array and row `j` of the other, or `None` if a row is
+/// masked.
 #[inline]
 pub(crate) fn row_entries(
     left: &DictionaryArray,

@@ -1,4 +1,4 @@
-//! Leaves of which none is null. Windows of few of them are compared into a word, and no bitmap is made.
+//! Leaves without nulls. A few of them are compared into a word instead of a bitmap.
 
 ghost use Rattle.std.specs.Prelude.{◌≡◌, ◌+◌, ◌≤◌, IsTrue, IfOk, MatchResult};
 ghost use Rattle.polars_arrays_bits.specs.Errors.{IsMemory};
@@ -17,7 +17,7 @@ use polars_arrays_nested::any_array::AnyArray;
 use polars_arrays_words::words::WORD_BITS;
 use std::alloc::Global;
 
-// Whether the rows of an array are leaves.
+// Returns whether the rows of an array are leaves.
 #[inline(always)]
 fn has_leaves(array: &AnyArray) -> bool
     ensures { IsTrue result → IsTrue (is_leaf (type_of array.now)) }
@@ -32,8 +32,8 @@ fn has_leaves(array: &AnyArray) -> bool
     }
 }
 
-/// Whether the rows of two arrays of one type are leaves, and none of them is null. Where a validity has no bit
-/// unset the answer may be false.
+/// Returns whether the rows of two arrays of one type are leaves without nulls. It may return
+/// `false` if a validity has no bit unset.
 #[inline(always)]
 pub(crate) fn are_leaves(left: &AnyArray, right: &AnyArray) -> bool
     requires left_good { IsGood left.now }
@@ -43,8 +43,8 @@ pub(crate) fn are_leaves(left: &AnyArray, right: &AnyArray) -> bool
     has_leaves(left) && !left.may_have_nulls() && !right.may_have_nulls()
 }
 
-/// Whether windows of `n` rows of two arrays are at most 64 leaves each, none of them null, where `leaves` says that the
-/// rows of both arrays are such leaves.
+/// Returns whether windows of `n` rows of two arrays are at most 64 leaves each, without nulls.
+/// `leaves` says that the rows of both arrays are leaves without nulls.
 #[inline(always)]
 pub(crate) fn are_few_leaves(_left: &AnyArray, _right: &AnyArray, leaves: bool, n: usize) -> bool
     requires leaves { IsTrue leaves → AreLeavesWithoutNulls _left.now _right.now }
@@ -53,8 +53,9 @@ pub(crate) fn are_few_leaves(_left: &AnyArray, _right: &AnyArray, leaves: bool, 
     leaves && n <= WORD_BITS
 }
 
-/// Which rows of two such windows are the same, as the bits of a word, the first one lowest. The count rises by
-/// one for each leaf that is compared with another. The error is `Memory`.
+/// Compares two windows of at most 64 leaves without nulls, and returns which rows are the same as
+/// the bits of a word, the first one lowest. The count increases by one for each comparison of
+/// leaves. The error is `Memory`.
 #[inline(always)]
 pub(crate) fn same_few<K: LeafKernel>(
     alloc: Global,

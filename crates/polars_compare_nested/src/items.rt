@@ -8,7 +8,7 @@ ghost use Rattle.polars_arrays_nested.specs.declared.any_array.AnyArray.{FixedSi
 
 use polars_arrays_nested::fixed_size_list::FixedSizeListArray;
 
-/// The place of the first item of list `at`, and how many items `n` lists have.
+/// Returns the first item of list `at`, and the number of items of `n` lists.
 pub(crate) fn item_window(array: &FixedSizeListArray, at: usize, n: usize) -> (usize, usize)
     requires good { IsGood (FixedSizeList array.now) }
     requires within { at + n ≤ len_of (FixedSizeList array.now) }
@@ -16,7 +16,7 @@ pub(crate) fn item_window(array: &FixedSizeListArray, at: usize, n: usize) -> (u
     ensures count { result.1 ≡ fixed_width array.now * n }
     ensures within { result.0 + result.1 ≤ len_of (fixed_values array.now) }
 {
-    // For the proof alone: that the items have a length of 64 bits says that the products don't overflow.
+    // For the proof: the number of items fits in 64 bits, so the products don't overflow.
     let _items = array.values().len();
     (array.width() * at, array.width() * n)
 }

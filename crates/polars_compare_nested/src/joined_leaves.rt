@@ -1,4 +1,4 @@
-//! Raw equality of windows of leaves of one type, joined into bits that are there already.
+//! Raw equality of windows of leaves of one type, joined into existing bits.
 
 ghost use Rattle.std.specs.Prelude.{◌≡◌, ◌+◌, ◌≤◌, IsTrue, length, MatchResult};
 ghost use Rattle.polars_arrays_bits.specs.Errors.{IsMemory};
@@ -21,8 +21,8 @@ use polars_arrays_numbers::native_type::NativeType;
 use polars_compare_leaves::numbers::and_number_windows;
 use std::alloc::Global;
 
-// Compares windows of two arrays of one kind of leaf by the function that stands before the names of kinds,
-// and of the other kinds by a bitmap.
+// Compares windows of two arrays of one kind of leaf: by the function named before the kinds for
+// those kinds, and by a bitmap for all others.
 macro_rules! join_leaves {
     (($alloc:expr, $bits:expr, $left:expr, $a:expr, $right:expr, $b:expr), $join:ident: $($kind:ident)+) => {
         match $left {
@@ -35,9 +35,9 @@ macro_rules! join_leaves {
     };
 }
 
-/// Each bit stays true where the leaves of two windows are equal: the first bit is that of row `a` of the left
-/// array and of row `b` of the right one. Where a row is masked on either side any bit may stand in place of a
-/// true one. The error is `Memory`; numbers need no memory.
+/// Sets each bit to its AND with the equality of the leaves at its place in two windows. The first
+/// bit is that of row `a` of the left array and row `b` of the right one. If a row is masked on
+/// either side, a true bit may become anything. The error is `Memory`; numbers need no memory.
 #[tactic(auto, using(crate::proofs::Strings::counts, crate::proofs::Cases::cases))]
 #[inline]
 pub(crate) fn and_leaf_windows(
@@ -60,7 +60,7 @@ pub(crate) fn and_leaf_windows(
     )
 }
 
-// The same of leaves of any kind, by a bitmap.
+// Does what `and_leaf_windows` does for leaves of any kind, with a bitmap.
 fn and_by_bitmap(
     alloc: Global,
     bits: &mut MutableBitmap,
@@ -81,7 +81,7 @@ fn and_by_bitmap(
     Ok(())
 }
 
-// The same of numbers.
+// Does what `and_leaf_windows` does for numbers.
 fn and_numbers<T: NativeType>(
     bits: &mut MutableBitmap,
     left: &PrimitiveArray<T>,

@@ -1,4 +1,4 @@
-//! Missing equality of two whole arrays of one type and length, whatever kind they are.
+//! Missing equality of two whole arrays of any kind, of one type and length.
 
 ghost use Rattle.std.specs.Prelude.{◌≡◌, ◌+◌, ◌≤◌, true, false, IfOk, MatchResult};
 ghost use Rattle.polars_arrays_bits.specs.Errors.{IsMemory};
@@ -20,13 +20,14 @@ use polars_arrays_nested::any_array::AnyArray;
 use polars_arrays_numbers::steps::Steps;
 use std::alloc::Global;
 
-/// Which rows of two arrays of one type and length are the same. Null is the same as null alone, and leaves
-/// are the same where the kernel says so.
+/// Returns which rows of two arrays of one type and length are the same. Null is the same as null
+/// alone, and leaves are the same if the kernel says so.
 ///
-/// The count rises by exactly one for each leaf slot of the left array that is set against one of the right:
-/// at most the leaf slots of either array, a dictionary's entries counted once per present row. If the
-/// kernel's test of leaves is equality, as that of `Steps` is, a row's bit is set exactly where the two rows
-/// are the same tree. The error is `Memory`, and then the count has not fallen.
+/// The count increases by exactly one for each leaf slot of the left array that is compared with
+/// one of the right: at most the leaf slots of either array, with a dictionary's entries counted
+/// once per present row. If the kernel's test of leaves is equality, as that of `Steps` is, a row's
+/// bit is set exactly if the two rows are the same tree. The error is `Memory`; the count may then
+/// have increased.
 #[tactic(auto, using(crate::proofs::Headline::bounds))]
 pub fn array_tot_eq_missing_kernel_counted<K: LeafKernel>(
     alloc: Global,
@@ -49,8 +50,8 @@ pub fn array_tot_eq_missing_kernel_counted<K: LeafKernel>(
     equal_windows(alloc, left, 0, right, 0, left.len(), steps)
 }
 
-/// Which rows of two arrays of one type and length are not the same: the answer of
-/// `array_tot_eq_missing_kernel_counted` with each bit turned, after the same comparisons.
+/// Returns which rows of two arrays of one type and length are not the same: the negated result of
+/// `array_tot_eq_missing_kernel_counted`, after the same comparisons.
 #[tactic(auto, using(crate::proofs::Headline::bounds))]
 pub fn array_tot_ne_missing_kernel_counted<K: LeafKernel>(
     alloc: Global,
@@ -74,12 +75,12 @@ pub fn array_tot_ne_missing_kernel_counted<K: LeafKernel>(
     same.not(alloc)
 }
 
-/// Which rows of two arrays of one type and length are the same tree, where null is the same as null alone.
-/// The error is `Memory`.
+/// Returns which rows of two arrays of one type and length are the same tree; null is the same as
+/// null alone. The error is `Memory`.
 ///
-/// On `Ok` the count has risen by exactly one for each leaf slot of the left array that is set against one
-/// of the right: at most the leaf slots of either array, a dictionary's entries counted once per present
-/// row. On `Memory` it has not fallen.
+/// On `Ok` the count has increased by exactly one for each leaf slot of the left array that is
+/// compared with one of the right: at most the leaf slots of either array, with a dictionary's
+/// entries counted once per present row. On `Memory` it may have increased.
 #[tactic(auto, using(crate::proofs::Headline::bounds))]
 pub fn array_tot_eq_missing_kernel_with_steps(
     alloc: Global,
@@ -100,8 +101,8 @@ pub fn array_tot_eq_missing_kernel_with_steps(
     array_tot_eq_missing_kernel_counted(alloc, left, right, steps)
 }
 
-/// Which rows of two arrays of one type and length are the same tree, where null is the same as null alone.
-/// The error is `Memory`.
+/// Returns which rows of two arrays of one type and length are the same tree; null is the same as
+/// null alone. The error is `Memory`.
 pub fn array_tot_eq_missing_kernel(
     alloc: Global,
     left: &AnyArray,
@@ -117,8 +118,8 @@ pub fn array_tot_eq_missing_kernel(
     array_tot_eq_missing_kernel_with_steps(alloc, left, right, &mut Steps::new())
 }
 
-/// Which rows of two arrays of one type and length are not the same tree, where null is the same as null
-/// alone. The error is `Memory`.
+/// Returns which rows of two arrays of one type and length are not the same tree; null is the same
+/// as null alone. The error is `Memory`.
 pub fn array_tot_ne_missing_kernel(
     alloc: Global,
     left: &AnyArray,

@@ -7,14 +7,14 @@ ghost use Rattle.polars_compare_nested.specs.TallyLaws.{ListLeavesAreOneWindow, 
 
 use polars_arrays_nested::laws::law_leaves;
 
-/// What two windows cost, and what bounds it.
+/// States the laws of the cost of comparing two windows, and of its bounds.
 ///
-/// The comparisons are no more than the leaf slots of the left window; comparisons and leaf slots of
-/// adjacent windows add up; and the comparisons stay when the sides are exchanged, so that the leaf slots of
-/// the right window bound them too. The items of a list end where those of the next one begin, so a window
-/// of lists has the leaf slots of one window of items, and lists that match one after another cost what that
-/// window costs. A struct goes over each of its columns once. A slice and a second copy cost what the same rows of
-/// the array did that they were made of.
+/// The comparisons are at most the leaf slots of the left window. Comparisons and leaf slots of
+/// adjacent windows add up. The comparisons are the same with the sides exchanged, so the leaf
+/// slots of the right window bound them too. The items of a list end where those of the next one
+/// begin, so a window of lists has the leaf slots of one window of items, and adjacent lists that
+/// match cost what that window costs. A struct counts each of its columns once. Slices and clones
+/// cost what the same rows of the original did.
 pub fn law_tally()
     ensures within { TallyIsWithinLeaves }
     ensures adds_up { TallyAddsUp }
@@ -31,9 +31,9 @@ pub fn law_tally()
     law_leaves();
 }
 
-/// The test of leaves by `Steps` is equality; and by any test that is, two rows are the same exactly where
-/// they are the same tree. So a `LeafKernel` tells trees apart as soon as its test is equality of two
-/// numbers, of two truth values and of two byte strings.
+/// States that the test of leaves by `Steps` is equality, and that with any such test two rows are
+/// the same exactly if they are the same tree. So a `LeafKernel` distinguishes trees as soon as its
+/// test is equality of two numbers, of two truth values and of two byte strings.
 pub fn law_steps()
     ensures equality { IsEquality same_leaf }
     ensures trees { EqualityTellsTrees }

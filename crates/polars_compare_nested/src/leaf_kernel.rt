@@ -1,4 +1,4 @@
-//! How leaf rows are compared, and how their comparisons are counted.
+//! Comparisons of leaf rows, and their count.
 
 ghost use Rattle.std.specs.Prelude.{◌≡◌, ◌+◌, ◌≤◌, ℕ, Bool, IsTrue, length, IfOk, MatchResult};
 ghost use Rattle.polars_arrays_bits.specs.Errors.{IsMemory};
@@ -21,19 +21,19 @@ use polars_arrays_nested::any_array::AnyArray;
 use polars_arrays_numbers::steps::Steps;
 use std::alloc::Global;
 
-/// Compares stored leaves (numbers, truth values, byte strings and texts) and counts the comparisons. The
-/// comparison of nested arrays reaches leaves through this trait alone.
+/// A comparison of stored leaves (numbers, truth values, byte strings and texts) that counts. The
+/// comparison of nested arrays reads leaves through this trait alone.
 pub trait LeafKernel {
-    // Whether two leaf rows agree.
+    // Agreement of two leaf rows.
     ghost agree: { Row → Row → Bool };
 
-    // How many comparisons were counted.
+    // Number of comparisons counted.
     ghost count: { Self → ℕ };
 
-    /// Whether the leaves of two windows agree, place by place: `n` rows from row `a` on of the left array,
-    /// and as many from row `b` on of the right one. Where a row is masked on either side the bit means
-    /// nothing. The count rises by `n`, a comparison a row. The error is `Memory`, and then the count has
-    /// not fallen.
+    /// Returns whether the leaves of two windows agree, place by place: `n` rows from row `a` on of
+    /// the left array and from row `b` on of the right one. If a row is masked on either side, the
+    /// bit is arbitrary. The count increases by `n`, one a row. The error is `Memory`; the count
+    /// may then have increased.
     fn leaf_eq(
         &mut self,
         alloc: Global,
@@ -49,8 +49,9 @@ pub trait LeafKernel {
         ensures counted { IfOk result (λ _. count self.new ≡ count self.old + n) }
         ensures kept { count self.old ≤ count self.new };
 
-    /// The same of two windows of at most 64 rows, as the bits of a word, the first row lowest. As it stands it
-    /// asks for a bitmap; a kernel that needs no memory for a few leaves may answer by itself.
+    /// Does what `leaf_eq` does for at most 64 rows, and returns the bits of a word, the first row
+    /// lowest. The default uses a bitmap; a kernel that needs no memory for a few leaves may
+    /// override it.
     fn leaf_word_eq(
         &mut self,
         alloc: Global,
@@ -71,10 +72,10 @@ pub trait LeafKernel {
         Ok(BitMask::from_bitmap(&bits).few_bits(0, n))
     }
 
-    /// Whether the leaves of two windows agree, joined into bits that are there already: each stays true where the
-    /// leaves of its place agree, the first being that of rows `a` and `b`. Where a row is masked on either side
-    /// any bit may stand in place of a true one. The count rises by the number of bits. The error is `Memory`, and
-    /// then the count has not fallen. As it stands it asks for a bitmap; a kernel that needs none may join by itself.
+    /// Sets each bit to its AND with the agreement of the leaves at its place in two windows, from
+    /// rows `a` and `b` on. If a row is masked on either side, a true bit may become anything. The
+    /// count increases by the number of bits. The error is `Memory`; the count may then have
+    /// increased. The default uses a bitmap; a kernel that needs none may override it.
     fn leaf_and_eq(
         &mut self,
         alloc: Global,
@@ -96,10 +97,10 @@ pub trait LeafKernel {
         Ok(())
     }
 
-    /// Whether leaf `a` of the left array and leaf `b` of the right one agree. Where a row is masked on either
-    /// side the answer means nothing. The count rises by 1. The error is `Memory`, and then the count has not
-    /// fallen. As it stands it asks for a window of one row; a kernel that needs no memory for two leaves may
-    /// answer by itself.
+    /// Returns whether leaf `a` of the left array and leaf `b` of the right one agree. If a row is
+    /// masked on either side, the result is arbitrary. The count increases by 1. The error is
+    /// `Memory`; the count may then have increased. The default compares a window of one row; a
+    /// kernel that needs no memory for two leaves may override it.
     fn leaf_row_eq(
         &mut self,
         alloc: Global,
@@ -168,7 +169,7 @@ impl LeafKernel for Steps {
         Ok(())
     }
 
-    // No memory is needed, and so there is no error.
+    // Does not allocate, so it has no error.
     #[inline(always)]
     fn leaf_row_eq(
         &mut self,

@@ -1,4 +1,4 @@
-//! Whether two stored rows of arrays of leaves of one type are equal. Nothing here needs memory.
+//! Equality of two stored leaves of arrays of one type. Nothing here allocates.
 
 ghost use Rattle.std.specs.Prelude.{◌≡◌, ◌<◌, IsTrue, length};
 ghost use Rattle.polars_arrays_flat.specs.ArrayRows.{number_rows, truth_rows};
@@ -24,8 +24,7 @@ use polars_arrays_views::rows::rows_equal;
 use polars_arrays_views::text_view::Utf8ViewArray;
 use polars_compare_leaves::bytes::ByteComparison;
 
-// Compares a row of each of two arrays of one kind of leaf by the function that stands before the name of the
-// kind.
+// Compares a row of each of two arrays of one kind of leaf by the function named before the kind.
 macro_rules! compare_rows {
     (($left:expr, $a:expr, $right:expr, $b:expr), $($same:ident: $($kind:ident)+);+) => {
         match $left {
@@ -35,8 +34,8 @@ macro_rules! compare_rows {
     };
 }
 
-/// Whether leaf `a` of the left array and leaf `b` of the right one are equal. Where a row is masked on either
-/// side the answer means nothing.
+/// Returns whether leaf `a` of the left array and leaf `b` of the right one are equal. If a row is
+/// masked on either side, the result is arbitrary.
 #[tactic(auto, using(crate::proofs::Strings::counts, crate::proofs::Cases::cases))]
 #[inline(always)]
 pub(crate) fn leaf_rows(left: &AnyArray, a: usize, right: &AnyArray, b: usize) -> bool
@@ -56,7 +55,7 @@ pub(crate) fn leaf_rows(left: &AnyArray, a: usize, right: &AnyArray, b: usize) -
     )
 }
 
-// What `leaf_rows` says of any leaves, of truth values.
+// Compares two truth values.
 #[inline(always)]
 fn same_truth(left: &BooleanArray, a: usize, right: &BooleanArray, b: usize) -> bool
     requires left_in { a < length left.now.values }
@@ -68,7 +67,7 @@ fn same_truth(left: &BooleanArray, a: usize, right: &BooleanArray, b: usize) -> 
     x == y
 }
 
-// The same of numbers.
+// Compares two numbers.
 #[inline(always)]
 fn same_number<T: NativeType>(
     left: &PrimitiveArray<T>,
@@ -84,7 +83,7 @@ fn same_number<T: NativeType>(
     Comparison::compare(&Equal, left[a], right[b])
 }
 
-// The same of byte strings and texts between offsets, and of byte strings of one size.
+// Compares two byte strings or texts between offsets, or two byte strings of one size.
 #[inline(always)]
 fn same_bytes<R: ByteRows>(left: &R, a: usize, right: &R, b: usize) -> bool
     requires left_in { a < length (R.strings left.now) }
@@ -96,7 +95,7 @@ fn same_bytes<R: ByteRows>(left: &R, a: usize, right: &R, b: usize) -> bool
     ByteComparison::compare_on(&Equal, left, n, right, m)
 }
 
-// The same of texts kept by views.
+// Compares two texts in views.
 #[inline(always)]
 fn same_text(left: &Utf8ViewArray, a: usize, right: &Utf8ViewArray, b: usize) -> bool
     requires left_in { a < length left.now.views }
@@ -106,8 +105,8 @@ fn same_text(left: &Utf8ViewArray, a: usize, right: &Utf8ViewArray, b: usize) ->
     same_view(left.as_binview(), a, right.as_binview(), b)
 }
 
-// The same of byte strings and texts kept by views. How many of them are looked up in buffers is counted and
-// dropped: this crate counts comparisons of leaves.
+// Compares two byte strings in views. The count of rows looked up in buffers is dropped: this crate
+// counts comparisons of leaves.
 #[inline(always)]
 fn same_view(left: &BinaryViewArray, a: usize, right: &BinaryViewArray, b: usize) -> bool
     requires left_in { a < length left.now.views }

@@ -35,8 +35,7 @@ use polars_compare_leaves::numbers::compare_number_windows;
 use polars_compare_views::windows::compare_view_windows;
 use std::alloc::Global;
 
-// Compares windows of two arrays of one kind of leaf by the function that stands before the name of the
-// kind.
+// Compares windows of two arrays of one kind of leaf by the function named before the kind.
 macro_rules! compare_leaves {
     (($alloc:expr, $left:expr, $a:expr, $right:expr, $b:expr, $n:expr), $($windows:ident: $($kind:ident)+);+) => {
         match $left {
@@ -46,8 +45,8 @@ macro_rules! compare_leaves {
     };
 }
 
-/// Whether the leaves of two windows are equal, place by place: `n` rows from row `a` on of the left array,
-/// and as many from row `b` on of the right one. The error is `Memory`.
+/// Returns whether the leaves of two windows are equal, place by place: `n` rows from row `a` on of
+/// the left array and from row `b` on of the right one. The error is `Memory`.
 #[tactic(auto, using(crate::proofs::Strings::counts, crate::proofs::Cases::cases))]
 #[inline]
 pub(crate) fn leaf_windows(
@@ -76,7 +75,7 @@ pub(crate) fn leaf_windows(
     )
 }
 
-// What `leaf_windows` says of any leaves, of truth values.
+// Compares windows of truth values.
 #[inline]
 fn truth_windows(
     alloc: Global,
@@ -93,7 +92,7 @@ fn truth_windows(
     compare_truth_windows(alloc, &Equal, left, a, right, b, n)
 }
 
-// The same of numbers.
+// Compares windows of numbers.
 #[inline]
 fn number_windows<T: NativeType>(
     alloc: Global,
@@ -110,7 +109,7 @@ fn number_windows<T: NativeType>(
     compare_number_windows(alloc, &Equal, left, a, right, b, n)
 }
 
-// The same of byte strings between offsets.
+// Compares windows of byte strings between offsets.
 #[tactic(auto, using(crate::proofs::Strings::counts))]
 #[inline]
 fn string_windows<O: Offset>(
@@ -128,7 +127,7 @@ fn string_windows<O: Offset>(
     compare_byte_windows(alloc, &Equal, &left.lent(), a, &right.lent(), b, n)
 }
 
-// The same of texts between offsets.
+// Compares windows of texts between offsets.
 #[inline]
 fn utf8_windows<O: Offset>(
     alloc: Global,
@@ -145,7 +144,7 @@ fn utf8_windows<O: Offset>(
     string_windows(alloc, left.as_binary(), a, right.as_binary(), b, n)
 }
 
-// The same of byte strings of one size.
+// Compares windows of byte strings of one size.
 #[tactic(auto, using(crate::proofs::Strings::counts))]
 fn sized_windows(
     alloc: Global,
@@ -162,7 +161,7 @@ fn sized_windows(
     compare_sized_windows(alloc, &Equal, left, a, right, b, n)
 }
 
-// The same of texts kept by views.
+// Compares windows of texts in views.
 #[inline]
 fn text_windows(
     alloc: Global,
@@ -179,8 +178,8 @@ fn text_windows(
     view_windows(alloc, left.as_binview(), a, right.as_binview(), b, n)
 }
 
-// The same of byte strings and texts kept by views. How many of them are looked up in buffers is counted and
-// dropped: this crate counts comparisons of leaves.
+// Compares windows of byte strings in views. The count of rows looked up in buffers is dropped:
+// this crate counts comparisons of leaves.
 #[inline]
 fn view_windows(
     alloc: Global,

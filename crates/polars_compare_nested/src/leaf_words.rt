@@ -22,8 +22,8 @@ use polars_arrays_numbers::native_type::NativeType;
 use polars_compare_leaves::numbers::compare_few_numbers;
 use std::alloc::Global;
 
-// Compares windows of two arrays of one kind of leaf by the function that stands before the names of kinds,
-// and of the other kinds by a bitmap.
+// Compares windows of two arrays of one kind of leaf: by the function named before the kinds for
+// those kinds, and by a bitmap for all others.
 macro_rules! compare_few_leaves {
     (($alloc:expr, $left:expr, $a:expr, $right:expr, $b:expr, $n:expr), $word:ident: $($kind:ident)+) => {
         match $left {
@@ -33,9 +33,9 @@ macro_rules! compare_few_leaves {
     };
 }
 
-/// Whether the leaves of two windows are equal, place by place: `n` rows, at most 64, from row `a` on of the
-/// left array, and as many from row `b` on of the right one. Where a row is masked on either side the bit means
-/// nothing. The error is `Memory`; numbers need no memory.
+/// Returns whether the leaves of two windows are equal, place by place: at most 64 rows from row
+/// `a` on of the left array and from row `b` on of the right one. If a row is masked on either
+/// side, the bit is arbitrary. The error is `Memory`; numbers need no memory.
 #[tactic(auto, using(crate::proofs::Strings::counts, crate::proofs::Cases::cases))]
 #[inline]
 pub(crate) fn leaf_word(
@@ -59,7 +59,7 @@ pub(crate) fn leaf_word(
     )
 }
 
-// The same of leaves of any kind, by a bitmap.
+// Compares windows of leaves of any kind, with a bitmap.
 fn word_of_windows(
     alloc: Global,
     left: &AnyArray,
@@ -79,7 +79,7 @@ fn word_of_windows(
     Ok(BitMask::from_bitmap(&bits).few_bits(0, n))
 }
 
-// The same of numbers.
+// Compares windows of numbers.
 #[inline(always)]
 fn number_word<T: NativeType>(
     left: &PrimitiveArray<T>,

@@ -1,4 +1,4 @@
-//! The masks of two windows, joined with the raw bits of a comparison of them.
+//! Join of the raw bits of two windows with their masks.
 
 ghost use Rattle.std.specs.Prelude.{◌≡◌, ◌+◌, ◌≤◌, Bool, MatchResult, length};
 ghost use Rattle.polars_arrays_bits.specs.Errors.{IsMemory};
@@ -14,8 +14,9 @@ use polars_arrays_nested::any_array::AnyArray;
 use polars_compare_leaves::joining::{Relation, join_nulls};
 use std::alloc::Global;
 
-/// The raw bits of two windows joined with their masks, in which two null rows are equal and one alone
-/// is not. Where neither side keeps bits that could say so, no mask is made. The error is `Memory`.
+/// Joins the raw bits of two windows with their masks: two null rows are equal, and a null and a
+/// present row are not. If neither array has a validity, no mask is computed. The error is
+/// `Memory`.
 #[inline(always)]
 pub(crate) fn join_windows(
     alloc: Global,

@@ -17,41 +17,41 @@ use polars_arrays_nested::list::ListArray;
 use polars_arrays_nested::list_offsets::ListOffsets;
 use polars_arrays_words::words::WORD_BITS;
 
-/// A run of lists that match one after another, as the two windows of all their items.
+/// A run of adjacent lists that match, as the two windows of all their items.
 #[derive(Drop)]
 pub(crate) struct ItemRun {
-    /// The first item of the left lists.
+    /// First item of the left lists.
     pub(crate) left_start: usize,
-    /// The first item of the right lists.
+    /// First item of the right lists.
     pub(crate) right_start: usize,
-    /// How many items all lists of one side have.
+    /// Number of items of all lists of one side.
     pub(crate) count: usize,
-    /// How many lists there are on each side.
+    /// Number of lists on each side.
     pub(crate) len: usize,
 }
 
-/// What the first lists of two windows are.
+/// The next lists of two windows.
 #[derive(Drop)]
 pub(crate) enum NextRows {
-    /// The first two lists don't match: they differ in their number of items, or they have items and one of
-    /// the two is null.
+    /// The first two lists don't match: they have different numbers of items, or they have items
+    /// and one of them is null.
     Apart,
     /// The first lists match.
     Run(ItemRun),
 }
 
-/// How many items list `i` has.
+/// Returns the number of items of list `i`.
 pub(crate) fn item_count(array: &ListArray, i: usize) -> usize
     requires good { IsGood (List array.now) }
     requires within { i < len_of (List array.now) }
     ensures { result ≡ span (list_offsets array.now) i }
 {
-    // For the proof alone: that the lists have a length of 64 bits says that `i + 1` doesn't overflow.
+    // For the proof: the number of lists fits in 64 bits, so `i + 1` doesn't overflow.
     let _lists = array.offsets().len();
     array.offsets().offset(i + 1) - array.offsets().offset(i)
 }
 
-// The answer of `$of` of the lists of two arrays, whose offsets of either width are lent as slices.
+// Calls `$of` on the lists of two arrays, with their offsets of either width as slices.
 macro_rules! on_lists {
     ($of:ident, $left:expr, $a:expr, $right:expr, $b:expr, $n:expr) => {
         match ($left.offsets(), $right.offsets()) {
@@ -71,8 +71,8 @@ macro_rules! on_lists {
     };
 }
 
-// How many of the first `n` lists match, one after another. It is called, so that what a run costs that lies in one
-// word of matches is little code.
+// Counts the leading lists that match, among `n`. Not inlined, so that the code for a run within
+// one word of matches stays small.
 #[inline(never)]
 fn run_length(left: &ListArray, a: usize, right: &ListArray, b: usize, n: usize) -> usize
     requires left_good { IsGood (List left.now) }
@@ -86,7 +86,7 @@ fn run_length(left: &ListArray, a: usize, right: &ListArray, b: usize, n: usize)
     on_lists!(matching_rows, left, a, right, b, n)
 }
 
-// Which of at most 64 lists match, as the bits of a word.
+// Returns which of at most 64 lists match, as the bits of a word.
 #[inline(never)]
 fn word_of(left: &ListArray, a: usize, right: &ListArray, b: usize, n: usize) -> u64
     requires left_good { IsGood (List left.now) }
@@ -99,8 +99,8 @@ fn word_of(left: &ListArray, a: usize, right: &ListArray, b: usize, n: usize) ->
     on_lists!(matching_word, left, a, right, b, n)
 }
 
-/// Which of the next lists match, as far as it is known: bit `i` of `word` says it of list `i`, and `len`
-/// lists are known, at most 64.
+/// The known matches of the next lists: bit `i` of `word` is that of list `i`, and `len` lists are
+/// known, at most 64.
 #[derive(Drop)]
 pub(crate) struct Matches {
     word: u64,
@@ -108,14 +108,14 @@ pub(crate) struct Matches {
 }
 
 impl Matches {
-    /// Nothing is known.
+    /// Creates matches that know no list.
     pub(crate) fn none() -> Matches
         ensures { result.len ≡ 0 }
     {
         Matches { word: 0, len: 0 }
     }
 
-    // What is known of the first of `n` lists.
+    // Computes the matches of the first of `n` lists.
     fn of_lists(left: &ListArray, a: usize, right: &ListArray, b: usize, n: usize) -> Matches
         requires left_good { IsGood (List left.now) }
         requires right_good { IsGood (List right.now) }
@@ -131,7 +131,7 @@ impl Matches {
         }
     }
 
-    // Looks up the first of `n` lists where none is known.
+    // Computes the matches of the first of `n` lists if none is known.
     #[inline(always)]
     fn learn(&mut self, left: &ListArray, a: usize, right: &ListArray, b: usize, n: usize)
         requires left_good { IsGood (List left.now) }
@@ -148,7 +148,7 @@ impl Matches {
         }
     }
 
-    // Forgets the first `n` lists.
+    // Removes the first `n` lists.
     #[inline(always)]
     fn skip(&mut self, n: usize)
         requires within { n ≤ self.old.len }
@@ -161,8 +161,8 @@ impl Matches {
     }
 }
 
-// How many of the next lists match, one after another, where `n` are left. A word of matches is looked up
-// where none is known, and what is known of the lists behind these stays known.
+// Counts the next lists that match, among `n`. Computes a word of matches if none is known, and
+// keeps what is known of later lists.
 #[inline(always)]
 fn matching_run(
     left: &ListArray,
@@ -183,7 +183,7 @@ fn matching_run(
     ensures apart { result ≡ 0 → (1 ≤ matches.new.len) × (is_match left.now a right.now b ≡ false) }
     ensures known { AreKnown left.now (a + result) right.now (b + result) (n - result) matches.new }
 {
-    // For the proof alone: that the lists have a length of 64 bits says that the sums don't overflow.
+    // For the proof: the number of lists fits in 64 bits, so the sums don't overflow.
     let (_lists, _others) = (left.offsets().len(), right.offsets().len());
     matches.learn(left, a, right, b, n);
     let rows = leading_bits(matches.word, matches.len);
@@ -195,8 +195,9 @@ fn matching_run(
     rows + run_length(left, a + rows, right, b + rows, n - rows)
 }
 
-/// How the next lists are compared, where `n` are left: from row `a` on of the left array, and from row `b`
-/// on of the right one. `matches` says what is known of them, and then of the lists behind those.
+/// Returns how the next lists are compared, among `n`, from row `a` on of the left array and from
+/// row `b` on of the right one. `matches` has the known matches of the next lists, and afterwards
+/// those of the lists after them.
 pub(crate) fn next_rows(
     left: &ListArray,
     a: usize,
@@ -219,7 +220,7 @@ pub(crate) fn next_rows(
         matches.skip(1);
         return NextRows::Apart;
     }
-    // For the proof alone: that the lists have a length of 64 bits says that `a + rows` doesn't overflow.
+    // For the proof: the number of lists fits in 64 bits, so `a + rows` doesn't overflow.
     let _lists = left.offsets().len();
     let first = left.offsets().offset(a);
     NextRows::Run(ItemRun {
@@ -230,8 +231,8 @@ pub(crate) fn next_rows(
     })
 }
 
-/// Adds a bit for each of `rows` lists from row `a` on: whether all bits of its items are set. `items` has
-/// the bits of the items of these lists alone.
+/// Appends a bit for each of `rows` lists from row `a` on: whether all bits of its items are set.
+/// `items` has the bits of exactly the items of these lists.
 pub(crate) fn push_rows(
     bits: &mut BitmapBuilder,
     items: &Bitmap,
@@ -256,7 +257,8 @@ pub(crate) fn push_rows(
     }
 }
 
-/// The same where these lists have at most 64 items, whose bits are those of a word, the first one lowest.
+/// Appends a bit for each of `rows` lists from row `a` on: whether all bits of its items are set.
+/// The lists have at most 64 items, whose bits are those of `word`, the first one lowest.
 pub(crate) fn push_word(
     bits: &mut BitmapBuilder,
     word: u64,

@@ -1,4 +1,4 @@
-//! Comparisons of stored byte strings of one size, place by place, whatever the validity says.
+//! Comparisons of stored byte strings of one size, place by place, whatever the validity.
 
 ghost use Rattle.std.specs.Prelude.{◌≡◌, ◌+◌, ◌≤◌, length, MatchResult};
 ghost use Rattle.std.specs.Simd.Lanes.{zip2};
@@ -14,13 +14,12 @@ use polars_arrays_bytes::of_size::OfSize;
 use polars_compare_leaves::bytes::{ByteComparison, compare_byte_windows};
 use std::alloc::Global;
 
-// How many bytes a string has where the loop is compiled for that size: those of UUIDs, and of numbers
-// of 128 bits.
+// Number of bytes of strings for which the loop is compiled separately: UUIDs and 128-bit numbers.
 const UUID_SIZE: usize = 16;
 
-/// For which stored rows of two windows the comparison is true, place by place: `n` byte strings from place
-/// `a` on of the left array, and as many from place `b` on of the right one, whose strings may have another
-/// size. The error is `Memory`.
+/// Compares `n` stored byte strings from place `a` on of the left array with those from place `b`
+/// on of the right one, place by place. The strings of the two arrays may have different sizes. The
+/// error is `Memory`.
 pub fn compare_sized_windows<E: ByteComparison>(
     alloc: Global,
     comparison: &E,

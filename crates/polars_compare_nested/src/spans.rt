@@ -1,5 +1,5 @@
-//! The loops over lists between offsets, for offsets of either width: which lists match, and which lists
-//! have all bits of their items set. The offsets come as slices, beside the array that they are of.
+//! Loops over lists between offsets of either width: whether lists match, and whether all bits of
+//! their items are set. The offsets are passed as slices, beside their array.
 
 ghost use Rattle.std.specs.Option.{option_copied};
 ghost use Rattle.std.specs.Prelude.{◌≡◌, ℕ, ◌+◌, ◌-◌, ◌^◌, ◌<◌, ◌≤◌, ◌↔◌, ◌&&◌, IfSome, IsTrue, Some, true, false, length};
@@ -24,7 +24,7 @@ use polars_arrays_numbers::offset::Offset;
 use polars_arrays_words::runs::word_set;
 use polars_arrays_words::words::{WORD_BITS, low_bits};
 
-// Offset `i` as a place, or 0 where it is negative.
+// Returns offset `i` as a place, or 0 if it is negative.
 #[inline(always)]
 #[tactic(auto, using(crate::proofs::OffsetPlaces::places_of))]
 fn place_of<O: Offset>(offsets: &[O], i: usize) -> usize
@@ -34,7 +34,7 @@ fn place_of<O: Offset>(offsets: &[O], i: usize) -> usize
     offsets[i].to_place().unwrap_or(0)
 }
 
-// Where list `i` begins among the items, and how many it has.
+// Returns the first item of list `i`, and its number of items.
 #[inline(always)]
 fn list_at<O: Offset>(offsets: &[O], i: usize) -> (usize, usize)
     requires within { i < row_count offsets.now }
@@ -46,7 +46,7 @@ fn list_at<O: Offset>(offsets: &[O], i: usize) -> (usize, usize)
     (from, to - from)
 }
 
-// For each pair of lists of two windows whether they have as many items.
+// Truth values for the pairs of lists of two windows: whether they have equally many items.
 #[derive(Drop)]
 struct SameCounts<'m, L: Offset, R: Offset> {
     left: &'m [L],
@@ -78,7 +78,7 @@ impl<L: Offset, R: Offset> TruthValues for SameCounts<'_, L, R> {
     }
 }
 
-// For each list of a window whether it has `width` items.
+// Truth values for the lists of a window: whether they have `width` items.
 #[derive(Drop)]
 struct ListsOfWidth<'m, O: Offset> {
     offsets: &'m [O],
@@ -105,7 +105,7 @@ impl<O: Offset> TruthValues for ListsOfWidth<'_, O> {
     }
 }
 
-// Which of `n` rows from row `at` on are present, as the bits of a word.
+// Returns which of the `n` rows from row `at` on are present, as the bits of a word.
 #[inline(always)]
 fn present_bits(validity: Option<&Bitmap>, at: usize, n: usize) -> u64
     requires within { IfSome (option_copied validity) (λ bits. at + n ≤ length bits) }
@@ -118,7 +118,7 @@ fn present_bits(validity: Option<&Bitmap>, at: usize, n: usize) -> u64
     }
 }
 
-// Which of `n` rows of two windows are present on both sides.
+// Returns which of `n` rows of two windows are present on both sides.
 #[inline(always)]
 fn both_present(left: &ListArray, a: usize, right: &ListArray, b: usize, n: usize) -> u64
     requires left_good { IsGood (List left.now) }
@@ -131,9 +131,9 @@ fn both_present(left: &ListArray, a: usize, right: &ListArray, b: usize, n: usiz
     present_bits(left.validity(), a, n) & present_bits(right.validity(), b, n)
 }
 
-/// Which of at most 64 lists match, as the bits of a word: they have the same number of items, and both are
-/// present or they have none.
-// Counts are compared 64 at a time, and validities are read as words.
+/// Returns which of at most 64 lists match, as the bits of a word: they have equally many items,
+/// and both are present or they have none.
+// Compares 64 counts at a time, and reads validities as words.
 #[inline(always)]
 pub(crate) fn matching_word<L: Offset, R: Offset>(
     left: &ListArray,
@@ -153,7 +153,7 @@ pub(crate) fn matching_word<L: Offset, R: Offset>(
     requires few { n ≤ 64 }
     ensures { TellMatches left.now a right.now b n result }
 {
-    // For the proof alone: that the lists have a length of 64 bits says that the sums don't overflow.
+    // For the proof: the number of lists fits in 64 bits, so the sums don't overflow.
     let (_lists, _others) = (left.offsets().len(), right.offsets().len());
     let counts = SameCounts {
         left: left_offsets,
@@ -176,7 +176,7 @@ pub(crate) fn matching_word<L: Offset, R: Offset>(
     same & (present | pack_few(&empty, 0, n))
 }
 
-/// How many of the first `n` bits of a word are true before the first that isn't.
+/// Counts the leading true bits among the first `n` bits of a word.
 #[inline(always)]
 pub(crate) fn leading_bits(word: u64, n: usize) -> usize
     requires { n ≤ 64 }
@@ -187,7 +187,7 @@ pub(crate) fn leading_bits(word: u64, n: usize) -> usize
     (word.trailing_ones() as usize).min(n)
 }
 
-/// How many of the `n` lists match before the first pair that doesn't.
+/// Counts the leading pairs of lists that match, among `n`.
 pub(crate) fn matching_rows<L: Offset, R: Offset>(
     left: &ListArray,
     left_offsets: &[L],
@@ -207,7 +207,7 @@ pub(crate) fn matching_rows<L: Offset, R: Offset>(
     ensures matching { Match left.now a right.now b result }
     ensures longest { result < n → is_match left.now (a + result) right.now (b + result) ≡ false }
 {
-    // For the proof alone: that the lists have a length of 64 bits says that the sums don't overflow.
+    // For the proof: the number of lists fits in 64 bits, so the sums don't overflow.
     let (_lists, _others) = (left.offsets().len(), right.offsets().len());
     let mut done = 0;
     while done < n {
@@ -230,8 +230,8 @@ pub(crate) fn matching_rows<L: Offset, R: Offset>(
     n
 }
 
-// For each list of a run whether all bits of its items are set. `items` begins with the bit of the item at
-// place `first`.
+// Truth values for the lists of a run: whether all bits of a list's items are set. `items` begins
+// with the bit of item `first`.
 #[derive(Drop)]
 struct ListBits<'m, 'a, O: Offset> {
     items: &'m BitMask<'a>,
@@ -259,20 +259,20 @@ impl<O: Offset> TruthValues for ListBits<'_, '_, O> {
         self.items.all_set(place.saturating_sub(self.first), count)
     }
 
-    // Each value is found from two offsets and the bits between them, which are more than 64 bits.
+    // A value is computed from two offsets and the bits between them, more than 64 bits in all.
     #[inline(always)]
     fn packs_by_bit(&self) -> bool {
         true
     }
 }
 
-// Whether each of `rows` lists from row `a` on has `width` items, 64 lists at a time.
+// Returns whether each of `rows` lists from row `a` on has `width` items. Tests 64 lists at a time.
 fn have_width<O: Offset>(offsets: &[O], a: usize, rows: usize, width: usize) -> bool
     requires within { a + rows < length offsets.now }
     requires good { AreSpans (places O.value offsets.now) a rows }
     ensures { IsTrue result ↔ HaveWidth (places O.value offsets.now) a rows width }
 {
-    // For the proof alone: that there are no more than 2^64 offsets says that the sums don't overflow.
+    // For the proof: there are fewer than 2^64 offsets, so the sums don't overflow.
     let _offsets = offsets.len();
     let mut done = 0;
     while done < rows {
@@ -292,8 +292,8 @@ fn have_width<O: Offset>(offsets: &[O], a: usize, rows: usize, width: usize) -> 
     true
 }
 
-// How many items each of `rows` lists from row `a` on has, where all have as many. Fewer than a word of lists are
-// not looked through.
+// Returns the number of items of each of `rows` lists from row `a` on if it is the same for all.
+// Returns `None` for fewer lists than a word has bits, without testing them.
 fn one_width<O: Offset>(offsets: &[O], a: usize, rows: usize) -> Option<usize>
     requires within { a + rows < length offsets.now }
     requires good { AreSpans (places O.value offsets.now) a rows }
@@ -311,8 +311,9 @@ fn one_width<O: Offset>(offsets: &[O], a: usize, rows: usize) -> Option<usize>
     }
 }
 
-/// Adds a bit for each of `rows` lists from row `a` on: whether all bits of its items are set. Lists that all
-/// have as many items are folded as blocks of bits, with no look at their offsets.
+/// Appends a bit for each of `rows` lists from row `a` on: whether all bits of its items are set.
+/// If all lists have equally many items, they are folded as blocks of bits, without reading their
+/// offsets.
 pub(crate) fn push_lists<O: Offset>(
     bits: &mut BitmapBuilder,
     items: &Bitmap,
@@ -329,7 +330,7 @@ pub(crate) fn push_lists<O: Offset>(
     ensures bits { AddsRun items.now (list_places (list_offsets array.now)) a rows bits.old.bits bits.new.bits }
     ensures room { bits.new.room ≡ bits.old.room - rows }
 {
-    // For the proof alone: that the lists have a length of 64 bits says that the sums don't overflow.
+    // For the proof: the number of lists fits in 64 bits, so the sums don't overflow.
     let _lists = array.offsets().len();
     let first = place_of(offsets, a);
     let items = &BitMask::from_bitmap(items);
@@ -345,7 +346,8 @@ pub(crate) fn push_lists<O: Offset>(
     }
 }
 
-// The same where the bits of the items are those of a word.
+// Truth values for the lists of a run, whose items' bits are those of a word: whether all bits of a
+// list's items are set.
 #[derive(Drop)]
 struct WordLists<'m, O: Offset> {
     word: u64,
@@ -373,14 +375,15 @@ impl<O: Offset> TruthValues for WordLists<'_, O> {
         word_set(self.word, place.saturating_sub(self.first), count)
     }
 
-    // Each value is found by a shift of the word, for which there is no vector operation.
+    // A value is computed by a shift of the word, which has no vector form.
     #[inline(always)]
     fn packs_by_bit(&self) -> bool {
         true
     }
 }
 
-/// The same where these lists have at most 64 items, whose bits are those of a word.
+/// Appends a bit for each of `rows` lists from row `a` on: whether all bits of its items are set.
+/// The lists have at most 64 items, whose bits are those of `word`.
 pub(crate) fn push_word_lists<O: Offset>(
     bits: &mut BitmapBuilder,
     word: u64,
@@ -397,7 +400,7 @@ pub(crate) fn push_word_lists<O: Offset>(
     ensures bits { AddsRun (first_of (is_bit word) (offset_at (list_offsets array.now) (a + rows) - offset_at (list_offsets array.now) a)) (list_places (list_offsets array.now)) a rows bits.old.bits bits.new.bits }
     ensures room { bits.new.room ≡ bits.old.room - rows }
 {
-    // For the proof alone: that the lists have a length of 64 bits says that the sums don't overflow.
+    // For the proof: the number of lists fits in 64 bits, so the sums don't overflow.
     let _lists = array.offsets().len();
     let first = place_of(offsets, a);
     bits.extend_values(&WordLists {

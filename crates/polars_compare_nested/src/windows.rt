@@ -1,10 +1,11 @@
-//! Equality of the rows of two windows: `n` rows from row `a` on of the left array, and as many from row `b`
-//! on of the right one, which are of one type.
+//! Equality of the rows of two windows of one type: `n` rows from row `a` on of the left array and
+//! from row `b` on of the right one.
 //!
-//! Nested arrays are compared by windows of the arrays that they hold, and no array is copied. For a struct
-//! these are one window of each column; for lists of one width, one window of all their items; for lists
-//! between offsets, one window for each run of lists that match, whose items lie one after another on both
-//! sides; for a dictionary, one pair of entries for each row. Leaves are compared by a `LeafKernel` alone.
+//! Nested arrays are compared by windows of the arrays that they hold, and no array is copied. A
+//! struct is compared by one window of each column; lists of one width by one window of all their
+//! items; lists between offsets by one window for each run of lists that match, whose items are
+//! adjacent on both sides; a dictionary by one pair of entries for each row. Leaves are compared by
+//! a `LeafKernel` alone.
 
 ghost use Rattle.std.specs.Prelude.{◌≡◌, ◌+◌, ◌-◌, ◌<◌, ◌≤◌, IsTrue, length, IfOk, MatchResult};
 ghost use Rattle.polars_arrays_bits.specs.Errors.{IsMemory};
@@ -36,8 +37,9 @@ use polars_arrays_nested::list::ListArray;
 use polars_arrays_nested::struct_array::StructArray;
 use std::alloc::Global;
 
-/// Which rows of two windows are the same, where null is the same as null alone. The count rises by one for
-/// each leaf that is compared with another. The error is `Memory`, and then the count has not fallen.
+/// Returns which rows of two windows are the same; null is the same as null alone. The count
+/// increases by one for each comparison of leaves. The error is `Memory`; the count may then have
+/// increased.
 #[cycle(equal)]
 pub fn equal_windows<K: LeafKernel>(
     alloc: Global,
@@ -55,8 +57,8 @@ pub fn equal_windows<K: LeafKernel>(
     join_windows(alloc, raw, left, a, right, b)
 }
 
-// The same without a look at the validities of the two arrays: where a row is masked on either side the bit
-// means nothing.
+// Returns which rows of two windows are the same, without reading the validities of the two arrays.
+// If a row is masked on either side, the bit is arbitrary.
 #[cycle(equal)]
 fn raw_windows<K: LeafKernel>(
     alloc: Global,
@@ -84,8 +86,8 @@ fn raw_windows<K: LeafKernel>(
     }
 }
 
-/// Which lists of two windows have the same number of items, and the same items in order. Where a list is
-/// masked on either side the bit means nothing. The error is `Memory`.
+/// Returns which lists of two windows have equally many and the same items, in order. If a list is
+/// masked on either side, the bit is arbitrary. The error is `Memory`.
 #[cycle(equal)]
 pub fn list_windows<K: LeafKernel>(
     alloc: Global,
@@ -99,7 +101,7 @@ pub fn list_windows<K: LeafKernel>(
     requires { AreWindows (List left.now) a (List right.now) b n }
     ensures { Compares (RawBits K.agree) (List left.now) a (List right.now) b n (K.count steps.old) (K.count steps.new) result }
 {
-    // For the proof alone: that both arrays have a length of 64 bits says that the places don't overflow.
+    // For the proof: both lengths fit in 64 bits, so the places don't overflow.
     let (_rows, _others) = (left.offsets().len(), right.offsets().len());
     let leaves = are_leaves(left.values(), right.values());
     let mut bits = BitmapBuilder::with_capacity(alloc, n)?;
@@ -122,8 +124,9 @@ pub fn list_windows<K: LeafKernel>(
     Ok(bits.freeze())
 }
 
-// Adds the bits of the next lists, where `n` are left, and says how many lists these were. `leaves` says whether all
-// items are leaves without nulls, and `matches` what is known of the next lists. The error is `Memory`.
+// Appends the bits of the next lists, among `n`, and returns the number of these lists. `leaves`
+// says whether all items are leaves without nulls, and `matches` has the known matches of the next
+// lists. The error is `Memory`.
 #[cycle(equal)]
 fn push_next<K: LeafKernel>(
     alloc: Global,
@@ -170,8 +173,8 @@ fn push_next<K: LeafKernel>(
     }
 }
 
-/// Which lists of one width of two windows have the same items in order. Where a list is masked on either
-/// side the bit means nothing. The error is `Memory`.
+/// Returns which lists of one width of two windows have the same items in order. If a list is
+/// masked on either side, the bit is arbitrary. The error is `Memory`.
 #[cycle(equal)]
 pub fn fixed_size_list_windows<K: LeafKernel>(
     alloc: Global,
@@ -200,9 +203,9 @@ pub fn fixed_size_list_windows<K: LeafKernel>(
     BitMask::from_bitmap(&items).all_in_blocks(alloc, left.width(), n)
 }
 
-/// Which structs of two windows have the same row in each field. Where a struct is masked on either side the
-/// bit means nothing. The bits of the first column become those of all, with no words of their own. The error
-/// is `Memory`.
+/// Returns which structs of two windows have the same row in each field. If a struct is masked on
+/// either side, the bit is arbitrary. The bits of the first column are reused for the result. The
+/// error is `Memory`.
 #[cycle(equal)]
 pub fn struct_windows<K: LeafKernel>(
     alloc: Global,
@@ -230,8 +233,9 @@ pub fn struct_windows<K: LeafKernel>(
     Ok(bits.freeze())
 }
 
-// Each of `n` bits stays true where the rows of two columns at its place are the same, the first being that of rows
-// `a` and `b`. Leaves without nulls are joined in place. The error is `Memory`, and then the count has not fallen.
+// Sets each of `n` bits to its AND with the sameness of the rows of two columns, from rows `a` and
+// `b` on. Leaves without nulls are joined in place. The error is `Memory`; the count may then have
+// increased.
 #[cycle(equal)]
 fn join_column<K: LeafKernel>(
     alloc: Global,
@@ -257,8 +261,8 @@ fn join_column<K: LeafKernel>(
     Ok(())
 }
 
-/// Which keys of two windows name entries that are the same. Where a key is masked on either side the bit
-/// means nothing. The error is `Memory`.
+/// Returns which keys of two windows name entries that are the same. If a key is masked on either
+/// side, the bit is arbitrary. The error is `Memory`.
 #[cycle(equal)]
 pub fn dictionary_windows<K: LeafKernel>(
     alloc: Global,
@@ -272,7 +276,7 @@ pub fn dictionary_windows<K: LeafKernel>(
     requires { AreWindows (Dictionary left.now) a (Dictionary right.now) b n }
     ensures { Compares (RawBits K.agree) (Dictionary left.now) a (Dictionary right.now) b n (K.count steps.old) (K.count steps.new) result }
 {
-    // For the proof alone: that both arrays have a length of 64 bits says that the places don't overflow.
+    // For the proof: both lengths fit in 64 bits, so the places don't overflow.
     let (_rows, _others) = (left.keys().len(), right.keys().len());
     let mut bits = BitmapBuilder::with_capacity(alloc, n)?;
     for i in 0..n {
@@ -282,8 +286,8 @@ pub fn dictionary_windows<K: LeafKernel>(
     Ok(bits.freeze())
 }
 
-// Whether the entries of two rows are the same. Where a row is masked on either side the answer means nothing.
-// The error is `Memory`.
+// Returns whether the entries of two rows are the same. If a row is masked on either side, the
+// result is arbitrary. The error is `Memory`.
 #[cycle(equal)]
 #[inline(always)]
 fn equal_entries<K: LeafKernel>(
@@ -309,8 +313,9 @@ fn equal_entries<K: LeafKernel>(
     }
 }
 
-// Whether two rows are the same, without a look at the validities of the two arrays: where a row is masked on
-// either side the answer means nothing. No bits are made for a leaf. The error is `Memory`.
+// Returns whether two rows are the same, without reading the validities of the two arrays. If a row
+// is masked on either side, the result is arbitrary. Leaves are compared without a bitmap. The
+// error is `Memory`.
 #[cycle(equal)]
 #[inline(always)]
 fn raw_row<K: LeafKernel>(
@@ -336,7 +341,8 @@ fn raw_row<K: LeafKernel>(
     }
 }
 
-// The same of any rows, of which `raw_row` answers the leaves by itself. No bits are made for an entry of a dictionary.
+// Does what `raw_row` does, for arrays that hold arrays and for nulls. Entries of dictionaries are
+// compared without a bitmap.
 #[cycle(equal)]
 fn nested_row<K: LeafKernel>(
     alloc: Global,

@@ -1,4 +1,4 @@
-//! Kernels over views that say how many rows were looked up in buffers.
+//! Kernels over views that count the rows they look up in buffers.
 
 ghost use Rattle.std.specs.Prelude.{◌≡◌, ◌≤◌, ◌+◌, length, IfOk, MatchResult};
 ghost use Rattle.polars_arrays_bits.specs.Errors.{IsMemory};
@@ -18,12 +18,13 @@ use polars_arrays_views::binary_view::BinaryViewArray;
 use polars_arrays_views::text_view::Utf8ViewArray;
 use std::alloc::Global;
 
-/// Comparisons of arrays kept by views. The counter rises by one for each row, null or not, whose pair of
-/// views is followed into a buffer: in equality where the lengths are equal and above 12 and the first four
-/// bytes agree, in order where these agree, zeros standing where there are fewer, and one row is longer
-/// than 12. No validity is asked. The error is `Memory`, after which the counter has not fallen.
+/// Comparisons of arrays of views. The counter increases by one for each row, null or not, whose
+/// bytes are looked up in a buffer: for equality, if the lengths are equal and above 12 and the
+/// first four bytes agree; for order, if the first four bytes agree, padded with zeros, and one row
+/// is longer than 12. Validities have no effect. The error is `Memory`; the counter may then have
+/// increased.
 pub trait FollowedKernel: ByteRows + Sized {
-    /// Where the stored rows are equal.
+    /// Returns for each place whether the stored rows are equal.
     fn tot_eq_kernel_followed(
         &self,
         alloc: Global,
@@ -35,7 +36,7 @@ pub trait FollowedKernel: ByteRows + Sized {
         ensures counted { IfOk result (λ _. steps.new ≡ steps.old + followed followed_eq (Self.strings self.now) (Self.strings other.now) 0 0 (length (Self.strings self.now))) }
         ensures kept { steps.old ≤ steps.new };
 
-    /// Where a stored row is less than the other one.
+    /// Returns for each place whether the stored row is less than the other one.
     fn tot_lt_kernel_followed(
         &self,
         alloc: Global,

@@ -1,5 +1,5 @@
-//! Comparisons of the stored rows of arrays of views, by which rows are looked up in buffers only where length
-//! and prefix leave it open, and each such pair is counted.
+//! Comparisons of the stored rows of arrays of views. They read buffers only if length and prefix
+//! do not decide, and count each pair for which they do.
 #![tactic(auto)]
 
 pub mod followed;

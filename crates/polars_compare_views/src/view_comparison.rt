@@ -19,19 +19,19 @@ use polars_arrays_views::rows::{
 use polars_arrays_views::scalar::ScalarRow;
 use polars_arrays_views::view::View;
 
-/// A comparison of two byte strings that are kept by views, which is one of their rows.
+/// A comparison of two byte strings in views that is a comparison of their rows.
 pub trait ViewComparison {
-    // Of which rows it holds.
+    // The comparison of rows.
     ghost rows: { Row → Row → Bool };
 
-    // Which pairs are looked up in buffers.
+    // Pairs of byte strings whose comparison reads buffers.
     ghost follows: { List ℕ → List ℕ → Bool };
 
-    // Of which pairs of views a guess is sure.
+    // Pairs of views for which a guess is sure to be right.
     ghost sure: { List ℕ → List ℕ → Bool };
 
-    /// Whether it holds of row `i` of one array and row `j` of another, masked or not. The counter rises by one
-    /// where the pair is looked up in buffers.
+    /// Compares row `i` of one array with row `j` of another, masked or not. The counter increases
+    /// by one if the comparison reads buffers.
     fn compare(
         &self,
         left: &BinaryViewArray,
@@ -45,11 +45,13 @@ pub trait ViewComparison {
         ensures told { result ≡ rows (Bytes (slice_index_or (view_strings left.now) i [])) (Bytes (slice_index_or (view_strings right.now) j [])) }
         ensures counted { steps.new ≡ steps.old + (if follows (slice_index_or (view_strings left.now) i []) (slice_index_or (view_strings right.now) j []) then 1 else 0) };
 
-    /// Whether two views look as if it held of their rows. Where that is sure it does, and else it may not.
+    /// Guesses the comparison of the rows of two views. If `is_sure`, the guess is right; otherwise
+    /// it may be wrong.
     fn guess(&self, v: &View, w: &View) -> bool
         ensures { (buffers others : List (List ℕ)) → GoodView buffers v.now → GoodView others w.now → IsTrue (sure v.now w.now) → result ≡ rows (Bytes (row_bytes buffers v.now)) (Bytes (row_bytes others w.now)) };
 
-    /// Whether what `guess` says of two views is sure. The pair is then not looked up in buffers.
+    /// Returns whether the guess for two views is sure to be right. Their comparison then reads no
+    /// buffer.
     #[inline(always)]
     fn is_sure(&self, _v: &View, _w: &View) -> bool
         ensures sure { IsTrue result → IsTrue (sure _v.now _w.now) }
@@ -58,7 +60,7 @@ pub trait ViewComparison {
         false
     }
 
-    /// Whether it holds of row `i` and a byte string, masked or not.
+    /// Compares row `i`, masked or not, with a byte string.
     fn compare_bytes(&self, left: &BinaryViewArray, i: usize, right: &ScalarRow) -> bool
         requires { i < length left.now.views }
         ensures { result ≡ rows (Bytes (slice_index_or (view_strings left.now) i [])) (Bytes right.now) };

@@ -1,4 +1,4 @@
-//! Comparisons of stored rows of arrays of views, place by place, whatever the validity says.
+//! Comparisons of stored rows of arrays of views, place by place, whatever the validity.
 
 ghost use Rattle.std.specs.Prelude.{◌≡◌, ◌+◌, ◌^◌, ◌<◌, ◌≤◌, length, map, slice_index_or, [], IfOk, MatchResult};
 ghost use Rattle.std.specs.List.{All};
@@ -23,8 +23,8 @@ use polars_arrays_views::scalar::ScalarRow;
 use polars_arrays_views::view::View;
 use std::alloc::Global;
 
-// A comparison of `n` rows from row `a` on with as many from row `b` on, place by place. The views stand beside
-// their arrays, so that they are found once and not for each row.
+// A comparison of `n` rows from row `a` on with those from row `b` on, place by place. It holds the
+// slices of views beside the arrays, so that they are not looked up for each row.
 #[derive(Drop)]
 struct ViewPairs<'a, E> {
     comparison: &'a E,
@@ -46,7 +46,7 @@ struct ViewPairs<'a, E> {
 }
 
 impl<'a, E: ViewComparison> ViewPairs<'a, E> {
-    // The views of the pair at place `i`.
+    // Returns the views of the pair at place `i`.
     #[inline(always)]
     fn views_at(&self, i: usize) -> (&View, &View)
         requires { i < self.now.n }
@@ -93,9 +93,9 @@ impl<'a, E: ViewComparison> CountedValues for ViewPairs<'a, E> {
     }
 }
 
-/// What a comparison tells of the stored rows of two windows, place by place: `n` rows from row `a` on of the left
-/// array, and as many from row `b` on of the right one. The counter rises by one for each pair that is
-/// looked up in buffers. The error is `Memory`.
+/// Compares `n` stored rows from row `a` on of the left array with those from row `b` on of the
+/// right one, place by place. The counter increases by one for each pair whose comparison reads
+/// buffers. The error is `Memory`.
 pub fn compare_view_windows<E: ViewComparison>(
     alloc: Global,
     comparison: &E,
@@ -112,7 +112,7 @@ pub fn compare_view_windows<E: ViewComparison>(
     ensures counted { IfOk result (λ _. steps.new ≡ steps.old + followed E.follows (view_strings left.now) (view_strings right.now) a b n) }
     ensures kept { steps.old ≤ steps.new }
 {
-    // No effect at run time. The proof reads from them that places are numbers of 64 bits.
+    // Have no effect at run time. The proof learns from them that places fit in 64 bits.
     let _left_len = left.len();
     let _right_len = right.len();
     let pairs = ViewPairs {
@@ -155,7 +155,7 @@ impl<'a, E: ViewComparison> TruthValues for ViewsAgainst<'a, E> {
     }
 }
 
-/// Of which stored rows and one byte string a comparison holds. The error is `Memory`.
+/// Compares each stored row with a byte string. The error is `Memory`.
 pub fn compare_view_bytes<E: ViewComparison>(
     alloc: Global,
     comparison: &E,
