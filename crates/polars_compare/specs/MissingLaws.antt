@@ -15,18 +15,18 @@ abbrev pub MissingIsReflexive : Type 0
 MissingIsReflexive = (xs : List Row) (bits : List Bool) → Equality xs xs bits
     → (i : ℕ) → i < length xs → IsTrue (slice_index_or bits i false)
 
--- the sides may be exchanged
+-- exchanging the sides does not change the bits
 abbrev pub MissingIsSymmetric : Type 0
 MissingIsSymmetric = (xs ys : List Row) (bits turned : List Bool) → length ys ≡ length xs
     → Equality xs ys bits → Equality ys xs turned → turned ≡ bits
 
--- a row that is equal to one that is equal to a third is equal to the third
+-- rows that are equal to a third row are equal
 abbrev pub MissingIsTransitive : Type 0
 MissingIsTransitive = (xs ys zs : List Row) (first second both : List Bool) → length ys ≡ length xs → length zs ≡ length xs
     → Equality xs ys first → Equality ys zs second → Equality xs zs both
     → (i : ℕ) → IsTrue (slice_index_or first i false) → IsTrue (slice_index_or second i false) → IsTrue (slice_index_or both i false)
 
--- rows are unequal where they are not equal, whether the arrays are of one type or not
+-- bits of inequality are the negated bits of equality, for arrays of one type or of two
 abbrev pub UnequalIsNotEqual : Type 0
 UnequalIsNotEqual = (types : Types) (xs ys : List Row) (equal unequal : List Bool)
     → MissingEquality true (OneType types) xs ys equal → MissingEquality false (OneType types) xs ys unequal

@@ -11,22 +11,22 @@ have_order (Truth a) (Truth b) = true
 have_order (Bytes xs) (Bytes ys) = true
 have_order x y = false
 
--- one of the three holds, and no two of them do
+-- exactly one of the three holds
 pub record ExactlyOne (P Q R : Type 0) : Type 0 where
   pub some : P ⊎ (Q ⊎ R)
   pub not_first_two : P → Q → ⊥
   pub not_last_two : Q → R → ⊥
   pub not_outer_two : P → R → ⊥
 
--- the test of sameness tells exactly equality
+-- the test of sameness is equality
 abbrev pub SameIsEqual : Type 0
 SameIsEqual = (x y : Row) → IsTrue (same_row x y) ↔ (x ≡ y)
 
--- of two rows with an order the one is less, or they are equal, or it is greater, and only one of these
+-- of two rows with an order, exactly one holds: less, equal, or greater
 abbrev pub OneOfThree : Type 0
 OneOfThree = (x y : Row) → IsTrue (have_order x y) → ExactlyOne (IsTrue (row_less x y)) (x ≡ y) (IsTrue (row_greater x y))
 
--- of two rows with an order the one is at most the other where it is less or the same
+-- of two rows with an order, one is at most the other if it is less or the same
 abbrev pub AtMostIsLessOrSame : Type 0
 AtMostIsLessOrSame = (x y : Row) → IsTrue (have_order x y) → row_at_most x y ≡ (row_less x y || same_row x y)
 

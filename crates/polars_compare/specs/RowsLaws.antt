@@ -1,4 +1,4 @@
--- Laws of rows that are stored in two ways.
+-- Laws of equal rows that are stored differently.
 use Rattle.std.specs.Prelude.{◌≡◌, ◌≢◌, ℕ, Bool, false, List, Option, length, slice_index_or}
 use Rattle.polars_arrays_flat.specs.Row.{Row, Null}
 use Rattle.polars_arrays_flat.specs.StoredRows.{row, rows_under}
@@ -7,13 +7,13 @@ use Rattle.polars_compare_leaves.specs.Equality.{MissingEquality, RawEquality}
 use Rattle.polars_compare_leaves.specs.Order.{RawOrder}
 use Rattle.polars_compare.specs.Types.{Types, OneType}
 
--- stored rows, of which a validity masks some: where it is there, it has a bit for each
+-- stored rows and a mask, which has a bit for each row if there is one
 pub record Stored : Type 0 where
   pub slots : List Row
   pub mask : Option (List Bool)
   pub bits : HasBits (length slots) mask
 
--- the rows that they are
+-- the rows of stored rows and their mask
 abbrev pub rows_of : Stored → List Row
 rows_of a = rows_under a.mask a.slots
 
@@ -29,7 +29,7 @@ MissingByRows = (told : Bool) (types : Types) (left right left' right' : Stored)
     → MissingEquality told (OneType types) (rows_of left') (rows_of right') bits'
     → bits ≡ bits'
 
--- raw equality and raw inequality of the same rows have the same bit at each row that is null on neither side
+-- raw equality and inequality of the same rows have the same bit wherever both rows are present
 abbrev pub RawEqualityByRows : Type 0
 RawEqualityByRows = (told : Bool) (types : Types) (left right left' right' : Stored) (bits bits' : List Bool)
     → rows_of left ≡ rows_of left' → rows_of right ≡ rows_of right'
@@ -37,7 +37,7 @@ RawEqualityByRows = (told : Bool) (types : Types) (left right left' right' : Sto
     → RawEquality told (OneType types) left'.mask right'.mask left'.slots right'.slots bits'
     → (i : ℕ) → BothPresent left right i → slice_index_or bits i false ≡ slice_index_or bits' i false
 
--- so has the raw order, for any test of two rows
+-- the raw order of the same rows has the same bit wherever both rows are present, for any test
 abbrev pub RawOrderByRows : Type 0
 RawOrderByRows = (test : Row → Row → Bool) (left right left' right' : Stored) (bits bits' : List Bool)
     → rows_of left ≡ rows_of left' → rows_of right ≡ rows_of right'

@@ -1,8 +1,8 @@
--- Whether two arrays are of one type.
+-- Equality of the types of two arrays.
 use Rattle.std.specs.Prelude.{◌≡◌, ⊤}
 use Rattle.polars_arrays_flat.specs.Kind.{Kind}
 
--- what is known of the types of two arrays: that they are always one, or the kind of each array
+-- the types of two arrays: always equal, or given by the two kinds
 pub data Types : Type 0 where
   Always : Types
   Kinds : Kind → Kind → Types

@@ -1,6 +1,7 @@
-//! What holds of the answers of the comparisons, over the definitions of their contracts alone. A law is a
-//! function that does nothing, and its clauses are what is proved. `law_tally` bounds the comparisons of
-//! any two arrays by their leaf slots, and `law_steps` says that the counter's kernel tells equality.
+//! Laws of the results of comparisons, stated over the definitions of their contracts alone. A law
+//! is a function that does nothing; its clauses are what is proved. `law_tally` bounds the
+//! comparisons of any two arrays by their leaf slots, and `law_steps` says that the counter's
+//! kernel tests equality.
 
 ghost use Rattle.polars_compare.specs.ArrayLaws.{ArraysAreReflexive, ArraysAreSymmetric, ArraysAreTransitive, ArraysByRows, ArraysUnequalIsNotEqual};
 ghost use Rattle.polars_compare.specs.MissingLaws.{MissingIsReflexive, MissingIsSymmetric, MissingIsTransitive, UnequalIsNotEqual};
@@ -9,8 +10,8 @@ ghost use Rattle.polars_compare.specs.RowsLaws.{MissingByRows, RawEqualityByRows
 
 pub use polars_compare_nested::laws::{law_steps, law_tally};
 
-/// Of two rows with an order exactly one holds: the first is less, they are equal, or it is greater. It is
-/// at most the other where it is less or equal.
+/// States that of two rows with an order exactly one holds: the first is less, they are equal, or
+/// it is greater. It is at most the other if it is less or equal.
 pub fn law_1()
     ensures same { SameIsEqual }
     ensures one_of_three { OneOfThree }
@@ -18,8 +19,9 @@ pub fn law_1()
     ensures transitive { LessIsTransitive }
 {}
 
-/// For arrays of one type and length missing equality is reflexive, symmetric and transitive, and missing
-/// inequality is its complement: of arrays of one kind by their rows, and of any two arrays.
+/// States that missing equality of arrays of one type and length is reflexive, symmetric and
+/// transitive, and that missing inequality is its complement. This holds of arrays of one kind by
+/// their rows, and of any two arrays.
 pub fn law_2()
     ensures reflexive { MissingIsReflexive }
     ensures symmetric { MissingIsSymmetric }
@@ -31,8 +33,8 @@ pub fn law_2()
     ensures arrays_complement { ArraysUnequalIsNotEqual }
 {}
 
-/// Arrays with the same rows get the same bits, however they are stored and masked; the raw comparisons
-/// get them at each row that is null on neither side.
+/// States that arrays with the same rows get the same bits, however they are stored and masked. For
+/// the raw comparisons this holds at each row that is null on neither side.
 pub fn law_3()
     ensures missing { MissingByRows }
     ensures arrays { ArraysByRows }

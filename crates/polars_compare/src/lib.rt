@@ -1,7 +1,8 @@
-//! Comparison of the rows of two arrays, under one roof. A caller lists this crate alone, and writes
-//! `polars_compare::equality::TotalEqKernel` and `polars_compare::order::TotalOrdKernel`, or, to set rows
-//! against borrowed bytes or texts, the traits of `borrowed_equality` and `borrowed_order`; what they share
-//! are the comparisons of stored rows and the null combination. `laws` has what holds of every answer.
+//! Comparisons of the rows of two arrays, re-exported by one crate. A caller depends on this crate
+//! alone and writes `polars_compare::equality::TotalEqKernel` and
+//! `polars_compare::order::TotalOrdKernel`. The traits of `borrowed_equality` and `borrowed_order`
+//! compare rows with borrowed bytes or texts. All share the comparisons of stored rows and the join
+//! with nulls. `laws` states what holds of all results.
 #![tactic(auto)]
 
 pub use polars_compare_equality::{borrowed as borrowed_equality, kernel as equality};

@@ -1,20 +1,21 @@
--- How a call answers that some kinds of array do not have.
+-- Results of a call that some kinds of array do not support.
 use Rattle.std.specs.Prelude.{Bool, true, false, IsTrue, Result, MatchResult}
 use Rattle.polars_arrays_bits.specs.declared.error.ComputeError.{ComputeError}
 use Rattle.polars_arrays_bits.specs.declared.error.ComputeError.TheVariants.{Memory, Unsupported, KeyOutOfRange}
 use Rattle.polars_arrays_bits.specs.Errors.{IsMemory}
 
--- the error is that the kind has no such operation
+-- the error is that the kind does not support the operation
 abbrev pub IsUnsupported : ComputeError → Type 0
 IsUnsupported (Memory e) = ⊥
 IsUnsupported Unsupported = Unit {0}
 IsUnsupported (KeyOutOfRange key len) = ⊥
 
--- the error of a call that the kind has, or that it has not
+-- the error of a call that the kind supports, or does not
 abbrev pub Refusal : Bool → ComputeError → Type 0
 Refusal true e = IsMemory e
 Refusal false e = IsUnsupported e
 
--- where the kind has the call, it answers as P says or is refused memory; where it has not, it says so
+-- if the kind supports the call, P holds of the result or the error is Memory; else it is
+-- Unsupported
 abbrev pub Answers : {A : Type 0} → Bool → Result A ComputeError → (A → Type 0) → Type 0
 Answers has r P = MatchResult r (λ x. IsTrue has × P x) (Refusal has)

@@ -1,4 +1,4 @@
-//! Equality of rows that are byte strings or texts with one that is borrowed.
+//! Equality of rows that are byte strings or texts with a borrowed one.
 
 ghost use Rattle.std.specs.Prelude.{◌≡◌, None, true, false, length, replicate, MatchResult, ⊤};
 ghost use Rattle.polars_arrays_bits.specs.Errors.{IsMemory};
@@ -15,11 +15,11 @@ use polars_compare_leaves::bytes::compare_bytes;
 use polars_compare_leaves::joining::Relation;
 use std::alloc::Global;
 
-/// Equality of the rows of an array of byte strings with one that is borrowed, called by path beside
-/// `TotalEqKernel`. The raw kernels ask no validity; in the missing ones null is equal to itself alone. All
-/// take memory: the error is `Memory`.
+/// Equality of the rows of an array of byte strings with a borrowed byte string, called by path
+/// beside `TotalEqKernel`. The raw kernels ignore validities; in the missing ones null is equal to
+/// null alone. All allocate: the error is `Memory`.
 pub trait BytesEqKernel: ByteRows + Sized {
-    /// Where the stored rows are equal to the byte string.
+    /// Returns for each stored row whether it is equal to the byte string.
     fn tot_eq_kernel_broadcast(&self, alloc: Global, other: &[u8]) -> Result<Bitmap, ComputeError>
         ensures { MatchResult result
             (RawEquality true ⊤ (Self.mask self.now) None (Self.slots self.now) (replicate (length (Self.slots self.now)) (Bytes other.now)))
@@ -28,7 +28,7 @@ pub trait BytesEqKernel: ByteRows + Sized {
         compare_bytes(alloc, &Equal, self, other)
     }
 
-    /// Where the stored rows are unequal to the byte string.
+    /// Returns for each stored row whether it differs from the byte string.
     fn tot_ne_kernel_broadcast(&self, alloc: Global, other: &[u8]) -> Result<Bitmap, ComputeError>
         ensures { MatchResult result
             (RawEquality false ⊤ (Self.mask self.now) None (Self.slots self.now) (replicate (length (Self.slots self.now)) (Bytes other.now)))
@@ -37,7 +37,7 @@ pub trait BytesEqKernel: ByteRows + Sized {
         compare_bytes(alloc, &Unequal, self, other)
     }
 
-    /// Where the rows are equal to the byte string; no null is.
+    /// Returns for each row whether it is equal to the byte string; `false` for nulls.
     final fn tot_eq_missing_kernel_broadcast(
         &self,
         alloc: Global,
@@ -52,7 +52,7 @@ pub trait BytesEqKernel: ByteRows + Sized {
         join_scalar(alloc, Relation::Equal, raw, self)
     }
 
-    /// Where the rows are unequal to the byte string; each null is.
+    /// Returns for each row whether it differs from the byte string; `true` for nulls.
     final fn tot_ne_missing_kernel_broadcast(
         &self,
         alloc: Global,
@@ -68,9 +68,11 @@ pub trait BytesEqKernel: ByteRows + Sized {
     }
 }
 
-/// The same for an array of texts: two texts are equal where their UTF-8 is.
+/// Equality of the rows of an array of texts with a borrowed text, called by path beside
+/// `TotalEqKernel`. Two texts are equal if their UTF-8 is. The raw kernels ignore validities; in
+/// the missing ones null is equal to null alone. All allocate: the error is `Memory`.
 pub trait TextEqKernel: ByteRows + Sized {
-    /// Where the stored rows are equal to the text.
+    /// Returns for each stored row whether it is equal to the text.
     fn tot_eq_kernel_broadcast(&self, alloc: Global, other: &str) -> Result<Bitmap, ComputeError>
         ensures { MatchResult result
             (RawEquality true ⊤ (Self.mask self.now) None (Self.slots self.now) (replicate (length (Self.slots self.now)) (Bytes other.now)))
@@ -79,7 +81,7 @@ pub trait TextEqKernel: ByteRows + Sized {
         compare_bytes(alloc, &Equal, self, other.as_bytes())
     }
 
-    /// Where the stored rows are unequal to the text.
+    /// Returns for each stored row whether it differs from the text.
     fn tot_ne_kernel_broadcast(&self, alloc: Global, other: &str) -> Result<Bitmap, ComputeError>
         ensures { MatchResult result
             (RawEquality false ⊤ (Self.mask self.now) None (Self.slots self.now) (replicate (length (Self.slots self.now)) (Bytes other.now)))
@@ -88,7 +90,7 @@ pub trait TextEqKernel: ByteRows + Sized {
         compare_bytes(alloc, &Unequal, self, other.as_bytes())
     }
 
-    /// Where the rows are equal to the text; no null is.
+    /// Returns for each row whether it is equal to the text; `false` for nulls.
     final fn tot_eq_missing_kernel_broadcast(
         &self,
         alloc: Global,
@@ -103,7 +105,7 @@ pub trait TextEqKernel: ByteRows + Sized {
         join_scalar(alloc, Relation::Equal, raw, self)
     }
 
-    /// Where the rows are unequal to the text; each null is.
+    /// Returns for each row whether it differs from the text; `true` for nulls.
     final fn tot_ne_missing_kernel_broadcast(
         &self,
         alloc: Global,

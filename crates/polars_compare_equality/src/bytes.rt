@@ -149,7 +149,7 @@ impl TotalEqKernel for FixedSizeBinaryArray {
 
 impl BytesEqKernel for FixedSizeBinaryArray {}
 
-// No effect at run time. The proof reads from it that strings of different sizes are unequal.
+// Has no effect at run time. The proof learns from it that strings of different sizes are unequal.
 fn read_sizes(left: &FixedSizeBinaryArray, right: &FixedSizeBinaryArray)
     ensures left { length left.now.values ≡ left.now.size * left.now.count }
     ensures right { length right.now.values ≡ right.now.size * right.now.count }

@@ -1,4 +1,4 @@
-//! Equality of arrays of entries of a dictionary.
+//! Equality of dictionary arrays.
 
 ghost use Rattle.std.specs.Prelude.{◌≡◌, false, ⊤};
 ghost use Rattle.polars_arrays_nested.specs.Lengths.{len_of};

@@ -43,7 +43,7 @@ impl TotalEqKernel for FixedSizeListArray {
 
     fn tot_eq_kernel(&self, alloc: Global, other: &Self) -> Result<Bitmap, ComputeError> {
         let n = self.len();
-        // rows of different types are nowhere equal
+        // rows of different types are never equal
         if self.width() != other.width() {
             return Bitmap::new_zeroed(alloc, n);
         }

@@ -1,4 +1,4 @@
-//! Missing equality of every kind of array: the raw bits of stored rows, joined with the masks.
+//! Missing equality of all kinds of array: the raw bits of stored rows, joined with the masks.
 
 ghost use Rattle.std.specs.Prelude.{◌≡◌, ◌≢◌, None, length, replicate, MatchResult, ⊤};
 ghost use Rattle.polars_arrays_bits.specs.Errors.{IsMemory};
@@ -14,7 +14,8 @@ use polars_arrays_flat::mask::Mask;
 use polars_compare_leaves::joining::{Relation, join_nulls};
 use std::alloc::Global;
 
-/// Where the rows of two arrays are equal, or unequal, of bits that say it of their stored rows. The error is `Memory`.
+/// Joins the raw bits of a comparison of two arrays with their masks. `relation` says what a set
+/// bit means. The error is `Memory`.
 #[inline]
 pub(crate) fn join_rows<A: Array>(
     alloc: Global,
@@ -36,7 +37,8 @@ pub(crate) fn join_rows<A: Array>(
     join_nulls(alloc, relation, raw, &left_mask, &right_mask)
 }
 
-/// The same of the rows of an array and any one row that is not null, against which each was set. The error is `Memory`.
+/// Joins the raw bits of a comparison of an array with one row that is not null with the array's
+/// mask. The error is `Memory`.
 #[inline]
 pub(crate) fn join_scalar<A: Array>(
     alloc: Global,

@@ -1,4 +1,4 @@
-//! Equality of the rows of two arrays, with and without regard to null.
+//! Equality of the rows of two arrays, raw and missing.
 
 ghost use Rattle.std.specs.Prelude.{◌≡◌, ◌≢◌, ◌↔◌, List, Bool, Option, None, true, false, length, replicate, MatchResult, IsTrue, ⊤};
 ghost use Rattle.polars_arrays_bits.specs.Errors.{IsMemory};
@@ -16,42 +16,43 @@ use std::alloc::Global;
 
 /// Equality of the rows of two arrays of one kind.
 ///
-/// The raw kernels ask no validity, and their bits are right where both rows are present. The missing
-/// kernels take null as equal to itself alone, and their bits are right everywhere. A broadcast sets each
-/// row against one scalar, which is never null. All but `can_compare` take memory: the error is `Memory`, and
-/// `Unsupported` for the broadcasts of a kind that has none.
+/// The raw kernels ignore validities; their bits are right where both rows are present. In the
+/// missing kernels null is equal to null alone, and all bits are right. A broadcast compares each
+/// row with one scalar, which is never null. All except `can_compare` and `can_broadcast` allocate:
+/// the error is `Memory`, and `Unsupported` for the broadcasts of a kind that has none.
 pub trait TotalEqKernel: Sized + Array {
-    /// What the rows are set against in a broadcast.
+    /// The value that a broadcast compares rows with.
     type Scalar;
 
-    // Whether two arrays can be compared.
+    // Two arrays that can be compared.
     ghost comparable: { Self → Self → Type 0 };
 
-    // Whether the kind has broadcasts.
+    // Support of broadcasts by the kind of array.
     ghost broadcasts: { Bool };
 
-    // Whether a scalar is of the type that the array is set against.
+    // A scalar of the type that the array can be compared with.
     ghost fits: { Self → Self.Scalar → Type 0 };
 
-    // What is asked of a scalar that holds an array: that it is good all the way down.
+    // Soundness of a scalar that holds an array, at all its levels.
     ghost good_scalar: { Self.Scalar → Type 0 };
 
-    // The row that a scalar stands for.
+    // The row of a scalar.
     ghost scalar_row: { Self.Scalar → Row };
 
-    /// Whether the two arrays can be compared: their lengths are equal, and what else the kind asks.
+    /// Returns whether the two arrays can be compared: their lengths are equal, and what the kind
+    /// requires besides.
     fn can_compare(&self, other: &Self) -> bool
         requires good { Self.good self.now }
         requires good_other { Self.good other.now }
         ensures { IsTrue result ↔ comparable self.now other.now };
 
-    /// Whether the array can be set against the scalar.
+    /// Returns whether the array can be compared with the scalar.
     fn can_broadcast(&self, other: &Self::Scalar) -> bool
         requires good { Self.good self.now }
         requires good_other { good_scalar other.now }
         ensures { IsTrue result ↔ fits self.now other.now };
 
-    /// Where the stored rows are equal.
+    /// Returns for each place whether the stored rows are equal.
     fn tot_eq_kernel(&self, alloc: Global, other: &Self) -> Result<Bitmap, ComputeError>
         requires good { Self.good self.now }
         requires good_other { Self.good other.now }
@@ -60,7 +61,7 @@ pub trait TotalEqKernel: Sized + Array {
             (RawEquality true (Self.same_type self.now other.now) (Self.mask self.now) (Self.mask other.now) (Self.slots self.now) (Self.slots other.now))
             IsMemory };
 
-    /// Where the stored rows are unequal.
+    /// Returns for each place whether the stored rows differ.
     fn tot_ne_kernel(&self, alloc: Global, other: &Self) -> Result<Bitmap, ComputeError>
         requires good { Self.good self.now }
         requires good_other { Self.good other.now }
@@ -69,7 +70,7 @@ pub trait TotalEqKernel: Sized + Array {
             (RawEquality false (Self.same_type self.now other.now) (Self.mask self.now) (Self.mask other.now) (Self.slots self.now) (Self.slots other.now))
             IsMemory };
 
-    /// Where the stored rows are equal to the scalar.
+    /// Returns for each stored row whether it is equal to the scalar.
     fn tot_eq_kernel_broadcast(
         &self,
         alloc: Global,
@@ -81,7 +82,7 @@ pub trait TotalEqKernel: Sized + Array {
         ensures { Answers broadcasts result
             (RawEquality true ⊤ (Self.mask self.now) None (Self.slots self.now) (replicate (length (Self.slots self.now)) (scalar_row other.now))) };
 
-    /// Where the stored rows are unequal to the scalar.
+    /// Returns for each stored row whether it differs from the scalar.
     fn tot_ne_kernel_broadcast(
         &self,
         alloc: Global,
@@ -93,7 +94,7 @@ pub trait TotalEqKernel: Sized + Array {
         ensures { Answers broadcasts result
             (RawEquality false ⊤ (Self.mask self.now) None (Self.slots self.now) (replicate (length (Self.slots self.now)) (scalar_row other.now))) };
 
-    /// Where the rows are equal, null to null alone.
+    /// Returns for each place whether the rows are equal; null is equal to null alone.
     fn tot_eq_missing_kernel(&self, alloc: Global, other: &Self) -> Result<Bitmap, ComputeError>
         requires good { Self.good self.now }
         requires good_other { Self.good other.now }
@@ -106,7 +107,7 @@ pub trait TotalEqKernel: Sized + Array {
         join_rows(alloc, Relation::Equal, raw, self, other)
     }
 
-    /// Where the rows are unequal, null to all but null.
+    /// Returns for each place whether the rows differ; null differs from all rows except null.
     fn tot_ne_missing_kernel(&self, alloc: Global, other: &Self) -> Result<Bitmap, ComputeError>
         requires good { Self.good self.now }
         requires good_other { Self.good other.now }
@@ -119,7 +120,7 @@ pub trait TotalEqKernel: Sized + Array {
         join_rows(alloc, Relation::Unequal, raw, self, other)
     }
 
-    /// Where the rows are equal to the scalar; no null is.
+    /// Returns for each row whether it is equal to the scalar; `false` for nulls.
     final fn tot_eq_missing_kernel_broadcast(
         &self,
         alloc: Global,
@@ -135,7 +136,7 @@ pub trait TotalEqKernel: Sized + Array {
         join_scalar(alloc, Relation::Equal, raw, self)
     }
 
-    /// Where the rows are unequal to the scalar; each null is.
+    /// Returns for each row whether it differs from the scalar; `true` for nulls.
     final fn tot_ne_missing_kernel_broadcast(
         &self,
         alloc: Global,
@@ -151,9 +152,9 @@ pub trait TotalEqKernel: Sized + Array {
         join_scalar(alloc, Relation::Unequal, raw, self)
     }
 
-    // Arrays that can be compared are equally long.
+    // Arrays that can be compared have equal lengths.
     ghost comparable_law: { (a b : Self) → comparable a b → length (Self.slots a) ≡ length (Self.slots b) };
 
-    // No scalar stands for Null, where the kind has broadcasts.
+    // No scalar is Null, if the kind has broadcasts.
     ghost scalar_law: { (s : Self.Scalar) → IsTrue broadcasts → scalar_row s ≢ Null };
 }

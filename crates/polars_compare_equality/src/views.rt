@@ -1,4 +1,4 @@
-//! Equality of arrays kept by views.
+//! Equality of arrays of views.
 
 ghost use Rattle.std.specs.Prelude.{◌≡◌, true, length, string_bytes, ⊤};
 ghost use Rattle.polars_arrays_flat.specs.Row.{Bytes};

@@ -1,4 +1,4 @@
--- The better of two numbers folds numbers, from any one on.
+-- Choosing the better of two numbers is a fold, with any number as the first.
 use Rattle.std.specs.Prelude.{◌≡◌, ℤ, Bool, true, false, cond, int_lt, refl}
 use Rattle.std.specs.declared.cmp.Ordering.TheVariants.{Less, Equal, Greater}
 use Rattle.std.proofs.Common.{sym, ap, ◌∙◌}
@@ -60,7 +60,7 @@ module _ (better : Row → Row → Bool) (law : Prefers Int better) (same : (m n
     any_times = cond-same (better (Int first) (Int first)) first;
   }
 
--- of two whole numbers that are not less than each other
+-- two whole numbers neither of which is less are equal
 neither_less : (m n : ℤ) → int_lt m n ≡ false → int_lt n m ≡ false → m ≡ n
 neither_less m n e f =
     int_ranked m n Equal (sym (ap (λ b. cond b Less (cond (int_lt n m) Greater Equal)) e ∙ ap (λ b. cond b Greater Equal) f))

@@ -8,14 +8,14 @@ use Rattle.polars_compare_leaves.specs.Order.{row_less, row_greater}
 abbrev pub NonePresent : List Row → Type 0
 NonePresent rows = (k : ℕ) → k < length rows → row rows k ≡ Null
 
--- row `place` is the first of the best: it is present, no present row is better, and it is better than each present one before it
+-- row `place` is the first best row: present, no present row better, and better than all before it
 pub record IsBest (better : Row → Row → Bool) (rows : List Row) (place : ℕ) : Type 0 where
   pub within : place < length rows
   pub present : row rows place ≢ Null
   pub best : (k : ℕ) → k < length rows → row rows k ≢ Null → better (row rows k) (row rows place) ≡ false
   pub first : (k : ℕ) → k < place → row rows k ≢ Null → better (row rows place) (row rows k) ≡ true
 
--- what was found is that row
+-- `found` is the first best row
 pub record FindsBest (better : Row → Row → Bool) (rows : List Row) (found : Row) : Type 0 where
   pub place : ℕ
   pub is_best : IsBest better rows place
@@ -25,6 +25,6 @@ pub record FindsBest (better : Row → Row → Bool) (rows : List Row) (found : 
 abbrev pub IsLeast : List Row → Row → Type 0
 IsLeast rows found = FindsBest row_less rows found
 
--- the greatest present row: it is less than no present row
+-- the greatest present row: no present row is greater
 abbrev pub IsGreatest : List Row → Row → Type 0
 IsGreatest rows found = FindsBest row_greater rows found

@@ -1,4 +1,4 @@
--- The places that a search for an extreme goes through, by stored rows and a mask.
+-- Places in a search for an extreme, over stored rows and a mask.
 use Rattle.std.specs.Prelude.{◌≡◌, ◌<◌, ℕ, Bool, true, false, List, [], Option, slice_index_or}
 use Rattle.polars_arrays_flat.specs.Row.{Row, Bytes}
 use Rattle.polars_arrays_flat.specs.Validity.{is_present}
@@ -13,7 +13,7 @@ pub record IsFirstPresent (n : ℕ) (mask : Option (List Bool)) (i : ℕ) : Type
   pub present : is_present mask i ≡ true
   pub before : (k : ℕ) → k < i → is_present mask k ≡ false
 
--- of the first n stored rows, where `slot` gives each, the one at `place` is the first of the best that are present
+-- of the first n stored rows, given by `slot`, the one at `place` is the first best present one
 pub record IsBestSlot (better : Row → Row → Bool) (slot : ℕ → Row) (mask : Option (List Bool)) (n place : ℕ) : Type 0 where
   pub within : place < n
   pub present : is_present mask place ≡ true

@@ -1,4 +1,4 @@
--- To be less, and to be greater, are preferences.
+-- "Less" and "greater" are preferences.
 use Rattle.std.specs.Prelude.{◌≡◌, ℤ, Bool, true, false, cond, int_lt, refl}
 use Rattle.std.proofs.Common.{sym, ap, ◌∙◌}
 use Rattle.std.specs.Cmp.{IsTotalOrder}
@@ -17,11 +17,11 @@ is_less Equal h = cc
 is_less Greater h = cc
 
 module _ {A : Type 0} {R : A → A → Ordering} (total : IsTotalOrder R) where
-  -- what is less is not less the other way round
+  -- if x is less than y, y is not less than x
   one_way : (x y : A) → is_lt (R x y) ≡ true → is_lt (R y x) ≡ false
   one_way x y h = ap is_lt (total.antisymm y x ∙ ap ordering_reverse (is_less (R x y) h))
 
-  -- what is less than x is less than all that is not less than x
+  -- what is less than x is less than all that are not less than x
   least_passes : (x y z : A) (o : Ordering) → R z x ≡ o → is_lt (R y x) ≡ true → is_lt o ≡ false → is_lt (R y z) ≡ true
   least_passes x y z Less e h g = cc
   least_passes x y z Equal e h g =
@@ -29,7 +29,7 @@ module _ {A : Type 0} {R : A → A → Ordering} (total : IsTotalOrder R) where
   least_passes x y z Greater e h g =
       ap is_lt (total.trans y x z (is_less (R y x) h) (total.antisymm x z ∙ ap ordering_reverse e))
 
-  -- what x is less than all is less than that x is not less than
+  -- what is greater than x is greater than all that are not greater than x
   greatest_passes : (x y z : A) (o : Ordering) → R x z ≡ o → is_lt (R x y) ≡ true → is_lt o ≡ false → is_lt (R z y) ≡ true
   greatest_passes x y z Less e h g = cc
   greatest_passes x y z Equal e h g = ap is_lt (sym (total.congr x z y e) ∙ is_less (R x y) h)

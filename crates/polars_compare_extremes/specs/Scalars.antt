@@ -1,4 +1,4 @@
--- What the extremes of any array are.
+-- The extremes of any array.
 use Rattle.std.specs.Prelude.{◌≡◌, Bool, true, false, IsTrue, IsFalse, List, Option, Result, MatchOption, MatchResult, pos}
 use Rattle.polars_arrays_bits.specs.declared.error.ComputeError.{ComputeError}
 use Rattle.polars_arrays_bits.specs.declared.error.ComputeError.TheVariants.{Unsupported}
@@ -11,7 +11,7 @@ use Rattle.polars_compare_extremes.specs.declared.extreme.Extreme.TheVariants.{L
 use Rattle.polars_compare_extremes.specs.declared.scalar.AnyScalar.{AnyScalar}
 use Rattle.polars_compare_extremes.specs.declared.scalar.AnyScalar.TheVariants.{Boolean, Int8, Int16, Int32, Int64, Int128, UInt8, UInt16, UInt32, UInt64, UInt128, Binary, LargeBinary, Utf8, LargeUtf8, BinaryView, Utf8View}
 
--- which of two rows is the better one for an extreme
+-- the test of which of two rows is the better extreme
 abbrev pub better_of : Extreme → Row → Row → Bool
 better_of Least = row_less
 better_of Greatest = row_greater
@@ -37,7 +37,7 @@ has_extremes BinaryViewKind = true
 has_extremes Utf8ViewKind = true
 has_extremes _ = false
 
--- the kind of array that a scalar is a row of
+-- the kind of array that has a scalar as a row
 abbrev pub scalar_kind : AnyScalar → Kind
 scalar_kind (Boolean bit) = BooleanKind
 scalar_kind (Int8 n) = Int8Kind
@@ -57,7 +57,7 @@ scalar_kind (LargeUtf8 text) = LargeUtf8Kind
 scalar_kind (BinaryView bytes) = BinaryViewKind
 scalar_kind (Utf8View text) = Utf8ViewKind
 
--- the row that a scalar stands for
+-- the row of a scalar
 abbrev pub scalar_row : AnyScalar → Row
 scalar_row (Boolean bit) = Truth bit
 scalar_row (Int8 n) = Int n
@@ -77,7 +77,7 @@ scalar_row (LargeUtf8 text) = Bytes text.now
 scalar_row (BinaryView bytes) = Bytes bytes.now
 scalar_row (Utf8View text) = Bytes text.now
 
--- an extreme of rows of this kind: a scalar of the kind that is the best row, and none where no row is present
+-- an extreme of rows of this kind: a scalar of that kind that is the best row, or none
 abbrev pub IsExtreme : Extreme → Kind → List Row → Option AnyScalar → Type 0
 IsExtreme extreme kind rows found =
     MatchOption found (NonePresent rows) (λ scalar. (scalar_kind scalar ≡ kind) × FindsBest (better_of extreme) rows (scalar_row scalar))
@@ -87,7 +87,7 @@ abbrev pub AreExtremes : Kind → List Row → Option (AnyScalar × AnyScalar) �
 AreExtremes kind rows found =
     MatchOption found (NonePresent rows) (λ pair. ((scalar_kind pair.0 ≡ kind) × FindsBest row_less rows (scalar_row pair.0)) × ((scalar_kind pair.1 ≡ kind) × FindsBest row_greater rows (scalar_row pair.1)))
 
--- a kind that has extremes is answered as P says, and any other is not supported
+-- P holds of the result if the kind has extremes; otherwise the error is Unsupported
 abbrev pub AnswersKind : {A : Type 0} → Kind → Result A ComputeError → (A → Type 0) → Type 0
 AnswersKind kind result P =
     MatchResult result (λ found. IsTrue (has_extremes kind) × P found) (λ error. IsFalse (has_extremes kind) × (error ≡ Unsupported))

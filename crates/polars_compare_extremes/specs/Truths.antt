@@ -1,4 +1,4 @@
--- What the extremes of truth values are counted from.
+-- Counts that determine the extremes of truth values.
 use Rattle.std.specs.Prelude.{Bool, false, not}
 use Rattle.std.specs.Bool.{beq}
 use Rattle.polars_arrays_flat.specs.ArrayRows.{is_null}

@@ -13,7 +13,7 @@ use polars_arrays_bits::bitmap::Bitmap;
 use polars_arrays_flat::array::Array;
 use polars_arrays_flat::boolean::BooleanArray;
 
-// How many rows are present.
+// Returns the number of present rows.
 #[tactic(auto, using(crate::proofs::Truths::truth_counts))]
 fn present_count(values: &Bitmap, validity: Option<&Bitmap>) -> usize
     requires { HasBits (length values.now) (option_copied validity) }
@@ -25,7 +25,7 @@ fn present_count(values: &Bitmap, validity: Option<&Bitmap>) -> usize
     }
 }
 
-// How many present rows are true.
+// Returns the number of present rows that are true.
 #[tactic(auto, using(crate::proofs::Truths::truth_counts))]
 fn true_count(values: &Bitmap, validity: Option<&Bitmap>) -> usize
     requires { HasBits (length values.now) (option_copied validity) }

@@ -1,4 +1,4 @@
-//! The least and the greatest of rows that are byte strings or texts, lent by their array.
+//! The least and the greatest of rows that are byte strings or texts, borrowed from their array.
 
 ghost use Rattle.std.specs.Prelude.{MatchOption};
 ghost use Rattle.polars_arrays_flat.specs.Row.{Bytes};
@@ -7,8 +7,8 @@ ghost use Rattle.polars_compare_extremes.specs.Extremes.{IsGreatest, IsLeast, No
 
 use polars_arrays_flat::byte_rows::ByteRows;
 
-/// The extremes of an array of byte strings, called by path beside `MinMaxKernel`. There are none that are no number, so that
-/// the two ways to treat such are one. No memory is taken.
+/// The extremes of an array of byte strings, called by path beside `MinMaxKernel`. No row is NaN,
+/// so `ignore_nan` and `propagate_nan` mean the same. Does not allocate.
 pub trait BytesMinMaxKernel: ByteRows {
     /// The least present row, and None where none is present.
     fn min_ignore_nan_kernel(&self) -> Option<&[u8]>
@@ -16,13 +16,13 @@ pub trait BytesMinMaxKernel: ByteRows {
             (NonePresent (rows_under (Self.mask self.now) (Self.slots self.now)))
             (λ bytes. IsLeast (rows_under (Self.mask self.now) (Self.slots self.now)) (Bytes bytes.now)) };
 
-    /// The greatest present row, and None where none is present.
+    /// Returns the greatest present row, or `None` if no row is present.
     fn max_ignore_nan_kernel(&self) -> Option<&[u8]>
         ensures { MatchOption result
             (NonePresent (rows_under (Self.mask self.now) (Self.slots self.now)))
             (λ bytes. IsGreatest (rows_under (Self.mask self.now) (Self.slots self.now)) (Bytes bytes.now)) };
 
-    /// The least and the greatest present row, and None where none is present.
+    /// Returns the least and the greatest present row, or `None` if no row is present.
     final fn min_max_ignore_nan_kernel(&self) -> Option<(&[u8], &[u8])>
         ensures { MatchOption result
             (NonePresent (rows_under (Self.mask self.now) (Self.slots self.now)))
@@ -33,7 +33,7 @@ pub trait BytesMinMaxKernel: ByteRows {
         Some((least, greatest))
     }
 
-    /// The same as `min_ignore_nan_kernel`.
+    /// Returns what `min_ignore_nan_kernel` does.
     final fn min_propagate_nan_kernel(&self) -> Option<&[u8]>
         ensures { MatchOption result
             (NonePresent (rows_under (Self.mask self.now) (Self.slots self.now)))
@@ -42,7 +42,7 @@ pub trait BytesMinMaxKernel: ByteRows {
         self.min_ignore_nan_kernel()
     }
 
-    /// The same as `max_ignore_nan_kernel`.
+    /// Returns what `max_ignore_nan_kernel` does.
     final fn max_propagate_nan_kernel(&self) -> Option<&[u8]>
         ensures { MatchOption result
             (NonePresent (rows_under (Self.mask self.now) (Self.slots self.now)))
@@ -51,7 +51,7 @@ pub trait BytesMinMaxKernel: ByteRows {
         self.max_ignore_nan_kernel()
     }
 
-    /// The same as `min_max_ignore_nan_kernel`.
+    /// Returns what `min_max_ignore_nan_kernel` does.
     final fn min_max_propagate_nan_kernel(&self) -> Option<(&[u8], &[u8])>
         ensures { MatchOption result
             (NonePresent (rows_under (Self.mask self.now) (Self.slots self.now)))
@@ -61,22 +61,22 @@ pub trait BytesMinMaxKernel: ByteRows {
     }
 }
 
-/// The extremes of an array of texts, called by path beside `MinMaxKernel`. There are none that are no number, so that
-/// the two ways to treat such are one. No memory is taken.
+/// The extremes of an array of texts, called by path beside `MinMaxKernel`. No row is NaN, so
+/// `ignore_nan` and `propagate_nan` mean the same. Does not allocate.
 pub trait TextMinMaxKernel: ByteRows {
-    /// The least present row, and None where none is present.
+    /// Returns the least present row, or `None` if no row is present.
     fn min_ignore_nan_kernel(&self) -> Option<&str>
         ensures { MatchOption result
             (NonePresent (rows_under (Self.mask self.now) (Self.slots self.now)))
             (λ text. IsLeast (rows_under (Self.mask self.now) (Self.slots self.now)) (Bytes text.now)) };
 
-    /// The greatest present row, and None where none is present.
+    /// Returns the greatest present row, or `None` if no row is present.
     fn max_ignore_nan_kernel(&self) -> Option<&str>
         ensures { MatchOption result
             (NonePresent (rows_under (Self.mask self.now) (Self.slots self.now)))
             (λ text. IsGreatest (rows_under (Self.mask self.now) (Self.slots self.now)) (Bytes text.now)) };
 
-    /// The least and the greatest present row, and None where none is present.
+    /// Returns the least and the greatest present row, or `None` if no row is present.
     final fn min_max_ignore_nan_kernel(&self) -> Option<(&str, &str)>
         ensures { MatchOption result
             (NonePresent (rows_under (Self.mask self.now) (Self.slots self.now)))
@@ -87,7 +87,7 @@ pub trait TextMinMaxKernel: ByteRows {
         Some((least, greatest))
     }
 
-    /// The same as `min_ignore_nan_kernel`.
+    /// Returns what `min_ignore_nan_kernel` does.
     final fn min_propagate_nan_kernel(&self) -> Option<&str>
         ensures { MatchOption result
             (NonePresent (rows_under (Self.mask self.now) (Self.slots self.now)))
@@ -96,7 +96,7 @@ pub trait TextMinMaxKernel: ByteRows {
         self.min_ignore_nan_kernel()
     }
 
-    /// The same as `max_ignore_nan_kernel`.
+    /// Returns what `max_ignore_nan_kernel` does.
     final fn max_propagate_nan_kernel(&self) -> Option<&str>
         ensures { MatchOption result
             (NonePresent (rows_under (Self.mask self.now) (Self.slots self.now)))
@@ -105,7 +105,7 @@ pub trait TextMinMaxKernel: ByteRows {
         self.max_ignore_nan_kernel()
     }
 
-    /// The same as `min_max_ignore_nan_kernel`.
+    /// Returns what `min_max_ignore_nan_kernel` does.
     final fn min_max_propagate_nan_kernel(&self) -> Option<(&str, &str)>
         ensures { MatchOption result
             (NonePresent (rows_under (Self.mask self.now) (Self.slots self.now)))

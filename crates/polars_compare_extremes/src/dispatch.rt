@@ -12,7 +12,7 @@ use crate::scalar::AnyScalar;
 use polars_arrays_bits::error::ComputeError;
 use polars_arrays_nested::any_array::AnyArray;
 
-// An extreme of an array, by the function that stands before the name of its kind.
+// An extreme of an array, by the function named before its kind.
 macro_rules! each_extreme {
     (($any:expr, $extreme:expr), $($found:ident: $($kind:ident)+);+) => {
         match $any {
@@ -30,7 +30,7 @@ macro_rules! each_extreme {
     };
 }
 
-// An extreme of an array of any kind.
+// Returns an extreme of an array of any kind.
 #[tactic(auto, using(crate::proofs::ListKinds::no_extremes))]
 fn any_extreme(array: &AnyArray, extreme: Extreme) -> Result<Option<AnyScalar<'_>>, ComputeError>
     ensures { AnswersKind (type_of array.now) result (IsExtreme extreme (type_of array.now) (rows array.now)) }
@@ -46,36 +46,39 @@ fn any_extreme(array: &AnyArray, extreme: Extreme) -> Result<Option<AnyScalar<'_
     )
 }
 
-/// The least present row, lent, and None where none is present. The error is `Unsupported`, exactly for arrays whose rows
-/// have no order: of nulls, of byte strings of one size, and those that hold arrays. No memory is taken.
+/// Returns the least present row, borrowed, or `None` if no row is present. The error is
+/// `Unsupported`, exactly for arrays whose rows have no order: nulls, byte strings of one size, and
+/// nested arrays. Does not allocate.
 pub fn dyn_array_min_ignore_nan(array: &AnyArray) -> Result<Option<AnyScalar<'_>>, ComputeError>
     ensures { AnswersKind (type_of array.now) result (IsExtreme Extreme.Least (type_of array.now) (rows array.now)) }
 {
     any_extreme(array, Extreme::Least)
 }
 
-/// The greatest present row, in the same way.
+/// Returns the greatest present row, borrowed, or `None` if no row is present. The error is that of
+/// `dyn_array_min_ignore_nan`.
 pub fn dyn_array_max_ignore_nan(array: &AnyArray) -> Result<Option<AnyScalar<'_>>, ComputeError>
     ensures { AnswersKind (type_of array.now) result (IsExtreme Extreme.Greatest (type_of array.now) (rows array.now)) }
 {
     any_extreme(array, Extreme::Greatest)
 }
 
-/// The same as `dyn_array_min_ignore_nan`.
+/// Returns what `dyn_array_min_ignore_nan` does.
 pub fn dyn_array_min_propagate_nan(array: &AnyArray) -> Result<Option<AnyScalar<'_>>, ComputeError>
     ensures { AnswersKind (type_of array.now) result (IsExtreme Extreme.Least (type_of array.now) (rows array.now)) }
 {
     any_extreme(array, Extreme::Least)
 }
 
-/// The same as `dyn_array_max_ignore_nan`.
+/// Returns what `dyn_array_max_ignore_nan` does.
 pub fn dyn_array_max_propagate_nan(array: &AnyArray) -> Result<Option<AnyScalar<'_>>, ComputeError>
     ensures { AnswersKind (type_of array.now) result (IsExtreme Extreme.Greatest (type_of array.now) (rows array.now)) }
 {
     any_extreme(array, Extreme::Greatest)
 }
 
-/// The least and the greatest present row, in the same way.
+/// Returns the least and the greatest present row, borrowed, or `None` if no row is present. The
+/// error is that of `dyn_array_min_ignore_nan`.
 pub fn dyn_array_min_max_propagate_nan(
     array: &AnyArray,
 ) -> Result<Option<(AnyScalar<'_>, AnyScalar<'_>)>, ComputeError>

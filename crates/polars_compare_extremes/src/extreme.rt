@@ -1,4 +1,4 @@
-//! An extreme of one kind of array, asked for by its name.
+//! Either extreme of one kind of array, chosen by an argument.
 
 ghost use Rattle.std.specs.Prelude.{length, MatchOption};
 ghost use Rattle.polars_arrays_bytes.specs.OffsetStrings.{offset_rows, row_count};
@@ -22,15 +22,15 @@ use polars_arrays_numbers::offset::Offset;
 use polars_arrays_views::binary_view::BinaryViewArray;
 use polars_arrays_views::text_view::Utf8ViewArray;
 
-/// Which extreme is asked for.
+/// One of the two extremes.
 #[derive(Clone, Copy, Debug)]
 pub(crate) enum Extreme {
     Least,
     Greatest,
 }
 
-// An extreme of an array. The validity is asked for, with no effect at run time: the proof reads from it that it has a
-// bit for each row.
+// An extreme of an array. Reading the validity has no effect at run time: the proof learns from it
+// that it has a bit for each row.
 macro_rules! extreme_of {
     ($array:expr, $extreme:expr) => {{
         let _validity = $array.validity();
@@ -41,7 +41,7 @@ macro_rules! extreme_of {
     }};
 }
 
-/// An extreme of truth values, and None where no row is present.
+/// Returns an extreme of truth values, or `None` if no row is present.
 pub(crate) fn truth_extreme(array: &BooleanArray, extreme: Extreme) -> Option<bool>
     ensures { MatchOption result
         (NonePresent (listed (row_at (truth_rows array.now)) (length array.now.values)))
@@ -50,7 +50,7 @@ pub(crate) fn truth_extreme(array: &BooleanArray, extreme: Extreme) -> Option<bo
     extreme_of!(array, extreme)
 }
 
-/// An extreme of numbers, and None where no row is present.
+/// Returns an extreme of numbers, or `None` if no row is present.
 pub(crate) fn number_extreme<T: NativeType + 'static>(
     array: &PrimitiveArray<T>,
     extreme: Extreme,
@@ -62,7 +62,7 @@ pub(crate) fn number_extreme<T: NativeType + 'static>(
     extreme_of!(array, extreme)
 }
 
-/// An extreme of byte strings between offsets, and None where no row is present.
+/// Returns an extreme of byte strings between offsets, or `None` if no row is present.
 pub(crate) fn bytes_extreme<O: Offset>(array: &BinaryArray<O>, extreme: Extreme) -> Option<&[u8]>
     ensures { MatchOption result
         (NonePresent (listed (row_at (offset_rows O.value array.now)) (row_count array.now.offsets)))
@@ -71,7 +71,7 @@ pub(crate) fn bytes_extreme<O: Offset>(array: &BinaryArray<O>, extreme: Extreme)
     extreme_of!(array, extreme)
 }
 
-/// An extreme of texts between offsets, and None where no row is present.
+/// Returns an extreme of texts between offsets, or `None` if no row is present.
 pub(crate) fn text_extreme<O: Offset>(array: &Utf8Array<O>, extreme: Extreme) -> Option<&str>
     ensures { MatchOption result
         (NonePresent (listed (row_at (offset_rows O.value array.now)) (row_count array.now.offsets)))
@@ -80,7 +80,7 @@ pub(crate) fn text_extreme<O: Offset>(array: &Utf8Array<O>, extreme: Extreme) ->
     extreme_of!(array, extreme)
 }
 
-/// An extreme of byte strings kept by views, and None where no row is present.
+/// Returns an extreme of byte strings in views, or `None` if no row is present.
 pub(crate) fn view_extreme(array: &BinaryViewArray, extreme: Extreme) -> Option<&[u8]>
     ensures { MatchOption result
         (NonePresent (listed (row_at (view_rows array.now)) (length array.now.views)))
@@ -89,7 +89,7 @@ pub(crate) fn view_extreme(array: &BinaryViewArray, extreme: Extreme) -> Option<
     extreme_of!(array, extreme)
 }
 
-/// An extreme of texts kept by views, and None where no row is present.
+/// Returns an extreme of texts in views, or `None` if no row is present.
 pub(crate) fn text_view_extreme(array: &Utf8ViewArray, extreme: Extreme) -> Option<&str>
     ensures { MatchOption result
         (NonePresent (listed (row_at (view_rows array.now)) (length array.now.views)))

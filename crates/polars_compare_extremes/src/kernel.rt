@@ -4,27 +4,27 @@ ghost use Rattle.std.specs.Prelude.{List, MatchOption};
 ghost use Rattle.polars_arrays_flat.specs.Row.{Row};
 ghost use Rattle.polars_compare_extremes.specs.Extremes.{IsGreatest, IsLeast, NonePresent};
 
-/// The extremes of the rows of an array or of the numbers of a slice. All are numbers, so that the two ways to treat what is
-/// no number are one. No memory is taken.
+/// The extremes of the rows of an array or of the numbers of a slice. No row is NaN, so
+/// `ignore_nan` and `propagate_nan` mean the same. Does not allocate.
 pub trait MinMaxKernel {
-    /// What an extreme is.
+    /// The type of an extreme.
     type Scalar: Copy;
 
-    // The rows, or of a slice its numbers.
+    // The rows of an array, or the numbers of a slice as rows.
     ghost rows: { Self → List Row };
 
-    // The row that a scalar stands for.
+    // The row of a scalar.
     ghost scalar_row: { Self.Scalar → Row };
 
-    /// The least present row, and None where none is present.
+    /// Returns the least present row, or `None` if no row is present.
     fn min_ignore_nan_kernel(&self) -> Option<Self::Scalar>
         ensures { MatchOption result (NonePresent (rows self.now)) (λ found. IsLeast (rows self.now) (scalar_row found)) };
 
-    /// The greatest present row, and None where none is present.
+    /// Returns the greatest present row, or `None` if no row is present.
     fn max_ignore_nan_kernel(&self) -> Option<Self::Scalar>
         ensures { MatchOption result (NonePresent (rows self.now)) (λ found. IsGreatest (rows self.now) (scalar_row found)) };
 
-    /// The least and the greatest present row, and None where none is present.
+    /// Returns the least and the greatest present row, or `None` if no row is present.
     fn min_max_ignore_nan_kernel(&self) -> Option<(Self::Scalar, Self::Scalar)>
         ensures { MatchOption result (NonePresent (rows self.now)) (λ pair. IsLeast (rows self.now) (scalar_row pair.0) × IsGreatest (rows self.now) (scalar_row pair.1)) }
     {
@@ -33,21 +33,21 @@ pub trait MinMaxKernel {
         Some((least, greatest))
     }
 
-    /// The same as `min_ignore_nan_kernel`.
+    /// Returns what `min_ignore_nan_kernel` does.
     final fn min_propagate_nan_kernel(&self) -> Option<Self::Scalar>
         ensures { MatchOption result (NonePresent (rows self.now)) (λ found. IsLeast (rows self.now) (scalar_row found)) }
     {
         self.min_ignore_nan_kernel()
     }
 
-    /// The same as `max_ignore_nan_kernel`.
+    /// Returns what `max_ignore_nan_kernel` does.
     final fn max_propagate_nan_kernel(&self) -> Option<Self::Scalar>
         ensures { MatchOption result (NonePresent (rows self.now)) (λ found. IsGreatest (rows self.now) (scalar_row found)) }
     {
         self.max_ignore_nan_kernel()
     }
 
-    /// The same as `min_max_ignore_nan_kernel`.
+    /// Returns what `min_max_ignore_nan_kernel` does.
     final fn min_max_propagate_nan_kernel(&self) -> Option<(Self::Scalar, Self::Scalar)>
         ensures { MatchOption result (NonePresent (rows self.now)) (λ pair. IsLeast (rows self.now) (scalar_row pair.0) × IsGreatest (rows self.now) (scalar_row pair.1)) }
     {

@@ -1,4 +1,5 @@
-//! Extremes of arrays and slices of numbers: the present numbers folded, from the first one on.
+//! Extremes of arrays and slices of numbers: folds of the present numbers, begun with the first
+//! one.
 
 ghost use Rattle.std.specs.Option.{option_copied};
 ghost use Rattle.std.specs.Prelude.{◌≡◌, ℤ, Bool, length, MatchOption};
@@ -22,27 +23,27 @@ use polars_arrays_numbers::native_type::NativeType;
 
 /// An operator that folds numbers to the best of them and of a first one.
 trait BestFrom<T: NativeType>: Operator<T> + Drop {
-    // Which of two rows is better.
+    // The test of whether a row is better than another.
     ghost better: { Row → Row → Bool };
 
-    // The better one is better than all that the other is not worse than.
+    // Better than x is better than all that are not better than x.
     ghost preference_law: { Prefers Int better };
 
-    /// Folds begin with this number.
+    /// Creates the operator whose folds begin with `first`.
     fn from(first: T) -> Self
         ensures { Self.neutral result ≡ T.value first };
 
-    // Numbers are joined to the better one.
+    // Two numbers are joined to the better one.
     ghost best_law: { (m n : ℤ) → Self.Operator.joined m n ≡ best_of better m n };
 }
 
-/// Numbers are folded to the least of them and of the first one.
+/// A fold of numbers to the least of them and of a first one.
 #[derive(Drop)]
 struct LeastFrom<T: NativeType> {
     first: T,
 }
 
-/// Numbers are folded to the greatest of them and of the first one.
+/// A fold of numbers to the greatest of them and of a first one.
 #[derive(Drop)]
 struct GreatestFrom<T: NativeType> {
     first: T,
@@ -134,7 +135,8 @@ impl<T: NativeType> BestFrom<T> for GreatestFrom<T> {
     }
 }
 
-// The best of the present numbers, where `present` has a bit for each, or None where none is present.
+// Returns the best of the present numbers, or `None` if none is present. `present` has a bit for
+// each number.
 fn best_number<T: NativeType, B: BestFrom<T>>(numbers: &[T], present: Option<&Bitmap>) -> Option<T>
     requires { HasBits (length numbers.now) (option_copied present) }
     ensures { MatchOption result
@@ -151,7 +153,7 @@ fn best_number<T: NativeType, B: BestFrom<T>>(numbers: &[T], present: Option<&Bi
     }
 }
 
-// The least and the greatest of the numbers, or None without one.
+// Returns the least and the greatest of the numbers, or `None` without numbers.
 fn ends_of_all<T: NativeType>(numbers: &[T]) -> Option<(T, T)>
     ensures { MatchOption result
         (NonePresent (number_slots T.value numbers.now))
@@ -165,7 +167,8 @@ fn ends_of_all<T: NativeType>(numbers: &[T]) -> Option<(T, T)>
     Some(ends)
 }
 
-// The least and the greatest of the present numbers, where `present` has a bit for each, or None where none is present.
+// Returns the least and the greatest of the present numbers, or `None` if none is present.
+// `present` has a bit for each number.
 fn ends<T: NativeType>(numbers: &[T], present: Option<&Bitmap>) -> Option<(T, T)>
     requires { HasBits (length numbers.now) (option_copied present) }
     ensures { MatchOption result

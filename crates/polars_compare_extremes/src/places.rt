@@ -1,4 +1,4 @@
-//! Where the best of the present byte strings stands.
+//! Searches for the best present byte string.
 
 ghost use Rattle.std.specs.Prelude.{◌≡◌, ◌<◌, ℕ, true, false, length, IfSome, MatchOption};
 ghost use Rattle.std.specs.Option.{option_copied};
@@ -13,7 +13,7 @@ use polars_arrays_bits::bitmap::Bitmap;
 use polars_arrays_flat::byte_rows::ByteRows;
 use polars_arrays_flat::validity::is_present;
 
-// The first present of `n` rows.
+// Returns the first present one of `n` rows.
 pub(crate) fn first_present(present: Option<&Bitmap>, n: usize) -> Option<usize>
     requires { HasBits n (option_copied present) }
     ensures { MatchOption result
@@ -28,7 +28,7 @@ pub(crate) fn first_present(present: Option<&Bitmap>, n: usize) -> Option<usize>
     None
 }
 
-// The first of the best present byte strings, where `first` is the first present one.
+// Returns the place of the first best present byte string, given the first present one.
 fn best_from<P: Preference, R: ByteRows>(
     preference: &P,
     rows: &R,
@@ -52,8 +52,8 @@ fn best_from<P: Preference, R: ByteRows>(
     place
 }
 
-/// The place of the first of the best present byte strings, where `present` has a bit for each, or None where none
-/// is present.
+/// Returns the place of the first best present byte string, or `None` if none is present. `present`
+/// has a bit for each.
 pub fn best_place<P: Preference, R: ByteRows>(
     preference: &P,
     rows: &R,
@@ -72,7 +72,8 @@ pub fn best_place<P: Preference, R: ByteRows>(
     }
 }
 
-/// The first of the best present byte strings, lent, where `present` has a bit for each, or None where none is present.
+/// Returns the first best present byte string, borrowed, or `None` if none is present. `present`
+/// has a bit for each.
 pub fn best_string<'a, P: Preference, R: ByteRows>(
     preference: &P,
     rows: &'a R,

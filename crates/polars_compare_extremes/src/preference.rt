@@ -1,4 +1,4 @@
-//! Which of two byte strings an extreme prefers.
+//! Preferences of an extreme among byte strings.
 
 ghost use Rattle.std.specs.Prelude.{◌≡◌};
 ghost use Rattle.polars_arrays_flat.specs.Row.{Bytes};
@@ -9,13 +9,14 @@ use crate::first_bytes::less_by_first;
 use polars_arrays_numbers::comparison::{Greater, Less};
 use polars_compare_leaves::bytes::ByteComparison;
 
-/// A comparison that says which of two byte strings is the better one, so that among any there is a best.
+/// A comparison that says which of two byte strings is better, so that a list of them has a best
+/// one.
 pub trait Preference: ByteComparison {
-    /// Whether the left byte string is the better one, found sooner where the first bytes differ.
+    /// Returns whether the left byte string is better. It is fast if the first bytes differ.
     fn is_better(&self, left: &[u8], right: &[u8]) -> bool
         ensures { result ≡ Self.ByteComparison.rows (Bytes left.now) (Bytes right.now) };
 
-    // The better one is better than all that the other is not worse than.
+    // Better than x is better than all that are not better than x.
     ghost preference_law: { Prefers Bytes Self.ByteComparison.rows };
 }
 

@@ -1,6 +1,6 @@
-//! One row of an array of any kind that has extremes.
+//! A row of an array of any kind that has extremes.
 
-/// A truth value, a number, or bytes or a text lent from an array, under the name of the array's kind.
+/// A truth value, a number, or bytes or a text borrowed from an array, named by the array's kind.
 #[derive(Clone, Copy, Debug)]
 pub enum AnyScalar<'a> {
     Boolean(bool),

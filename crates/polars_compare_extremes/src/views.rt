@@ -1,4 +1,4 @@
-//! Extremes of arrays kept by views.
+//! Extremes of arrays of views.
 
 use crate::borrowed::{BytesMinMaxKernel, TextMinMaxKernel};
 use crate::places::{best_place, best_string};

@@ -1,5 +1,5 @@
--- Bits of a comparison of two windows: n rows from row a on of the left array, from row b on of the
--- right one.
+-- Bits of a comparison of two windows, of n rows from row a of the left and row b of the right
+-- array.
 use Rattle.std.specs.Prelude.{◌≡◌, ◌+◌, ◌<◌, ◌&&◌, ℕ, Bool, false, IsTrue, List, Option, length, slice_index_or}
 use Rattle.std.specs.Simd.Lanes.{zip2}
 use Rattle.polars_arrays_words.specs.Bits.{first_of, is_bit}

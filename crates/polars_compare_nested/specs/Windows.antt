@@ -1,5 +1,4 @@
--- Comparisons of two windows: n rows from row a on of the left array, from row b on of the right
--- one.
+-- Comparisons of two windows, of n rows from row a of the left and row b of the right array.
 use Rattle.std.specs.Prelude.{◌≡◌, ◌+◌, ◌≤◌, ℕ, Bool, List, Result, IfOk, MatchResult}
 use Rattle.polars_arrays_bits.specs.Errors.{IsMemory}
 use Rattle.polars_arrays_bits.specs.declared.error.ComputeError.{ComputeError}

@@ -1,4 +1,4 @@
-//! Order of rows that are byte strings or texts beside one that is borrowed.
+//! Order of rows that are byte strings or texts and a borrowed one.
 
 ghost use Rattle.std.specs.Prelude.{◌≡◌, None, length, replicate, MatchResult};
 ghost use Rattle.polars_arrays_bits.specs.Errors.{IsMemory};
@@ -12,10 +12,10 @@ use polars_arrays_numbers::comparison::{Greater, GreaterOrEqual, Less, LessOrEqu
 use polars_compare_leaves::bytes::compare_bytes;
 use std::alloc::Global;
 
-/// Order of the rows of an array of byte strings beside one that is borrowed, called by path beside
-/// `TotalOrdKernel`. No validity is asked. The error is `Memory`.
+/// Order of the rows of an array of byte strings and a borrowed byte string, called by path beside
+/// `TotalOrdKernel`. Validities are ignored. The error is `Memory`.
 pub trait BytesOrdKernel: ByteRows + Sized {
-    /// Where a row is less than the byte string.
+    /// Returns for each row whether it is less than the byte string.
     fn tot_lt_kernel_broadcast(&self, alloc: Global, other: &[u8]) -> Result<Bitmap, ComputeError>
         ensures { MatchResult result
             (RawOrder row_less (Self.mask self.now) None (Self.slots self.now) (replicate (length (Self.slots self.now)) (Bytes other.now)))
@@ -24,7 +24,7 @@ pub trait BytesOrdKernel: ByteRows + Sized {
         compare_bytes(alloc, &Less, self, other)
     }
 
-    /// Where a row is less than the byte string or equal to it.
+    /// Returns for each row whether it is less than or equal to the byte string.
     fn tot_le_kernel_broadcast(&self, alloc: Global, other: &[u8]) -> Result<Bitmap, ComputeError>
         ensures { MatchResult result
             (RawOrder row_at_most (Self.mask self.now) None (Self.slots self.now) (replicate (length (Self.slots self.now)) (Bytes other.now)))
@@ -33,7 +33,7 @@ pub trait BytesOrdKernel: ByteRows + Sized {
         compare_bytes(alloc, &LessOrEqual, self, other)
     }
 
-    /// Where a row is greater than the byte string.
+    /// Returns for each row whether it is greater than the byte string.
     fn tot_gt_kernel_broadcast(&self, alloc: Global, other: &[u8]) -> Result<Bitmap, ComputeError>
         ensures { MatchResult result
             (RawOrder row_greater (Self.mask self.now) None (Self.slots self.now) (replicate (length (Self.slots self.now)) (Bytes other.now)))
@@ -42,7 +42,7 @@ pub trait BytesOrdKernel: ByteRows + Sized {
         compare_bytes(alloc, &Greater, self, other)
     }
 
-    /// Where a row is greater than the byte string or equal to it.
+    /// Returns for each row whether it is greater than or equal to the byte string.
     fn tot_ge_kernel_broadcast(&self, alloc: Global, other: &[u8]) -> Result<Bitmap, ComputeError>
         ensures { MatchResult result
             (RawOrder row_at_least (Self.mask self.now) None (Self.slots self.now) (replicate (length (Self.slots self.now)) (Bytes other.now)))
@@ -52,9 +52,11 @@ pub trait BytesOrdKernel: ByteRows + Sized {
     }
 }
 
-/// The same for an array of texts, whose order is that of their UTF-8.
+/// Order of the rows of an array of texts and a borrowed text, called by path beside
+/// `TotalOrdKernel`. Texts are ordered by their UTF-8. Validities are ignored. The error is
+/// `Memory`.
 pub trait TextOrdKernel: ByteRows + Sized {
-    /// Where a row is less than the text.
+    /// Returns for each row whether it is less than the text.
     fn tot_lt_kernel_broadcast(&self, alloc: Global, other: &str) -> Result<Bitmap, ComputeError>
         ensures { MatchResult result
             (RawOrder row_less (Self.mask self.now) None (Self.slots self.now) (replicate (length (Self.slots self.now)) (Bytes other.now)))
@@ -63,7 +65,7 @@ pub trait TextOrdKernel: ByteRows + Sized {
         compare_bytes(alloc, &Less, self, other.as_bytes())
     }
 
-    /// Where a row is less than the text or equal to it.
+    /// Returns for each row whether it is less than or equal to the text.
     fn tot_le_kernel_broadcast(&self, alloc: Global, other: &str) -> Result<Bitmap, ComputeError>
         ensures { MatchResult result
             (RawOrder row_at_most (Self.mask self.now) None (Self.slots self.now) (replicate (length (Self.slots self.now)) (Bytes other.now)))
@@ -72,7 +74,7 @@ pub trait TextOrdKernel: ByteRows + Sized {
         compare_bytes(alloc, &LessOrEqual, self, other.as_bytes())
     }
 
-    /// Where a row is greater than the text.
+    /// Returns for each row whether it is greater than the text.
     fn tot_gt_kernel_broadcast(&self, alloc: Global, other: &str) -> Result<Bitmap, ComputeError>
         ensures { MatchResult result
             (RawOrder row_greater (Self.mask self.now) None (Self.slots self.now) (replicate (length (Self.slots self.now)) (Bytes other.now)))
@@ -81,7 +83,7 @@ pub trait TextOrdKernel: ByteRows + Sized {
         compare_bytes(alloc, &Greater, self, other.as_bytes())
     }
 
-    /// Where a row is greater than the text or equal to it.
+    /// Returns for each row whether it is greater than or equal to the text.
     fn tot_ge_kernel_broadcast(&self, alloc: Global, other: &str) -> Result<Bitmap, ComputeError>
         ensures { MatchResult result
             (RawOrder row_at_least (Self.mask self.now) None (Self.slots self.now) (replicate (length (Self.slots self.now)) (Bytes other.now)))

@@ -12,30 +12,30 @@ use std::alloc::Global;
 
 /// Order of the rows of two arrays of one kind: numbers as whole numbers, false before true.
 ///
-/// No validity is asked, and the bits are right where both rows are present. A broadcast sets each row
-/// against one scalar. The error is `Memory`.
+/// Validities are ignored; the bits are right where both rows are present. A broadcast compares
+/// each row with one scalar. The error is `Memory`.
 pub trait TotalOrdKernel: Sized + Array {
-    /// What the rows are set against in a broadcast.
+    /// The value that a broadcast compares rows with.
     type Scalar;
 
-    // The row that a scalar stands for.
+    // The row of a scalar.
     ghost scalar_row: { Self.Scalar → Row };
 
-    /// Where a row is less than the other one.
+    /// Returns for each place whether the row is less than the other one.
     fn tot_lt_kernel(&self, alloc: Global, other: &Self) -> Result<Bitmap, ComputeError>
         requires { length (Self.slots other.now) ≡ length (Self.slots self.now) }
         ensures { MatchResult result
             (RawOrder row_less (Self.mask self.now) (Self.mask other.now) (Self.slots self.now) (Self.slots other.now))
             IsMemory };
 
-    /// Where a row is less than the other one or equal to it.
+    /// Returns for each place whether the row is less than or equal to the other one.
     fn tot_le_kernel(&self, alloc: Global, other: &Self) -> Result<Bitmap, ComputeError>
         requires { length (Self.slots other.now) ≡ length (Self.slots self.now) }
         ensures { MatchResult result
             (RawOrder row_at_most (Self.mask self.now) (Self.mask other.now) (Self.slots self.now) (Self.slots other.now))
             IsMemory };
 
-    /// Where a row is greater than the other one.
+    /// Returns for each place whether the row is greater than the other one.
     final fn tot_gt_kernel(&self, alloc: Global, other: &Self) -> Result<Bitmap, ComputeError>
         requires { length (Self.slots other.now) ≡ length (Self.slots self.now) }
         ensures { MatchResult result
@@ -45,7 +45,7 @@ pub trait TotalOrdKernel: Sized + Array {
         other.tot_lt_kernel(alloc, self)
     }
 
-    /// Where a row is greater than the other one or equal to it.
+    /// Returns for each place whether the row is greater than or equal to the other one.
     final fn tot_ge_kernel(&self, alloc: Global, other: &Self) -> Result<Bitmap, ComputeError>
         requires { length (Self.slots other.now) ≡ length (Self.slots self.now) }
         ensures { MatchResult result
@@ -55,7 +55,7 @@ pub trait TotalOrdKernel: Sized + Array {
         other.tot_le_kernel(alloc, self)
     }
 
-    /// Where a row is less than the scalar.
+    /// Returns for each row whether it is less than the scalar.
     fn tot_lt_kernel_broadcast(
         &self,
         alloc: Global,
@@ -65,7 +65,7 @@ pub trait TotalOrdKernel: Sized + Array {
             (RawOrder row_less (Self.mask self.now) None (Self.slots self.now) (replicate (length (Self.slots self.now)) (scalar_row other.now)))
             IsMemory };
 
-    /// Where a row is less than the scalar or equal to it.
+    /// Returns for each row whether it is less than or equal to the scalar.
     fn tot_le_kernel_broadcast(
         &self,
         alloc: Global,
@@ -75,7 +75,7 @@ pub trait TotalOrdKernel: Sized + Array {
             (RawOrder row_at_most (Self.mask self.now) None (Self.slots self.now) (replicate (length (Self.slots self.now)) (scalar_row other.now)))
             IsMemory };
 
-    /// Where a row is greater than the scalar.
+    /// Returns for each row whether it is greater than the scalar.
     fn tot_gt_kernel_broadcast(
         &self,
         alloc: Global,
@@ -85,7 +85,7 @@ pub trait TotalOrdKernel: Sized + Array {
             (RawOrder row_greater (Self.mask self.now) None (Self.slots self.now) (replicate (length (Self.slots self.now)) (scalar_row other.now)))
             IsMemory };
 
-    /// Where a row is greater than the scalar or equal to it.
+    /// Returns for each row whether it is greater than or equal to the scalar.
     fn tot_ge_kernel_broadcast(
         &self,
         alloc: Global,

@@ -1,4 +1,4 @@
-//! Order of arrays kept by views.
+//! Order of arrays of views.
 
 ghost use Rattle.std.specs.Prelude.{string_bytes};
 ghost use Rattle.polars_arrays_flat.specs.Row.{Bytes};
