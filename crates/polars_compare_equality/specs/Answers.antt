@@ -15,7 +15,6 @@ abbrev pub Refusal : Bool → ComputeError → Type 0
 Refusal true e = IsMemory e
 Refusal false e = IsUnsupported e
 
--- if the kind supports the call, P holds of the result or the error is Memory; else it is
--- Unsupported
+-- if the kind supports the call, P holds or the error is Memory; otherwise the error is Unsupported
 abbrev pub Answers : {A : Type 0} → Bool → Result A ComputeError → (A → Type 0) → Type 0
 Answers has r P = MatchResult r (λ x. IsTrue has × P x) (Refusal has)

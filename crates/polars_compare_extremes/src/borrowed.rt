@@ -10,7 +10,7 @@ use polars_arrays_flat::byte_rows::ByteRows;
 /// The extremes of an array of byte strings, called by path beside `MinMaxKernel`. No row is NaN,
 /// so `ignore_nan` and `propagate_nan` mean the same. Does not allocate.
 pub trait BytesMinMaxKernel: ByteRows {
-    /// The least present row, and None where none is present.
+    /// Returns the least present row, or `None` if no row is present.
     fn min_ignore_nan_kernel(&self) -> Option<&[u8]>
         ensures { MatchOption result
             (NonePresent (rows_under (Self.mask self.now) (Self.slots self.now)))

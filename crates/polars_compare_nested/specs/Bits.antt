@@ -1,4 +1,4 @@
--- Bits of a comparison of two windows, of n rows from row a of the left and row b of the right
+-- Bits of a comparison of two windows: n rows from row a of the left, from row b of the right
 -- array.
 use Rattle.std.specs.Prelude.{◌≡◌, ◌+◌, ◌<◌, ◌&&◌, ℕ, Bool, false, IsTrue, List, Option, length, slice_index_or}
 use Rattle.std.specs.Simd.Lanes.{zip2}

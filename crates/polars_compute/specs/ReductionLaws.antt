@@ -1,4 +1,4 @@
--- What columns are counted, summed and reduced to, and which rows are their extremes, depends on their rows alone.
+-- Counts, sums, reductions and extremes of columns depend on their rows alone.
 use Rattle.std.specs.Prelude.{◌≡◌, ℕ, ℤ, Bool, pos, List, Option, Result, MatchOption}
 use Rattle.std.specs.Option.{option_map}
 use Rattle.std.specs.Result.{result_map_both}
@@ -17,81 +17,81 @@ use Rattle.polars_compare_extremes.specs.declared.scalar.AnyScalar.{AnyScalar}
 use Rattle.polars_compute_bits.specs.Bitwise.{AreCounts, reduced}
 use Rattle.polars_compute_bits.specs.Sum.{total}
 
--- two columns that keep the same rows, stored and masked in any two ways, have the same answer: `Answers` says what is an answer
--- for rows, and `read` what a caller sees of it
+-- two columns with the same rows, however stored, have equal results; `Answers` holds of a result
+-- for rows, `read` is what a caller sees of it
 abbrev pub ByRows : {A B : Type 0} → (List Row → A → Type 0) → (A → B) → Type 0
 ByRows Answers read = (a a' : Stored) (answer answer' : _) → rows_of a ≡ rows_of a'
     → Answers (rows_of a) answer → Answers (rows_of a') answer' → read answer ≡ read answer'
 
--- the same of two arrays of any kind, of one type
+-- two arrays of any kind with the same type and rows have equal results
 abbrev pub AnyByRows : {A B : Type 0} → (Kind → List Row → A → Type 0) → (A → B) → Type 0
 AnyByRows Answers read = (a a' : AnyArray) (answer answer' : _) → type_of a ≡ type_of a' → rows a ≡ rows a'
     → Answers (type_of a) (rows a) answer → Answers (type_of a') (rows a') answer' → read answer ≡ read answer'
 
--- ---- what an answer is
+-- ---- results
 
 -- a number is the sum of rows, wrapped
 abbrev pub IsSum : ℤ → ℕ → List Row → ℤ → Type 0
 IsSum least width rows sum = sum ≡ wrapped least width (total rows)
 
--- bits are what rows are reduced to by a test of each place
+-- bits are the reduction of rows by a test of each place
 abbrev pub IsReduction : (List Bool → Bool) → ℕ → List Row → Option (List Bool) → Type 0
 IsReduction test width rows bits = bits ≡ reduced test width rows
 
--- what was found is the best of the present rows, and nothing without one; `put` gives the row that it is
+-- `found` is the best present row, or none; `put` gives the row of a result
 abbrev pub IsExtremeOf : {A : Type 0} → (Row → Row → Bool) → (A → Row) → List Row → Option A → Type 0
 IsExtremeOf better put rows found = MatchOption found (NonePresent rows) (λ x. FindsBest better rows (put x))
 
--- the least and the greatest of the present rows, found at once
+-- the least and the greatest present row
 abbrev pub AreBothOf : {A : Type 0} → (A → Row) → List Row → Option (A × A) → Type 0
 AreBothOf put rows found =
     MatchOption found (NonePresent rows) (λ pair. IsLeast rows (put pair.0) × IsGreatest rows (put pair.1))
 
--- a scalar of this kind is the best of the present rows, and there is none without one
+-- a scalar of this kind is the best present row, or there is none
 abbrev pub IsScalarOf : (Row → Row → Bool) → Kind → List Row → Option AnyScalar → Type 0
 IsScalarOf better kind rows found =
     MatchOption found (NonePresent rows) (λ scalar. (scalar_kind scalar ≡ kind) × FindsBest better rows (scalar_row scalar))
 
--- ---- what a caller sees of it
+-- ---- what a caller sees of a result
 
--- the rows that a pair is
+-- the rows of a pair
 abbrev pub both : {A B : Type 0} → (A → B) → A × A → B × B
 both put pair = (put pair.0, put pair.1)
 
--- the kind of array that a scalar is from, and its row
+-- the kind and the row of a scalar
 abbrev pub scalar_told : AnyScalar → Kind × Row
 scalar_told scalar = (scalar_kind scalar, scalar_row scalar)
 
--- an error, or what was found
+-- an error, or the result
 abbrev pub told : {A B : Type 0} → (A → B) → Result (Option A) ComputeError → Result (Option B) ComputeError
 told read result = result_map_both (option_map read) (λ error. error) result
 
 -- ---- the laws
 
--- sums are the same number
+-- sums are equal
 abbrev pub SumsByRows : ℤ → ℕ → Type 0
 SumsByRows least width = ByRows (IsSum least width) (λ sum. sum)
 
--- counts are the same rows, whatever is counted in the bits of each
+-- counts of each row's bits are equal
 abbrev pub CountsByRows : ℕ → Type 0
 CountsByRows width = (count : List Bool → ℕ) → ByRows (AreCounts count width) (number_rows (λ (n : ℕ). pos n))
 
--- reductions are the same bits
+-- reductions are equal
 abbrev pub ReductionsByRows : ℕ → Type 0
 ReductionsByRows width = (test : List Bool → Bool) → ByRows (IsReduction test width) (λ bits. bits)
 
--- an extreme is the same row, by any test of two rows, whether it is a number or is lent
+-- extremes are the same row, for any test of two rows
 abbrev pub ExtremesByRows : {A : Type 0} → (A → Row) → Type 0
 ExtremesByRows put = (better : Row → Row → Bool) → ByRows (IsExtremeOf better put) (option_map put)
 
--- so are both extremes at once
+-- pairs of extremes are the same rows
 abbrev pub BothByRows : {A : Type 0} → (A → Row) → Type 0
 BothByRows put = ByRows (AreBothOf put) (option_map (both put))
 
--- an extreme of an array of any kind is the same row, or both arrays have none
+-- extremes of arrays of any kind are the same row, or both are unsupported
 abbrev pub AnyExtremesByRows : Type 0
 AnyExtremesByRows = (better : Row → Row → Bool) → AnyByRows (λ kind rows result. AnswersKind kind result (IsScalarOf better kind rows)) (told scalar_told)
 
--- so are both extremes of one
+-- pairs of extremes of arrays of any kind are the same rows, or both are unsupported
 abbrev pub AnyBothByRows : Type 0
 AnyBothByRows = AnyByRows (λ kind rows result. AnswersKind kind result (AreExtremes kind rows)) (told (both scalar_told))

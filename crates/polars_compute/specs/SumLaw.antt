@@ -4,7 +4,7 @@ use Rattle.polars_arrays_flat.specs.Row.{Row}
 use Rattle.polars_arrays_numbers.specs.Wrapping.{wrapped}
 use Rattle.polars_compute_bits.specs.Sum.{total}
 
--- rows and the rows behind them add up to what their two sums do
+-- the sum of two lists of rows is the sum of their sums
 abbrev pub SumsJoin : ℤ → ℕ → Type 0
 SumsJoin least width = (rows more : List Row)
     → wrapped least width (total (rows ++ more)) ≡ wrapped least width (wrapped least width (total rows) +ℤ wrapped least width (total more))

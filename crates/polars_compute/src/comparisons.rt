@@ -1,5 +1,5 @@
-//! Equality and order of arrays of one kind, row by row and against a scalar, of views with the rows counted that are followed into a
-//! buffer, and equality of two arrays of any kind.
+//! Equality and order of arrays of one kind, row by row and against a scalar; comparisons of views
+//! that count the rows looked up in buffers; and equality of two arrays of any kind.
 
 pub use polars_compare_equality::borrowed::{BytesEqKernel, TextEqKernel};
 pub use polars_compare_equality::kernel::TotalEqKernel;

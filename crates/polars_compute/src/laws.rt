@@ -1,5 +1,6 @@
-//! What holds of the answers of arithmetic, counts, sums, reductions, extremes and distinct values, over the definitions of their contracts alone. A law is a
-//! function that does nothing, and its clauses are what is proved.
+//! Laws of the results of arithmetic, counts, sums, reductions, extremes and distinct values,
+//! stated over the definitions of their contracts alone. A law is a function that does nothing; its
+//! clauses are what is proved.
 
 ghost use Rattle.num_traits.specs.Laws.{bit_len};
 ghost use Rattle.polars_arrays_flat.specs.Row.{Bytes, Int, Truth};
@@ -12,9 +13,11 @@ ghost use Rattle.polars_compute.specs.SumLaw.{SumsJoin};
 use polars_compute_arithmetic::arithmetic::pl_num::PlNumArithmetic;
 use polars_compute_bits::wrapping::WrappingNumber;
 
-/// Arrays with the same rows get the same rows of functions, operations and counts, the same sum, the same bits of a reduction, and the same
-/// extremes, however they are stored and masked: of numbers, of truth values, of byte strings and texts, which are lent, and of arrays of
-/// any kind, of one type. They make the same of a state of distinct values, to which as many of their rows are read.
+/// States that results depend on rows alone, however they are stored and masked. Arrays with the
+/// same rows get the same rows of functions, operations and counts, the same sum, the same bits of
+/// a reduction, and the same extremes: of numbers, of truth values, of byte strings and texts, and
+/// of arrays of any kind, of one type. They have the same effect on a state of distinct values,
+/// which reads equally many of their rows.
 pub fn law_3<T: PlNumArithmetic>()
     ensures functions { AnswersByRows T.value T.low (bit_len T.width) }
     ensures operations { ResultsByRows T.value T.low (bit_len T.width) }
@@ -31,16 +34,17 @@ pub fn law_3<T: PlNumArithmetic>()
     ensures reads { ReadsByRows }
 {}
 
-/// Of a number and a divisor other than 0, the quotient that is rounded down, times the divisor, plus the modulus, wrapped, is
-/// the number.
+/// States that the floor quotient by a divisor other than 0, times the divisor, plus the modulus,
+/// wrapped, is the dividend.
 pub fn law_4<T: PlNumArithmetic>()
     ensures { DividesBack T.low T.high (bit_len T.width) }
 {}
 
 /// States what the quotients by a divisor other than 0 are. The floor quotient is the greatest
-/// whole number that is not above the fraction. The truncated quotient is the whole number nearest
-/// to it of those from 0 to it. The modulus is what the floor quotient leaves: it is 0 or has the
-/// divisor's sign, and has a smaller magnitude. No other numbers are so.
+/// whole number that is at most the fraction. The truncated quotient is the whole number nearest to
+/// the fraction among those between 0 and it. The modulus is the dividend less the floor quotient
+/// times the divisor: it is 0 or has the divisor's sign, and has a smaller magnitude. No other
+/// numbers are so.
 pub fn law_quotients()
     ensures floor { FloorIsGreatest }
     ensures truncated { TruncatedIsNearest }
@@ -48,19 +52,20 @@ pub fn law_quotients()
     ensures divided { FloorLeavesModulus }
 {}
 
-/// An operation on a column and a number answers as the operation on the column and one that repeats the number does.
+/// States that an operation on a column and a number has the result of the operation on the column
+/// and one that repeats the number.
 pub fn law_5<T: PlNumArithmetic>()
     ensures right { NumberOnRight T.low (bit_len T.width) }
     ensures left { NumberOnLeft T.low (bit_len T.width) }
 {}
 
-/// The sum of rows one behind another, wrapped, is the sum of the sums of its parts, wrapped.
+/// States that the sum of adjacent parts, wrapped, is the sum of their sums, wrapped.
 pub fn law_6<T: WrappingNumber>()
     ensures { SumsJoin T.low (bit_len T.width) }
 {}
 
-/// States of one range merge to the same in any order and in any groups, a state merged with itself stays as it is, and two new
-/// states merge to the one to which all arrays of both are appended.
+/// States that merging states of one range is commutative, associative and idempotent, and that two
+/// new states merge to the one to which all arrays of both are appended.
 pub fn law_7()
     ensures either_way { MergesEitherWay }
     ensures in_groups { MergesInGroups }
@@ -68,8 +73,9 @@ pub fn law_7()
     ensures as_appended { MergesAsAppended }
 {}
 
-/// Once a state has seen all values of its range and a null, no array that it takes and no state of its range changes what it
-/// answers. A state of keys has seen all as it is read, where the keys to null entries stand for null.
+/// States that once a state has seen all values of its range and a null, no array that it accepts
+/// and no state of its range changes its result. A state of keys has seen all if it has in the
+/// reading in which keys to null entries are null.
 pub fn law_8()
     ensures appended { StaysWhenAppended }
     ensures merged { StaysWhenMerged }

@@ -1,5 +1,5 @@
-//! Distinct values of columns in chunks: states of numbers, of truth values and of dictionary keys, which gather them, merge, and give
-//! them in order.
+//! Distinct values of columns in chunks: states of numbers, of truth values and of dictionary keys
+//! that collect them, merge, and return them in order.
 
 pub use polars_compute_slots::number::UniqueNumber;
 pub use polars_compute_unique::boolean::BooleanUniqueKernelState;

@@ -5,32 +5,32 @@ use Rattle.std.specs.Simd.Lanes.{zip2}
 use Rattle.polars_arrays_flat.specs.Numbers.{Numbers}
 use Rattle.polars_arrays_flat.specs.Validity.{HasBits}
 
--- each stored value is one of the answers at the value before, and the nulls are the same; there was a bit for each value
+-- each stored value is a result for the value before; nulls stay; there was a bit for each value
 pub record MapsEach {A B : Type 0} (Answers : A → B → Type 0) (before : Numbers A) (after : Numbers B) : Type 0 where
   pub values : AllZip Answers before.values after.values
   pub nulls : after.validity ≡ before.validity
   pub bits : HasBits (length before.values) before.validity
 
--- a function may be called on each two values of two lists, place by place
+-- a function may be called on the pairs of values of two lists
 abbrev pub TakesPairs : {A B : Type 0} → (A → B → Type 0) → List A → List B → Type 0
 TakesPairs Callable xs ys =
     (i : ℕ) (x : _) (y : _) → i < length xs → Callable (slice_index_or xs i x) (slice_index_or ys i y)
 
--- each value is one of the answers at the two values at its place
+-- each value is a result for the two values at its place
 abbrev pub AllPairs : {A B C : Type 0} → (A → B → C → Type 0) → List A → List B → List C → Type 0
 AllPairs Answers xs ys zs = AllZip (λ pair answer. Answers pair.0 pair.1 answer) (zip xs ys) zs
 
--- two validities that are both there have as many bits
+-- two validities, if both exist, have equally many bits
 abbrev pub AsLong : Option (List Bool) → Option (List Bool) → Type 0
 AsLong left right = (l r : List Bool) → left ≡ Some l → right ≡ Some r → length l ≡ length r
 
--- a row is present where both validities say so
+-- a row is present if it is in both validities
 abbrev pub joined_validity : Option (List Bool) → Option (List Bool) → Option (List Bool)
 joined_validity None right = right
 joined_validity (Some left) None = Some left
 joined_validity (Some left) (Some right) = Some (zip2 ◌&&◌ left right)
 
--- each stored value is one of the answers at the two values before, and a row is present where both are; there was a bit for each value
+-- each value is a result for two values, and a row is present if both were; bits match values
 pub record MapsPairs {A B C : Type 0} (Answers : A → B → C → Type 0) (left : Numbers A) (right : Numbers B) (after : Numbers C) : Type 0 where
   pub values : AllPairs Answers left.values right.values after.values
   pub nulls : after.validity ≡ joined_validity left.validity right.validity

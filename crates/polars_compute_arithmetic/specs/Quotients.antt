@@ -15,7 +15,7 @@ floor_quotient a (negsuc n) = floor_by (neg_ℤ a) (suc n)
 abbrev pub truncated_quotient : ℤ → ℤ → ℤ
 truncated_quotient a b = int_div a b
 
--- the modulus: what the floor quotient leaves of a
+-- the modulus: a less the floor quotient times b
 abbrev pub modulus : ℤ → ℤ → ℤ
 modulus a b = a -ℤ b *ℤ floor_quotient a b
 

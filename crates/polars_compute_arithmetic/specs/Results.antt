@@ -1,4 +1,4 @@
--- What arithmetic answers for arrays of numbers.
+-- The results of arithmetic on arrays of numbers.
 use Rattle.std.specs.Prelude.{◌≡◌, ℕ, ℤ}
 use Rattle.polars_arrays_flat.specs.ArrayRows.{number_rows}
 use Rattle.polars_arrays_flat.specs.Numbers.{Numbers}
@@ -6,7 +6,7 @@ use Rattle.polars_arrays_numbers.specs.Wrapping.{wrapped}
 use Rattle.polars_compute_arithmetic.specs.Operations.{Function, Operation, answer_rows, or_zero, result_rows}
 
 module _ {A : Type 0} (value : A → ℤ) (least : ℤ) (width : ℕ) where
-  -- the rows of `after` are the answers of f at those of `before`
+  -- the rows of `after` are the results of f for those of `before`
   abbrev pub IsAnswer : Function → Numbers A → Numbers A → Type 0
   IsAnswer f before after = number_rows value after ≡ answer_rows least width f (number_rows value before)
 
@@ -15,6 +15,6 @@ module _ {A : Type 0} (value : A → ℤ) (least : ℤ) (width : ℕ) where
   IsResult operation left right after =
       number_rows value after ≡ result_rows least width operation (number_rows value left) (number_rows value right)
 
-  -- z is the answer of an operation at x and y, wrapped, or 0 where there is none
+  -- z is the result of an operation on x and y, wrapped, or 0 if there is none
   abbrev pub Gives : Operation → A → A → A → Type 0
   Gives operation x y z = value z ≡ wrapped least width (or_zero (operation (value x) (value y)))

@@ -1,4 +1,4 @@
--- Wrapping on the way to an answer changes nothing.
+-- Wrapping intermediate numbers does not change a wrapped result.
 use Rattle.std.specs.Prelude.{◌≡◌, ◌<◌, ◌+◌, ◌-◌, ◌*◌, ◌/◌, ◌%◌, ◌^◌, ◌≤ℤ◌, ◌+ℤ◌, ◌-ℤ◌, ◌*ℤ◌, ℕ, ℤ, suc, pos, negsuc, neg_ℤ, refl}
 use Rattle.std.specs.Int.{int_rem_euclid}
 use Rattle.std.proofs.Common.{ap, sym, ◌∙◌, arith, mod-lt}
@@ -38,7 +38,7 @@ mul_swap a b c =
     let z = ap (λ (x : ℕ). x * down b) m.1 in
     omega (arith, ints, s, t, u, v, w, x, y, z)
 
--- a remainder, of a multiple and a small rest
+-- the remainder of a multiple and a small rest
 rest-is : (t : ℤ) (m rest : ℕ) → rest < m → int_rem_euclid (t *ℤ pos m +ℤ pos rest) (pos m) ≡ pos rest
 rest-is (pos a) m rest small =
     int_rem_euclid_is (pos a *ℤ pos m +ℤ pos rest) (pos m) m 0 (a * m + rest) (omega (arith, small)) refl (omega (arith, ints)) ∙ ap pos (mod-mul-add a m rest small)
@@ -94,14 +94,14 @@ mul_times : (a b t k : ℤ) → (a +ℤ t *ℤ k) *ℤ b ≡ (a *ℤ b) +ℤ (t 
 mul_times a b t k = distrib a (t *ℤ k) b ∙ ap (λ (z : ℤ). a *ℤ b +ℤ z) (mul_swap t k b)
 
 module _ (least : ℤ) (width : ℕ) where
-  -- numbers that differ by a multiple of 2 to the width are wrapped to one number
+  -- numbers that differ by a multiple of 2 to the width wrap to the same number
   pub wrapped-shifted : (n t : ℤ) → wrapped least width (n +ℤ t *ℤ pos (2 ^ width)) ≡ wrapped least width n
   wrapped-shifted n t =
       let e : (n +ℤ t *ℤ pos (2 ^ width)) -ℤ least ≡ (n -ℤ least) +ℤ t *ℤ pos (2 ^ width) = omega (arith, ints) in
       ap (λ (y : ℤ). least +ℤ int_rem_euclid y (pos (2 ^ width))) e
       ∙ ap (λ (r : ℤ). least +ℤ r) (rem-shifted (n -ℤ least) t (2 ^ width) (pow_pos width))
 
-  -- and a wrapped number differs from the number by such a multiple
+  -- a wrapped number differs from the number by a multiple of 2 to the width
   pub wrapped-differs : (n : ℤ) → (t : ℤ) × (wrapped least width n ≡ n +ℤ t *ℤ pos (2 ^ width))
   wrapped-differs n =
       let p = parts (n -ℤ least) (2 ^ width) (pow_pos width) in
@@ -125,7 +125,7 @@ module _ (least : ℤ) (width : ℕ) where
       let e : wrapped least width a *ℤ b ≡ (a *ℤ b) +ℤ (d.0 *ℤ b) *ℤ pos (2 ^ width) = ap (λ (z : ℤ). z *ℤ b) d.1 ∙ mul_times a b d.0 (pos (2 ^ width)) in
       ap (wrapped least width) e ∙ wrapped-shifted (a *ℤ b) (d.0 *ℤ b)
 
--- a number of the type is itself, wrapped
+-- wrapping a number of the type does not change it
 pub wrapped-within : (least greatest : ℤ) (width : ℕ) → HasAllOf least greatest width → (n : ℤ) → least ≤ℤ n → n ≤ℤ greatest → wrapped least width n ≡ n
 wrapped-within least greatest width all n low high =
     sym (wrapped-only least greatest width all n n (record { from_least = low; to_greatest = high; congruent = refl }))

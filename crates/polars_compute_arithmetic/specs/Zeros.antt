@@ -10,7 +10,7 @@ is_nonzero (pos zero) = false
 is_nonzero (pos (suc n)) = true
 is_nonzero (negsuc n) = true
 
--- the same stored values, of which those that are 0 are masked as well; there is a bit for each value, and was
+-- zeros are masked too, and stored values stay; there is a bit for each value, before and after
 pub record MasksZeros {A : Type 0} (value : A → ℤ) (before after : Numbers A) : Type 0 where
   pub values : after.values ≡ before.values
   pub present : (i : ℕ) (x : A) → i < length before.values → x ≡ slice_index_or before.values i x
@@ -18,13 +18,13 @@ pub record MasksZeros {A : Type 0} (value : A → ℤ) (before after : Numbers A
   pub bits_before : HasBits (length before.values) before.validity
   pub bits_after : HasBits (length after.values) after.validity
 
--- each stored value is one of the answers at the value before, and those that were 0 are masked as well
+-- each stored value is a result for the value before, and rows that were 0 are masked as well
 pub record DividesEach {A : Type 0} (value : A → ℤ) (Answers : A → A → Type 0) (before after : Numbers A) : Type 0 where
   pub between : Numbers A
   pub masks : MasksZeros value before between
   pub maps : MapsEach Answers between after
 
--- each stored value is one of the answers at the two values before; a row is present where both are, and the right one is not 0
+-- each value is a result for two; a row is present if both are and the right one is not 0
 pub record DividesPairs {A : Type 0} (value : A → ℤ) (Answers : A → A → A → Type 0) (left right after : Numbers A) : Type 0 where
   pub between : Numbers A
   pub masks : MasksZeros value right between

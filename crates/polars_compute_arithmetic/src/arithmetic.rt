@@ -23,91 +23,91 @@ use polars_arrays_flat::primitive::PrimitiveArray;
 use polars_arrays_numbers::native_type::NativeType;
 use std::alloc::Global;
 
-/// Every type of numbers on whose arrays there is arithmetic.
+/// A number type whose arrays have arithmetic.
 pub trait HasPrimitiveArithmeticKernel: NativeType + PrimitiveArithmeticKernelImpl {}
 
 impl<T: NativeType + PrimitiveArithmeticKernelImpl> HasPrimitiveArithmeticKernel for T {}
 
-/// Arithmetic on the rows of arrays, wrapped to their type. A row is null where an operand is null or a divisor is 0. A scalar
-/// stands for as many present rows. All calls consume their arrays, and write over what an array owns. The error is `Memory`.
-/// Answers own their values, but for a division by the number 0: it keeps the values of the array
-/// as they are, owned or shared.
+/// Arithmetic on the rows of arrays, wrapped to their type. A row is null if an operand is null or
+/// the divisor is 0. A scalar acts as a column that repeats it. All calls consume their arrays, and
+/// write in place into values that an array owns. The error is `Memory`. Results own their values,
+/// except for a division by the scalar 0: it keeps the values of the array, owned or shared.
 pub trait ArithmeticKernel: Sized + Array {
-    /// A number that stands for as many rows.
+    /// The type of scalars.
     type Scalar;
 
-    // The least number of the type, and how many bits it has.
+    // The least number of the type, and its width in bits.
     ghost least: { ℤ };
 
     ghost width: { ℕ };
 
-    // The number that a scalar is.
+    // The number of a scalar.
     ghost number: { Self.Scalar → ℤ };
 
-    // Whether no other array holds the stored values.
+    // Sole ownership of the stored values.
     ghost owns: { Self → Bool };
 
-    /// How far the numbers are from 0.
+    /// Returns the absolute values.
     fn wrapping_abs(self, alloc: Global) -> Result<Self, ComputeError>
         ensures answers { MatchResult result (λ a. rows_under (Self.mask a) (Self.slots a) ≡ answer_rows least width magnitude_of (rows_under (Self.mask self) (Self.slots self))) IsMemory }
         ensures owned { IfOk result (λ a. IsTrue (owns a)) }
         ensures in_place { IsTrue (owns self) → IsOk result };
 
-    /// The numbers negated.
+    /// Returns the negated numbers.
     fn wrapping_neg(self, alloc: Global) -> Result<Self, ComputeError>
         ensures answers { MatchResult result (λ a. rows_under (Self.mask a) (Self.slots a) ≡ answer_rows least width negation_of (rows_under (Self.mask self) (Self.slots self))) IsMemory }
         ensures owned { IfOk result (λ a. IsTrue (owns a)) }
         ensures in_place { IsTrue (owns self) → IsOk result };
 
-    /// The sums.
+    /// Returns the sums.
     fn wrapping_add(self, alloc: Global, rhs: Self) -> Result<Self, ComputeError>
         requires { length (Self.slots self) ≡ length (Self.slots rhs) }
         ensures answers { MatchResult result (λ a. rows_under (Self.mask a) (Self.slots a) ≡ result_rows least width sum_of (rows_under (Self.mask self) (Self.slots self)) (rows_under (Self.mask rhs) (Self.slots rhs))) IsMemory }
         ensures owned { IfOk result (λ a. IsTrue (owns a)) };
 
-    /// The differences.
+    /// Returns the differences.
     fn wrapping_sub(self, alloc: Global, rhs: Self) -> Result<Self, ComputeError>
         requires { length (Self.slots self) ≡ length (Self.slots rhs) }
         ensures answers { MatchResult result (λ a. rows_under (Self.mask a) (Self.slots a) ≡ result_rows least width difference_of (rows_under (Self.mask self) (Self.slots self)) (rows_under (Self.mask rhs) (Self.slots rhs))) IsMemory }
         ensures owned { IfOk result (λ a. IsTrue (owns a)) };
 
-    /// The products.
+    /// Returns the products.
     fn wrapping_mul(self, alloc: Global, rhs: Self) -> Result<Self, ComputeError>
         requires { length (Self.slots self) ≡ length (Self.slots rhs) }
         ensures answers { MatchResult result (λ a. rows_under (Self.mask a) (Self.slots a) ≡ result_rows least width product_of (rows_under (Self.mask self) (Self.slots self)) (rows_under (Self.mask rhs) (Self.slots rhs))) IsMemory }
         ensures owned { IfOk result (λ a. IsTrue (owns a)) };
 
-    /// The quotients, rounded down.
+    /// Returns the quotients, rounded down.
     fn wrapping_floor_div(self, alloc: Global, rhs: Self) -> Result<Self, ComputeError>
         requires { length (Self.slots self) ≡ length (Self.slots rhs) }
         ensures answers { MatchResult result (λ a. rows_under (Self.mask a) (Self.slots a) ≡ result_rows least width floor_division (rows_under (Self.mask self) (Self.slots self)) (rows_under (Self.mask rhs) (Self.slots rhs))) IsMemory }
         ensures owned { IfOk result (λ a. IsTrue (owns a)) };
 
-    /// The quotients, rounded toward 0.
+    /// Returns the quotients, rounded toward 0.
     fn wrapping_trunc_div(self, alloc: Global, rhs: Self) -> Result<Self, ComputeError>
         requires { length (Self.slots self) ≡ length (Self.slots rhs) }
         ensures answers { MatchResult result (λ a. rows_under (Self.mask a) (Self.slots a) ≡ result_rows least width truncated_division (rows_under (Self.mask self) (Self.slots self)) (rows_under (Self.mask rhs) (Self.slots rhs))) IsMemory }
         ensures owned { IfOk result (λ a. IsTrue (owns a)) };
 
-    /// What the quotients that are rounded down leave.
+    /// Returns the remainders of the quotients that are rounded down.
     fn wrapping_mod(self, alloc: Global, rhs: Self) -> Result<Self, ComputeError>
         requires { length (Self.slots self) ≡ length (Self.slots rhs) }
         ensures answers { MatchResult result (λ a. rows_under (Self.mask a) (Self.slots a) ≡ result_rows least width modulo (rows_under (Self.mask self) (Self.slots self)) (rows_under (Self.mask rhs) (Self.slots rhs))) IsMemory }
         ensures owned { IfOk result (λ a. IsTrue (owns a)) };
 
-    /// The sums with a number.
+    /// Adds a number to each row.
     fn wrapping_add_scalar(self, alloc: Global, rhs: Self::Scalar) -> Result<Self, ComputeError>
         ensures answers { MatchResult result (λ a. rows_under (Self.mask a) (Self.slots a) ≡ answer_rows least width (λ n. sum_of n (number rhs)) (rows_under (Self.mask self) (Self.slots self))) IsMemory }
         ensures owned { IfOk result (λ a. IsTrue (owns a)) }
         ensures in_place { IsTrue (owns self) → IsOk result };
 
-    /// The differences, a number taken away.
+    /// Subtracts a number from each row.
     fn wrapping_sub_scalar(self, alloc: Global, rhs: Self::Scalar) -> Result<Self, ComputeError>
         ensures answers { MatchResult result (λ a. rows_under (Self.mask a) (Self.slots a) ≡ answer_rows least width (λ n. difference_of n (number rhs)) (rows_under (Self.mask self) (Self.slots self))) IsMemory }
         ensures owned { IfOk result (λ a. IsTrue (owns a)) }
         ensures in_place { IsTrue (owns self) → IsOk result };
 
-    /// The differences, taken away from a number.
+    /// Subtracts each row from a number.
     fn wrapping_sub_scalar_lhs(
         alloc: Global,
         lhs: Self::Scalar,
@@ -117,13 +117,13 @@ pub trait ArithmeticKernel: Sized + Array {
         ensures owned { IfOk result (λ a. IsTrue (owns a)) }
         ensures in_place { IsTrue (owns rhs) → IsOk result };
 
-    /// The products with a number.
+    /// Multiplies each row by a number.
     fn wrapping_mul_scalar(self, alloc: Global, rhs: Self::Scalar) -> Result<Self, ComputeError>
         ensures answers { MatchResult result (λ a. rows_under (Self.mask a) (Self.slots a) ≡ answer_rows least width (λ n. product_of n (number rhs)) (rows_under (Self.mask self) (Self.slots self))) IsMemory }
         ensures owned { IfOk result (λ a. IsTrue (owns a)) }
         ensures in_place { IsTrue (owns self) → IsOk result };
 
-    /// The quotients by a number, rounded down.
+    /// Divides each row by a number, rounding down.
     fn wrapping_floor_div_scalar(
         self,
         alloc: Global,
@@ -132,7 +132,7 @@ pub trait ArithmeticKernel: Sized + Array {
         ensures answers { MatchResult result (λ a. rows_under (Self.mask a) (Self.slots a) ≡ answer_rows least width (λ n. floor_division n (number rhs)) (rows_under (Self.mask self) (Self.slots self))) IsMemory }
         ensures owned { IfOk result (λ a. owns a ≡ (owns self || is_nonzero (number rhs))) };
 
-    /// The quotients of a number, rounded down.
+    /// Divides a number by each row, rounding down.
     fn wrapping_floor_div_scalar_lhs(
         alloc: Global,
         lhs: Self::Scalar,
@@ -141,7 +141,7 @@ pub trait ArithmeticKernel: Sized + Array {
         ensures answers { MatchResult result (λ a. rows_under (Self.mask a) (Self.slots a) ≡ answer_rows least width (floor_division (number lhs)) (rows_under (Self.mask rhs) (Self.slots rhs))) IsMemory }
         ensures owned { IfOk result (λ a. IsTrue (owns a)) };
 
-    /// The quotients by a number, rounded toward 0.
+    /// Divides each row by a number, rounding toward 0.
     fn wrapping_trunc_div_scalar(
         self,
         alloc: Global,
@@ -150,7 +150,7 @@ pub trait ArithmeticKernel: Sized + Array {
         ensures answers { MatchResult result (λ a. rows_under (Self.mask a) (Self.slots a) ≡ answer_rows least width (λ n. truncated_division n (number rhs)) (rows_under (Self.mask self) (Self.slots self))) IsMemory }
         ensures owned { IfOk result (λ a. owns a ≡ (owns self || is_nonzero (number rhs))) };
 
-    /// The quotients of a number, rounded toward 0.
+    /// Divides a number by each row, rounding toward 0.
     fn wrapping_trunc_div_scalar_lhs(
         alloc: Global,
         lhs: Self::Scalar,
@@ -159,12 +159,12 @@ pub trait ArithmeticKernel: Sized + Array {
         ensures answers { MatchResult result (λ a. rows_under (Self.mask a) (Self.slots a) ≡ answer_rows least width (truncated_division (number lhs)) (rows_under (Self.mask rhs) (Self.slots rhs))) IsMemory }
         ensures owned { IfOk result (λ a. IsTrue (owns a)) };
 
-    /// What the quotients by a number, rounded down, leave.
+    /// Returns the remainders of each row divided by a number, rounding down.
     fn wrapping_mod_scalar(self, alloc: Global, rhs: Self::Scalar) -> Result<Self, ComputeError>
         ensures answers { MatchResult result (λ a. rows_under (Self.mask a) (Self.slots a) ≡ answer_rows least width (λ n. modulo n (number rhs)) (rows_under (Self.mask self) (Self.slots self))) IsMemory }
         ensures owned { IfOk result (λ a. owns a ≡ (owns self || is_nonzero (number rhs))) };
 
-    /// What the quotients of a number, rounded down, leave.
+    /// Returns the remainders of a number divided by each row, rounding down.
     fn wrapping_mod_scalar_lhs(
         alloc: Global,
         lhs: Self::Scalar,
@@ -173,7 +173,7 @@ pub trait ArithmeticKernel: Sized + Array {
         ensures answers { MatchResult result (λ a. rows_under (Self.mask a) (Self.slots a) ≡ answer_rows least width (modulo (number lhs)) (rows_under (Self.mask rhs) (Self.slots rhs))) IsMemory }
         ensures owned { IfOk result (λ a. IsTrue (owns a)) };
 
-    /// The quotients, rounded down: another name of `wrapping_floor_div`.
+    /// Returns the quotients, rounded down. Another name of `wrapping_floor_div`.
     final fn legacy_div(self, alloc: Global, rhs: Self) -> Result<Self, ComputeError>
         requires { length (Self.slots self) ≡ length (Self.slots rhs) }
         ensures answers { MatchResult result (λ a. rows_under (Self.mask a) (Self.slots a) ≡ result_rows least width floor_division (rows_under (Self.mask self) (Self.slots self)) (rows_under (Self.mask rhs) (Self.slots rhs))) IsMemory }
@@ -182,7 +182,7 @@ pub trait ArithmeticKernel: Sized + Array {
         self.wrapping_floor_div(alloc, rhs)
     }
 
-    /// The quotients by a number, rounded down: another name of `wrapping_floor_div_scalar`.
+    /// Divides each row by a number, rounding down. Another name of `wrapping_floor_div_scalar`.
     final fn legacy_div_scalar(self, alloc: Global, rhs: Self::Scalar) -> Result<Self, ComputeError>
         ensures answers { MatchResult result (λ a. rows_under (Self.mask a) (Self.slots a) ≡ answer_rows least width (λ n. floor_division n (number rhs)) (rows_under (Self.mask self) (Self.slots self))) IsMemory }
         ensures owned { IfOk result (λ a. owns a ≡ (owns self || is_nonzero (number rhs))) }
@@ -190,7 +190,8 @@ pub trait ArithmeticKernel: Sized + Array {
         self.wrapping_floor_div_scalar(alloc, rhs)
     }
 
-    /// The quotients of a number, rounded down: another name of `wrapping_floor_div_scalar_lhs`.
+    /// Divides a number by each row, rounding down. Another name of
+    /// `wrapping_floor_div_scalar_lhs`.
     final fn legacy_div_scalar_lhs(
         alloc: Global,
         lhs: Self::Scalar,

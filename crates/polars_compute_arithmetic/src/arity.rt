@@ -1,4 +1,4 @@
-//! A function applied to the stored values of arrays. Stored values of masked rows are given to it too.
+//! Functions applied to the stored values of arrays, including those of masked rows.
 
 ghost use Rattle.std.specs.Prelude.{◌≡◌, All, IfOk, IsFalse, IsOk, IsTrue, MatchResult, length};
 ghost use Rattle.std.specs.List.{AllZip};
@@ -11,7 +11,7 @@ use polars_arrays_flat::primitive::PrimitiveArray;
 use polars_arrays_numbers::native_type::NativeType;
 use std::alloc::{AllocError, Global};
 
-// What `op` answers at each value, in a new vector.
+// Applies `op` to each value, into a new vector.
 fn map_values<I: Copy, O: Copy, F: Fn(I) -> O>(
     alloc: Global,
     values: &[I],
@@ -27,7 +27,7 @@ fn map_values<I: Copy, O: Copy, F: Fn(I) -> O>(
     Ok(mapped)
 }
 
-// What `op` answers at each value, written over it.
+// Applies `op` to each value in place.
 fn map_in_place<T: Copy, F: Fn(T) -> T>(values: &mut [T], op: F)
     requires { All (F.pre op) values.old }
     ensures { AllZip (F.post op) values.old values.new }
@@ -37,8 +37,8 @@ fn map_in_place<T: Copy, F: Fn(T) -> T>(values: &mut [T], op: F)
     }
 }
 
-/// Returns the array of what `op` answers at each stored value. The answer owns its values. Nulls
-/// are kept. The error is `Memory`.
+/// Applies `op` to each stored value, into a new array. The result owns its values. Nulls stay
+/// null. The error is `Memory`.
 pub fn prim_unary_values<I: NativeType, O: NativeType, F: Fn(I) -> O>(
     alloc: Global,
     arr: PrimitiveArray<I>,
@@ -54,7 +54,7 @@ pub fn prim_unary_values<I: NativeType, O: NativeType, F: Fn(I) -> O>(
     answers
 }
 
-// The array of what `op` answers at each stored value. The validity is taken out.
+// Applies `op` to each stored value, into a new array that takes over the validity.
 fn new_values<I: NativeType, O: NativeType, F: Fn(I) -> O>(
     alloc: Global,
     arr: &mut PrimitiveArray<I>,
@@ -68,9 +68,10 @@ fn new_values<I: NativeType, O: NativeType, F: Fn(I) -> O>(
     Ok(PrimitiveArray::from_vec(values).with_validity(arr.take_validity()))
 }
 
-/// The same array with what `op` answers written over each stored value, where the array owns them: then
-/// it takes no memory. Shared values stay as they are, and new ones are made; the error is then `Memory`.
-/// Either way the answer owns its values, so that a second such call takes no memory.
+/// Applies `op` to each stored value. Values that the array owns are overwritten, without
+/// allocation and without error. Shared values stay unchanged, and new ones are allocated; the
+/// error is then `Memory`. Either way the result owns its values, so that a second call does not
+/// allocate.
 pub fn prim_unary_in_place<T: NativeType, F: Fn(T) -> T>(
     alloc: Global,
     arr: PrimitiveArray<T>,
@@ -89,7 +90,7 @@ pub fn prim_unary_in_place<T: NativeType, F: Fn(T) -> T>(
     Ok(arr)
 }
 
-// What `op` answers at each pair of values at one place, in a new vector.
+// Applies `op` to the values at each place, into a new vector.
 fn map_pairs<L: Copy, R: Copy, O: Copy, F: Fn(L, R) -> O>(
     alloc: Global,
     left: &[L],
@@ -107,7 +108,7 @@ fn map_pairs<L: Copy, R: Copy, O: Copy, F: Fn(L, R) -> O>(
     Ok(mapped)
 }
 
-// What `op` answers at each pair of values at one place, written over the left one.
+// Applies `op` to the values at each place, and overwrites the left one.
 fn map_over_left<T: Copy, R: Copy, F: Fn(T, R) -> T>(left: &mut [T], right: &[R], op: F)
     requires same_length { length left.old ≡ length right.now }
     requires callable { TakesPairs (F.pre op) left.old right.now }
@@ -118,7 +119,7 @@ fn map_over_left<T: Copy, R: Copy, F: Fn(T, R) -> T>(left: &mut [T], right: &[R]
     }
 }
 
-// What `op` answers at each pair of values at one place, written over the right one.
+// Applies `op` to the values at each place, and overwrites the right one.
 fn map_over_right<L: Copy, T: Copy, F: Fn(L, T) -> T>(left: &[L], right: &mut [T], op: F)
     requires same_length { length left.now ≡ length right.old }
     requires callable { TakesPairs (F.pre op) left.now right.old }
@@ -129,7 +130,7 @@ fn map_over_right<L: Copy, T: Copy, F: Fn(L, T) -> T>(left: &[L], right: &mut [T
     }
 }
 
-/// Two validities joined: a row is present where both say so. The error is `Memory`.
+/// Joins two validities: a row is present if it is in both. The error is `Memory`.
 pub(crate) fn join_validities(
     alloc: Global,
     left: Option<Bitmap>,
@@ -150,8 +151,8 @@ pub(crate) fn join_validities(
     }
 }
 
-/// Returns the array of what `op` answers at each pair of stored values. The answer owns its
-/// values. A row is null where one of the two is. The error is `Memory`.
+/// Applies `op` to each pair of stored values, into a new array. The result owns its values. A row
+/// is null if one of the two is. The error is `Memory`.
 pub fn prim_binary_values<L: NativeType, R: NativeType, O: NativeType, F: Fn(L, R) -> O>(
     alloc: Global,
     lhs: PrimitiveArray<L>,
@@ -170,7 +171,7 @@ pub fn prim_binary_values<L: NativeType, R: NativeType, O: NativeType, F: Fn(L, 
     answers
 }
 
-// The array of what `op` answers at each pair of stored values. The validities are taken out.
+// Applies `op` to each pair of stored values, into a new array. Removes both validities.
 fn new_pairs<L: NativeType, R: NativeType, O: NativeType, F: Fn(L, R) -> O>(
     alloc: Global,
     lhs: &mut PrimitiveArray<L>,
@@ -187,9 +188,10 @@ fn new_pairs<L: NativeType, R: NativeType, O: NativeType, F: Fn(L, R) -> O>(
     Ok(PrimitiveArray::from_vec(values).with_validity(validity))
 }
 
-/// The left or the right array with what `op` answers at each pair of stored values written over its own,
-/// where it owns them; else shared values stay as they are, and new ones are made. The answer owns
-/// its values. A row is null where one of the two is. The error is `Memory`.
+/// Applies `op` to each pair of stored values. Overwrites the values of the left array if it owns
+/// them, or else those of the right one if it owns those. If neither does, both stay unchanged, and
+/// new values are allocated. The result owns its values. A row is null if one of the two is. The
+/// error is `Memory`.
 pub fn prim_binary_in_place<T: NativeType, F: Fn(T, T) -> T>(
     alloc: Global,
     lhs: PrimitiveArray<T>,
@@ -215,7 +217,8 @@ pub fn prim_binary_in_place<T: NativeType, F: Fn(T, T) -> T>(
     }
 }
 
-// The left array, where it owns its values, or else the right one, with what `op` answers written over them.
+// Applies `op` to each pair of stored values, and overwrites the values of the left array if it
+// owns them, otherwise those of the right one.
 fn written_pairs<T: NativeType, F: Fn(T, T) -> T>(
     lhs: PrimitiveArray<T>,
     rhs: PrimitiveArray<T>,

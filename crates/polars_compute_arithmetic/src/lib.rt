@@ -1,4 +1,4 @@
-//! Maps over columns of numbers, and arithmetic that wraps.
+//! Maps over columns of numbers, and wrapping arithmetic.
 #![tactic(auto)]
 
 pub mod arithmetic;

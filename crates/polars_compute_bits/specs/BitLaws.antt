@@ -1,4 +1,4 @@
--- Operators on bits fold numbers bit by bit.
+-- Operators on bits are folds of numbers, bit by bit.
 use Rattle.std.specs.Prelude.{◌≡◌, ◌<◌, ◌+◌, ◌-◌, ◌/◌, ◌%◌, ◌^◌, ◌+ℤ◌, ◌-ℤ◌, ℕ, zero, suc, ℤ, pos, Bool, true, false, ◌&&◌, ◌||◌, eqb, bit_and, bit_or, bit_xor, min, max, unsigned_abs, refl}
 use Rattle.std.proofs.Common.{ap, ap₂, sym, ◌∙◌, arith}
 use Rattle.std.proofs.Math.Nat.{mod-eq_of_lt}
@@ -26,7 +26,7 @@ same_lowest x y e =
     let here : eqb (x % 2) 1 ≡ eqb (y % 2) 1 = ap (λ d. eqb d 1) (sym (bit_at_lowest x)) ∙ e ∙ ap (λ d. eqb d 1) (bit_at_lowest y) in
     same_digit (x % 2) (y % 2) (mod_below x 2 (omega arith)) (mod_below y 2 (omega arith)) here
 
--- numbers with the same bits are the same
+-- numbers with the same bits are equal
 pub same_bits : (width x y : ℕ) → x < 2 ^ width → y < 2 ^ width → ((i : ℕ) → i < width → is_bit x i ≡ is_bit y i) → x ≡ y
 same_bits zero x y p q same = omega (arith, p, q)
 same_bits (suc width) x y p q same =
@@ -38,7 +38,7 @@ same_bits (suc width) x y p q same =
 pub pattern-below : (width : ℕ) (n : ℤ) → pattern width n < 2 ^ width
 pattern-below width n = unsigned-size width (int_rem_euclid n (pos (2 ^ width))) (unsigned-wrap_fits width n)
 
--- a number below 2 to the width that is wrapped keeps its bits
+-- wrapping a number below 2 to the width keeps its bits
 pub pattern-wrapped : (least : ℤ) (width m : ℕ) → m < 2 ^ width → pattern width (wrapped least width (pos m)) ≡ m
 pattern-wrapped least width m below =
     let all : HasAllOf least ((least +ℤ pos (2 ^ width)) -ℤ pos 1) width = omega (arith, ints) in
@@ -47,7 +47,7 @@ pattern-wrapped least width m below =
 
 -- ---- operators
 
--- an operator on numbers that goes bit by bit, in any order and in any groups
+-- an operator on numbers that is an associative and commutative operator on each bit
 pub record BitOperator (operator : ℕ → ℕ → ℕ) (bit : Bool → Bool → Bool) (neutral : Bool) : Type 0 where
   pub bits : (x y i : ℕ) → is_bit (operator x y) i ≡ bit (is_bit x i) (is_bit y i)
   pub below : (width x y : ℕ) → x < 2 ^ width → y < 2 ^ width → operator x y < 2 ^ width
@@ -73,7 +73,7 @@ module _ (operator : ℕ → ℕ → ℕ) (bit : Bool → Bool → Bool) (neutra
       same_bits width _ _ (law.below width start x small p) p
       (λ i h. law.bits start x i ∙ ap (λ b. bit b (is_bit x i)) (starts i h) ∙ law.with_neutral (is_bit x i))
 
-  -- the bits of two numbers that were joined
+  -- the bits of two joined numbers
   pub joined-pattern : (a b : ℤ) → pattern width (joined_bits operator least width a b) ≡ operator (pattern width a) (pattern width b)
   joined-pattern a b = pattern-wrapped least width (operator (pattern width a) (pattern width b)) (law.below width _ _ (pattern-below width a) (pattern-below width b))
 
@@ -177,7 +177,7 @@ ones_small width = omega (arith, pow_pos width)
 no_bit : (i : ℕ) → is_bit 0 i ≡ false
 no_bit i = ap (λ d. eqb d 1) (bit_at-zero i)
 
--- each of them folds numbers
+-- each of the operators is a fold of numbers
 module _ (least : ℤ) (width : ℕ) where
   pub and_folds : Folds (joined_bits bit_and least width) (wrapped least width (pos (2 ^ width - 1)))
   and_folds = bits_fold bit_and ◌&&◌ true and_operator least width (2 ^ width - 1) (ones_small width) (λ i h. ap (λ d. eqb d 1) (bit_at_ones width i h))

@@ -1,4 +1,4 @@
--- The bits of rows, how many of a kind a row has, and what rows are reduced to, bit by bit.
+-- The bits of rows, their counts, and bitwise reductions of rows.
 use Rattle.std.specs.Prelude.{◌≡◌, ◌%◌, ◌^◌, ℕ, ℤ, pos, Bool, cond, eqb, true, false, List, [], ◌∷◌, map, reverse, get_or, count_by, unsigned_abs, Option, Some, None}
 use Rattle.std.specs.Int.{int_rem_euclid}
 use Rattle.std.specs.List.{prefix_len}
@@ -17,17 +17,17 @@ pattern width n = unsigned_abs (int_rem_euclid n (pos (2 ^ width)))
 abbrev pub number_bits : ℕ → ℤ → List Bool
 number_bits width n = first_of (is_bit (pattern width n)) width
 
--- the bits of a row, of which a truth value has one
+-- the bits of a row; a truth value has one
 abbrev pub row_bits : ℕ → Row → List Bool
 row_bits width (Int n) = number_bits width n
 row_bits width (Truth b) = b ∷ []
 row_bits width row = []
 
--- how many bits at the lowest end pass a test, up to the first that does not
+-- the number of bits from the lowest on that pass a test, up to the first that does not
 abbrev pub trailing_run : (Bool → Bool) → List Bool → ℕ
 trailing_run test bits = prefix_len test bits
 
--- the same at the highest end
+-- the number of bits from the highest down that pass a test, up to the first that does not
 abbrev pub leading_run : (Bool → Bool) → List Bool → ℕ
 leading_run test bits = prefix_len test (reverse bits)
 
@@ -42,7 +42,7 @@ place_bits width i [] = []
 place_bits width i (row ∷ rows) =
     cond (is_null row) (place_bits width i rows) (get_or (row_bits width row) i false ∷ place_bits width i rows)
 
--- what rows are reduced to: each bit is the test of that bit of the present rows; None without one
+-- bit i is the test of bit i of all present rows; None if no row is present
 abbrev pub reduced : (List Bool → Bool) → ℕ → List Row → Option (List Bool)
 reduced test width rows = cond (none_present rows) None (Some (first_of (λ i. test (place_bits width i rows)) width))
 
@@ -58,7 +58,7 @@ joined_bits operator least width a b = wrapped least width (pos (operator (patte
 abbrev pub AreCounts : (List Bool → ℕ) → ℕ → List Row → Numbers ℕ → Type 0
 AreCounts count width rows counts = number_rows (λ n. pos n) counts ≡ map (counted count width) rows
 
--- how many bits a truth value has that are 1, or 0
+-- the number of ones (or zeros) of a truth value as a bit
 abbrev pub truth_count : Bool → Bool → ℕ
 truth_count true b = cond b 1 0
 truth_count false b = cond b 0 1

@@ -1,4 +1,4 @@
--- Sums that wrap at each step are folds, and wrap the sum.
+-- Sums that wrap at each step are folds, and equal the wrapped sum.
 use Rattle.std.specs.Prelude.{◌≡◌, ◌+ℤ◌, ℕ, ℤ, pos, List, [], ◌∷◌, refl}
 use Rattle.std.proofs.Common.{ap, sym, ◌∙◌, arith}
 use Rattle.std.proofs.lemmas.Int.{ints}
@@ -44,7 +44,7 @@ module _ (least : ℤ) (width : ℕ) where
   row-total (Fields x) rest = nothing_more rest
   row-total (Entry x) rest = nothing_more rest
 
-  -- rows folded by sums that wrap are their sum, wrapped
+  -- the fold of rows by wrapping addition is their sum, wrapped
   pub folded-total : (rows : List Row) → folded (wrapped_sum least width) (wrapped least width (pos 0)) rows ≡ wrapped least width (total rows)
   folded-total [] = refl
   folded-total (row ∷ rows) = ap (row_joined (wrapped_sum least width) row) (folded-total rows) ∙ row-total row (total rows)

@@ -15,37 +15,37 @@ use polars_arrays_flat::primitive::PrimitiveArray;
 use polars_arrays_numbers::native_type::NativeType;
 use std::alloc::{AllocError, Global};
 
-/// How many bits of a kind a number has.
+/// A count of bits of one kind in a number.
 pub trait BitCount<T: NativeType> {
-    // How many such bits stand in a list, the lowest first.
+    // The count of such bits in a list, the lowest bit first.
     ghost amount: { List Bool → ℕ };
 
-    /// How many such bits the number has.
+    /// Counts such bits of the number.
     fn count(&self, number: T) -> u32
         ensures { result ≡ amount (number_bits (bit_len T.width) (T.value number)) };
 }
 
-/// Bits that are 1.
+/// The count of bits that are 1.
 #[derive(Drop)]
 pub struct Ones;
 
-/// Bits that are 0.
+/// The count of bits that are 0.
 #[derive(Drop)]
 pub struct Zeros;
 
-/// Bits at the highest end that are 1, up to the first that is not.
+/// The count of ones from the highest bit down, up to the first 0.
 #[derive(Drop)]
 pub struct LeadingOnes;
 
-/// Bits at the highest end that are 0, up to the first that is not.
+/// The count of zeros from the highest bit down, up to the first 1.
 #[derive(Drop)]
 pub struct LeadingZeros;
 
-/// Bits at the lowest end that are 1, up to the first that is not.
+/// The count of ones from the lowest bit up, up to the first 0.
 #[derive(Drop)]
 pub struct TrailingOnes;
 
-/// Bits at the lowest end that are 0, up to the first that is not.
+/// The count of zeros from the lowest bit up, up to the first 1.
 #[derive(Drop)]
 pub struct TrailingZeros;
 
@@ -123,7 +123,7 @@ impl<T: BitNumber> BitCount<T> for TrailingZeros {
     }
 }
 
-// The count of each number.
+// Counts the bits of each number.
 fn count_each<T: NativeType, C: BitCount<T>>(
     alloc: Global,
     count: &C,
@@ -138,7 +138,7 @@ fn count_each<T: NativeType, C: BitCount<T>>(
     Ok(counts)
 }
 
-// A second validity of the same bits.
+// Clones a validity.
 pub(crate) fn copied_validity(
     alloc: Global,
     validity: Option<&Bitmap>,
@@ -154,7 +154,7 @@ pub(crate) fn copied_validity(
     }
 }
 
-/// The count of each row. Nulls are kept. The error is `Memory`.
+/// Counts the bits of each row. Nulls stay null. The error is `Memory`.
 pub fn count_rows<T: NativeType, C: BitCount<T>>(
     alloc: Global,
     count: &C,

@@ -1,4 +1,4 @@
-//! The numbers whose bits are counted and reduced.
+//! Number types whose bits are counted and reduced.
 
 use crate::wrapping::WrappingNumber;
 use num_traits::PrimInt;
@@ -6,7 +6,7 @@ use polars_arrays_numbers::native_type::NativeType;
 
 /// A type of numbers of 8 to 64 bits.
 pub trait BitNumber: NativeType + WrappingNumber + PrimInt {
-    /// A law of every number: its type has it. It does nothing.
+    /// States that the number is one of its type. Does nothing.
     fn law_fits(self)
         ensures { Self.fits (Self.value self) };
 }

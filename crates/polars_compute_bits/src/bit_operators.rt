@@ -3,15 +3,15 @@
 use crate::bit_number::BitNumber;
 use polars_arrays_folds::operator::Operator;
 
-/// Each bit is 1 where both bits are.
+/// The AND of each two bits.
 #[derive(Drop)]
 pub struct And;
 
-/// Each bit is 1 where one of the bits is, or both.
+/// The OR of each two bits.
 #[derive(Drop)]
 pub struct Or;
 
-/// Each bit is 1 where exactly one of the bits is.
+/// The exclusive OR of each two bits.
 #[derive(Drop)]
 pub struct Xor;
 

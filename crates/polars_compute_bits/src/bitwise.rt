@@ -1,4 +1,5 @@
-//! The bits of columns of numbers and of truth values: counts, reductions, and operators on two scalars.
+//! Bits of columns of numbers and of truth values: counts, reductions, and operators on two
+//! scalars.
 
 ghost use Rattle.std.specs.Prelude.{◌≡◌, ℕ, [], ◌∷◌, List, Some, not, count_by, option_map, MatchResult};
 ghost use Rattle.std.specs.List.{list_all, list_any};
@@ -19,64 +20,65 @@ use polars_arrays_folds::fold::reduce_rows;
 use polars_arrays_folds::operator::Operator;
 use std::alloc::Global;
 
-/// Counts and reductions of the bits of an array's rows. The error of a count is `Memory`; nulls are kept. A reduction takes each
-/// bit by itself over the present rows, and is None without one.
+/// Counts and reductions of the bits of an array's rows. A count keeps nulls; its error is
+/// `Memory`. A reduction joins the present rows bit by bit, and is `None` if no row is present.
 pub trait BitwiseKernel {
     type Scalar;
 
-    // The rows, and how many bits a present one has.
+    // The rows, and the number of bits of a present one.
     ghost rows: { Self → List Row };
 
     ghost width: { ℕ };
 
-    // The row that a scalar is.
+    // The row of a scalar.
     ghost scalar_row: { Self.Scalar → Row };
 
-    /// How many bits of each row are 1.
+    /// Counts the ones of each row.
     fn count_ones(&self, alloc: Global) -> Result<PrimitiveArray<u32>, ComputeError>
         ensures { MatchResult result (AreCounts (count_by (λ b. b)) width (rows self.now)) IsMemory };
 
-    /// How many bits of each row are 0.
+    /// Counts the zeros of each row.
     fn count_zeros(&self, alloc: Global) -> Result<PrimitiveArray<u32>, ComputeError>
         ensures { MatchResult result (AreCounts (count_by not) width (rows self.now)) IsMemory };
 
-    /// How many bits at the highest end of each row are 1, up to the first that is not.
+    /// Counts the ones of each row from the highest bit down, up to the first 0.
     fn leading_ones(&self, alloc: Global) -> Result<PrimitiveArray<u32>, ComputeError>
         ensures { MatchResult result (AreCounts (leading_run (λ b. b)) width (rows self.now)) IsMemory };
 
-    /// How many bits at the highest end of each row are 0, up to the first that is not.
+    /// Counts the zeros of each row from the highest bit down, up to the first 1.
     fn leading_zeros(&self, alloc: Global) -> Result<PrimitiveArray<u32>, ComputeError>
         ensures { MatchResult result (AreCounts (leading_run not) width (rows self.now)) IsMemory };
 
-    /// How many bits at the lowest end of each row are 1, up to the first that is not.
+    /// Counts the ones of each row from the lowest bit up, up to the first 0.
     fn trailing_ones(&self, alloc: Global) -> Result<PrimitiveArray<u32>, ComputeError>
         ensures { MatchResult result (AreCounts (trailing_run (λ b. b)) width (rows self.now)) IsMemory };
 
-    /// How many bits at the lowest end of each row are 0, up to the first that is not.
+    /// Counts the zeros of each row from the lowest bit up, up to the first 1.
     fn trailing_zeros(&self, alloc: Global) -> Result<PrimitiveArray<u32>, ComputeError>
         ensures { MatchResult result (AreCounts (trailing_run not) width (rows self.now)) IsMemory };
 
-    /// Each bit is 1 where it is 1 in all present rows.
+    /// Returns the AND of the present rows.
     fn reduce_and(&self) -> Option<Self::Scalar>
         ensures { option_map (λ x. row_bits width (scalar_row x)) result ≡ reduced (list_all (λ b. b)) width (rows self.now) };
 
-    /// Each bit is 1 where it is 1 in one of the present rows.
+    /// Returns the OR of the present rows.
     fn reduce_or(&self) -> Option<Self::Scalar>
         ensures { option_map (λ x. row_bits width (scalar_row x)) result ≡ reduced (list_any (λ b. b)) width (rows self.now) };
 
-    /// Each bit is 1 where it is 1 in an odd number of present rows.
+    /// Returns the exclusive OR of the present rows: a bit is 1 if it is 1 in an odd number of
+    /// them.
     fn reduce_xor(&self) -> Option<Self::Scalar>
         ensures { option_map (λ x. row_bits width (scalar_row x)) result ≡ reduced is_odd width (rows self.now) };
 
-    /// What two present rows reduce to by `reduce_and`.
+    /// Returns what `reduce_and` does for two present rows.
     fn bit_and(lhs: Self::Scalar, rhs: Self::Scalar) -> Self::Scalar
         ensures { Some (row_bits width (scalar_row result)) ≡ reduced (list_all (λ b. b)) width (scalar_row lhs ∷ scalar_row rhs ∷ []) };
 
-    /// What two present rows reduce to by `reduce_or`.
+    /// Returns what `reduce_or` does for two present rows.
     fn bit_or(lhs: Self::Scalar, rhs: Self::Scalar) -> Self::Scalar
         ensures { Some (row_bits width (scalar_row result)) ≡ reduced (list_any (λ b. b)) width (scalar_row lhs ∷ scalar_row rhs ∷ []) };
 
-    /// What two present rows reduce to by `reduce_xor`.
+    /// Returns what `reduce_xor` does for two present rows.
     fn bit_xor(lhs: Self::Scalar, rhs: Self::Scalar) -> Self::Scalar
         ensures { Some (row_bits width (scalar_row result)) ≡ reduced is_odd width (scalar_row lhs ∷ scalar_row rhs ∷ []) };
 }

@@ -1,4 +1,4 @@
-//! Sums that wrap.
+//! Wrapping sums.
 
 ghost use Rattle.std.specs.Prelude.{◌≡◌, ◌+ℤ◌, length};
 ghost use Rattle.num_traits.specs.Laws.{bit_len};
@@ -16,9 +16,9 @@ use polars_arrays_folds::fold::{fold_all, fold_present};
 use polars_arrays_folds::operator::Operator;
 use polars_arrays_numbers::native_type::NativeType;
 
-/// Addition that wraps around at the ends of the type.
+/// Wrapping addition.
 pub trait WrappingAdd: WrappingNumber {
-    /// The sum of the two numbers, wrapped.
+    /// Returns the sum of the two numbers, wrapped.
     fn wrapping_add(&self, v: &Self) -> Self
         ensures { Self.value result ≡ wrapped Self.low (bit_len Self.width) (Self.value self.now +ℤ Self.value v.now) };
 }
@@ -30,19 +30,19 @@ impl<T: WrappingNumber + num_traits::WrappingAdd> WrappingAdd for T {
     }
 }
 
-/// Sums of slices, wrapped.
+/// Wrapping sums of slices.
 pub trait WrappingSum: NativeType {
-    /// The sum of the numbers, wrapped, and 0 of none.
+    /// Returns the sum of the numbers, wrapped, or 0 for none.
     fn wrapping_sum(vals: &[Self]) -> Self
         ensures { Self.value result ≡ wrapped Self.low (bit_len Self.width) (total (number_slots Self.value vals.now)) };
 
-    /// The sum of the numbers whose bit is 1, wrapped, and 0 of none.
+    /// Returns the sum of the numbers whose bit is 1, wrapped, or 0 for none.
     fn wrapping_sum_with_validity(vals: &[Self], mask: &BitMask<'_>) -> Self
         requires { length mask.now ≡ length vals.now }
         ensures { Self.value result ≡ wrapped Self.low (bit_len Self.width) (total (masked mask.now (number_slots Self.value vals.now))) };
 }
 
-/// Numbers are folded to their sum, wrapped.
+/// A fold of numbers to their sum, wrapped.
 #[derive(Drop)]
 pub struct Sum;
 
@@ -80,7 +80,7 @@ impl<T: NativeType + WrappingAdd + Zero> WrappingSum for T {
     }
 }
 
-/// The sum of the present rows, wrapped, and 0 without one.
+/// Returns the sum of the present rows, wrapped, or 0 for none.
 pub fn wrapping_sum_arr<T: WrappingSum>(array: &PrimitiveArray<T>) -> T
     ensures { T.value result ≡ wrapped T.low (bit_len T.width) (total (number_rows T.value array.now)) }
 {

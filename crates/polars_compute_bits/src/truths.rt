@@ -1,4 +1,4 @@
-//! Counts of truth values, as numbers of one bit.
+//! Counts of ones and zeros of truth values, as numbers of one bit.
 
 ghost use Rattle.std.specs.Prelude.{◌≡◌, map, pos, length, count_by, IfOk, MatchResult};
 ghost use Rattle.polars_arrays_bits.specs.Errors.{IsMemory};
@@ -14,7 +14,7 @@ use polars_arrays_flat::boolean::BooleanArray;
 use polars_arrays_flat::primitive::PrimitiveArray;
 use std::alloc::{AllocError, Global};
 
-// How many ones a bit has, or zeros.
+// Returns the number of ones of a bit, or of zeros.
 #[inline(always)]
 fn count_bit(ones: bool, bit: bool) -> u32
     ensures { result ≡ truth_count ones bit }
@@ -25,7 +25,7 @@ fn count_bit(ones: bool, bit: bool) -> u32
     }
 }
 
-// How many ones each bit has, or zeros.
+// Returns the number of ones of each bit, or of zeros.
 fn count_each_bit(alloc: Global, bits: &Bitmap, ones: bool) -> Result<Vec<u32>, AllocError>
     ensures { IfOk result (λ counts. counts.items ≡ map (truth_count ones) bits.now) }
 {
@@ -36,7 +36,7 @@ fn count_each_bit(alloc: Global, bits: &Bitmap, ones: bool) -> Result<Vec<u32>, 
     Ok(counts)
 }
 
-/// How many ones each row has, or zeros. Nulls are kept. The error is `Memory`.
+/// Returns the number of ones of each row, or of zeros. Nulls stay null. The error is `Memory`.
 pub(crate) fn count_truth_rows(
     alloc: Global,
     array: &BooleanArray,
@@ -49,7 +49,7 @@ pub(crate) fn count_truth_rows(
     Ok(PrimitiveArray::from_vec(counts).with_validity(validity))
 }
 
-/// How many rows are present.
+/// Returns the number of present rows.
 pub(crate) fn present_rows(array: &BooleanArray) -> usize
     ensures { result ≡ length (place_bits 1 0 (truth_rows array.now)) }
 {
@@ -59,7 +59,7 @@ pub(crate) fn present_rows(array: &BooleanArray) -> usize
     }
 }
 
-/// How many present rows are true.
+/// Returns the number of present rows that are true.
 pub(crate) fn true_rows(array: &BooleanArray) -> usize
     ensures { result ≡ count_by (λ b. b) (place_bits 1 0 (truth_rows array.now)) }
 {

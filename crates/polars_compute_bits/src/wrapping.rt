@@ -1,4 +1,4 @@
-//! The types of numbers to which arithmetic wraps.
+//! Number types with wrapping arithmetic.
 
 ghost use Rattle.std.specs.Prelude.{◌≡◌, ℤ, refl};
 ghost use Rattle.std.specs.Int.{w8, w16, w32, w64};
@@ -8,17 +8,17 @@ ghost use Rattle.polars_arrays_numbers.specs.WrappingLaws.{signed_wrapped, unsig
 
 use num_traits::{Bounded, FixedWidth};
 
-/// A type of numbers of 8 to 64 bits, to which whole numbers are wrapped.
+/// A type of numbers of 8 to 64 bits with wrapping arithmetic.
 pub trait WrappingNumber: FixedWidth + Bounded {
-    // The type has 2 to the width numbers, one after another.
+    // The type has 2 to the width numbers, without gaps.
     ghost range_law: { HasAllOf Self.low Self.high (bit_len Self.width) };
 
-    // What arithmetic that wraps leaves of a whole number is the number wrapped.
+    // Arithmetic of the type wraps as defined.
     ghost wrapped_law: { (n : ℤ) → Self.wrap n ≡ wrapped Self.low (bit_len Self.width) n };
 }
 
-/// A law of every type to which numbers are wrapped: a whole number wrapped is a number of the type that is
-/// congruent to it modulo 2 to the width, and no other number of the type is.
+/// States a law of wrapping: a wrapped whole number is the only number of the type that is
+/// congruent to it modulo 2 to the width.
 pub fn law_wrapped<T: WrappingNumber>()
     ensures congruent { (n : ℤ) → IsWrapped T.low T.high (bit_len T.width) n (wrapped T.low (bit_len T.width) n) }
     ensures only { (n x : ℤ) → IsWrapped T.low T.high (bit_len T.width) n x → x ≡ wrapped T.low (bit_len T.width) n }

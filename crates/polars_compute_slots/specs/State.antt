@@ -1,4 +1,4 @@
--- Distinct values: what a state is, and what rows and other states make of it.
+-- States of distinct values, and the effect of rows and of other states on them.
 use Rattle.std.specs.Prelude.{◌+ℤ◌, ◌-ℤ◌, ◌≤ℤ◌, ◌<ℤ◌, ◌+◌, ◌-◌, ◌^◌, ◌*◌, ◌/◌, ◌||◌, ◌&&◌, ◌++◌, ℕ, suc, ℤ, pos, Bool, false, cond, not, List, [], ◌∷◌, length, map, filter, min, unsigned_abs, All, Contains}
 use Rattle.std.specs.List.{list_all, list_any, range_with_len}
 use Rattle.std.specs.Ordering.{int_eq}
@@ -6,20 +6,20 @@ use Rattle.std.specs.Simd.Lanes.{zip2}
 use Rattle.polars_arrays_flat.specs.ArrayRows.{is_null}
 use Rattle.polars_arrays_flat.specs.Row.{Row, Null, Int, Truth}
 
--- the values of a range, ascending, each with whether it is in the set, and whether a null was seen; a truth value is 0 or 1
+-- for each value of a range, ascending, whether it was seen, and whether a null was; false is 0
 pub record State : Type 0 where
   pub values : List (ℤ × Bool)
   pub has_null : Bool
 
--- the values that a state can have
+-- the range of a state
 abbrev pub range_of : State → List ℤ
 range_of s = map (λ v. v.0) s.values
 
--- the values that it has, ascending
+-- the values seen, ascending
 abbrev pub set_of : State → List ℤ
 set_of s = map (λ v. v.0) (filter (λ v. v.1) s.values)
 
--- n whole numbers, one after another
+-- n consecutive whole numbers
 abbrev pub numbers_from : ℤ → ℕ → List ℤ
 numbers_from least n = map (λ i. least +ℤ pos i) (range_with_len 0 n)
 
@@ -27,7 +27,8 @@ numbers_from least n = map (λ i. least +ℤ pos i) (range_with_len 0 n)
 abbrev pub numbers_between : ℤ → ℤ → List ℤ
 numbers_between least greatest = numbers_from least (unsigned_abs (greatest -ℤ least +ℤ pos 1))
 
--- two numbers are in order, and at most as many values lie between them as have a slot each beside that of null
+-- two numbers are in order, and their range has at most 2^64 - 2 numbers, a slot each besides
+-- null's
 abbrev pub RangeFits : ℤ → ℤ → Type 0
 RangeFits least greatest = (least ≤ℤ greatest) × ((greatest -ℤ least +ℤ pos 2) ≤ℤ pos (2 ^ 64 - 1))
 
@@ -35,7 +36,7 @@ RangeFits least greatest = (least ≤ℤ greatest) × ((greatest -ℤ least +ℤ
 abbrev pub truth_numbers : List ℤ
 truth_numbers = pos 0 ∷ pos 1 ∷ []
 
--- a state that has seen nothing
+-- a state that has seen no row
 abbrev pub new_state : List ℤ → State
 new_state range = record { values = map (λ v. (v, false)) range; has_null = false }
 
@@ -59,35 +60,36 @@ any_null rows = list_any is_null rows
 abbrev pub is_within : List ℤ → Row → Bool
 is_within range row = is_null row || list_any (λ v. is_value v row) range
 
--- whether all rows are
+-- whether all rows are null or values of the range
 abbrev pub are_within : List ℤ → List Row → Bool
 are_within range rows = list_all (is_within range) rows
 
--- ---- what a state becomes
+-- ---- changes of a state
 
--- the set joined with the values of the present rows; the flag is raised if a row is null
+-- the set joined with the values of the present rows; the flag is set if a row is null
 abbrev pub appended : List Row → State → State
 appended rows s = record { values = map (λ v. (v.0, v.1 || holds rows v.0)) s.values; has_null = s.has_null || any_null rows }
 
--- the rows of one array after another
+-- the rows of several arrays appended in order
 abbrev pub appended_all : List (List Row) → State → State
 appended_all [] s = s
 appended_all (rows ∷ more) s = appended_all more (appended rows s)
 
--- two states of one range: both sets joined, and either flag
+-- two states of one range merged: the union of the sets, and the OR of the flags
 abbrev pub merged : State → State → State
 merged s t = record { values = zip2 (λ v w. (v.0, v.1 || w.1)) s.values t.values; has_null = s.has_null || t.has_null }
 
--- ---- what a state is read as
+-- ---- readings of a state
 
--- a state as it is read where some values stand for null, as keys to null entries do: they leave the range and the set, and one that was seen raises the flag
+-- a state in the reading in which some values mean null, as keys to null entries do: they are no
+-- values, and a seen one sets the flag
 abbrev pub read_by : (ℤ → Bool) → State → State
 read_by null s = record {
   values = filter (λ v. not (null v.0)) s.values;
   has_null = s.has_null || list_any (λ v. v.1 && null v.0) s.values;
 }
 
--- ---- what a state answers
+-- ---- results of a state
 
 -- whether all values of the range were seen
 abbrev pub is_full : State → Bool
@@ -97,31 +99,31 @@ is_full s = list_all (λ v. v.1) s.values
 abbrev pub all_seen : State → Bool
 all_seen s = is_full s && s.has_null
 
--- the set ascending, then Null if a null was seen, where `put` gives the row that a value is
+-- the set ascending, then Null if a null was seen; `put` gives the row of a value
 abbrev pub finalised : (ℤ → Row) → State → List Row
 finalised put s = map put (set_of s) ++ cond s.has_null (Null ∷ []) []
 
--- the distinct rows of an array alone: those of a new state to which it is appended
+-- the distinct rows of one array: those of a new state to which it is appended
 abbrev pub distinct : (ℤ → Row) → List ℤ → List Row → List Row
 distinct put range rows = finalised put (appended rows (new_state range))
 
--- those that are not null, as values
+-- the distinct rows that are not null, as values
 abbrev pub distinct_values : List ℤ → List Row → List ℤ
 distinct_values range rows = set_of (appended rows (new_state range))
 
--- the row that a truth value is, which is 0 or 1 as a number
+-- the row of a truth value given as 0 or 1
 abbrev pub truth_row : ℤ → Row
 truth_row v = Truth (int_eq v (pos 1))
 
--- a value of a set is the least of those from a bound on
+-- v is the least value of a set that is at least a bound
 pub record IsLeastFrom (bound : ℤ) (set : List ℤ) (v : ℤ) : Type 0 where
   pub is_in : Contains set v
   pub from : bound ≤ℤ v
   pub least : All (λ other. other <ℤ v → other <ℤ bound) set
 
--- ---- how many rows are read
+-- ---- numbers of rows read
 
--- the least number of front rows after which all values were seen, or the number of rows if there is none
+-- the number of leading rows after which all values were seen, or of all rows
 abbrev pub fullpoint : State → List Row → ℕ
 fullpoint s [] = 0
 fullpoint s (row ∷ rows) = cond (is_full s) 0 (suc (fullpoint (appended (row ∷ []) s) rows))
@@ -130,6 +132,6 @@ fullpoint s (row ∷ rows) = cond (is_full s) 0 (suc (fullpoint (appended (row �
 abbrev pub whole_blocks : ℕ → ℕ
 whole_blocks n = 512 * ((n + 511) / 512)
 
--- how many rows are read: with a null all, else blocks of 512 until all values were seen
+-- the number of rows read: all if one is null, else blocks of 512 until all values were seen
 abbrev pub rows_read : State → List Row → ℕ
 rows_read s rows = cond (any_null rows) (length rows) (min (length rows) (whole_blocks (fullpoint s rows)))

@@ -1,4 +1,4 @@
-//! Whether rows lie in a range.
+//! Tests of whether rows lie in a range.
 
 ghost use Rattle.std.specs.Option.{option_copied};
 ghost use Rattle.std.specs.Prelude.{◌≡◌, ◌<◌, length};
@@ -15,14 +15,14 @@ use polars_arrays_flat::array::Array;
 use polars_arrays_flat::primitive::PrimitiveArray;
 use polars_arrays_flat::validity::is_present;
 
-// Whether a row is null, or a number of a range.
+// Returns whether a row is null or a number of a range.
 fn accepts_row<T: UniqueNumber>(span: &Span<T>, present: bool, number: T) -> bool
     ensures { result ≡ is_within (numbers_from (T.value span.now.least) span.now.count) (kept present (Int (T.value number))) }
 {
     if present { span.holds(number) } else { true }
 }
 
-// Whether each number is under a null, or one of a range.
+// Returns whether each number is masked or in a range.
 fn accepts_under<T: UniqueNumber>(span: &Span<T>, numbers: &[T], validity: Option<&Bitmap>) -> bool
     requires { HasBits (length numbers.now) (option_copied validity) }
     ensures { result ≡ are_within (numbers_from (T.value span.now.least) span.now.count) (rows_under (option_copied validity.entry) (number_slots T.value numbers.now)) }
@@ -35,7 +35,7 @@ fn accepts_under<T: UniqueNumber>(span: &Span<T>, numbers: &[T], validity: Optio
     true
 }
 
-/// Whether each row is null, or a number of a range.
+/// Returns whether each row is null or a number of a range.
 pub fn accepts_rows<T: UniqueNumber>(span: &Span<T>, array: &PrimitiveArray<T>) -> bool
     ensures { result ≡ are_within (numbers_from (T.value span.now.least) span.now.count) (number_rows T.value array.now) }
 {

@@ -1,4 +1,5 @@
-//! Which values of a range were seen: a slot for each value, ascending, and one behind them for null.
+//! Sets of the seen values of a range: a slot for each value, ascending, and one after them for
+//! null.
 #![tactic(auto)]
 
 pub mod accepting;

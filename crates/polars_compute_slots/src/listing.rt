@@ -1,4 +1,4 @@
-//! What slots hold, as arrays and counts.
+//! Contents of slots, as arrays and counts.
 
 ghost use Rattle.std.specs.Prelude.{◌≡◌, ◌↔◌, ◌+◌, ◌++◌, ◌<◌, ◌≤ℤ◌, ◌<ℤ◌, ◌^◌, ℤ, pos, cond, [], ◌∷◌, true, false, length, map, replicate, vec_len, vec_capacity, IfOk, IsTrue, MatchOption, MatchResult, All};
 ghost use Rattle.polars_arrays_bits.specs.Errors.{IsMemory};
@@ -17,7 +17,7 @@ use polars_arrays_bits::error::ComputeError;
 use polars_arrays_flat::primitive::PrimitiveArray;
 use std::alloc::{AllocError, Global};
 
-/// Whether the slots of all values are set, and that of null.
+/// Returns whether the slots of all values and of null are set.
 pub fn all_set<S: Slots>(slots: &S, count: usize) -> bool
     requires { length (S.set_slots slots.now) ≡ count + 1 }
     ensures { (least : ℤ) → result ≡ all_seen (slot_state least count (S.set_slots slots.now)) }
@@ -25,7 +25,7 @@ pub fn all_set<S: Slots>(slots: &S, count: usize) -> bool
     slots.count_values(count) == count && slots.is_set(count)
 }
 
-/// How many slots of values are set.
+/// Returns the number of values whose slots are set.
 pub fn count_set<S: Slots>(slots: &S, count: usize) -> usize
     requires { length (S.set_slots slots.now) ≡ count + 1 }
     ensures { (least : ℤ) → result ≡ length (set_of (slot_state least count (S.set_slots slots.now))) }
@@ -33,7 +33,7 @@ pub fn count_set<S: Slots>(slots: &S, count: usize) -> usize
     slots.count_values(count)
 }
 
-/// How many slots are set, with that of null.
+/// Returns the number of slots that are set, including that of null.
 pub fn count_rows<S: Slots>(slots: &S, count: usize) -> usize
     requires size { length (S.set_slots slots.now) ≡ count + 1 }
     requires few { count + 1 < 2 ^ 64 }
@@ -42,7 +42,7 @@ pub fn count_rows<S: Slots>(slots: &S, count: usize) -> usize
     slots.count_values(count) + usize::from(slots.is_set(count))
 }
 
-// A number is pushed, where it is in the set.
+// Pushes a number if it is in the set.
 pub(crate) fn push_if<T: UniqueNumber>(numbers: &mut Vec<T>, in_set: bool, number: T)
     requires { vec_len numbers.old < vec_capacity numbers.old }
     ensures items { numbers.new.items ≡ numbers.old.items ++ cond in_set (number ∷ []) [] }
@@ -53,7 +53,7 @@ pub(crate) fn push_if<T: UniqueNumber>(numbers: &mut Vec<T>, in_set: bool, numbe
     }
 }
 
-// The numbers whose slot is set, ascending, with room for one more.
+// Lists the numbers whose slots are set, ascending, with room for one more.
 fn list_numbers<T: UniqueNumber, S: Slots>(
     alloc: Global,
     slots: &S,
@@ -72,7 +72,7 @@ fn list_numbers<T: UniqueNumber, S: Slots>(
     Ok(numbers)
 }
 
-/// `n` bits that are true, and a last one that is not. The error is `Memory`.
+/// Creates `n` true bits and a last one that is false. The error is `Memory`.
 pub fn last_masked(alloc: Global, n: usize) -> Result<Bitmap, ComputeError>
     requires { n + 1 < 2 ^ 64 }
     ensures { MatchResult result (λ bits. bits ≡ replicate n true ++ false ∷ []) IsMemory }
@@ -83,7 +83,7 @@ pub fn last_masked(alloc: Global, n: usize) -> Result<Bitmap, ComputeError>
     Ok(bits.freeze())
 }
 
-// An array of numbers and a last row that is null, over a 0.
+// Creates an array of numbers and a last row that is null, stored as 0.
 pub(crate) fn with_null<T: UniqueNumber>(
     alloc: Global,
     numbers: Vec<T>,
@@ -97,7 +97,8 @@ pub(crate) fn with_null<T: UniqueNumber>(
     Ok(PrimitiveArray::from_vec(numbers).with_validity(Some(validity)))
 }
 
-/// The values whose slot is set, ascending, and a null where its slot is. The error is `Memory`.
+/// Lists the values whose slots are set, ascending, and a null if its slot is. The error is
+/// `Memory`.
 pub fn list_set<T: UniqueNumber, S: Slots>(
     alloc: Global,
     slots: &S,
@@ -116,14 +117,14 @@ pub fn list_set<T: UniqueNumber, S: Slots>(
     }
 }
 
-// Whether a number is in the set, and no less than a bound.
+// Returns whether a number is in the set and at least a bound.
 fn is_from<T: UniqueNumber>(in_set: bool, number: T, bound: i128) -> bool
     ensures { IsTrue result ↔ (IsTrue in_set × (bound ≤ℤ T.value number)) }
 {
     in_set && number.whole() >= bound
 }
 
-/// The least value from a bound on whose slot is set.
+/// Returns the least value that is at least a bound and whose slot is set.
 pub fn least_from<T: UniqueNumber, S: Slots>(slots: &S, span: &Span<T>, bound: i128) -> Option<T>
     requires size { length (S.set_slots slots.now) ≡ span.now.count + 1 }
     requires numbers { AreNumbers T.low T.high (T.value span.now.least) span.now.count }

@@ -1,4 +1,4 @@
-//! Rows are marked in slots.
+//! Marking of rows in slots.
 
 ghost use Rattle.std.specs.Prelude.{◌≡◌, ◌+◌, ◌≤◌, length};
 ghost use Rattle.polars_arrays_flat.specs.ArrayRows.{number_rows};
@@ -16,13 +16,13 @@ use polars_arrays_flat::array::Array;
 use polars_arrays_flat::primitive::PrimitiveArray;
 use polars_arrays_numbers::steps::Steps;
 
-// How many rows are read before it is asked again whether all values were seen.
+// Number of rows read between two tests of whether all values were seen.
 const BLOCK: usize = 512;
 
-// How many rows go at once where some are null: those of a word.
+// Number of rows read at once if some are null: those of a word.
 const WORD_ROWS: usize = 64;
 
-// The slots of numbers are set.
+// Sets the slots of numbers.
 #[inline(always)]
 fn mark_all<T: UniqueNumber, S: Slots>(slots: &mut S, span: &Span<T>, numbers: &[T])
     requires size { length (S.set_slots slots.old) ≡ span.now.count + 1 }
@@ -34,7 +34,7 @@ fn mark_all<T: UniqueNumber, S: Slots>(slots: &mut S, span: &Span<T>, numbers: &
     }
 }
 
-// The slots of at most 64 rows are set, each of which is present where its bit of a word is 1.
+// Sets the slots of 64 rows. A row is present if its bit of a word is 1.
 #[inline(always)]
 fn mark_word<T: UniqueNumber, S: Slots>(slots: &mut S, span: &Span<T>, numbers: &[T], word: u64)
     requires size { length (S.set_slots slots.old) ≡ span.now.count + 1 }
@@ -48,7 +48,7 @@ fn mark_word<T: UniqueNumber, S: Slots>(slots: &mut S, span: &Span<T>, numbers: 
     }
 }
 
-// The slots of rows are set, each of which is present where its bit is 1, row by row.
+// Sets the slots of rows, row by row. A row is present if its bit is 1.
 #[inline(always)]
 fn mark_few<T: UniqueNumber, S: Slots>(
     slots: &mut S,
@@ -66,7 +66,7 @@ fn mark_few<T: UniqueNumber, S: Slots>(
     }
 }
 
-// The slots of rows are set, each of which is present where its bit is 1, by words of 64 rows.
+// Sets the slots of rows, 64 rows at a time. A row is present if its bit is 1.
 #[inline(always)]
 fn mark_masked<T: UniqueNumber, S: Slots>(
     slots: &mut S,
@@ -89,7 +89,8 @@ fn mark_masked<T: UniqueNumber, S: Slots>(
     mark_few(slots, span, &numbers[at..at + rest], &mask.window(at, rest));
 }
 
-// The slots of numbers are set, block after block until those of all values are, and the numbers that were read are counted.
+// Sets the slots of numbers, block by block until those of all values are set, and counts the
+// numbers read.
 #[inline(always)]
 fn mark_until_full<T: UniqueNumber, S: Slots>(
     slots: &mut S,
@@ -111,7 +112,8 @@ fn mark_until_full<T: UniqueNumber, S: Slots>(
     }
 }
 
-// The same of rows, each of which is present where its bit is 1. Where one is null all are read.
+// Sets the slots of rows, and counts the rows read. A row is present if its bit is 1. If one is
+// null, all are read; otherwise whole blocks until the slots of all values are set.
 #[inline(always)]
 fn mark_under<T: UniqueNumber, S: Slots>(
     slots: &mut S,
@@ -134,7 +136,7 @@ fn mark_under<T: UniqueNumber, S: Slots>(
     steps.add(numbers.len());
 }
 
-/// The slots of an array's rows are set, and the rows that were read are counted.
+/// Sets the slots of an array's rows, and counts the rows read.
 #[inline(always)]
 pub fn mark_rows<T: UniqueNumber, S: Slots>(
     slots: &mut S,

@@ -1,4 +1,4 @@
-//! The numbers whose distinct values are gathered.
+//! Number types whose distinct values are collected.
 
 ghost use Rattle.std.specs.Prelude.{◌≡◌, ◌≤ℤ◌, ◌^◌, pos, neg_ℤ};
 
@@ -7,14 +7,14 @@ use polars_arrays_numbers::native_type::NativeType;
 
 /// A type of numbers of 8 to 64 bits.
 pub trait UniqueNumber: NativeType + Zero {
-    /// The whole number that the value is.
+    /// Returns the value as a whole number.
     fn whole(self) -> i128
         ensures number { result ≡ Self.value self }
         ensures least { Self.low ≤ℤ Self.value self }
         ensures greatest { Self.value self ≤ℤ Self.high }
         ensures narrow { (neg_ℤ (pos (2 ^ 64)) ≤ℤ result) × (result ≤ℤ pos (2 ^ 64)) };
 
-    /// The value that a whole number from the type's least to its greatest is.
+    /// Returns the value of a whole number within the type's bounds.
     fn of_whole(number: i128) -> Self
         requires least { Self.low ≤ℤ number }
         requires greatest { number ≤ℤ Self.high }

@@ -1,4 +1,5 @@
-//! What slots hold where some values of the range stand for null, as the keys to null entries of a dictionary do.
+//! Contents of slots in a reading in which some values of the range mean null, as the keys to null
+//! entries of a dictionary do.
 
 ghost use Rattle.std.specs.Prelude.{◌≡◌, ◌+◌, ◌<◌, ◌≤◌, ◌^◌, ◌&&◌, ◌||◌, ℤ, Bool, false, cond, not, length, map, vec_len, vec_capacity, IfOk, MatchResult};
 ghost use Rattle.polars_arrays_bits.specs.Errors.{IsMemory};
@@ -16,26 +17,27 @@ use polars_arrays_bits::error::ComputeError;
 use polars_arrays_flat::primitive::PrimitiveArray;
 use std::alloc::{AllocError, Global};
 
-/// Which values of a range stand for null.
+/// The values of a range that mean null.
 pub trait NullValues {
-    // What is asked of it.
+    // A requirement for asking it.
     ghost good: { Self → Type 0 };
 
-    // Whether a value stands for null.
+    // Whether a value means null.
     ghost is_null: { Self → ℤ → Bool };
 
-    /// Whether a value may stand for null: where not, none does.
+    /// Returns `false` only if no value means null.
     fn may_be_null(&self) -> bool
         requires { good self.now }
         ensures { result ≡ false → (value : ℤ) → is_null self.now value ≡ false };
 
-    /// Whether a value stands for null.
+    /// Returns whether a value means null.
     fn stands_for_null(&self, value: i128) -> bool
         requires { good self.now }
         ensures { result ≡ is_null self.now value };
 }
 
-/// How many values a state has as it is read, how many of them were seen, and whether a null was.
+/// The number of values of a state as it is read, the number of them that were seen, and whether a
+/// null was.
 #[derive(Clone, Copy, Drop)]
 pub struct ReadCounts {
     pub values: usize,
@@ -44,7 +46,7 @@ pub struct ReadCounts {
 }
 
 impl ReadCounts {
-    // A value more, of which it is known whether it stands for null and whether it was seen.
+    // Counts one more value, given whether it means null and whether it was seen.
     fn add(&mut self, is_null: bool, is_seen: bool)
         requires values { self.old.values + 1 < 2 ^ 64 }
         requires seen { self.old.seen + 1 < 2 ^ 64 }
@@ -58,7 +60,7 @@ impl ReadCounts {
     }
 }
 
-// What slots hold where no value stands for null.
+// Returns the counts of slots if no value means null.
 fn whole_counts<S: Slots>(slots: &S, count: usize) -> ReadCounts
     requires { length (S.set_slots slots.now) ≡ count + 1 }
     ensures counted { (least : ℤ) → IsCounted (slot_state least count (S.set_slots slots.now)) result }
@@ -71,7 +73,7 @@ fn whole_counts<S: Slots>(slots: &S, count: usize) -> ReadCounts
     }
 }
 
-/// What a state has as it is read.
+/// Returns the counts of slots as they are read.
 pub fn read_counts<T: UniqueNumber, S: Slots, N: NullValues>(
     slots: &S,
     span: &Span<T>,
@@ -99,7 +101,7 @@ pub fn read_counts<T: UniqueNumber, S: Slots, N: NullValues>(
     counts
 }
 
-// The values that were seen and do not stand for null, ascending, with room for one more.
+// Lists the values that were seen and do not mean null, ascending, with room for one more.
 fn list_values<T: UniqueNumber, S: Slots, N: NullValues>(
     alloc: Global,
     slots: &S,
@@ -124,8 +126,8 @@ fn list_values<T: UniqueNumber, S: Slots, N: NullValues>(
     Ok(numbers)
 }
 
-/// The values that were seen and do not stand for null, ascending, and a null where one was seen or a value that stands for one.
-/// The error is `Memory`.
+/// Lists the values that were seen and do not mean null, ascending, and a null if one was seen or a
+/// value that means null was. The error is `Memory`.
 pub fn list_read<T: UniqueNumber, S: Slots, N: NullValues>(
     alloc: Global,
     slots: &S,

@@ -1,4 +1,4 @@
-//! Slots that are set one by one: of few in one word of 128 bits, and of more in a bitmap.
+//! Slots that are set one by one. Up to 128 are stored in one word, and more in a bitmap.
 
 ghost use Rattle.std.specs.Prelude.{◌≡◌, ◌+◌, ◌<◌, ◌≤◌, ◌^◌, ◌||◌, List, Bool, true, false, length, count_by, take, replicate, slice_get, slice_set};
 ghost use Rattle.std.specs.Simd.Lanes.{zip2};
@@ -6,36 +6,36 @@ ghost use Rattle.std.specs.Simd.Lanes.{zip2};
 use polars_arrays_bits::mutable_bitmap::MutableBitmap;
 use std::marker::Model;
 
-/// How many slots one word has.
+/// The number of slots of one word.
 pub const WORD_SLOTS: usize = 128;
 
-/// Slots, of which each is set or not.
+/// Slots, each set or not.
 pub trait Slots {
     // For each slot whether it is set.
     ghost set_slots: { Self → List Bool };
 
-    /// Slot `i` is set.
+    /// Sets slot `i`.
     fn set(&mut self, i: usize)
         requires { i < length (set_slots self.old) }
         ensures { set_slots self.new ≡ slice_set (set_slots self.old) i true };
 
-    /// Whether slot `i` is set.
+    /// Returns whether slot `i` is set.
     fn is_set(&self, i: usize) -> bool
         requires { i < length (set_slots self.now) }
         ensures { slice_get (set_slots self.now) i ≡ Some result };
 
-    /// How many slots are set, but for the last one of `n + 1`.
+    /// Counts the set slots among the first `n` of `n + 1`.
     fn count_values(&self, n: usize) -> usize
         requires { length (set_slots self.now) ≡ n + 1 }
         ensures { result ≡ count_by (λ b. b) (take n (set_slots self.now)) };
 
-    /// The slots that are set elsewhere are set here too.
+    /// Sets the slots that are set in `other`.
     fn join(&mut self, other: &Self)
         requires { length (set_slots other.now) ≡ length (set_slots self.old) }
         ensures { set_slots self.new ≡ zip2 ◌||◌ (set_slots self.old) (set_slots other.now) };
 }
 
-/// At most 128 slots.
+/// At most 128 slots, in one word.
 #[derive(Drop)]
 pub struct WordSlots {
     // bits from `len` on are 0
@@ -55,7 +55,7 @@ impl Model for WordSlots {
 }
 
 impl WordSlots {
-    /// So many slots, none of them set.
+    /// Creates `len` slots, none of them set.
     pub fn none_set(len: usize) -> WordSlots
         requires { len ≤ 128 }
         ensures { result ≡ replicate len false }
@@ -63,7 +63,7 @@ impl WordSlots {
         WordSlots { word: 0, len }
     }
 
-    /// The same slots once more, which a loop can keep in registers.
+    /// Returns a copy, which a loop can keep in registers.
     #[inline(always)]
     pub fn copied(&self) -> WordSlots
         ensures { result ≡ self.now }
@@ -74,7 +74,7 @@ impl WordSlots {
         }
     }
 
-    /// How many slots there are.
+    /// Returns the number of slots.
     pub fn len(&self) -> usize
         ensures { result ≡ length self.now }
     {
@@ -82,7 +82,8 @@ impl WordSlots {
     }
 }
 
-// The number of which bit `i` alone is 1. To shift one half and to choose between both is less work than a shift of 128 bits.
+// Returns the number whose only set bit is bit `i`. Shifting one half and choosing between the two
+// is less work than a shift of 128 bits.
 #[inline(always)]
 fn one_bit(i: usize) -> u128
     requires { i < 128 }

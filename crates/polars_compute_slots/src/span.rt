@@ -1,4 +1,4 @@
-//! The range of a state of numbers.
+//! Ranges of states of numbers.
 
 ghost use Rattle.std.specs.Prelude.{◌≡◌, ◌<◌, ◌^◌, ◌+ℤ◌, ◌-ℤ◌, ◌≤ℤ◌, ◌<ℤ◌, ◌↔◌, pos, unsigned_abs, IsTrue};
 ghost use Rattle.polars_arrays_flat.specs.Row.{Int};
@@ -10,15 +10,15 @@ use crate::number::UniqueNumber;
 use polars_arrays_numbers::comparison::{Comparison, Equal};
 use polars_arrays_numbers::native_type::least_value;
 
-/// A range of numbers: so many from the least on. A number's slot is how far above the least it lies, and null has the slot behind
-/// all numbers.
+/// A range of `count` numbers from `least` on. A number's slot is its distance from the least; null
+/// has the slot after all numbers.
 #[derive(Clone, Copy, Drop)]
 pub struct Span<T: UniqueNumber> {
     pub least: T,
     pub count: usize,
 }
 
-// How far a number lies above another.
+// Returns the distance of a number from a lesser or equal one.
 #[inline(always)]
 fn distance<T: UniqueNumber>(least: T, number: T) -> usize
     requires order { T.value least ≤ℤ T.value number }
@@ -30,7 +30,8 @@ fn distance<T: UniqueNumber>(least: T, number: T) -> usize
     (number.whole() - least.whole()) as usize
 }
 
-/// Whether the numbers from one to another have a slot each, beside that of null: they are in order, and their slots can be counted.
+/// Returns whether the numbers from `least` to `greatest` and null can have a slot each: they are
+/// in order, and the number of slots fits in 64 bits.
 pub fn range_fits<T: UniqueNumber>(least: T, greatest: T) -> bool
     ensures { IsTrue result ↔ RangeFits (T.value least) (T.value greatest) }
 {
@@ -41,7 +42,7 @@ pub fn range_fits<T: UniqueNumber>(least: T, greatest: T) -> bool
 }
 
 impl<T: UniqueNumber> Span<T> {
-    /// The numbers from one to another.
+    /// Creates the range of the numbers from `least` to `greatest`.
     pub fn between(least: T, greatest: T) -> Span<T>
         requires { RangeFits (T.value least) (T.value greatest) }
         ensures least { result.least ≡ least }
@@ -54,29 +55,29 @@ impl<T: UniqueNumber> Span<T> {
         }
     }
 
-    /// No numbers.
+    /// Creates an empty range.
     pub fn empty() -> Span<T>
         ensures none { result.count ≡ 0 }
         ensures numbers { AreNumbers T.low T.high (T.value result.least) 0 }
     {
         let least = least_value::<T>();
-        // No effect at run time. The proof reads from it that the number is one of the type.
+        // Has no effect at run time. The proof learns from it that the number is one of the type.
         let _whole = least.whole();
         Span { least, count: 0 }
     }
 
-    /// The slot of a number.
+    /// Returns the slot of a number.
     #[inline(always)]
     pub fn slot(&self, number: T) -> usize
         requires { HasSlot (T.value self.now.least) self.now.count (Int (T.value number)) }
         ensures { result ≡ slot_of (T.value self.now.least) self.now.count (Int (T.value number)) }
     {
-        // No effect at run time. The proof reads from it that the count is a `usize`.
+        // Has no effect at run time. The proof learns from it that the count is a `usize`.
         let _count = self.count;
         distance(self.least, number)
     }
 
-    /// The number of a slot.
+    /// Returns the number of a slot.
     #[inline(always)]
     pub fn number(&self, slot: usize) -> T
         requires numbers { AreNumbers T.low T.high (T.value self.now.least) self.now.count }
@@ -86,7 +87,7 @@ impl<T: UniqueNumber> Span<T> {
         T::of_whole(self.least.whole() + slot as i128)
     }
 
-    /// Whether a number is one of the range.
+    /// Returns whether a number is in the range.
     #[inline(always)]
     pub fn holds(&self, number: T) -> bool
         ensures { IsTrue result ↔ HasSlot (T.value self.now.least) self.now.count (Int (T.value number)) }
@@ -98,14 +99,15 @@ impl<T: UniqueNumber> Span<T> {
         }
     }
 
-    /// Whether two ranges have the same numbers.
+    /// Returns whether two ranges have the same numbers.
     pub fn same(&self, other: &Span<T>) -> bool
         ensures { IsTrue result ↔ (numbers_from (T.value self.now.least) self.now.count ≡ numbers_from (T.value other.now.least) other.now.count) }
     {
         self.count == other.count && (self.count == 0 || Equal.compare(self.least, other.least))
     }
 
-    /// The slot of a row, which is a number where it is present. This becomes a choice without a branch.
+    /// Returns the slot of a row: of the number if it is present, and of null otherwise. It is
+    /// compiled without a branch.
     #[inline(always)]
     pub fn row_slot(&self, present: bool, number: T) -> usize
         requires { HasSlot (T.value self.now.least) self.now.count (kept present (Int (T.value number))) }

@@ -1,4 +1,4 @@
--- What a state of dictionary keys ends as, once the state of its keys was lent to be written.
+-- The value of a state of dictionary keys after the state of its keys was lent for writing.
 use Rattle.std.specs.Borrow.{Fml, MutBor, Lends, u32}
 use Rattle.std.specs.contracts.prelude.U32Add.TheImpl.{ghosts as add}
 use Rattle.std.specs.contracts.prelude.U32Ord.TheImpl.{ghosts as ord}
@@ -13,6 +13,6 @@ use Rattle.polars_compute_unique.specs.KeyState.{KeyState}
 use Rattle.polars_compute_unique.specs.contracts.dictionary.DictionaryRangedUniqueState.{the_row}
 use Rattle.polars_compute_unique.specs.contracts.primitive.PrimitiveRangedUniqueState.{the_row as keys_row}
 
--- the state of the keys is the last one written through r
+-- the state of the keys is the one last written through r
 abbrev pub lends_keys : MutBor KeyState → MutBor State → Fml
 lends_keys s r = Lends the_row (keys_row u32 ord eq partial_ord bounded number fixed_width zero add) s r (λ keys. record s.now { keys = keys })

@@ -1,4 +1,4 @@
--- Trees of states to be merged.
+-- Trees of states to merge.
 use Rattle.std.specs.Prelude.{◌≡◌, ℤ, List}
 use Rattle.polars_compute_slots.specs.State.{State, merged, range_of}
 use Rattle.polars_compute_unique.specs.declared.merge.MergeTree.{MergeTree, Leaf, Node'}
@@ -9,7 +9,7 @@ module _ {S : Type 0} where
   leftmost (Leaf s) = s
   leftmost (Node' p left q right) = leftmost left
 
-  -- all leaves merged, where `state` gives what a leaf is
+  -- all leaves merged; `state` gives the state of a leaf
   abbrev pub merged_tree : (S → State) → MergeTree S → State
   merged_tree state (Leaf s) = state s
   merged_tree state (Node' p left q right) = merged (merged_tree state left) (merged_tree state right)

@@ -33,7 +33,7 @@ impl Model for BooleanUniqueKernelState {
     ghost view = { λ s. record { values = (pos 0, s.seen_false) ∷ (pos 1, s.seen_true) ∷ []; has_null = s.seen_null } };
 }
 
-// What rows hold.
+// The distinct values of rows.
 #[derive(Drop)]
 struct Held {
     falses: bool,
@@ -41,7 +41,7 @@ struct Held {
     nulls: bool,
 }
 
-// How many rows are true, counted by words.
+// Counts the rows that are true, by words.
 fn true_rows(array: &BooleanArray) -> usize
     ensures { result ≡ count_by (is_value (pos 1)) (truth_rows array.now) }
 {
@@ -51,13 +51,13 @@ fn true_rows(array: &BooleanArray) -> usize
     }
 }
 
-// What the rows of an array hold.
+// Returns the distinct values of the rows of an array.
 fn held_by(array: &BooleanArray) -> Held
     ensures falses { result.falses ≡ holds (truth_rows array.now) (pos 0) }
     ensures trues { result.trues ≡ holds (truth_rows array.now) (pos 1) }
     ensures nulls { result.nulls ≡ any_null (truth_rows array.now) }
 {
-    // No effect at run time. The proof reads from it that the validity has a bit for each row.
+    // Has no effect at run time. The proof learns from it that the validity has a bit for each row.
     let _validity = array.validity();
     let nulls = array.null_count();
     let trues = true_rows(array);
@@ -69,7 +69,7 @@ fn held_by(array: &BooleanArray) -> Held
 }
 
 impl BooleanUniqueKernelState {
-    /// A state that has seen nothing.
+    /// Creates a state that has seen no row.
     pub fn new() -> BooleanUniqueKernelState
         ensures { result ≡ new_state truth_numbers }
     {
@@ -92,7 +92,7 @@ impl Default for BooleanUniqueKernelState {
     }
 }
 
-// A truth value is pushed, where it was seen.
+// Pushes a truth value if it was seen.
 fn push_seen(values: &mut BitmapBuilder, seen: bool, value: bool)
     requires { 0 < values.old.room }
     ensures bits { values.new.bits ≡ values.old.bits ++ cond seen (value ∷ []) [] }
@@ -103,7 +103,7 @@ fn push_seen(values: &mut BitmapBuilder, seen: bool, value: bool)
     }
 }
 
-// The truth values that were seen, and false for a null. The error is `Memory`.
+// Returns the truth values that were seen, and false if a null was. The error is `Memory`.
 fn seen_values(alloc: Global, state: &BooleanUniqueKernelState) -> Result<Bitmap, ComputeError>
     ensures { MatchResult result (λ bits. bits ≡ seen_bits state.now) IsMemory }
 {
@@ -114,7 +114,8 @@ fn seen_values(alloc: Global, state: &BooleanUniqueKernelState) -> Result<Bitmap
     Ok(values.freeze())
 }
 
-// A validity that masks the null behind `present` truth values, if one was seen. The error is `Memory`.
+// Returns a validity that masks the null after `present` truth values, if one was seen. The error
+// is `Memory`.
 fn seen_validity(
     alloc: Global,
     present: usize,
@@ -157,7 +158,7 @@ impl RangedUniqueKernel for BooleanUniqueKernelState {
     }
 
     fn accepts(&self, _array: &BooleanArray) -> bool {
-        // No effect at run time. The proof reads from it what the range is, here and below.
+        // Has no effect at run time. The proof learns from it what the range is, here and below.
         let _ = &self.seen_null;
         true
     }
@@ -200,7 +201,7 @@ impl RangedUniqueKernel for BooleanUniqueKernelState {
     }
 }
 
-// The state of one array.
+// Returns the state of one array.
 fn state_of(array: &BooleanArray) -> BooleanUniqueKernelState
     ensures { result ≡ appended (truth_rows array.now) (new_state truth_numbers) }
 {

@@ -24,11 +24,12 @@ use polars_compute_slots::reading::{NullValues, ReadCounts};
 use std::alloc::Global;
 use std::marker::Model;
 
-// How many entries keys of type `u32` can name.
+// Number of entries that keys of type `u32` can name.
 const MOST_ENTRIES: usize = 1 << 32;
 
-/// A state of the keys that name the entries of a dictionary. Only keys are gathered: two equal entries count twice. A key that names a
-/// null entry is gathered as any other, and stands for null where the state is asked what it has seen.
+/// A state of the keys that name the entries of a dictionary. It collects keys only: two equal
+/// entries count twice. A key that names a null entry is collected as any other, and counts as null
+/// in results.
 #[derive(Drop)]
 pub struct DictionaryRangedUniqueState {
     keys: PrimitiveRangedUniqueState<u32>,
@@ -49,14 +50,15 @@ impl Model for DictionaryRangedUniqueState {
     ghost invariant = { λ s. IsGood s.entries };
 }
 
-/// Whether keys of type `u32` can name all entries: there are at most 2^32.
+/// Returns whether keys of type `u32` can name all entries: there are at most 2^32.
 pub fn keys_fit(values: &AnyArray) -> bool
     ensures { IsTrue result ↔ (len_of values.now ≤ 2 ^ 32) }
 {
     values.len() <= MOST_ENTRIES
 }
 
-// A state of `n` keys that has seen none of them. The error is `Memory`, and comes only of more than 127 keys.
+// Creates a state of `n` keys that has seen none of them. The error is `Memory`, and is possible
+// only for more than 127 keys.
 fn new_keys(alloc: Global, n: usize) -> Result<PrimitiveRangedUniqueState<u32>, ComputeError>
     requires { n ≤ 2 ^ 32 }
     ensures state { MatchResult result (λ state. state ≡ new_state (numbers_from (pos 0) n)) IsMemory }
@@ -71,7 +73,8 @@ fn new_keys(alloc: Global, n: usize) -> Result<PrimitiveRangedUniqueState<u32>, 
 impl DictionaryRangedUniqueState {
     ghost use Rattle.polars_compute_unique.specs.KeyLends.{lends_keys};
 
-    /// A state that has seen none of the keys of the entries. The error is `Memory`, and comes only of more than 127 entries.
+    /// Creates a state that has seen no key of the entries. The error is `Memory`, and is possible
+    /// only for more than 127 entries.
     pub fn new(alloc: Global, values: AnyArray) -> Result<DictionaryRangedUniqueState, ComputeError>
         requires good { IsGood values }
         requires fit { len_of values ≤ 2 ^ 32 }
@@ -90,7 +93,8 @@ impl DictionaryRangedUniqueState {
         }
     }
 
-    /// The state of the keys. What is written through it is the range, the set and the flag from then on.
+    /// Borrows the state of the keys. Whatever is written through it becomes the range, the set and
+    /// the flag of this state.
     pub fn key_state(&mut self) -> &mut PrimitiveRangedUniqueState<u32>
         ensures* written { sem 𝓛 (lends_keys self.entry result) }
         ensures keys { result.now ≡ self.old.keys }
@@ -98,7 +102,7 @@ impl DictionaryRangedUniqueState {
         &mut self.keys
     }
 
-    // What has been seen, where the keys to null entries stand for null.
+    // Returns the counts of what was seen, with keys to null entries as null.
     fn read_counts(&self) -> ReadCounts
         ensures counted { IsCounted (read_by (names_null self.now.entries) self.now.keys) result }
         ensures few { result.seen + 1 < 2 ^ 64 }
@@ -107,7 +111,7 @@ impl DictionaryRangedUniqueState {
     }
 }
 
-// A value in a box. The error is `Memory`.
+// Puts a value in a box. The error is `Memory`.
 fn boxed<T: Drop>(alloc: Global, value: T) -> Result<Box<T>, ComputeError>
     ensures { MatchResult result (λ boxed. boxed.value ≡ value) IsMemory }
 {
@@ -115,7 +119,7 @@ fn boxed<T: Drop>(alloc: Global, value: T) -> Result<Box<T>, ComputeError>
     Ok(boxed)
 }
 
-// The array of keys over entries that they name, which is good.
+// Creates the array of keys over entries. Each key must name an entry; the result is good.
 fn array_of(keys: PrimitiveArray<u32>, entries: Box<AnyArray>) -> DictionaryArray
     requires good { IsGood entries.value }
     requires named { AreKeys (len_of entries.value) (DictKeys.UInt32 keys) }
@@ -129,7 +133,7 @@ fn array_of(keys: PrimitiveArray<u32>, entries: Box<AnyArray>) -> DictionaryArra
     array
 }
 
-// The same over entries that are put into a box. The error is `Memory`.
+// Creates the array of keys over entries, which it puts in a box. The error is `Memory`.
 fn keyed_array(
     alloc: Global,
     keys: PrimitiveArray<u32>,
@@ -150,7 +154,7 @@ fn keyed_array(
     }
 }
 
-// That each key that was seen names one of `len` entries, or else the least one that does not.
+// Checks that each key seen names one of `len` entries. The error has the least one that does not.
 fn name_entries(keys: &PrimitiveRangedUniqueState<u32>, len: usize) -> Result<(), ComputeError>
     ensures { MatchResult result (λ _. NamesEntries len keys.now) (IsMissingKey len keys.now) }
 {
@@ -160,7 +164,7 @@ fn name_entries(keys: &PrimitiveRangedUniqueState<u32>, len: usize) -> Result<()
     }
 }
 
-// Which keys name null entries.
+// The keys that name null entries.
 #[derive(Drop)]
 struct EntryNulls<'a> {
     entries: &'a AnyArray,
@@ -197,7 +201,8 @@ impl NullValues for EntryNulls<'_> {
     }
 }
 
-// The keys that were seen, ascending, and a null last, if there was one. The error is that of `finalize_unique`.
+// Lists the keys seen, ascending, and a null last, if one was seen. The error is that of
+// `finalize_unique`.
 fn named_keys(
     alloc: Global,
     keys: PrimitiveRangedUniqueState<u32>,

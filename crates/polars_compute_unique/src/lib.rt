@@ -1,4 +1,5 @@
-//! Distinct values of columns in chunks: states that gather them, merge, stop reading once they have seen all, and give them in order.
+//! Distinct values of columns in chunks: states that collect them, merge, stop reading once all
+//! were seen, and return them in order.
 #![tactic(auto)]
 
 pub mod boolean;

@@ -1,4 +1,4 @@
-//! Many arrays appended to one state, and many states merged into one.
+//! Appending of many arrays to one state, and merging of many states into one.
 
 ghost use Rattle.std.specs.Prelude.{◌≡◌, ◌↔◌, ◌<◌, ℕ, IsTrue, length, map, slice_get, All};
 ghost use Rattle.polars_compute_slots.specs.State.{appended_all, are_within, range_of};
@@ -6,7 +6,7 @@ ghost use Rattle.polars_compute_unique.specs.Trees.{HaveRange, leftmost, merged_
 
 use crate::kernel::RangedUniqueKernel;
 
-/// Appends all arrays, in order. It takes no memory.
+/// Appends all arrays, in order. Does not allocate.
 pub fn append_all<S: RangedUniqueKernel>(state: &mut S, arrays: &[S::Array])
     requires taken { All (λ array. IsTrue (S.is_taken array)) arrays.now }
     requires within { All (λ array. IsTrue (are_within (range_of (S.state state.old)) (S.fed array))) arrays.now }
@@ -18,7 +18,7 @@ pub fn append_all<S: RangedUniqueKernel>(state: &mut S, arrays: &[S::Array])
     }
 }
 
-/// States to be merged, in an order of one's own.
+/// States to merge, in an order that the caller chooses.
 #[derive(Drop)]
 pub enum MergeTree<S> {
     Leaf(S),
@@ -26,7 +26,7 @@ pub enum MergeTree<S> {
 }
 
 impl<S: RangedUniqueKernel> MergeTree<S> {
-    // The leftmost state.
+    // Returns the leftmost state.
     fn leftmost(&self) -> &S
         ensures { result.now ≡ leftmost self.now }
     {
@@ -36,7 +36,7 @@ impl<S: RangedUniqueKernel> MergeTree<S> {
         }
     }
 
-    // Whether all states have the range of this one.
+    // Returns whether all states have the range of `state`.
     fn has_range_of(&self, state: &S) -> bool
         ensures { IsTrue result ↔ HaveRange S.state (range_of (S.state state.now)) self.now }
     {
@@ -46,7 +46,7 @@ impl<S: RangedUniqueKernel> MergeTree<S> {
         }
     }
 
-    /// Whether all states have one range.
+    /// Returns whether all states have one range.
     pub fn one_range(&self) -> bool
         ensures { IsTrue result ↔ HaveRange S.state (range_of (S.state (leftmost self.now))) self.now }
     {
@@ -54,7 +54,7 @@ impl<S: RangedUniqueKernel> MergeTree<S> {
     }
 }
 
-/// All states merged into the leftmost, which keeps its dictionary. It takes no memory.
+/// Merges all states into the leftmost, which keeps its dictionary. Does not allocate.
 pub fn merge_tree<S: RangedUniqueKernel + Drop>(tree: MergeTree<S>) -> S
     requires { HaveRange S.state (range_of (S.state (leftmost tree))) tree }
     ensures state { S.state result ≡ merged_tree S.state tree }

@@ -31,7 +31,8 @@ pub(crate) enum Seen {
     Many(MutableBitmap),
 }
 
-// So many slots, none of them set. The error is `Memory`, and does not come of slots that stand in one word.
+// Creates `len` slots, none of them set. The error is `Memory`, which is possible only for more
+// than 128 slots.
 fn none_set(alloc: Global, len: usize) -> Result<Seen, ComputeError>
     ensures slots { MatchResult result (λ seen. seen_slots seen ≡ replicate len false) IsMemory }
     ensures word { MatchResult result (λ seen. in_word seen ≡ nat_le len 128) IsMemory }
@@ -44,7 +45,7 @@ fn none_set(alloc: Global, len: usize) -> Result<Seen, ComputeError>
     Ok(Seen::Many(slots))
 }
 
-// The slots that are set elsewhere are set here too, where as many are kept alike.
+// Sets the slots that are set in `other`, which must have as many, stored in the same form.
 fn join_seen(seen: &mut Seen, other: &Seen)
     requires size { length (seen_slots other.now) ≡ length (seen_slots seen.old) }
     requires word { in_word other.now ≡ in_word seen.old }
@@ -58,7 +59,7 @@ fn join_seen(seen: &mut Seen, other: &Seen)
     }
 }
 
-/// A state of the numbers from a least to a greatest one.
+/// A state of the numbers of a range.
 #[derive(Drop)]
 pub struct PrimitiveRangedUniqueState<T: UniqueNumber> {
     span: Span<T>,
@@ -78,8 +79,8 @@ impl<T: UniqueNumber> Model for PrimitiveRangedUniqueState<T> {
     ghost invariant = { λ s. IsKept T.low T.high (T.value s.span.least) s.span.count s.seen };
 }
 
-/// Whether there is a state of the numbers from `min_value` to `max_value`: they are in order, and `max_value - min_value + 2` is
-/// no more than `usize::MAX`.
+/// Returns whether there can be a state of the numbers from `min_value` to `max_value`: they are in
+/// order, and `max_value - min_value + 2` is at most `usize::MAX`.
 pub fn range_fits<T: UniqueNumber>(min_value: T, max_value: T) -> bool
     ensures { IsTrue result ↔ RangeFits (T.value min_value) (T.value max_value) }
 {
@@ -87,8 +88,8 @@ pub fn range_fits<T: UniqueNumber>(min_value: T, max_value: T) -> bool
 }
 
 impl<T: UniqueNumber> PrimitiveRangedUniqueState<T> {
-    /// A state that has seen none of the numbers from `min_value` to `max_value`. The error is `Memory`, and comes only of more than
-    /// 127 numbers.
+    /// Creates a state that has seen none of the numbers from `min_value` to `max_value`. The error
+    /// is `Memory`, and is possible only for more than 127 numbers.
     pub fn new(
         alloc: Global,
         min_value: T,
@@ -103,7 +104,7 @@ impl<T: UniqueNumber> PrimitiveRangedUniqueState<T> {
         Ok(PrimitiveRangedUniqueState { span, seen })
     }
 
-    /// A state of no numbers, which can see nothing but nulls.
+    /// Creates a state with an empty range, which can see nothing except nulls.
     pub fn new_empty() -> PrimitiveRangedUniqueState<T>
         ensures { result ≡ new_state [] }
     {
@@ -113,8 +114,8 @@ impl<T: UniqueNumber> PrimitiveRangedUniqueState<T> {
         }
     }
 
-    /// `append`, where the counter rises by the rows that are read: with a null all, else blocks of 512 rows until all numbers were
-    /// seen.
+    /// Appends an array and counts the rows it reads: all of them if the array has a null,
+    /// otherwise whole blocks of 512 until every number of the range was seen.
     pub fn append_counted(&mut self, array: &PrimitiveArray<T>, steps: &mut Steps)
         requires { IsTrue (are_within (range_of self.old) (number_rows T.value array.now)) }
         ensures state { self.new ≡ appended (number_rows T.value array.now) self.old }
@@ -143,8 +144,8 @@ impl<T: UniqueNumber> PrimitiveRangedUniqueState<T> {
         }
     }
 
-    // The numbers that were seen, ascending, and a null last, if there was one, where some values stand for null. The error is
-    // `Memory`.
+    // Lists the numbers seen, ascending, and a null last, if one was seen, in the reading in which
+    // some values mean null. The error is `Memory`.
     pub(crate) fn list_read<N: NullValues>(
         &self,
         alloc: Global,
@@ -159,7 +160,7 @@ impl<T: UniqueNumber> PrimitiveRangedUniqueState<T> {
         }
     }
 
-    // The least number from a bound on that was seen.
+    // Returns the least number seen that is at least a bound.
     pub(crate) fn least_from(&self, bound: i128) -> Option<T>
         ensures { MatchOption result (All (λ v. v <ℤ bound) (set_of self.now)) (λ x. IsLeastFrom bound (set_of self.now) (T.value x)) }
     {

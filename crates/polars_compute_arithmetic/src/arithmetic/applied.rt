@@ -1,4 +1,4 @@
-//! Operations on two numbers applied to arrays.
+//! Operations on two numbers, applied to arrays.
 
 ghost use Rattle.std.specs.Prelude.{◌≡◌, ◌||◌, IfOk, IsOk, IsTrue, MatchResult, length};
 ghost use Rattle.num_traits.specs.Laws.{bit_len};
@@ -17,7 +17,8 @@ use polars_arrays_flat::primitive::PrimitiveArray;
 use polars_arrays_numbers::native_type::NativeType;
 use std::alloc::Global;
 
-// The answers at each pair of stored values. A row is null where one of the two is. The error is `Memory`.
+// Applies an operation to each pair of stored values. A row is null if one of the two is. The error
+// is `Memory`.
 pub(crate) fn apply_pairs<T: NativeType, O: NumberOperation<T>>(
     alloc: Global,
     lhs: PrimitiveArray<T>,
@@ -30,7 +31,7 @@ pub(crate) fn apply_pairs<T: NativeType, O: NumberOperation<T>>(
     prim_binary_in_place(alloc, lhs, rhs, |x, y| O::apply(x, y))
 }
 
-// The answers at each stored value and a number. Nulls are kept. The error is `Memory`.
+// Applies an operation to each stored value and a number. Nulls stay null. The error is `Memory`.
 pub(crate) fn apply_right<T: NativeType, O: NumberOperation<T>>(
     alloc: Global,
     lhs: PrimitiveArray<T>,
@@ -43,7 +44,7 @@ pub(crate) fn apply_right<T: NativeType, O: NumberOperation<T>>(
     prim_unary_in_place(alloc, lhs, |x| O::apply(x, rhs))
 }
 
-// The answers at a number and each stored value. Nulls are kept. The error is `Memory`.
+// Applies an operation to a number and each stored value. Nulls stay null. The error is `Memory`.
 pub(crate) fn apply_left<T: NativeType, O: NumberOperation<T>>(
     alloc: Global,
     lhs: T,
@@ -56,8 +57,8 @@ pub(crate) fn apply_left<T: NativeType, O: NumberOperation<T>>(
     prim_unary_in_place(alloc, rhs, |y| O::apply(lhs, y))
 }
 
-// The answers at each pair of stored values. A row is null where one of the two is, or the right one is 0. The error
-// is `Memory`.
+// Applies an operation to each pair of stored values. A row is null if one of the two is, or if the
+// right one is 0. The error is `Memory`.
 pub(crate) fn divide_pairs<T: NativeType + Zero, O: NumberOperation<T>>(
     alloc: Global,
     lhs: PrimitiveArray<T>,
@@ -76,7 +77,8 @@ pub(crate) fn divide_pairs<T: NativeType + Zero, O: NumberOperation<T>>(
     }
 }
 
-// The answers at a number and each stored value. A row is null where it was, or is 0. The error is `Memory`.
+// Applies an operation to a number and each stored value. A row is null if it was, or if it is 0.
+// The error is `Memory`.
 pub(crate) fn divide_each<T: NativeType + Zero, O: NumberOperation<T>>(
     alloc: Global,
     lhs: T,
@@ -89,8 +91,8 @@ pub(crate) fn divide_each<T: NativeType + Zero, O: NumberOperation<T>>(
     apply_left::<T, O>(alloc, lhs, rhs)
 }
 
-// Divides each stored value by a number. Nulls are kept, and by 0 each row is null, over the values
-// of the array as they are. The error is `Memory`.
+// Divides each stored value by a number. Nulls stay null. If the number is 0, each row is null, and
+// the stored values are unchanged. The error is `Memory`.
 pub(crate) fn divide_by<T: DivisorNumber + Zero, O: NumberDivision<T>>(
     alloc: Global,
     lhs: PrimitiveArray<T>,

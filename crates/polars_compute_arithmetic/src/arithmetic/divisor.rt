@@ -1,4 +1,4 @@
-//! What arithmetic asks of each type of numbers by itself: divisors that stay, and the ends between which its numbers lie.
+//! Requirements of arithmetic on a number type: prepared divisors, and bounds of its numbers.
 
 ghost use Rattle.std.specs.Prelude.{◌≡◌, ◌↔◌, ◌≤◌, ◌≤ℤ◌, ℤ, IsSome, IfSome, pos, unsigned_abs};
 ghost use Rattle.polars_compute_arithmetic.specs.Quotients.{floor_quotient, truncated_quotient};
@@ -7,7 +7,8 @@ use crate::arithmetic::reciprocals::{Reciprocal32, Reciprocal64, ShortReciprocal
 use crate::arithmetic::signed_divisors::{SignedDivisor16, SignedDivisor32, SignedDivisor64};
 use polars_arrays_numbers::native_type::NativeType;
 
-/// A type of numbers that divide many. A divisor that stays is kept with its reciprocal, so that each quotient is a product.
+/// A number type with prepared divisors. A prepared divisor has its reciprocal, so that each
+/// quotient is a product.
 pub trait DivisorNumber: NativeType {
     /// A divisor with its reciprocal.
     type Divisor: Drop;
@@ -15,20 +16,20 @@ pub trait DivisorNumber: NativeType {
     // The divisor.
     ghost divisor: { Self.Divisor → ℤ };
 
-    /// The number as a divisor, where it is neither 0 nor 1 nor -1.
+    /// Prepares the number as a divisor, or returns `None` if it is 0, 1 or -1.
     fn to_divisor(self) -> Option<Self::Divisor>
         ensures some { IsSome result ↔ (2 ≤ unsigned_abs (Self.value self)) }
         ensures same { IfSome result (λ kept. divisor kept ≡ Self.value self) };
 
-    /// The quotient, rounded down.
+    /// Divides by a prepared divisor, rounding down.
     fn floor_by(self, by: &Self::Divisor) -> Self
         ensures { Self.value result ≡ floor_quotient (Self.value self) (divisor by.now) };
 
-    /// The quotient, rounded toward 0.
+    /// Divides by a prepared divisor, rounding toward 0.
     fn truncated_by(self, by: &Self::Divisor) -> Self
         ensures { Self.value result ≡ truncated_quotient (Self.value self) (divisor by.now) };
 
-    /// A law of the type: a number of it lies between its ends.
+    /// States that a number of the type lies within its bounds.
     fn law_ends(self)
         ensures least { Self.low ≤ℤ Self.value self }
         ensures greatest { Self.value self ≤ℤ Self.high };

@@ -1,4 +1,5 @@
-//! Arithmetic on arrays of numbers, one body for each operation, generic over the number. All calls consume their arrays.
+//! Arithmetic on arrays of numbers, with one generic function for each operation. All calls consume
+//! their arrays.
 
 ghost use Rattle.std.specs.Prelude.{◌≡◌, ◌||◌, IfOk, IsOk, IsTrue, MatchResult, length};
 ghost use Rattle.num_traits.specs.Laws.{bit_len};
@@ -19,12 +20,15 @@ use polars_arrays_bits::error::ComputeError;
 use polars_arrays_flat::primitive::PrimitiveArray;
 use std::alloc::Global;
 
-/// Arithmetic on arrays of one type of numbers, wrapped to the type. A row is null where an operand is null or a divisor is
+/// Arithmetic on arrays of one number type, wrapped to the type. A row is null if an operand is
+/// null or the divisor is 0. A scalar acts as a column that repeats it. Values that an array owns
+/// are written in place. The error is `Memory`. Results own their values, except for a division by
+/// the scalar 0: it keeps the values of the array, owned or shared.
 /// 0. A scalar stands for as many present rows. What the array owns is written in place. The error is `Memory`.
 /// Answers own their values, but for a division by the number 0: it keeps the values of the array
 /// as they are, owned or shared.
 pub trait PrimitiveArithmeticKernelImpl: PlNumArithmetic {
-    /// How far the numbers are from 0.
+    /// Returns the absolute values.
     final fn prim_wrapping_abs(
         alloc: Global,
         lhs: PrimitiveArray<Self>,
@@ -36,7 +40,7 @@ pub trait PrimitiveArithmeticKernelImpl: PlNumArithmetic {
         prim_unary_in_place(alloc, lhs, |x| PlNumArithmetic::wrapping_abs(x))
     }
 
-    /// The numbers negated.
+    /// Returns the negated numbers.
     final fn prim_wrapping_neg(
         alloc: Global,
         lhs: PrimitiveArray<Self>,
@@ -48,7 +52,7 @@ pub trait PrimitiveArithmeticKernelImpl: PlNumArithmetic {
         prim_unary_in_place(alloc, lhs, |x| PlNumArithmetic::wrapping_neg(x))
     }
 
-    /// The sums.
+    /// Returns the sums.
     final fn prim_wrapping_add(
         alloc: Global,
         lhs: PrimitiveArray<Self>,
@@ -61,7 +65,7 @@ pub trait PrimitiveArithmeticKernelImpl: PlNumArithmetic {
         apply_pairs::<Self, Sum>(alloc, lhs, rhs)
     }
 
-    /// The differences.
+    /// Returns the differences.
     final fn prim_wrapping_sub(
         alloc: Global,
         lhs: PrimitiveArray<Self>,
@@ -74,7 +78,7 @@ pub trait PrimitiveArithmeticKernelImpl: PlNumArithmetic {
         apply_pairs::<Self, Difference>(alloc, lhs, rhs)
     }
 
-    /// The products.
+    /// Returns the products.
     final fn prim_wrapping_mul(
         alloc: Global,
         lhs: PrimitiveArray<Self>,
@@ -87,7 +91,7 @@ pub trait PrimitiveArithmeticKernelImpl: PlNumArithmetic {
         apply_pairs::<Self, Product>(alloc, lhs, rhs)
     }
 
-    /// The quotients, rounded down.
+    /// Returns the quotients, rounded down.
     final fn prim_wrapping_floor_div(
         alloc: Global,
         lhs: PrimitiveArray<Self>,
@@ -100,7 +104,7 @@ pub trait PrimitiveArithmeticKernelImpl: PlNumArithmetic {
         divide_pairs::<Self, FloorQuotient>(alloc, lhs, rhs)
     }
 
-    /// The quotients, rounded toward 0.
+    /// Returns the quotients, rounded toward 0.
     final fn prim_wrapping_trunc_div(
         alloc: Global,
         lhs: PrimitiveArray<Self>,
@@ -113,7 +117,7 @@ pub trait PrimitiveArithmeticKernelImpl: PlNumArithmetic {
         divide_pairs::<Self, TruncatedQuotient>(alloc, lhs, rhs)
     }
 
-    /// What the quotients that are rounded down leave.
+    /// Returns the remainders of the quotients that are rounded down.
     final fn prim_wrapping_mod(
         alloc: Global,
         lhs: PrimitiveArray<Self>,
@@ -126,7 +130,7 @@ pub trait PrimitiveArithmeticKernelImpl: PlNumArithmetic {
         divide_pairs::<Self, Modulus>(alloc, lhs, rhs)
     }
 
-    /// The sums with a number.
+    /// Adds a number to each row.
     final fn prim_wrapping_add_scalar(
         alloc: Global,
         lhs: PrimitiveArray<Self>,
@@ -139,7 +143,7 @@ pub trait PrimitiveArithmeticKernelImpl: PlNumArithmetic {
         apply_right::<Self, Sum>(alloc, lhs, rhs)
     }
 
-    /// The differences, a number taken away.
+    /// Subtracts a number from each row.
     final fn prim_wrapping_sub_scalar(
         alloc: Global,
         lhs: PrimitiveArray<Self>,
@@ -152,7 +156,7 @@ pub trait PrimitiveArithmeticKernelImpl: PlNumArithmetic {
         apply_right::<Self, Difference>(alloc, lhs, rhs)
     }
 
-    /// The differences, taken away from a number.
+    /// Subtracts each row from a number.
     final fn prim_wrapping_sub_scalar_lhs(
         alloc: Global,
         lhs: Self,
@@ -165,7 +169,7 @@ pub trait PrimitiveArithmeticKernelImpl: PlNumArithmetic {
         apply_left::<Self, Difference>(alloc, lhs, rhs)
     }
 
-    /// The products with a number.
+    /// Multiplies each row by a number.
     final fn prim_wrapping_mul_scalar(
         alloc: Global,
         lhs: PrimitiveArray<Self>,
@@ -178,7 +182,7 @@ pub trait PrimitiveArithmeticKernelImpl: PlNumArithmetic {
         apply_right::<Self, Product>(alloc, lhs, rhs)
     }
 
-    /// The quotients by a number, rounded down.
+    /// Divides each row by a number, rounding down.
     final fn prim_wrapping_floor_div_scalar(
         alloc: Global,
         lhs: PrimitiveArray<Self>,
@@ -190,7 +194,7 @@ pub trait PrimitiveArithmeticKernelImpl: PlNumArithmetic {
         divide_by::<Self, FloorQuotient>(alloc, lhs, rhs)
     }
 
-    /// The quotients of a number, rounded down.
+    /// Divides a number by each row, rounding down.
     final fn prim_wrapping_floor_div_scalar_lhs(
         alloc: Global,
         lhs: Self,
@@ -202,7 +206,7 @@ pub trait PrimitiveArithmeticKernelImpl: PlNumArithmetic {
         divide_each::<Self, FloorQuotient>(alloc, lhs, rhs)
     }
 
-    /// The quotients by a number, rounded toward 0.
+    /// Divides each row by a number, rounding toward 0.
     final fn prim_wrapping_trunc_div_scalar(
         alloc: Global,
         lhs: PrimitiveArray<Self>,
@@ -214,7 +218,7 @@ pub trait PrimitiveArithmeticKernelImpl: PlNumArithmetic {
         divide_by::<Self, TruncatedQuotient>(alloc, lhs, rhs)
     }
 
-    /// The quotients of a number, rounded toward 0.
+    /// Divides a number by each row, rounding toward 0.
     final fn prim_wrapping_trunc_div_scalar_lhs(
         alloc: Global,
         lhs: Self,
@@ -226,7 +230,7 @@ pub trait PrimitiveArithmeticKernelImpl: PlNumArithmetic {
         divide_each::<Self, TruncatedQuotient>(alloc, lhs, rhs)
     }
 
-    /// What the quotients by a number, rounded down, leave.
+    /// Returns the remainders of each row divided by a number, rounding down.
     final fn prim_wrapping_mod_scalar(
         alloc: Global,
         lhs: PrimitiveArray<Self>,
@@ -238,7 +242,7 @@ pub trait PrimitiveArithmeticKernelImpl: PlNumArithmetic {
         divide_by::<Self, Modulus>(alloc, lhs, rhs)
     }
 
-    /// What the quotients of a number, rounded down, leave.
+    /// Returns the remainders of a number divided by each row, rounding down.
     final fn prim_wrapping_mod_scalar_lhs(
         alloc: Global,
         lhs: Self,

@@ -1,4 +1,4 @@
-//! Operations on two numbers, a type each, so that what maps arrays by them is written once.
+//! Operations on two numbers, a type for each, so that the maps over arrays are written once.
 
 ghost use Rattle.std.specs.Prelude.{◌≡◌, ◌≢◌, ◌≤◌, ℤ, pos, refl, unsigned_abs};
 ghost use Rattle.num_traits.specs.Laws.{bit_len};
@@ -15,48 +15,48 @@ pub(crate) trait NumberOperation<T: NativeType> {
     // The operation on whole numbers.
     ghost meaning: { Operation };
 
-    /// The answer wrapped to the type, or 0 where there is none.
+    /// Returns the result wrapped to the type, or 0 if there is none.
     fn apply(x: T, y: T) -> T
         ensures { Gives T.value T.low (bit_len T.width) meaning x y result };
 }
 
-/// A division: it has an answer by each number but 0.
+/// A division: it has a result for each divisor except 0.
 pub(crate) trait NumberDivision<T: DivisorNumber>: NumberOperation<T> {
-    // The answer by a number other than 0.
+    // The quotient by a divisor other than 0.
     ghost divided: { ℤ → ℤ → ℤ };
 
-    /// The answer by a divisor that stays.
+    /// Divides by a prepared divisor.
     fn by_divisor(x: T, rhs: T, divisor: &T::Divisor) -> T
         requires some { T.value rhs ≢ pos 0 }
         requires same { T.divisor divisor.now ≡ T.value rhs }
         ensures { Gives T.value T.low (bit_len T.width) Self.meaning x rhs result };
 
-    /// The answer by 1 or by -1.
+    /// Divides by 1 or -1.
     fn by_unit(x: T, rhs: T) -> T
         requires some { T.value rhs ≢ pos 0 }
         requires unit { 2 ≤ unsigned_abs (T.value rhs) → ⊥ }
         ensures { Gives T.value T.low (bit_len T.width) Self.meaning x rhs result };
 
-    // By 0 it has no answer.
+    // Division by 0 has no result.
     ghost division_law: { (a b : ℤ) → Self.NumberOperation.meaning a b ≡ unless_zero Self.divided a b };
 }
 
-/// The sum.
+/// Addition.
 pub(crate) struct Sum;
 
-/// The difference.
+/// Subtraction.
 pub(crate) struct Difference;
 
-/// The product.
+/// Multiplication.
 pub(crate) struct Product;
 
-/// The quotient, rounded down.
+/// Division, rounding down.
 pub(crate) struct FloorQuotient;
 
-/// The quotient, rounded toward 0.
+/// Division, rounding toward 0.
 pub(crate) struct TruncatedQuotient;
 
-/// What the quotient that is rounded down leaves.
+/// The remainder of division, rounding down.
 pub(crate) struct Modulus;
 
 impl<T: PlNumArithmetic> NumberOperation<T> for Sum {

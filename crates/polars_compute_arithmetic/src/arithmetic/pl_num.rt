@@ -10,8 +10,7 @@ use crate::arithmetic::divisor::DivisorNumber;
 use num_traits::{One, WrappingAdd, WrappingMul, WrappingNeg, WrappingSub, Zero};
 use polars_compute_bits::wrapping::WrappingNumber;
 
-/// Arithmetic on single numbers that wraps around at the ends of the type. By 0 both divisions and the
-/// modulus are 0.
+/// Wrapping arithmetic on single numbers. Both divisions and the modulus by 0 are 0.
 pub trait PlNumArithmetic: DivisorNumber
     + WrappingNumber
     + Zero
@@ -20,15 +19,15 @@ pub trait PlNumArithmetic: DivisorNumber
     + WrappingSub
     + WrappingMul
     + WrappingNeg {
-    /// How far the number is from 0. The least number of a signed type stays.
+    /// Returns the absolute value. The least number of a signed type stays.
     fn wrapping_abs(self) -> Self
         ensures { Self.value result ≡ wrapped Self.low (bit_len Self.width) (or_zero (magnitude_of (Self.value self))) };
 
-    /// The quotient, rounded toward 0, and 0 by 0.
+    /// Returns the quotient, rounded toward 0, or 0 for the divisor 0.
     fn wrapping_trunc_div(self, rhs: Self) -> Self
         ensures { Self.value result ≡ wrapped Self.low (bit_len Self.width) (or_zero (truncated_division (Self.value self) (Self.value rhs))) };
 
-    /// The number negated.
+    /// Returns the negated number.
     #[inline(always)]
     final fn wrapping_neg(self) -> Self
         ensures { Self.value result ≡ wrapped Self.low (bit_len Self.width) (or_zero (negation_of (Self.value self))) }
@@ -36,7 +35,7 @@ pub trait PlNumArithmetic: DivisorNumber
         WrappingNeg::wrapping_neg(&self)
     }
 
-    /// The sum.
+    /// Returns the sum.
     #[inline(always)]
     final fn wrapping_add(self, rhs: Self) -> Self
         ensures { Self.value result ≡ wrapped Self.low (bit_len Self.width) (or_zero (sum_of (Self.value self) (Self.value rhs))) }
@@ -44,7 +43,7 @@ pub trait PlNumArithmetic: DivisorNumber
         WrappingAdd::wrapping_add(&self, &rhs)
     }
 
-    /// The difference.
+    /// Returns the difference.
     #[inline(always)]
     final fn wrapping_sub(self, rhs: Self) -> Self
         ensures { Self.value result ≡ wrapped Self.low (bit_len Self.width) (or_zero (difference_of (Self.value self) (Self.value rhs))) }
@@ -52,7 +51,7 @@ pub trait PlNumArithmetic: DivisorNumber
         WrappingSub::wrapping_sub(&self, &rhs)
     }
 
-    /// The product.
+    /// Returns the product.
     #[inline(always)]
     final fn wrapping_mul(self, rhs: Self) -> Self
         ensures { Self.value result ≡ wrapped Self.low (bit_len Self.width) (or_zero (product_of (Self.value self) (Self.value rhs))) }
@@ -60,7 +59,7 @@ pub trait PlNumArithmetic: DivisorNumber
         WrappingMul::wrapping_mul(&self, &rhs)
     }
 
-    /// The quotient, rounded down, and 0 by 0.
+    /// Returns the quotient, rounded down, or 0 for the divisor 0.
     #[inline(always)]
     final fn wrapping_floor_div(self, rhs: Self) -> Self
         ensures { Self.value result ≡ wrapped Self.low (bit_len Self.width) (or_zero (floor_division (Self.value self) (Self.value rhs))) }
@@ -76,7 +75,7 @@ pub trait PlNumArithmetic: DivisorNumber
         }
     }
 
-    /// What the quotient that is rounded down leaves of the number, and 0 by 0.
+    /// Returns the remainder of the quotient that is rounded down, or 0 for the divisor 0.
     #[inline(always)]
     final fn wrapping_mod(self, rhs: Self) -> Self
         ensures { Self.value result ≡ wrapped Self.low (bit_len Self.width) (or_zero (modulo (Self.value self) (Self.value rhs))) }
@@ -93,7 +92,8 @@ pub trait PlNumArithmetic: DivisorNumber
         }
     }
 
-    /// The quotient, rounded down, and 0 by 0: another name of `wrapping_floor_div`.
+    /// Returns the quotient, rounded down, or 0 for the divisor 0. Another name of
+    /// `wrapping_floor_div`.
     #[inline(always)]
     final fn legacy_div(self, rhs: Self) -> Self
         ensures { Self.value result ≡ wrapped Self.low (bit_len Self.width) (or_zero (floor_division (Self.value self) (Self.value rhs))) }
@@ -102,7 +102,7 @@ pub trait PlNumArithmetic: DivisorNumber
     }
 }
 
-// What the quotient that is rounded toward 0 leaves of a number.
+// Returns the remainder of a number, given its quotient rounded toward 0.
 #[inline(always)]
 fn remainder<T: PlNumArithmetic>(number: T, divisor: T, quotient: T) -> T
     requires some { T.value divisor ≢ pos 0 }
@@ -116,7 +116,7 @@ fn remainder<T: PlNumArithmetic>(number: T, divisor: T, quotient: T) -> T
     PlNumArithmetic::wrapping_sub(number, product)
 }
 
-// Whether a number lies below 0.
+// Returns whether a number is below 0.
 #[inline(always)]
 fn is_negative<T: PlNumArithmetic>(number: T) -> bool
     ensures { result ≡ is_below (T.value number) }
@@ -124,7 +124,7 @@ fn is_negative<T: PlNumArithmetic>(number: T) -> bool
     number < T::zero()
 }
 
-// Whether a remainder and its divisor lie on different sides of 0.
+// Returns whether a remainder and its divisor have different signs, and the remainder is not 0.
 #[inline(always)]
 fn is_across<T: PlNumArithmetic>(rest: T, divisor: T) -> bool
     ensures { result ≡ across (T.value rest) (T.value divisor) }

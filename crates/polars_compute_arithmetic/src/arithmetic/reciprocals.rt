@@ -1,12 +1,12 @@
-//! Natural numbers that divide many: a quotient is a product with the divisor's reciprocal, which is made once.
+//! Prepared natural divisors: a quotient is a product with the divisor's reciprocal, computed once.
 
 ghost use Rattle.std.specs.Prelude.{◌≡◌, ℕ, ◌+◌, ◌*◌, ◌/◌, ◌^◌, ◌<◌, ◌≤◌};
 ghost use Rattle.polars_compute_arithmetic.specs.Reciprocal.{reciprocal};
 
 use std::marker::Model;
 
-/// A divisor of up to 2^31, for numbers of up to 2^31. Clauses read it as the divisor. Its products have 64 bits, so
-/// that a loop over them becomes vectors.
+/// A divisor of up to 2^31 for numbers of up to 2^31. Contracts see the divisor. Its products have
+/// 64 bits, so loops over them are vectorized.
 #[derive(Drop)]
 pub struct ShortReciprocal {
     divisor: u32,
@@ -23,7 +23,7 @@ impl Model for ShortReciprocal {
 }
 
 impl ShortReciprocal {
-    /// The divisor with its reciprocal.
+    /// Prepares a divisor.
     pub fn new(divisor: u32) -> ShortReciprocal
         requires some { 2 ≤ divisor }
         requires within { divisor ≤ 2 ^ 31 }
@@ -38,7 +38,7 @@ impl ShortReciprocal {
         }
     }
 
-    /// The quotient, rounded down.
+    /// Returns the quotient, rounded down.
     #[inline(always)]
     pub fn divide(&self, a: u32) -> u32
         requires { a ≤ 2 ^ 31 }
@@ -49,7 +49,7 @@ impl ShortReciprocal {
     }
 }
 
-/// A divisor of up to 2^63, for numbers of up to 2^63. Clauses read it as the divisor.
+/// A divisor of up to 2^63 for numbers of up to 2^63. Contracts see the divisor.
 #[derive(Drop)]
 pub struct ShortReciprocal64 {
     divisor: u64,
@@ -66,7 +66,7 @@ impl Model for ShortReciprocal64 {
 }
 
 impl ShortReciprocal64 {
-    /// The divisor with its reciprocal.
+    /// Prepares a divisor.
     pub fn new(divisor: u64) -> ShortReciprocal64
         requires some { 2 ≤ divisor }
         requires within { divisor ≤ 2 ^ 63 }
@@ -81,7 +81,7 @@ impl ShortReciprocal64 {
         }
     }
 
-    /// The quotient, rounded down.
+    /// Returns the quotient, rounded down.
     #[inline(always)]
     pub fn divide(&self, a: u64) -> u64
         requires { a ≤ 2 ^ 63 }
@@ -92,8 +92,8 @@ impl ShortReciprocal64 {
     }
 }
 
-/// A divisor of 32 bits, for numbers of 32 bits. Clauses read it as the divisor. Of the reciprocal, which has 33
-/// bits, it keeps all but the highest one, which is 1, so that its products have 64 bits.
+/// A divisor of 32 bits for numbers of 32 bits. Contracts see the divisor. The reciprocal has 33
+/// bits; the highest is 1 and is not stored, so products have 64 bits.
 #[derive(Drop)]
 pub struct Reciprocal32 {
     divisor: u32,
@@ -110,7 +110,7 @@ impl Model for Reciprocal32 {
 }
 
 impl Reciprocal32 {
-    /// The divisor with its reciprocal.
+    /// Prepares a divisor.
     pub fn new(divisor: u32) -> Reciprocal32
         requires { 2 ≤ divisor }
         ensures { result ≡ divisor }
@@ -125,7 +125,7 @@ impl Reciprocal32 {
         }
     }
 
-    /// The quotient, rounded down.
+    /// Returns the quotient, rounded down.
     #[inline(always)]
     pub fn divide(&self, a: u32) -> u32
         ensures { result ≡ a / self.now }
@@ -135,8 +135,8 @@ impl Reciprocal32 {
     }
 }
 
-/// A divisor of 64 bits, for numbers of 64 bits. Clauses read it as the divisor. Of the reciprocal, which has 65
-/// bits, it keeps all but the highest one, which is 1.
+/// A divisor of 64 bits for numbers of 64 bits. Contracts see the divisor. The reciprocal has 65
+/// bits; the highest is 1 and is not stored.
 #[derive(Drop)]
 pub struct Reciprocal64 {
     divisor: u64,
@@ -153,7 +153,7 @@ impl Model for Reciprocal64 {
 }
 
 impl Reciprocal64 {
-    /// The divisor with its reciprocal.
+    /// Prepares a divisor.
     pub fn new(divisor: u64) -> Reciprocal64
         requires { 2 ≤ divisor }
         ensures { result ≡ divisor }
@@ -168,7 +168,7 @@ impl Reciprocal64 {
         }
     }
 
-    /// The quotient, rounded down.
+    /// Returns the quotient, rounded down.
     #[inline(always)]
     pub fn divide(&self, a: u64) -> u64
         ensures { result ≡ a / self.now }
@@ -177,7 +177,7 @@ impl Reciprocal64 {
     }
 }
 
-// The upper 64 bits of a product.
+// Returns the upper 64 bits of a product.
 #[inline(always)]
 fn high_product(a: u64, factor: u64) -> u64
     ensures product { result ≡ a * factor / 2 ^ 64 }
@@ -186,7 +186,7 @@ fn high_product(a: u64, factor: u64) -> u64
     ((a as u128 * factor as u128) >> 64) as u64
 }
 
-// Half of the sum of two numbers, rounded down. The sum itself may have more than 64 bits.
+// Returns half of the sum of two numbers, rounded down. The sum may have more than 64 bits.
 #[inline(always)]
 fn half_sum(a: u64, b: u64) -> u64
     requires { b ≤ a }

@@ -1,4 +1,4 @@
-//! Signed numbers that divide many, over the reciprocals of their magnitudes.
+//! Prepared signed divisors, by the reciprocals of their magnitudes.
 
 ghost use Rattle.std.specs.Prelude.{◌≡◌, ℤ, pos, ℕ, ◌+◌, ◌*◌, ◌≤◌, ◌<◌, ◌^◌, unsigned_abs, FitsSigned};
 ghost use Rattle.std.specs.Int.{w16, w32, w64};
@@ -7,7 +7,7 @@ ghost use Rattle.polars_compute_arithmetic.specs.Quotients.{floor_by, floor_quot
 use crate::arithmetic::reciprocals::{ShortReciprocal, ShortReciprocal64};
 use std::marker::Model;
 
-/// A divisor of 16 bits. Clauses read it as the divisor.
+/// A divisor of 16 bits. Contracts see the divisor.
 #[derive(Drop)]
 pub struct SignedDivisor16 {
     divisor: i16,
@@ -24,7 +24,7 @@ impl Model for SignedDivisor16 {
 }
 
 impl SignedDivisor16 {
-    /// The divisor with the reciprocal of its magnitude.
+    /// Prepares a divisor.
     pub fn new(divisor: i16) -> SignedDivisor16
         requires { 2 ≤ unsigned_abs divisor }
         ensures { result ≡ divisor }
@@ -37,7 +37,7 @@ impl SignedDivisor16 {
         }
     }
 
-    /// The quotient, rounded down.
+    /// Returns the quotient, rounded down.
     #[inline(always)]
     pub fn divide_floor(&self, x: i16) -> i32
         ensures quotient { result ≡ floor_quotient x self.now }
@@ -47,8 +47,8 @@ impl SignedDivisor16 {
         self.divide_by_magnitude(if self.divisor > 0 { x } else { -x })
     }
 
-    // The quotient by the divisor's magnitude, rounded down. What is divided is not below 0: 2^15 times the magnitude
-    // is added, so that the quotient is greater by 2^15.
+    // Returns the quotient by the divisor's magnitude, rounded down. To divide no negative number,
+    // it adds 2^15 times the magnitude, and subtracts 2^15 from the quotient.
     #[inline(always)]
     fn divide_by_magnitude(&self, x: i32) -> i32
         requires { unsigned_abs x ≤ 2 ^ 15 }
@@ -58,7 +58,7 @@ impl SignedDivisor16 {
         self.magnitude.divide((x + self.offset) as u32) as i32 - (1 << 15)
     }
 
-    /// The quotient, rounded toward 0.
+    /// Returns the quotient, rounded toward 0.
     #[inline(always)]
     pub fn divide_truncated(&self, x: i16) -> i32
         ensures quotient { result ≡ truncated_quotient x self.now }
@@ -69,7 +69,7 @@ impl SignedDivisor16 {
     }
 }
 
-/// A divisor of 32 bits. Clauses read it as the divisor.
+/// A divisor of 32 bits. Contracts see the divisor.
 #[derive(Drop)]
 pub struct SignedDivisor32 {
     divisor: i32,
@@ -85,7 +85,7 @@ impl Model for SignedDivisor32 {
 }
 
 impl SignedDivisor32 {
-    /// The divisor with the reciprocal of its magnitude.
+    /// Prepares a divisor.
     pub fn new(divisor: i32) -> SignedDivisor32
         requires { 2 ≤ unsigned_abs divisor }
         ensures { result ≡ divisor }
@@ -96,7 +96,7 @@ impl SignedDivisor32 {
         }
     }
 
-    /// The quotient, rounded down.
+    /// Returns the quotient, rounded down.
     #[inline(always)]
     pub fn divide_floor(&self, x: i32) -> i32
         ensures quotient { result ≡ floor_quotient x self.now }
@@ -108,7 +108,7 @@ impl SignedDivisor32 {
         if below { -1 - q } else { q }
     }
 
-    /// The quotient, rounded toward 0.
+    /// Returns the quotient, rounded toward 0.
     #[inline(always)]
     pub fn divide_truncated(&self, x: i32) -> i32
         ensures quotient { result ≡ truncated_quotient x self.now }
@@ -119,7 +119,7 @@ impl SignedDivisor32 {
     }
 }
 
-/// A divisor of 64 bits. Clauses read it as the divisor.
+/// A divisor of 64 bits. Contracts see the divisor.
 #[derive(Drop)]
 pub struct SignedDivisor64 {
     divisor: i64,
@@ -135,7 +135,7 @@ impl Model for SignedDivisor64 {
 }
 
 impl SignedDivisor64 {
-    /// The divisor with the reciprocal of its magnitude.
+    /// Prepares a divisor.
     pub fn new(divisor: i64) -> SignedDivisor64
         requires { 2 ≤ unsigned_abs divisor }
         ensures { result ≡ divisor }
@@ -146,7 +146,7 @@ impl SignedDivisor64 {
         }
     }
 
-    /// The quotient, rounded down.
+    /// Returns the quotient, rounded down.
     #[inline(always)]
     pub fn divide_floor(&self, x: i64) -> i64
         ensures { result ≡ floor_quotient x self.now }
@@ -157,7 +157,7 @@ impl SignedDivisor64 {
         if below { -1 - q } else { q }
     }
 
-    /// The quotient, rounded toward 0.
+    /// Returns the quotient, rounded toward 0.
     #[inline(always)]
     pub fn divide_truncated(&self, x: i64) -> i64
         ensures { result ≡ truncated_quotient x self.now }

@@ -1,4 +1,4 @@
-//! Divisors that are 0.
+//! Masks of zero divisors.
 
 ghost use Rattle.std.specs.Prelude.{◌≡◌, length, replicate, false, Some, MatchResult};
 ghost use Rattle.polars_arrays_bits.specs.Errors.{IsMemory};
@@ -15,7 +15,7 @@ use polars_arrays_numbers::native_type::NativeType;
 use polars_compare_equality::kernel::TotalEqKernel;
 use std::alloc::Global;
 
-// The same array, of which the rows that are 0 are null. The error is `Memory`.
+// Masks the rows that are 0. The error is `Memory`.
 pub(crate) fn mask_zeros<T: NativeType + Zero>(
     alloc: Global,
     divisors: PrimitiveArray<T>,
@@ -32,7 +32,8 @@ pub(crate) fn mask_zeros<T: NativeType + Zero>(
     }
 }
 
-// The validity under which the rows that are 0 are null. The one that there was is taken out. The error is `Memory`.
+// Returns the validity in which rows that are 0 are masked too, and removes the existing one. The
+// error is `Memory`.
 fn nonzero_validity<T: NativeType + Zero>(
     alloc: Global,
     divisors: &mut PrimitiveArray<T>,
@@ -45,7 +46,7 @@ fn nonzero_validity<T: NativeType + Zero>(
     Ok(validity)
 }
 
-// An array of as many nulls. The error is `Memory`.
+// Masks all rows. The error is `Memory`.
 pub(crate) fn mask_all<T: NativeType>(
     alloc: Global,
     array: PrimitiveArray<T>,
