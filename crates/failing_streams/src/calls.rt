@@ -1,9 +1,9 @@
-//! How often a stream is read or written.
+//! A limit on the number of reads or writes of a stream.
 
 use std::io;
 use std::io::ErrorKind;
 
-/// How many calls of a stream are still to succeed.
+/// The number of calls of a stream that still succeed.
 #[derive(Clone, Copy)]
 pub struct Calls {
     left: usize,
@@ -12,7 +12,7 @@ pub struct Calls {
 }
 
 impl Calls {
-    /// So many calls, each of which is interrupted once if the stream is interrupting.
+    /// Allows `left` calls. If the stream is interrupting, each of them is interrupted once.
     pub fn new(left: usize, interrupting: bool) -> Calls {
         Calls {
             left,
@@ -21,7 +21,7 @@ impl Calls {
         }
     }
 
-    /// Counts a call. It fails where it is to be interrupted, and where no call is left.
+    /// Counts a call. It fails if it is to be interrupted, or if no call is left.
     pub fn count(&mut self) -> io::Result<()> {
         if self.interrupting && !self.interrupted {
             self.interrupted = true;

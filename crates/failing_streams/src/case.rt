@@ -1,4 +1,4 @@
-//! A case: an input or the demo, and how often its reader and its writer succeed.
+//! A case: an input or the demo, and the number of successful reads and writes.
 
 use crate::manner::Manner;
 use crate::slow_reader::SlowReader;
@@ -8,7 +8,7 @@ use polars_tables_lines::demo::demo;
 use polars_tables_lines::running::{Report, RunError, run};
 use std::alloc::Global;
 
-/// What a run or the demo said, and the bytes that its writer took.
+/// Returns the outcome of a run or of the demo, and the bytes that its writer accepted.
 pub fn answer(alloc: Global, line: &str) -> Result<String> {
     let (manner, line) = Manner::read(line)?;
     match line.strip_prefix("demo ") {
@@ -17,7 +17,7 @@ pub fn answer(alloc: Global, line: &str) -> Result<String> {
     }
 }
 
-/// What a run over the input of a line said, and the bytes that its writer took.
+/// Returns the outcome of a run over the input of a line, and the bytes that its writer accepted.
 fn answer_input(alloc: Global, line: &str, manner: Manner) -> Result<String> {
     let (reads, rest) = line.split_once(' ').context("no reads")?;
     let (writes, bytes) = rest.split_once(' ').context("no writes")?;
@@ -25,7 +25,8 @@ fn answer_input(alloc: Global, line: &str, manner: Manner) -> Result<String> {
     answer_run(alloc, &input, reads, writes, manner)
 }
 
-/// The bytes that a word writes, and behind them those of another word as often as a number says, if these follow.
+/// Returns the bytes of a word, and then, if given, those of another word, repeated a number of
+/// times.
 fn read_input(alloc: Global, text: &str) -> Result<Vec<u8>> {
     let Some((bytes, more)) = text.split_once(' ') else {
         return read_bytes(alloc, text);
@@ -36,19 +37,19 @@ fn read_input(alloc: Global, text: &str) -> Result<Vec<u8>> {
     Ok(input)
 }
 
-/// Adds the bytes that a word writes as often as a number says.
+/// Appends the bytes of a word, repeated a number of times.
 fn push_pieces(alloc: Global, input: &mut Vec<u8>, times: &str, piece: &str) -> Result<()> {
     let times = times.parse()?;
     push_repeated(input, times, &read_bytes(alloc, piece)?)
 }
 
-/// The bytes that a word writes.
+/// Returns the bytes that a word writes.
 fn read_bytes(alloc: Global, word: &str) -> Result<Vec<u8>> {
     let digits = word.strip_prefix('x').context("no bytes")?;
     Ok(hex::decode(alloc, digits)?)
 }
 
-/// Adds bytes so many times.
+/// Appends bytes `times` times.
 fn push_repeated(input: &mut Vec<u8>, times: u32, piece: &[u8]) -> Result<()> {
     for _ in 0..times {
         input.extend_from_slice(piece)?;
@@ -56,7 +57,7 @@ fn push_repeated(input: &mut Vec<u8>, times: u32, piece: &[u8]) -> Result<()> {
     Ok(())
 }
 
-/// What a run said, and the bytes that its writer took.
+/// Returns the outcome of a run, and the bytes that its writer accepted.
 fn answer_run(
     alloc: Global,
     input: &[u8],
@@ -72,21 +73,21 @@ fn answer_run(
     write_outcome(alloc, outcome_text(alloc, &outcome), writer.taken())
 }
 
-/// What the demo said, and the bytes that its writer took.
+/// Returns the outcome of the demo, and the bytes that its writer accepted.
 fn answer_demo(alloc: Global, writes: &str, manner: Manner) -> Result<String> {
     let mut writer = SlowWriter::new(alloc, writes.parse()?, manner);
     let outcome = demo(alloc, &mut writer);
     write_outcome(alloc, demo_text(alloc, &outcome), writer.taken())
 }
 
-/// What was said, and the bytes that a writer took.
+/// Returns an outcome, and the bytes that a writer accepted.
 fn write_outcome(alloc: Global, said: Result<String>, taken: &[u8]) -> Result<String> {
     let said = said?;
     let taken = hex::encode(alloc, taken)?;
     Ok(format!(in alloc; "{said} x{taken}")?)
 }
 
-/// What a run said.
+/// Returns the outcome of a run as text.
 fn outcome_text(alloc: Global, outcome: &Result<Report, RunError>) -> Result<String> {
     let text = match outcome {
         Ok(report) => format!(in alloc; "ok lines {} refused {}", report.lines, report.refused),
@@ -95,7 +96,7 @@ fn outcome_text(alloc: Global, outcome: &Result<Report, RunError>) -> Result<Str
     Ok(text?)
 }
 
-/// What the demo said.
+/// Returns the outcome of the demo as text.
 fn demo_text(alloc: Global, outcome: &Result<(), RunError>) -> Result<String> {
     let text = match outcome {
         Ok(()) => "ok".to_string(alloc),

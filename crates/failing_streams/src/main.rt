@@ -1,19 +1,21 @@
-//! Runs inputs over readers and writers that fail, and tells what came of each run.
+//! Runs inputs over readers and writers that fail, and prints the outcome of each run.
 //!
-//! A line is `READS WRITES BYTES`: the run's input is `BYTES`, its reader gives one byte at a time and fails
-//! after `READS` reads, and its writer takes one byte at a time and fails after `WRITES` writes. Bytes are `x` and two
-//! hexadecimal digits for each. `READS WRITES BYTES TIMES PIECE` has the bytes of `PIECE` behind those of `BYTES`, `TIMES` times.
-//! `demo WRITES` is the demo over such a writer. These words can stand in front of a line, in this order:
+//! A line is `READS WRITES BYTES`: the run's input is `BYTES`, its reader gives one byte at a time
+//! and fails after `READS` reads, and its writer accepts one byte at a time and fails after
+//! `WRITES` writes. Bytes are `x` and two hexadecimal digits for each.
+//! `READS WRITES BYTES TIMES PIECE` has the bytes of `PIECE`, `TIMES` times, after those of
+//! `BYTES`. `demo WRITES` is the demo over such a writer. These words may come before a line, in
+//! this order:
 //!
 //! | Word | What the streams do |
 //! |---|---|
 //! | `interrupted` | each read and each write is interrupted once before it succeeds |
-//! | `boasting` | a read that gives bytes says one more, where the buffer has room for it; what stands there then counts as given |
-//! | `stopping` | the writer does not fail after `WRITES` writes: it takes nothing from then on |
-//! | `pieces N` | a call gives or takes up to `N` bytes, as many as there are and as are asked for |
+//! | `boasting` | a read that gives bytes reports one more, if the buffer has room for it; that byte counts as given |
+//! | `stopping` | the writer does not fail after `WRITES` writes: it accepts nothing from then on |
+//! | `pieces N` | a call gives or accepts up to `N` bytes, limited by what is left and asked for |
 //!
-//! Printed are the line, ` -> `, what the run said and the bytes that the writer took. A line that begins with `#` is printed as it
-//! stands.
+//! The output for a line is the line, ` -> `, the outcome of the run, and the bytes that the writer
+//! accepted. A line that begins with `#` is printed unchanged.
 #![tactic(auto)]
 
 use crate::case::answer;
@@ -25,7 +27,7 @@ mod manner;
 mod slow_reader;
 mod slow_writer;
 
-/// Prints a line that begins with `#`, or a case and its answer.
+/// Prints a line that begins with `#`, or a case and its result.
 fn print_line(rt: &(impl Print + AllocGlobal), line: &str) -> Result<()> {
     if line.starts_with('#') {
         println!(rt; "{line}")?;

@@ -1,22 +1,22 @@
-//! How the streams of a case behave, as the words in front of it say.
+//! Behaviour of the streams of a case, given by the words before it.
 
 use anyhow::{Context, Result};
 
-/// How the streams of a case behave.
+/// The behaviour of the streams of a case.
 #[derive(Clone, Copy)]
 pub struct Manner {
     /// Each call is interrupted once before it succeeds.
     pub interrupting: bool,
-    /// A read says that it gave a byte more than it did, where the buffer has room for it.
+    /// A read reports one byte more than it gave, if the buffer has room for it.
     pub boasting: bool,
-    /// A writer that is written to too often takes nothing, and does not fail.
+    /// A writer that is called too often accepts nothing, and does not fail.
     pub stopping: bool,
-    /// How many bytes a call gives or takes at the most.
+    /// Greatest number of bytes that a call gives or accepts.
     pub pace: usize,
 }
 
 impl Manner {
-    /// Reads the words in front of a line, and returns what follows them.
+    /// Reads the words before a line, and returns the rest of the line.
     pub fn read(line: &str) -> Result<(Manner, &str)> {
         let (line, interrupting) = take_word(line, "interrupted ");
         let (line, boasting) = take_word(line, "boasting ");
@@ -32,7 +32,7 @@ impl Manner {
     }
 }
 
-/// Whether a word stands in front of a line, and what follows it.
+/// Returns whether a line begins with a word, and the rest of the line.
 fn take_word<'a>(line: &'a str, word: &str) -> (&'a str, bool) {
     match line.strip_prefix(word) {
         Some(rest) => (rest, true),
@@ -40,7 +40,8 @@ fn take_word<'a>(line: &'a str, word: &str) -> (&'a str, bool) {
     }
 }
 
-/// The number behind the word `pieces` in front of a line, or 1, and what follows it.
+/// Returns the number after the word `pieces` at the beginning of a line, or 1, and the rest of the
+/// line.
 fn take_pace(line: &str) -> Result<(&str, usize)> {
     let Some(rest) = line.strip_prefix("pieces ") else {
         return Ok((line, 1));

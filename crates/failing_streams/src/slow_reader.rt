@@ -7,7 +7,7 @@ use crate::manner::Manner;
 use std::io;
 use std::io::Read;
 
-/// Gives its bytes a few at a time, and fails once it was read as often as it may be.
+/// A reader that gives its bytes a few at a time, and fails after a number of reads.
 #[derive(Drop)]
 pub struct SlowReader<'a> {
     bytes: &'a [u8],
@@ -25,7 +25,8 @@ impl<'a> SlowReader<'a> {
     }
 }
 
-// How many bytes a read gives at that pace that has room for so many, of so many that are left.
+// Returns the number of bytes that a read gives, for a pace, the room in its buffer, and the number
+// of bytes left.
 fn given(pace: usize, room: usize, left: usize) -> usize
     ensures room { result ≤ room }
     ensures left { result ≤ left }

@@ -6,7 +6,7 @@ use std::alloc::Global;
 use std::io;
 use std::io::Write;
 
-/// Takes a few bytes at a time, and fails or stops once it was written to as often as it may be.
+/// A writer that accepts a few bytes at a time, and fails or stops after a number of writes.
 #[derive(Drop)]
 pub struct SlowWriter {
     taken: Vec<u8>,
@@ -23,7 +23,7 @@ impl SlowWriter {
         }
     }
 
-    /// The bytes that were taken.
+    /// Returns the bytes that were accepted.
     pub fn taken(&self) -> &[u8] {
         &self.taken
     }

@@ -1,23 +1,23 @@
-//! Why there is no answer.
+//! Errors of the program.
 
 use polars_arrays_bits::error::{ArrayError, ComputeError};
 use std::alloc::{AllocError, AllocFailed};
 use std::io;
 use thiserror::Error;
 
-/// Why there is no answer.
+/// The reason why there is no result.
 #[derive(Debug, Drop, Error)]
 pub enum Fault {
-    /// The parts of an array do not fit each other.
+    /// The parts of an array do not match.
     #[error("no array: {0}")]
     Parts(ArrayError),
-    /// The columns are of two types or lengths.
+    /// The columns differ in type or length.
     #[error("columns of two types or lengths")]
     Columns,
-    /// A growth was refused.
+    /// An allocation failed.
     #[error("out of memory")]
     Memory,
-    /// The answer could not be written.
+    /// The result could not be written.
     #[error("the answer could not be written")]
     Output,
 }
@@ -28,7 +28,7 @@ impl From<ArrayError> for Fault {
     }
 }
 
-// Of the kernels that are called here `Memory` is the only error.
+// `Memory` is the only error of the kernels called here.
 impl From<ComputeError> for Fault {
     fn from(_refused: ComputeError) -> Fault {
         Fault::Memory

@@ -1,7 +1,9 @@
-//! First steps: two columns of numbers, and two of orders, are made from parts and compared row by row.
+//! First steps: builds two columns of numbers, and two of orders, from parts, and compares them row
+//! by row.
 //!
-//! An order is a struct. Its items are a list of numbers, and its city is an entry of a dictionary. The second column keeps the
-//! same orders in another way: other numbers lie under the null list, and its dictionary has the cities in another order.
+//! An order is a struct. Its items are a list of numbers, and its city is an entry of a dictionary.
+//! The second column stores the same orders differently: other numbers lie under the null list, and
+//! its dictionary has the cities in another order.
 #![tactic(auto)]
 
 ghost use Rattle.std.specs.List.{All};
@@ -28,22 +30,22 @@ use std::process::ExitCode;
 
 mod fault;
 
-/// What a column of orders is made of.
+/// The parts of a column of orders.
 #[derive(Clone, Copy)]
 struct Parts<'a> {
     /// Order `i` has the items from offset `i` up to offset `i + 1`.
     offsets: &'a [i32],
     items: &'a [i32],
-    /// Whether an order has a list of items; else the list is null.
+    /// Whether an order has a list of items; otherwise the list is null.
     present: &'a [bool],
-    /// The number of each order's city.
+    /// For each order the index of its city.
     keys: &'a [u8],
     /// City `k` has the bytes from end `k` up to end `k + 1`.
     ends: &'a [i32],
     cities: &'a str,
 }
 
-/// The items of all orders.
+/// Creates the items of all orders.
 fn items(alloc: Global, parts: &Parts) -> Result<Box<AnyArray>, Fault>
     ensures { IfOk result (λ array. IsGood array.value) }
 {
@@ -51,7 +53,7 @@ fn items(alloc: Global, parts: &Parts) -> Result<Box<AnyArray>, Fault>
     Ok(Box::new(alloc, AnyArray::Int32(items))?)
 }
 
-/// The lists of items.
+/// Creates the lists of items.
 fn lists(alloc: Global, parts: &Parts) -> Result<AnyArray, Fault>
     ensures { IfOk result (λ array. IsGood array) }
 {
@@ -63,7 +65,7 @@ fn lists(alloc: Global, parts: &Parts) -> Result<AnyArray, Fault>
     Ok(AnyArray::List(array))
 }
 
-/// The cities.
+/// Creates the cities.
 fn cities(alloc: Global, parts: &Parts) -> Result<Box<AnyArray>, Fault>
     ensures { IfOk result (λ array. IsGood array.value) }
 {
@@ -73,7 +75,7 @@ fn cities(alloc: Global, parts: &Parts) -> Result<Box<AnyArray>, Fault>
     Ok(Box::new(alloc, AnyArray::Utf8(array))?)
 }
 
-/// The city of each order, which a key names.
+/// Creates the city of each order, as keys into the cities.
 fn named_cities(alloc: Global, parts: &Parts) -> Result<AnyArray, Fault>
     ensures { IfOk result (λ array. IsGood array) }
 {
@@ -84,13 +86,13 @@ fn named_cities(alloc: Global, parts: &Parts) -> Result<AnyArray, Fault>
     Ok(AnyArray::Dictionary(array))
 }
 
-/// A field of a struct.
+/// Creates a field of a struct.
 fn field(alloc: Global, name: &str, dtype: ArrowDataType) -> Result<Field, Fault> {
     let name = String::from_str(alloc, name)?;
     Ok(Field { name, dtype })
 }
 
-/// The fields of an order: a list of numbers, and a text that a key of one byte names.
+/// Creates the fields of an order: a list of numbers, and a text by an 8-bit key.
 fn fields(alloc: Global) -> Result<Vec<Field>, Fault> {
     let mut fields = Vec::new(alloc);
     let items = ArrowDataType::List(Box::new(alloc, ArrowDataType::Int32)?);
@@ -101,7 +103,7 @@ fn fields(alloc: Global) -> Result<Vec<Field>, Fault> {
     Ok(fields)
 }
 
-/// The two columns that orders are made of.
+/// Creates the two columns of the orders' fields.
 fn columns(alloc: Global, parts: &Parts) -> Result<Vec<AnyArray>, Fault>
     ensures { IfOk result (λ columns. All IsGood columns.items) }
 {
@@ -111,7 +113,7 @@ fn columns(alloc: Global, parts: &Parts) -> Result<Vec<AnyArray>, Fault>
     Ok(columns)
 }
 
-/// The column of orders that the parts make.
+/// Creates the column of orders.
 fn orders(alloc: Global, parts: &Parts) -> Result<Box<AnyArray>, Fault>
     ensures { IfOk result (λ array. IsGood array.value) }
 {
@@ -121,7 +123,7 @@ fn orders(alloc: Global, parts: &Parts) -> Result<Box<AnyArray>, Fault>
     Ok(Box::new(alloc, AnyArray::Struct(array))?)
 }
 
-/// Compares two columns row by row, and prints what that tells.
+/// Compares two columns row by row, and prints the result.
 fn print_same(
     rt: &(impl Print + AllocGlobal),
     left: &AnyArray,
@@ -138,7 +140,7 @@ fn print_same(
     print_rows(rt, &same, steps.seen())
 }
 
-/// Prints for each row whether it is the same, and after how many comparisons that is known.
+/// Prints for each row whether it is the same, and then the number of comparisons.
 fn print_rows(rt: &impl Print, same: &Bitmap, comparisons: u64) -> Result<(), Fault> {
     for i in 0..same.len() {
         let told = if same.get_bit(i) {
@@ -152,7 +154,7 @@ fn print_rows(rt: &impl Print, same: &Bitmap, comparisons: u64) -> Result<(), Fa
     Ok(())
 }
 
-/// Returns a column of numbers. Where `present` is false a row is null.
+/// Creates a column of numbers. A row is null if `present` is false.
 fn numbers(alloc: Global, values: &[i32], present: &[bool]) -> Result<PrimitiveArray<i32>, Fault> {
     let values = Buffer::from_vec(Vec::from_slice(alloc, values)?);
     let validity = Bitmap::from_bools(alloc, present)?;
@@ -174,7 +176,7 @@ fn compare_numbers(rt: &(impl Print + AllocGlobal)) -> Result<(), Fault> {
     Ok(())
 }
 
-/// Three orders, of which the second has no list of items.
+/// Three orders, the second without a list of items.
 const FIRST: Parts<'static> = Parts {
     offsets: &[0, 2, 2, 3],
     items: &[1, 2, 7],
@@ -184,7 +186,7 @@ const FIRST: Parts<'static> = Parts {
     cities: "OsloBergen",
 };
 
-/// The same but for the last item, kept in another way.
+/// The same orders except for the last item, stored differently.
 const SECOND: Parts<'static> = Parts {
     offsets: &[0, 2, 4, 5],
     items: &[1, 2, 9, 9, 8],

@@ -1,5 +1,4 @@
--- Bits of a comparison of two windows: n rows from row a of the left, from row b of the right
--- array.
+-- Bits of a comparison of two windows: n rows from row a of the left and row b of the right array.
 use Rattle.std.specs.Prelude.{◌≡◌, ◌+◌, ◌<◌, ◌&&◌, ℕ, Bool, false, IsTrue, List, Option, length, slice_index_or}
 use Rattle.std.specs.Simd.Lanes.{zip2}
 use Rattle.polars_arrays_words.specs.Bits.{first_of, is_bit}

@@ -6,7 +6,7 @@ use Rattle.std.specs.Simd.Lanes.{zip2}
 use Rattle.polars_arrays_flat.specs.ArrayRows.{is_null}
 use Rattle.polars_arrays_flat.specs.Row.{Row, Null, Int, Truth}
 
--- for each value of a range, ascending, whether it was seen, and whether a null was; false is 0
+-- the values of a range, ascending, each with whether it was seen; and whether a null was seen
 pub record State : Type 0 where
   pub values : List (ℤ × Bool)
   pub has_null : Bool
@@ -27,8 +27,7 @@ numbers_from least n = map (λ i. least +ℤ pos i) (range_with_len 0 n)
 abbrev pub numbers_between : ℤ → ℤ → List ℤ
 numbers_between least greatest = numbers_from least (unsigned_abs (greatest -ℤ least +ℤ pos 1))
 
--- two numbers are in order, and their range has at most 2^64 - 2 numbers, a slot each besides
--- null's
+-- two numbers are in order, and their range has at most 2^64 - 2 numbers, so that slots fit
 abbrev pub RangeFits : ℤ → ℤ → Type 0
 RangeFits least greatest = (least ≤ℤ greatest) × ((greatest -ℤ least +ℤ pos 2) ≤ℤ pos (2 ^ 64 - 1))
 

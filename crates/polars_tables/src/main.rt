@@ -1,4 +1,5 @@
-//! Reads lines such as `eq_missing i32 1 null | 1 null`, and answers each with a line.
+//! Reads one command a line from standard input (`eq_missing i32 1 null | 1 null`), and prints one
+//! result a line.
 #![tactic(auto)]
 
 use polars_tables_lines::arguments::asked;
@@ -9,7 +10,7 @@ use std::process::ExitCode;
 use std::rt::Env;
 use std::{env, io};
 
-/// What `--help` prints.
+/// The text that `--help` prints.
 const HELP: &str = "\
 Reads one command a line from standard input and prints one result a line.
 
@@ -27,7 +28,7 @@ A command is an operation, a type, and rows, with a bar between two lists of row
 docs/LANGUAGE.md has all operations. A line that can't be answered prints
 `line N: refused: WORD`, and the status is then 1.";
 
-/// The words after the program's name.
+/// Returns the words after the program's name.
 fn read_arguments<R: Env + AllocGlobal>(rt: &R) -> io::Result<Vec<String>> {
     let mut words = Vec::new(rt.alloc());
     for word in env::args(rt)?.skip(1) {
@@ -36,7 +37,7 @@ fn read_arguments<R: Env + AllocGlobal>(rt: &R) -> io::Result<Vec<String>> {
     Ok(words)
 }
 
-/// The exit status after a run, whose fault goes to standard error.
+/// Returns the exit status of a run, and prints its fault to standard error.
 fn end(rt: &impl Eprint, outcome: Result<Report, RunError>) -> u8 {
     if let Err(fault) = &outcome {
         let _ = eprintln!(rt; "{}", fault_text(fault));
@@ -44,19 +45,19 @@ fn end(rt: &impl Eprint, outcome: Result<Report, RunError>) -> u8 {
     exit_status(&outcome)
 }
 
-/// The report of what answers no lines.
+/// The report of a run without lines.
 const NO_LINES: Report = Report {
     lines: 0,
     refused: 0,
 };
 
-/// Prints the demo, which counts as a run of no lines.
+/// Prints the demo. Counts as a run without lines.
 fn print_demo(rt: &(impl Print + AllocGlobal)) -> Result<Report, RunError> {
     demo(rt.alloc(), &mut io::writer(rt))?;
     Ok(NO_LINES)
 }
 
-/// Prints a text, which counts as a run of no lines.
+/// Prints a text. Counts as a run without lines.
 fn print_text(rt: &impl Print, text: &str) -> Result<Report, RunError> {
     match println!(rt; "{text}") {
         Ok(()) => Ok(NO_LINES),

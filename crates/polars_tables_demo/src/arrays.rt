@@ -1,4 +1,4 @@
-//! The arrays of the demo, made of parts. Each is kept in a box.
+//! The arrays of the demo, made of parts. Each is in a box.
 
 ghost use Rattle.std.specs.Prelude.{IfOk, IfSome};
 ghost use Rattle.std.specs.List.{All};
@@ -22,7 +22,7 @@ use polars_arrays_views::binary_view::BinaryViewArray;
 use polars_arrays_views::view::View;
 use std::alloc::Global;
 
-// Which rows are present, or None where all are.
+// Creates a validity, or `None` if all rows are present.
 fn validity(alloc: Global, present: Option<&[bool]>) -> Result<Option<Bitmap>, Fault> {
     match present {
         Some(present) => Ok(Some(Bitmap::from_bools(alloc, present)?)),
@@ -30,7 +30,7 @@ fn validity(alloc: Global, present: Option<&[bool]>) -> Result<Option<Bitmap>, F
     }
 }
 
-// An array in a box.
+// Puts an array in a box.
 fn boxed(alloc: Global, array: AnyArray) -> Result<Box<AnyArray>, Fault>
     requires { IsGood array }
     ensures { IfOk result (λ boxed. IsGood boxed.value) }
@@ -38,12 +38,12 @@ fn boxed(alloc: Global, array: AnyArray) -> Result<Box<AnyArray>, Fault>
     Ok(Box::new(alloc, array)?)
 }
 
-// A buffer of these elements.
+// Creates a buffer of these elements.
 fn buffer<T: Copy>(alloc: Global, elements: &[T]) -> Result<Buffer<T>, Fault> {
     Ok(Buffer::from_vec(Vec::from_slice(alloc, elements)?))
 }
 
-/// Numbers.
+/// Creates an array of numbers.
 pub fn numbers(alloc: Global, values: &[i32]) -> Result<Box<AnyArray>, Fault>
     ensures { IfOk result (λ array. IsGood array.value) }
 {
@@ -51,14 +51,14 @@ pub fn numbers(alloc: Global, values: &[i32]) -> Result<Box<AnyArray>, Fault>
     boxed(alloc, AnyArray::Int32(array))
 }
 
-/// So many nulls.
+/// Creates an array of `len` nulls.
 pub fn nulls(alloc: Global, len: usize) -> Result<Box<AnyArray>, Fault>
     ensures { IfOk result (λ array. IsGood array.value) }
 {
     boxed(alloc, AnyArray::Null(NullArray::new(len)))
 }
 
-// Where rows begin and end, and which of them are present.
+// Creates offsets and a validity.
 fn row_parts(
     alloc: Global,
     offsets: &[i32],
@@ -69,7 +69,7 @@ fn row_parts(
     Ok((offsets, validity))
 }
 
-/// Texts, of which text `i` has the bytes from end `i` up to end `i + 1`.
+/// Creates an array of texts: text `i` has the bytes from end `i` up to end `i + 1`.
 pub fn texts(
     alloc: Global,
     ends: &[i32],
@@ -84,7 +84,7 @@ pub fn texts(
     boxed(alloc, AnyArray::Utf8(array))
 }
 
-/// Lists, of which list `i` has the items from offset `i` up to offset `i + 1`.
+/// Creates an array of lists: list `i` has the items from offset `i` up to offset `i + 1`.
 pub fn lists(
     alloc: Global,
     offsets: &[i32],
@@ -106,7 +106,7 @@ pub fn lists(
     }
 }
 
-/// Lists of no items each.
+/// Creates an array of empty lists.
 pub fn empty_lists(alloc: Global, present: &[bool]) -> Result<Box<AnyArray>, Fault>
     ensures { IfOk result (λ array. IsGood array.value) }
 {
@@ -116,7 +116,7 @@ pub fn empty_lists(alloc: Global, present: &[bool]) -> Result<Box<AnyArray>, Fau
     boxed(alloc, AnyArray::FixedSizeList(array))
 }
 
-/// The entries that keys name; a key that is not present is a null.
+/// Creates a dictionary array of keys and entries. A key that is not present is null.
 pub fn entries(
     alloc: Global,
     keys: &[u32],
@@ -138,21 +138,21 @@ pub fn entries(
     }
 }
 
-// Keys, of which those that are not present are nulls.
+// Creates an array of keys. A key that is not present is null.
 fn entry_keys(alloc: Global, keys: &[u32], present: &[bool]) -> Result<PrimitiveArray<u32>, Fault> {
     let keys = buffer(alloc, keys)?;
     let validity = validity(alloc, Some(present))?;
     Ok(PrimitiveArray::try_new(keys, validity)?)
 }
 
-// One buffer of these bytes.
+// Creates a list of one buffer of these bytes.
 fn one_buffer(alloc: Global, bytes: &[u8]) -> Result<Vec<Buffer<u8>>, Fault> {
     let mut buffers = Vec::new(alloc);
     buffers.push(buffer(alloc, bytes)?)?;
     Ok(buffers)
 }
 
-/// Byte strings by views, of which the long ones stand in one buffer.
+/// Creates an array of byte strings in views. Long ones lie in one buffer.
 pub fn strings(alloc: Global, views: &[View], bytes: &[u8]) -> Result<Box<AnyArray>, Fault>
     ensures { IfOk result (λ array. IsGood array.value) }
 {
@@ -162,7 +162,7 @@ pub fn strings(alloc: Global, views: &[View], bytes: &[u8]) -> Result<Box<AnyArr
     boxed(alloc, AnyArray::BinaryView(array))
 }
 
-// Adds a column, with its field.
+// Adds a column and its field.
 fn push_column(
     alloc: Global,
     fields: &mut Vec<Field>,
@@ -181,7 +181,8 @@ fn push_column(
     Ok(())
 }
 
-/// Structs whose first field is named `a`, and whose second one, if there is one, `b`.
+/// Creates an array of structs. The first field is named `a`, and the second one, if there is one,
+/// `b`.
 pub fn structs(
     alloc: Global,
     first: Box<AnyArray>,

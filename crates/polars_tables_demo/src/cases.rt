@@ -1,4 +1,4 @@
-//! The cases of the demo: one side of each, of which the parts are given.
+//! The cases of the demo: one side of each, made of parts.
 
 ghost use Rattle.std.specs.Prelude.{IfOk};
 ghost use Rattle.polars_arrays_nested.specs.GoodParts.{IsGood};
@@ -9,14 +9,14 @@ use polars_arrays_nested::any_array::AnyArray;
 use polars_arrays_views::view::View;
 use std::alloc::Global;
 
-/// Structs {a: i32}.
+/// Creates structs {a: i32}.
 pub fn one_field(alloc: Global, a: &[i32]) -> Result<Box<AnyArray>, Fault>
     ensures { IfOk result (λ array. IsGood array.value) }
 {
     structs(alloc, numbers(alloc, a)?, None)
 }
 
-/// Structs {a: i32, b: i32}.
+/// Creates structs {a: i32, b: i32}.
 pub fn two_fields(alloc: Global, a: &[i32], b: &[i32]) -> Result<Box<AnyArray>, Fault>
     ensures { IfOk result (λ array. IsGood array.value) }
 {
@@ -24,7 +24,7 @@ pub fn two_fields(alloc: Global, a: &[i32], b: &[i32]) -> Result<Box<AnyArray>, 
     structs(alloc, first, Some(numbers(alloc, b)?))
 }
 
-/// Three lists of numbers, of which the last one is null.
+/// Creates three lists of numbers, the last one null.
 pub fn number_lists(alloc: Global, offsets: &[i32], items: &[i32]) -> Result<Box<AnyArray>, Fault>
     ensures { IfOk result (λ array. IsGood array.value) }
 {
@@ -36,14 +36,14 @@ pub fn number_lists(alloc: Global, offsets: &[i32], items: &[i32]) -> Result<Box
     )
 }
 
-/// Lists of nulls.
+/// Creates lists of nulls.
 pub fn null_lists(alloc: Global, offsets: &[i32], items: usize) -> Result<Box<AnyArray>, Fault>
     ensures { IfOk result (λ array. IsGood array.value) }
 {
     lists(alloc, offsets, None, nulls(alloc, items)?)
 }
 
-/// An entry, a null and an entry, of two letters.
+/// Creates a dictionary array of two letters: an entry, a null and an entry.
 pub fn letters(alloc: Global, keys: &[u32], letters: &str) -> Result<Box<AnyArray>, Fault>
     ensures { IfOk result (λ array. IsGood array.value) }
 {
@@ -51,7 +51,7 @@ pub fn letters(alloc: Global, keys: &[u32], letters: &str) -> Result<Box<AnyArra
     entries(alloc, keys, &[true, false, true], texts)
 }
 
-/// The strings `a` and `abcdefghijkl`, each in its view.
+/// Creates the strings `a` and `abcdefghijkl`, each in its view.
 pub fn short_strings(alloc: Global) -> Result<Box<AnyArray>, Fault>
     ensures { IfOk result (λ array. IsGood array.value) }
 {
@@ -62,16 +62,17 @@ pub fn short_strings(alloc: Global) -> Result<Box<AnyArray>, Fault>
     )
 }
 
-/// The string `a` and a zero byte, in its view, and `abcdefghijklm`, in a buffer.
+/// Creates the string `a` and a zero byte, in its view, and `abcdefghijklm`, in a buffer.
 pub fn long_strings(alloc: Global) -> Result<Box<AnyArray>, Fault>
     ensures { IfOk result (λ array. IsGood array.value) }
 {
-    // the length, the first four bytes, the number of the buffer, and the place in it
+    // length, first four bytes, index of the buffer, offset in it
     let long = View::new([13, 0, 0, 0, b'a', b'b', b'c', b'd', 0, 0, 0, 0, 0, 0, 0, 0]);
     strings(alloc, &[View::of_short(b"a\0"), long], b"abcdefghijklm")
 }
 
-/// A list of two structs {a: i32, b: Utf8}, of which the second may have no text, and an empty list.
+/// Creates a list of two structs {a: i32, b: Utf8}, the second perhaps without a text, and an empty
+/// list.
 pub fn struct_lists(alloc: Global, present: &[bool]) -> Result<Box<AnyArray>, Fault>
     ensures { IfOk result (λ array. IsGood array.value) }
 {

@@ -1,4 +1,4 @@
-//! Why a case of the demo has no answer.
+//! Errors of a case of the demo.
 
 use polars_arrays_bits::error::{ArrayError, ComputeError};
 use std::alloc::{AllocError, AllocFailed};

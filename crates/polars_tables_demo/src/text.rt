@@ -1,4 +1,5 @@
-//! The text of the demo: for each case which rows of two arrays are the same, and how many leaves were compared.
+//! The text of the demo: for each case which rows of two arrays are the same, and the number of
+//! comparisons of leaves.
 
 ghost use Rattle.std.specs.Prelude.{IfOk};
 ghost use Rattle.polars_arrays_nested.specs.GoodParts.{IsGood};
@@ -15,7 +16,7 @@ use polars_arrays_numbers::steps::Steps;
 use polars_compare_nested::kernels::array_tot_eq_missing_kernel_counted;
 use std::alloc::{AllocError, Global};
 
-// Adds for each row whether it is the same, and after how many comparisons that was known.
+// Adds for each row whether it is the same, and then the number of comparisons.
 fn push_bits(text: &mut String, same: &Bitmap, seen: u64) -> Result<(), Fault> {
     for i in 0..same.len() {
         if i > 0 {
@@ -27,7 +28,8 @@ fn push_bits(text: &mut String, same: &Bitmap, seen: u64) -> Result<(), Fault> {
     Ok(())
 }
 
-// Adds for each row of two arrays whether it is the same, and after how many comparisons that is known.
+// Compares two arrays, and adds for each row whether it is the same, and then the number of
+// comparisons.
 fn push_same(
     alloc: Global,
     text: &mut String,
@@ -47,7 +49,7 @@ fn push_same(
     pushed
 }
 
-// Adds the name of a case and its answer. Its arrays were made or not.
+// Adds the name of a case and its result, given the arrays or the errors of making them.
 fn push_answer(
     alloc: Global,
     text: &mut String,
@@ -64,7 +66,7 @@ fn push_answer(
     push_same(alloc, text, &left, &right)
 }
 
-// Adds how an answer was refused, where it was, unless there was no memory for it.
+// Adds the error of a case, if it has one. A failed allocation is returned instead.
 fn push_refusal(text: &mut String, answer: Result<(), Fault>) -> Result<(), AllocError> {
     match answer {
         Ok(()) => Ok(()),
@@ -89,7 +91,7 @@ fn push_case(
     text.push('\n')
 }
 
-// Adds the lines of the cases of structs and of lists.
+// Adds the lines of the cases with structs and lists.
 fn push_lists(alloc: Global, text: &mut String) -> Result<(), AllocError> {
     push_case(
         alloc,
@@ -154,8 +156,8 @@ fn push_others(alloc: Global, text: &mut String) -> Result<(), AllocError> {
     )
 }
 
-/// Eight pairs of small nested arrays compared: for each a line that says which rows are the same, null equal to null alone, and how many
-/// leaves were compared.
+/// Compares eight pairs of small nested arrays. Returns a line for each that says which rows are
+/// the same, null equal to null alone, and how many leaves were compared.
 pub fn demo_text(alloc: Global) -> Result<String, AllocError> {
     let mut text = String::new(alloc);
     push_lists(alloc, &mut text)?;

@@ -1,4 +1,4 @@
--- What an input of lines is answered.
+-- The output for an input of lines.
 use Rattle.std.specs.Prelude.{◌≡◌, ℕ, ◌+◌, ◌==◌, if◌then◌else◌, List, [], ◌∷◌, ◌++◌, length, codes, Result, Ok, Err}
 use Rattle.std.specs.Result.{is_err}
 use Rattle.std.specs.List.{slice_split}
@@ -9,7 +9,7 @@ use Rattle.polars_tables_rows.specs.declared.fault.LineError.TheVariants.{Op, Ty
 use Rattle.polars_tables_lines.specs.declared.running.Report.{Report}
 use Rattle.polars_tables_lines.specs.Line.{line_meaning}
 
--- parts between line feeds, of which the last is a line only if it is not empty
+-- parts between line feeds; the last is a line only if it is not empty
 abbrev pub whole_lines : List (List ℕ) → List (List ℕ)
 whole_lines [] = []
 whole_lines (rest ∷ []) = if length rest == 0 then [] else rest ∷ []
@@ -19,7 +19,7 @@ whole_lines (line ∷ next ∷ more) = line ∷ whole_lines (next ∷ more)
 abbrev pub lines_of : List ℕ → List (List ℕ)
 lines_of input = whole_lines (slice_split (λ c. c == 10) input)
 
--- what the bytes of a line mean: those that are no text name no operation
+-- the meaning of a line of bytes; one that is not UTF-8 names no operation
 abbrev pub meaning_of : List ℕ → Result (List ℕ) LineError
 meaning_of line = if is_utf8 line then line_meaning line else Err Op
 
@@ -41,21 +41,21 @@ abbrev pub printed : ℕ → Result (List ℕ) LineError → List ℕ
 printed number (Ok text) = text
 printed number (Err fault) = refusal number fault
 
--- the output of lines, of which the first has this number
+-- the output of lines, given the number of the first one
 abbrev pub output_from : ℕ → List (List ℕ) → List ℕ
 output_from number [] = []
 output_from number (line ∷ more) = printed number (meaning_of line) ++ 10 ∷ output_from (number + 1) more
 
--- the output of an input: for each line its text and a line feed
+-- the output for an input: for each line its text and a line feed
 abbrev pub output_of : List ℕ → List ℕ
 output_of input = output_from 1 (lines_of input)
 
--- how many of the lines are refused
+-- the number of refused lines
 abbrev pub refusals : List (List ℕ) → ℕ
 refusals [] = 0
 refusals (line ∷ more) = (if is_err (meaning_of line) then 1 else 0) + refusals more
 
--- the report counts the lines of the input, and those that are refused
+-- the report has the number of lines of the input, and the number of refused ones
 pub record Reports (input : List ℕ) (report : Report) : Type 0 where
   pub lines : report.lines ≡ length (lines_of input)
   pub refused : report.refused ≡ refusals (lines_of input)

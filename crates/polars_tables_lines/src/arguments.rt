@@ -1,4 +1,4 @@
-//! What the arguments ask for.
+//! The command that the arguments name.
 
 ghost use Rattle.std.specs.Prelude.{◌≡◌, map, MatchResult, Ok};
 ghost use Rattle.std.specs.IoError.{error_kind};
@@ -10,9 +10,9 @@ use crate::running::RunError;
 use std::io;
 use std::io::ErrorKind;
 
-/// Returns what the words after the program's name ask for: without words the lines of standard
-/// input, with one of the words `demo`, `--help` and `--version` what it names, and with any others
-/// the usage line.
+/// Returns the command of the words after the program's name: without words it is to read the lines
+/// of standard input; one of the words `demo`, `--help` and `--version` alone names its command;
+/// any other words print the usage line.
 pub fn command(arguments: &[String]) -> Command
     ensures { result ≡ command_of (map string_bytes arguments.now) }
 {
@@ -25,8 +25,8 @@ pub fn command(arguments: &[String]) -> Command
     }
 }
 
-/// Returns what the program is asked to do, from the words after its name as they were read. Where
-/// one of them is no UTF-8, that is the usage line. A refused growth is the one fault.
+/// Returns the command of the words after the program's name, as they were read. If one of them is
+/// not UTF-8, it is to print the usage line. The only error is a failed allocation.
 pub fn asked(arguments: &io::Result<Vec<String>>) -> Result<Command, RunError>
     ensures { MatchResult arguments.now
         (λ words. result ≡ Ok (command_of (map string_bytes words.items)))

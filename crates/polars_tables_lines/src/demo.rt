@@ -8,10 +8,11 @@ use polars_tables_demo::text::demo_text;
 use std::alloc::Global;
 use std::io::Write;
 
-/// Compares eight pairs of small nested arrays, and writes a line for each: which rows are the same, null equal to null alone, and how many
-/// leaves were compared. A refused growth stops it before anything is written.
+/// Compares eight pairs of small nested arrays, and writes a line for each: which rows are the
+/// same, null equal to null alone, and how many leaves were compared. If an allocation fails,
+/// nothing is written.
 pub fn demo<W: Write>(alloc: Global, writer: &mut W) -> Result<(), RunError>
-    // Nothing was written, unless a write failed.
+    // Writes nothing on an error, except if a write failed.
     ensures unwritten { IfErr result (λ e. (e ≡ RunError.Write) ⊎ Keeps (W.contents writer.old) (W.contents writer.new)) }
 {
     let text = demo_text(alloc)?;

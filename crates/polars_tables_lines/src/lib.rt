@@ -1,4 +1,4 @@
-//! The line language: lines such as `eq_missing i32 1 null | 1 null`, each of which is answered by a line.
+//! The line language: one command a line (`eq_missing i32 1 null | 1 null`), and one result a line.
 #![tactic(auto)]
 
 pub mod arguments;

@@ -1,4 +1,4 @@
-//! A line of the language, and its answer.
+//! A line of the language, and its result.
 
 ghost use Rattle.std.specs.String.{string_bytes};
 ghost use Rattle.polars_tables_lines.specs.Line.{line_meaning, rows_meaning, typed_meaning};
@@ -19,7 +19,7 @@ use polars_tables_rows::row_type::RowType;
 use polars_tables_rows::words::{next_word, parse_lists};
 use std::alloc::Global;
 
-// What an operation answers to a text of rows and bars, read as numbers of one type.
+// Returns the result of an operation for a text of rows and bars, read as numbers of one type.
 fn answer_numbers<T: LineNumber>(
     alloc: Global,
     operation: Operation,
@@ -41,7 +41,7 @@ fn answer_numbers<T: LineNumber>(
     }
 }
 
-// The same, read as truth values.
+// Returns the result of an operation for a text of rows and bars, read as truth values.
 fn answer_booleans(alloc: Global, operation: Operation, text: &str) -> Result<String, LineError>
     ensures { Tells string_bytes (rows_meaning operation Boolean (words_of text.now)) result }
 {
@@ -59,7 +59,7 @@ fn answer_booleans(alloc: Global, operation: Operation, text: &str) -> Result<St
     }
 }
 
-// The same, read as rows of the type.
+// Returns the result of an operation for a text of rows and bars, read as rows of the type.
 fn answer_rows(
     alloc: Global,
     operation: Operation,
@@ -81,7 +81,7 @@ fn answer_rows(
     }
 }
 
-// What an operation answers to the text behind its name: a type, and then rows and bars.
+// Returns the result of an operation for the text after its name: a type, and then rows and bars.
 fn answer_typed(alloc: Global, operation: Operation, text: &str) -> Result<String, LineError>
     ensures { Tells string_bytes (typed_meaning operation (words_of text.now)) result }
 {
@@ -94,8 +94,8 @@ fn answer_typed(alloc: Global, operation: Operation, text: &str) -> Result<Strin
     }
 }
 
-/// Answers a line: the text of its answer, without a line feed, or the first fault that it has.
-/// `LineError::Memory` stands for a refused growth alone.
+/// Returns the result of a line as text, without a line feed, or the line's first fault.
+/// `LineError::Memory` always means a failed allocation.
 pub fn answer_line(alloc: Global, line: &str) -> Result<String, LineError>
     ensures { Tells string_bytes (line_meaning line.now) result }
 {

@@ -1,30 +1,30 @@
-//! What the program can be asked to do, and how it ends.
+//! Commands of the program, and its exit statuses.
 
 ghost use Rattle.std.specs.Prelude.{◌≡◌};
 ghost use Rattle.polars_tables_lines.specs.Command.{exit_status_of, fault_text_of};
 
 use crate::running::{Report, RunError};
 
-/// The version of the program and of the libraries that it stands on. `CHANGELOG.md` says what each
-/// version brought.
+/// The version of the program and of its libraries. `CHANGELOG.md` lists the changes of each
+/// version.
 pub const VERSION: &str = "0.1.0";
 
-/// What the program is asked to do.
+/// A command of the program.
 #[derive(Clone, Copy, Debug, PartialEq, Eq)]
 pub enum Command {
-    /// Answer the lines of standard input.
+    /// Print the results of the lines of standard input.
     Lines,
     /// Print the demo.
     Demo,
-    /// Print on standard output how the program is called.
+    /// Print the help on standard output.
     Help,
     /// Print the version.
     Version,
-    /// Print on standard error how the program is called, since the arguments are wrong.
+    /// Print the usage on standard error, since the arguments are wrong.
     Usage,
 }
 
-/// The exit status after a run: 0 where each line was answered, and 1 where a line was refused or
+/// Returns the exit status of a run: 0 if each line had a result, and 1 if a line was refused or
 /// the run stopped.
 pub fn exit_status(outcome: &Result<Report, RunError>) -> u8
     ensures { result ≡ exit_status_of outcome.now }
@@ -35,7 +35,7 @@ pub fn exit_status(outcome: &Result<Report, RunError>) -> u8
     }
 }
 
-/// What is printed on standard error where a run stopped.
+/// Returns the message for standard error of a run that stopped.
 pub fn fault_text(fault: &RunError) -> &'static str
     ensures { result.now ≡ fault_text_of fault.now }
 {

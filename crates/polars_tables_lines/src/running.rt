@@ -1,4 +1,4 @@
-//! The program's run: reads an input, answers each of its lines, and writes the answers.
+//! The program's run: reads an input, and writes the results of its lines.
 
 ghost use Rattle.std.specs.Prelude.{◌≡◌, ◌⊎◌, ◌++◌, ◌∷◌, [], length, vec_len, ◌<◌, ◌==◌, ◌+◌, ◌^◌, IfOk, IfErr, IfSome, OnOk};
 ghost use Rattle.std.specs.List.{position};
@@ -15,23 +15,23 @@ use std::alloc::{AllocError, AllocFailed, Global};
 use std::io::{ErrorKind, Read, Write};
 use thiserror::Error;
 
-/// How many lines an input had, and how many of them were refused.
+/// The number of lines of an input, and the number of refused ones.
 #[derive(Clone, Copy, Debug, PartialEq, Eq)]
 pub struct Report {
     pub lines: u64,
     pub refused: u64,
 }
 
-/// Why a run stopped.
+/// The reason why a run stopped.
 #[derive(Debug, Drop, PartialEq, Eq, Error)]
 pub enum RunError {
     /// A read failed, or the input did not end within 2^32 reads. Nothing was written.
     #[error("read failed")]
     Read,
-    /// A write failed. A beginning of the answers may have been written.
+    /// A write failed. Some first bytes of the output may have been written.
     #[error("write failed")]
     Write,
-    /// A growth was refused. Nothing was written.
+    /// An allocation failed. Nothing was written.
     #[error("out of memory")]
     Memory,
 }
@@ -44,20 +44,20 @@ impl From<AllocError> for RunError {
     }
 }
 
-/// How many reads a run makes at the most.
+/// The greatest number of reads of a run.
 const READS: u64 = 1 << 32;
 
-/// How many bytes a read asks for.
+/// The number of bytes that a read asks for.
 const CHUNK: usize = 1 << 16;
 
-/// Room for the bytes of one read.
+/// Allocates room for the bytes of one read.
 fn make_chunk(alloc: Global) -> Result<Vec<u8>, AllocError>
     ensures { IfOk result (λ chunk. 0 < vec_len chunk) }
 {
     vec![in alloc; 0u8; CHUNK]
 }
 
-/// Reads once, and adds what came to the input. True where the reader was at its end.
+/// Reads once, and appends the bytes to the input. Returns whether the reader was at its end.
 fn read_once<R: Read>(
     reader: &mut R,
     chunk: &mut Vec<u8>,
@@ -84,7 +84,7 @@ fn read_once<R: Read>(
     }
 }
 
-/// All bytes of a reader, up to its end.
+/// Reads all bytes of a reader, up to its end.
 fn read_input<R: Read>(alloc: Global, reader: &mut R) -> Result<Vec<u8>, RunError>
     ensures bytes { IfOk result (λ input. IfSome (R.remaining reader.old) (λ bytes. input.items ≡ bytes)) }
     ensures fault { IfErr result (λ e. (e ≡ RunError.Read) ⊎ (e ≡ RunError.Memory)) }
@@ -99,14 +99,14 @@ fn read_input<R: Read>(alloc: Global, reader: &mut R) -> Result<Vec<u8>, RunErro
     Err(RunError::Read)
 }
 
-/// The answers to the lines so far: their text, and the counts.
+/// The results of the lines so far: their text, and the counts.
 #[derive(Drop)]
 struct Answers {
     text: String,
     report: Report,
 }
 
-/// The word that a fault is printed as.
+/// Returns the word of a fault.
 fn fault_word(fault: &LineError) -> &'static str
     ensures { result.now ≡ fault_word fault.now }
 {
@@ -120,7 +120,7 @@ fn fault_word(fault: &LineError) -> &'static str
     }
 }
 
-/// Answers a line of bytes: one that is not UTF-8 names no operation.
+/// Returns the result of a line of bytes. One that is not UTF-8 names no operation.
 fn answer_bytes(alloc: Global, line: &[u8]) -> Result<String, LineError>
     ensures { Tells string_bytes (meaning_of line.now) result }
 {
@@ -130,7 +130,7 @@ fn answer_bytes(alloc: Global, line: &[u8]) -> Result<String, LineError>
     }
 }
 
-/// Adds the refusal of a line to the text.
+/// Appends the refusal of a line to the text.
 fn push_refusal(
     alloc: Global,
     text: &mut String,
@@ -148,7 +148,7 @@ fn push_refusal(
 }
 
 impl Answers {
-    /// No answers yet.
+    /// Creates an empty output.
     fn new(alloc: Global) -> Answers
         ensures text { string_bytes result.text ≡ [] }
         ensures report { result.report ≡ record { lines = 0; refused = 0 } }
@@ -163,7 +163,7 @@ impl Answers {
         }
     }
 
-    /// Adds the answer to the next line, and counts it.
+    /// Appends the result of the next line, and counts it.
     fn add(&mut self, alloc: Global, line: &[u8]) -> Result<(), RunError>
         requires lines { self.old.report.lines + 1 < 2 ^ 64 }
         requires refused { self.old.report.refused + 1 < 2 ^ 64 }
@@ -185,14 +185,14 @@ impl Answers {
     }
 }
 
-/// Where the first line feed is.
+/// Returns the place of the first line feed.
 fn line_end(text: &[u8]) -> Option<usize>
     ensures { result ≡ position (λ c. c == 10) text.now }
 {
     text.iter().position(|c| *c == b'\n')
 }
 
-/// The first line of a text that is not empty, and what follows its line feed.
+/// Splits a text that is not empty into its first line and the text after that line's line feed.
 fn split_line(text: &[u8]) -> (&[u8], &[u8])
     requires { 0 < length text.now }
     ensures lines { lines_of text.now ≡ result.0.now ∷ lines_of result.1.now }
@@ -204,7 +204,7 @@ fn split_line(text: &[u8]) -> (&[u8], &[u8])
     }
 }
 
-/// The answers to all lines of an input.
+/// Returns the results of all lines of an input.
 fn answer_lines(alloc: Global, input: &[u8]) -> Result<Answers, RunError>
     ensures text { IfOk result (λ answers. string_bytes answers.text ≡ output_of input.now) }
     ensures report { IfOk result (λ answers. Reports input.now answers.report) }
@@ -234,20 +234,20 @@ pub(crate) fn write_text<W: Write>(writer: &mut W, text: &str) -> Result<(), Run
     Ok(())
 }
 
-/// Reads the input to its end, answers each of its lines, and then writes all answers, each ended
-/// by a line feed. A refused line is answered by `line N: refused: WORD`, N counted from 1.
-/// It reads at most 2^32 times. A refused growth stops the run before anything is written.
+/// Reads the input to its end, and then writes the results of all its lines, each ended by a line
+/// feed. A refused line has the result `line N: refused: WORD`, N counted from 1. Reads at most
+/// 2^32 times. If an allocation fails, the run stops before anything is written.
 pub fn run<R: Read, W: Write>(
     alloc: Global,
     reader: &mut R,
     writer: &mut W,
 ) -> Result<Report, RunError>
-    // Exactly the answers to the bytes that the reader had were written.
+    // Writes exactly the results of the bytes that the reader had.
     ensures written { OnOk result (IfSome (R.remaining reader.old) (λ input.
         Appends (W.contents writer.old) (W.contents writer.new) (output_of input))) }
     ensures reported { IfOk result (λ report. IfSome (R.remaining reader.old) (λ input. Reports input report)) }
 
-    // Nothing was written, unless a write failed.
+    // Writes nothing on an error, except if a write failed.
     ensures unwritten { IfErr result (λ e. (e ≡ RunError.Write)
         ⊎ Keeps (W.contents writer.old) (W.contents writer.new)) }
 {

@@ -1,4 +1,4 @@
--- What operations answer to lists of rows: the text of the answer, or the first fault.
+-- The results of operations for lists of rows: text, or the first fault.
 use Rattle.std.specs.Prelude.{◌==◌, ℕ, ℤ, cond, List, [], ◌∷◌, length, map, replicate, codes, Option, None, Some, pos, Result, Ok, Err}
 use Rattle.polars_arrays_flat.specs.Row.{Row, Int, Truth}
 use Rattle.polars_arrays_numbers.specs.Wrapping.{wrapped}
@@ -38,7 +38,7 @@ Answer = Result (List ℕ) LineError
 abbrev pub told : List Row → Answer
 told rows = Ok (row_words rows)
 
--- what two lists of rows answer row by row, which have to be equally long
+-- the result row by row for two lists of rows, which must have equal lengths
 abbrev pub row_by_row : (List Row → List Row → List Row) → List Row → List Row → Answer
 row_by_row rows left right = cond (length left == length right) (told (rows left right)) (Err Length)
 
@@ -52,7 +52,7 @@ abbrev pub rows_or_none : Option Row → Option Row → List ℕ
 rows_or_none (Some x) (Some y) = row_words (x ∷ y ∷ [])
 rows_or_none x y = codes "none"
 
--- a comparison of two lists, or of one with a scalar, which is as many equal rows
+-- a comparison of two lists, or of a list with a scalar
 abbrev pub comparison_answer : Comparison → Operand → List Row → List Row → Answer
 comparison_answer comparison Rows left right = row_by_row (compared_rows comparison) left right
 comparison_answer comparison Scalar rows scalars = of_scalar scalars (λ x. told (compared_rows comparison rows (replicate (length rows) x)))
@@ -64,7 +64,7 @@ general_answer (CountBits count) type lists = of_one lists (λ rows. told (map (
 general_answer (Reduce reduction) type lists = of_one lists (λ rows. Ok (row_or_none (reduction_of reduction type rows)))
 general_answer Extremes type lists = of_one lists (λ rows. Ok (rows_or_none (best_row row_less rows) (best_row row_greater rows)))
 
--- a calculation with the numbers of two lists, or with those of one and a scalar
+-- a calculation with the numbers of two lists, or of a list and a scalar
 abbrev pub calculation_answer : Calculation → Operand → RowType → List Row → List Row → Answer
 calculation_answer calculation Rows type left right = row_by_row (result_rows (least_in type) (width_of type) (calculation_of calculation)) left right
 calculation_answer calculation Scalar type rows scalars =
@@ -90,7 +90,7 @@ numeric_answer HasAllOfRange type lists =
 abbrev pub truths_answer : Distinct → List (List Row) → Answer
 truths_answer asked lists = of_one lists (λ rows. told (asked_of truth_row asked (appended rows (new_state truth_numbers))))
 
--- what an operation answers to its lists of rows of a type
+-- the result of an operation for its lists of rows of a type
 abbrev pub answer_of : Operation → RowType → List (List Row) → Answer
 answer_of (General operation) type lists = general_answer operation type lists
 answer_of (Numeric operation) type lists = numeric_answer operation type lists

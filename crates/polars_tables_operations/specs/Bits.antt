@@ -1,4 +1,4 @@
--- Counts of the bits of rows, and the row that bits are.
+-- Counts of the bits of rows, and rows made of bits.
 use Rattle.std.specs.Prelude.{◌+◌, ◌*◌, ℕ, pos, Bool, false, cond, not, List, [], ◌∷◌, count_by}
 use Rattle.polars_arrays_flat.specs.Row.{Row, Int, Truth}
 use Rattle.polars_arrays_numbers.specs.Wrapping.{wrapped}
@@ -8,7 +8,7 @@ use Rattle.polars_tables_operations.specs.declared.operation.BitCount.TheVariant
 use Rattle.polars_tables_rows.specs.declared.row_type.RowType.{RowType}
 use Rattle.polars_tables_rows.specs.Types.{is_boolean, least_in, width_of}
 
--- how many bits of a kind there are, of which the first is the lowest
+-- the count of bits of one kind; the first bit is the lowest
 abbrev pub count_of : BitCount → List Bool → ℕ
 count_of Ones = count_by (λ b. b)
 count_of Zeros = count_by not
@@ -17,7 +17,7 @@ count_of LeadingZeros = leading_run not
 count_of TrailingOnes = trailing_run (λ b. b)
 count_of TrailingZeros = trailing_run not
 
--- the number that bits write, the lowest first
+-- the number of bits, the lowest first
 abbrev pub bits_value : List Bool → ℕ
 bits_value [] = 0
 bits_value (b ∷ bits) = cond b 1 0 + 2 * bits_value bits

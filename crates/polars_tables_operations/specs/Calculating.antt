@@ -1,4 +1,4 @@
--- What is made of numbers.
+-- Calculations with numbers.
 use Rattle.polars_compute_arithmetic.specs.Operations.{Function, Operation, difference_of, floor_division, magnitude_of, modulo, negation_of, product_of, sum_of, truncated_division}
 use Rattle.polars_tables_operations.specs.declared.operation.Calculation.{Calculation}
 use Rattle.polars_tables_operations.specs.declared.operation.Calculation.TheVariants.{Add, Multiply, Ordered}
@@ -7,12 +7,12 @@ use Rattle.polars_tables_operations.specs.declared.operation.Change.TheVariants.
 use Rattle.polars_tables_operations.specs.declared.operation.OrderedCalculation.{OrderedCalculation}
 use Rattle.polars_tables_operations.specs.declared.operation.OrderedCalculation.TheVariants.{Subtract, FloorDivide, TruncatedDivide, Modulo, LegacyDivide}
 
--- what is made of one number
+-- a function of one number
 abbrev pub change_of : Change → Function
 change_of Magnitude = magnitude_of
 change_of Negation = negation_of
 
--- what is made of two whose order matters
+-- a calculation with two numbers whose order matters
 abbrev pub ordered_of : OrderedCalculation → Operation
 ordered_of Subtract = difference_of
 ordered_of FloorDivide = floor_division
@@ -20,7 +20,7 @@ ordered_of TruncatedDivide = truncated_division
 ordered_of Modulo = modulo
 ordered_of LegacyDivide = floor_division
 
--- what is made of two
+-- a calculation with two numbers
 abbrev pub calculation_of : Calculation → Operation
 calculation_of Add = sum_of
 calculation_of Multiply = product_of

@@ -1,4 +1,4 @@
--- What comparisons of rows answer.
+-- The results of comparisons of rows.
 use Rattle.std.specs.Prelude.{◌≡◌, ◌<◌, ◌||◌, ℕ, Bool, true, false, cond, List, length, Option, None, slice_index_or}
 use Rattle.std.specs.Simd.Lanes.{zip2}
 use Rattle.polars_arrays_flat.specs.ArrayRows.{is_null}
@@ -10,11 +10,11 @@ use Rattle.polars_compute_arithmetic.specs.Maps.{joined_validity}
 use Rattle.polars_tables_operations.specs.declared.operation.Comparison.{Comparison}
 use Rattle.polars_tables_operations.specs.declared.operation.Comparison.TheVariants.{Equal, Unequal, Less, LessOrEqual, Greater, GreaterOrEqual, EqualMissing, UnequalMissing}
 
--- null where either row is null, and else whether the two pass the test
+-- null if either row is null, else the test of the two
 abbrev pub if_present : (Row → Row → Bool) → Row → Row → Row
 if_present test x y = cond (is_null x || is_null y) Null (Truth (test x y))
 
--- what two rows compared answer
+-- the result of a comparison of two rows
 abbrev pub compared : Comparison → Row → Row → Row
 compared Equal x y = if_present same_row x y
 compared Unequal x y = if_present other_row x y
@@ -25,22 +25,22 @@ compared GreaterOrEqual x y = if_present row_at_least x y
 compared EqualMissing x y = Truth (same_row x y)
 compared UnequalMissing x y = Truth (other_row x y)
 
--- the same of two lists of rows, place by place
+-- a comparison of two lists of rows, place by place
 abbrev pub compared_rows : Comparison → List Row → List Row → List Row
 compared_rows comparison left right = zip2 (compared comparison) left right
 
--- Bits of a comparison: one for each row, and right wherever the answer is a truth value. Where it is null any bit may stand.
+-- Bits of a comparison: one for each row, right if the result is a truth value, else arbitrary.
 pub record ComparesRows (comparison : Comparison) (left right : List Row) (bits : List Bool) : Type 0 where
   pub size : length bits ≡ length left
   pub at_truth : (i : ℕ) (truth : Bool) → i < length left → compared comparison (row left i) (row right i) ≡ Truth truth
       → slice_index_or bits i false ≡ truth
 
--- the last two comparisons, in which null is equal to null and to nothing else
+-- the last two comparisons, in which null is equal to null alone
 abbrev pub is_missing : Comparison → Bool
 is_missing EqualMissing = true
 is_missing UnequalMissing = true
 is_missing comparison = false
 
--- the validity of the answers of a comparison, of two lists of rows with these validities
+-- the validity of the results of a comparison of two lists of rows with these validities
 abbrev pub answer_validity : Comparison → Option (List Bool) → Option (List Bool) → Option (List Bool)
 answer_validity comparison left right = cond (is_missing comparison) None (joined_validity left right)

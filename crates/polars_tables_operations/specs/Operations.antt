@@ -16,7 +16,7 @@ use Rattle.polars_tables_rows.specs.declared.row_type.RowType.{RowType}
 use Rattle.polars_tables_rows.specs.Tables.{find}
 use Rattle.polars_tables_rows.specs.Types.{is_boolean}
 
--- the operations by their names
+-- the operations by name
 abbrev pub operations : List (List ℕ × Operation)
 operations = (codes "eq", General (Compare Equal Rows))
     ∷ (codes "ne", General (Compare Unequal Rows))
@@ -81,13 +81,13 @@ operations = (codes "eq", General (Compare Equal Rows))
 abbrev pub operation_of : List ℕ → Option Operation
 operation_of name = find operations name
 
--- whether an operation takes rows of the type
+-- whether an operation accepts rows of the type
 abbrev pub takes : Operation → RowType → Bool
 takes (General operation) type = true
 takes (Numeric operation) type = not (is_boolean type)
 takes (DistinctTruths asked) type = is_boolean type
 
--- how many lists of rows an operation takes
+-- the number of lists of rows of an operation
 abbrev pub lists_taken : Operation → ℕ
 lists_taken (General (Compare comparison operand)) = 2
 lists_taken (General operation) = 1

@@ -1,4 +1,4 @@
--- What the present rows of a list are reduced to.
+-- Reductions of the present rows of a list.
 use Rattle.std.specs.Prelude.{◌&&◌, ◌||◌, Bool, cond, not, List, [], ◌∷◌, Option, None, Some, option_map}
 use Rattle.std.specs.List.{list_all, list_any}
 use Rattle.polars_arrays_flat.specs.ArrayRows.{is_null}
@@ -24,11 +24,11 @@ is_best better rows x = not (is_null x) && list_all (λ y. is_null y || not (bet
 abbrev pub best_row : (Row → Row → Bool) → List Row → Option Row
 best_row better rows = first_row (is_best better rows) rows
 
--- the row of which each bit is the test of that bit of the present rows
+-- the row in which each bit is the test of that bit of the present rows
 abbrev pub reduced_row : (List Bool → Bool) → RowType → List Row → Option Row
 reduced_row test type rows = option_map (bits_row type) (reduced test (width_of type) rows)
 
--- what rows of a type are reduced to, if one is present
+-- the reduction of the rows of a type, if one is present
 abbrev pub reduction_of : Reduction → RowType → List Row → Option Row
 reduction_of And type rows = reduced_row (list_all (λ b. b)) type rows
 reduction_of Or type rows = reduced_row (list_any (λ b. b)) type rows

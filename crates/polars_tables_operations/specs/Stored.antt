@@ -1,11 +1,11 @@
--- How the rows of an array are stored: as the rows of values.
+-- Arrays whose rows are stored as the rows of values.
 use Rattle.std.specs.Prelude.{◌≡◌, ◌<◌, ◌↔◌, ℕ, Bool, false, IsTrue, List, length}
 use Rattle.polars_arrays_flat.specs.Row.{Row, Null}
 use Rattle.polars_arrays_flat.specs.StoredRows.{row}
 use Rattle.polars_compare_leaves.specs.Sameness.{same_row}
 use Rattle.polars_arrays_flat.specs.ArrayRows.{is_null}
 
--- no value is null, and the test of two rows tells which values are the same
+-- no value is null, and the test of two rows is equality of values
 pub record AreValues {A : Type 0} (value_row : A → Row) : Type 0 where
   pub present : (x : A) → is_null (value_row x) ≡ false
   pub left_null : (x : A) → same_row Null (value_row x) ≡ false

@@ -1,4 +1,4 @@
--- Values that are mapped to rows are stored so, and numbers and truth values are such values.
+-- Values mapped to rows are stored as values; numbers and truth values are such values.
 use Rattle.std.specs.Prelude.{◌≡◌, ◌<◌, ◌↔◌, ℕ, zero, suc, ℤ, Bool, IsTrue, List, [], ◌∷◌, length, map, refl}
 use Rattle.std.proofs.Common.{◌∙◌, sym, ap, arith}
 use Rattle.std.proofs.lemmas.Bool.Decides.{Decides-int_eq}
@@ -14,7 +14,7 @@ stored-at f [] i h = absurd (omega arith)
 stored-at f (x ∷ xs) zero h = (x, refl)
 stored-at f (x ∷ xs) (suc i) h = stored-at f xs i (omega arith)
 
--- values that are mapped to rows are stored so: numbers and truth values
+-- values mapped to rows are stored as values
 pub stores-map : {A : Type 0} (f : A → Row) (xs : List A) → StoresValues f (map f xs)
 stores-map f xs = record { at_each = stored-at f xs }
 
@@ -44,6 +44,6 @@ truths_are_values = record {
   same = same_truth;
 }
 
--- stored rows are as many as stored values
+-- there are as many stored rows as stored values
 pub as_long : {A : Type 0} (f : A → Row) (xs ys : List A) → length (map f xs) ≡ length (map f ys) → length xs ≡ length ys
 as_long f xs ys e = sym (length-map xs f) ∙ e ∙ length-map ys f

@@ -1,4 +1,4 @@
-//! What kernels made and counted, as answers.
+//! Results of kernels as text.
 
 ghost use Rattle.std.specs.Prelude.{◌≡◌, [], ◌∷◌, pos, Err, IfErr, MatchResult};
 ghost use Rattle.std.specs.String.{string_bytes};
@@ -15,7 +15,7 @@ use polars_tables_rows::row_array::RowArray;
 use polars_tables_rows::written::write_rows;
 use std::alloc::Global;
 
-// The rows that a kernel made, as words, unless it had no memory.
+// Returns the rows of a kernel's result as words.
 pub(crate) fn write_made<A: RowArray>(
     alloc: Global,
     made: Result<A, ComputeError>,
@@ -27,7 +27,7 @@ pub(crate) fn write_made<A: RowArray>(
     Ok(write_rows(alloc, &rows)?)
 }
 
-// How many there are, as a word.
+// Returns a count as a word.
 pub(crate) fn write_count(alloc: Global, count: usize) -> Result<String, LineError>
     ensures { Tells string_bytes (told (Int (pos count) ∷ [])) result }
 {

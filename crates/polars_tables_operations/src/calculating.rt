@@ -1,4 +1,4 @@
-//! Arithmetic on arrays, by what a line asks for.
+//! Arithmetic on arrays, as named by a line.
 
 ghost use Rattle.std.specs.Prelude.{◌≡◌, MatchResult, length};
 ghost use Rattle.polars_arrays_bits.specs.Errors.{IsMemory};
@@ -14,7 +14,7 @@ use polars_arrays_flat::primitive::PrimitiveArray;
 use polars_compute_arithmetic::arithmetic::ArithmeticKernel;
 use std::alloc::Global;
 
-/// What is made of each number by itself. The error is `Memory`.
+/// Applies a function of one number to each number. The error is `Memory`.
 pub fn change_rows<T: LineNumber>(
     alloc: Global,
     change: Change,
@@ -28,7 +28,7 @@ pub fn change_rows<T: LineNumber>(
     }
 }
 
-// What is made of the numbers of two arrays, row by row, where their order matters.
+// Calculates with the numbers of two arrays, row by row, if their order matters.
 fn calculate_in_order<T: LineNumber>(
     alloc: Global,
     calculation: OrderedCalculation,
@@ -47,7 +47,7 @@ fn calculate_in_order<T: LineNumber>(
     }
 }
 
-/// What is made of the numbers of two arrays, row by row. The error is `Memory`.
+/// Calculates with the numbers of two arrays, row by row. The error is `Memory`.
 pub fn calculate_rows<T: LineNumber>(
     alloc: Global,
     calculation: Calculation,
@@ -64,7 +64,7 @@ pub fn calculate_rows<T: LineNumber>(
     }
 }
 
-// What is made of the numbers of an array and a scalar, where their order matters.
+// Calculates with the numbers of an array and a scalar, if their order matters.
 fn calculate_scalar_in_order<T: LineNumber>(
     alloc: Global,
     calculation: OrderedCalculation,
@@ -82,7 +82,8 @@ fn calculate_scalar_in_order<T: LineNumber>(
     }
 }
 
-/// What is made of the numbers of an array, each on the left, and a scalar. The error is `Memory`.
+/// Calculates with the numbers of an array on the left, and a scalar on the right. The error is
+/// `Memory`.
 pub fn calculate_scalar<T: LineNumber>(
     alloc: Global,
     calculation: Calculation,
@@ -98,7 +99,8 @@ pub fn calculate_scalar<T: LineNumber>(
     }
 }
 
-/// What is made of a scalar, on the left, and the numbers of an array. The error is `Memory`.
+/// Calculates with a scalar on the left, and the numbers of an array on the right. The error is
+/// `Memory`.
 pub fn calculate_from_scalar<T: LineNumber>(
     alloc: Global,
     calculation: OrderedCalculation,

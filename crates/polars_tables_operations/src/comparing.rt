@@ -16,8 +16,9 @@ use polars_arrays_flat::boolean::BooleanArray;
 use polars_arrays_flat::mask::Mask;
 use std::alloc::Global;
 
-// A bit for each row, right wherever the comparison of the two rows answers a truth value. The error is
-// `Memory`: any two arrays of one kind and length can be compared, so that no kernel answers `Unsupported`.
+// Returns a bit for each row, right if the comparison of the two rows is a truth value. The error
+// is `Memory`: any two arrays of one kind and length can be compared, so no kernel returns
+// `Unsupported`.
 fn compare_bits<A: KernelArray>(
     alloc: Global,
     comparison: Comparison,
@@ -43,8 +44,8 @@ fn compare_bits<A: KernelArray>(
     }
 }
 
-// The same of each row and a scalar. The error is `Memory`: every such array has broadcasts, so that no kernel
-// answers `Unsupported`.
+// Returns a bit for each row, right if the comparison of the row with the scalar is a truth value.
+// The error is `Memory`: every such array has broadcasts, so no kernel returns `Unsupported`.
 fn compare_bits_scalar<A: KernelArray>(
     alloc: Global,
     comparison: Comparison,
@@ -68,7 +69,7 @@ fn compare_bits_scalar<A: KernelArray>(
     }
 }
 
-// Where rows of both sides are present, unless all are.
+// Returns the rows that are present on both sides, or `None` if all are.
 fn present_in_both(
     alloc: Global,
     left: &Mask<'_>,
@@ -87,7 +88,7 @@ fn present_in_both(
     }
 }
 
-// The validity of the answers of a comparison.
+// Returns the validity of the results of a comparison.
 fn validity_of(
     alloc: Global,
     comparison: Comparison,
@@ -105,7 +106,7 @@ fn validity_of(
     }
 }
 
-// The bits of a comparison as truth values, and null where it answers none.
+// Returns the bits of a comparison as truth values, with null if the comparison has no truth value.
 fn answered(
     alloc: Global,
     comparison: Comparison,
@@ -124,7 +125,7 @@ fn answered(
     Ok(answers)
 }
 
-/// What a comparison answers for the rows of two arrays. The error is `Memory`.
+/// Returns the results of a comparison for the rows of two arrays. The error is `Memory`.
 pub fn compare_rows<A: KernelArray>(
     alloc: Global,
     comparison: Comparison,
@@ -140,7 +141,8 @@ pub fn compare_rows<A: KernelArray>(
     answered(alloc, comparison, &left_mask, &right_mask, bits)
 }
 
-/// What a comparison answers for the rows of an array and a scalar, which is as many equal rows. The error is `Memory`.
+/// Returns the results of a comparison for the rows of an array and a scalar. The error is
+/// `Memory`.
 pub fn compare_scalar<A: KernelArray>(
     alloc: Global,
     comparison: Comparison,

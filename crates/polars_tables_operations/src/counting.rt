@@ -13,7 +13,7 @@ use polars_arrays_bits::error::ComputeError;
 use polars_arrays_flat::primitive::PrimitiveArray;
 use std::alloc::Global;
 
-/// How many bits of a kind each row has. The error is `Memory`.
+/// Counts the bits of one kind in each row. The error is `Memory`.
 pub fn count_bits<A: KernelArray>(
     alloc: Global,
     count: BitCount,

@@ -1,4 +1,4 @@
-//! What states answer of distinct numbers.
+//! Distinct numbers of states as text.
 
 ghost use Rattle.std.specs.Prelude.{◌≡◌, IfOk};
 ghost use Rattle.std.specs.String.{string_bytes};
@@ -17,7 +17,7 @@ use polars_compute_unique::primitive::PrimitiveRangedUniqueState;
 use polars_tables_rows::fault::LineError;
 use std::alloc::{AllocError, Global};
 
-// The distinct rows that a state has seen.
+// Returns the distinct rows that a state has seen.
 #[tactic(auto, using(crate::proofs::Answered::answered))]
 fn list_distinct<T: LineNumber>(
     alloc: Global,
@@ -28,7 +28,7 @@ fn list_distinct<T: LineNumber>(
     write_made(alloc, state.finalize_unique(alloc))
 }
 
-/// What a state answers of the distinct rows that it has seen.
+/// Returns the distinct rows that a state has seen, or their number.
 pub fn answer_distinct<T: LineNumber>(
     alloc: Global,
     asked: Distinct,
@@ -43,7 +43,7 @@ pub fn answer_distinct<T: LineNumber>(
     }
 }
 
-/// Whether a state has seen all numbers of its range, and a null, as a word.
+/// Returns whether a state has seen all numbers of its range, and a null, as a word.
 pub fn write_all_seen<T: LineNumber>(
     alloc: Global,
     state: &PrimitiveRangedUniqueState<T>,

@@ -1,4 +1,4 @@
-//! What the operations on rows of every type answer.
+//! Operations on rows of all types.
 
 ghost use Rattle.std.specs.Prelude.{◌≡◌, IfOk, map, option_map};
 ghost use Rattle.std.specs.String.{string_bytes};
@@ -17,7 +17,7 @@ use crate::reducing::{find_extremes, reduce};
 use polars_tables_rows::fault::LineError;
 use std::alloc::{AllocError, Global};
 
-// Two lists of rows compared, which have to be equally long.
+// Compares two lists of rows, which must have equal lengths.
 #[tactic(auto, using(crate::proofs::Answered::answered))]
 fn answer_rows<A: KernelArray>(
     alloc: Global,
@@ -33,7 +33,7 @@ fn answer_rows<A: KernelArray>(
     write_made(alloc, compare_rows(alloc, comparison, left, right))
 }
 
-// A list of rows compared with a scalar, which is a list of one row that is not null.
+// Compares a list of rows with a scalar: a list of one row that is not null.
 #[tactic(auto, using(crate::proofs::Answered::answered))]
 fn answer_scalar<A: KernelArray>(
     alloc: Global,
@@ -52,7 +52,7 @@ fn answer_scalar<A: KernelArray>(
     write_made(alloc, compare_scalar(alloc, comparison, rows, &scalar))
 }
 
-// What a comparison answers to its lists of rows.
+// Returns the result of a comparison for its lists of rows.
 fn answer_comparison<A: KernelArray>(
     alloc: Global,
     comparison: Comparison,
@@ -70,7 +70,7 @@ fn answer_comparison<A: KernelArray>(
     }
 }
 
-// How many bits of a kind each row of a list has.
+// Counts the bits of one kind in each row of a list.
 #[tactic(auto, using(crate::proofs::Answered::answered))]
 fn answer_count<A: KernelArray>(
     alloc: Global,
@@ -85,7 +85,7 @@ fn answer_count<A: KernelArray>(
     write_made(alloc, count_bits(alloc, count, list))
 }
 
-// The word of a value, or `none`.
+// Returns the word of a value, or `none`.
 fn write_value<A: KernelArray>(alloc: Global, found: Option<A::Value>) -> Result<String, AllocError>
     ensures { IfOk result (λ text. string_bytes text ≡ row_or_none (option_map A.value_row found)) }
 {
@@ -95,7 +95,7 @@ fn write_value<A: KernelArray>(alloc: Global, found: Option<A::Value>) -> Result
     }
 }
 
-// What the rows of a list are reduced to, if one is present.
+// Reduces the rows of a list, if one is present.
 fn answer_reduction<A: KernelArray>(
     alloc: Global,
     reduction: Reduction,
@@ -109,7 +109,7 @@ fn answer_reduction<A: KernelArray>(
     Ok(write_value::<A>(alloc, reduce(reduction, list))?)
 }
 
-// The words of two values, or `none`.
+// Returns the words of two values, or `none`.
 fn write_pair<A: KernelArray>(
     alloc: Global,
     found: Option<(A::Value, A::Value)>,
@@ -122,7 +122,7 @@ fn write_pair<A: KernelArray>(
     }
 }
 
-// The least and the greatest row of a list, if one is present.
+// Returns the least and the greatest row of a list, if one is present.
 fn answer_extremes<A: KernelArray>(alloc: Global, lists: &[A]) -> Result<String, LineError>
     ensures { Tells string_bytes (general_answer Extremes A.kind (map (λ a. rows_under (A.mask a) (A.slots a)) lists.now)) result }
 {
@@ -132,7 +132,7 @@ fn answer_extremes<A: KernelArray>(alloc: Global, lists: &[A]) -> Result<String,
     Ok(write_pair::<A>(alloc, find_extremes(list))?)
 }
 
-/// What an operation on rows of every type answers to its lists of rows.
+/// Returns the result of an operation on rows of any type for its lists of rows.
 pub fn answer_general<A: KernelArray>(
     alloc: Global,
     operation: GeneralOperation,

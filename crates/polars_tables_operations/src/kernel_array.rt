@@ -1,4 +1,4 @@
-//! The arrays that operations on rows of every type take: all kernels have them.
+//! Arrays that operations on rows of all types accept: those with all kernels.
 
 ghost use Rattle.std.specs.Prelude.{◌≡◌, length, true, refl};
 ghost use Rattle.std.proofs.Common.{sym};
@@ -19,22 +19,23 @@ use polars_compare_order::kernel::TotalOrdKernel;
 use polars_compute_bits::bitwise::BitwiseKernel;
 use polars_tables_rows::row_array::RowArray;
 
-/// A kind of array that a line can ask for, which all kernels of rows of every type take. The scalars of each are its values.
+/// A kind of array that a line can name and that has all kernels for rows of any type. Its scalars
+/// are its values.
 pub trait KernelArray: RowArray
     + TotalEqKernel<Scalar = <Self as RowArray>::Value>
     + TotalOrdKernel<Scalar = <Self as RowArray>::Value>
     + BitwiseKernel<Scalar = <Self as RowArray>::Value>
     + MinMaxKernel<Scalar = <Self as RowArray>::Value> {
-    /// A law of every value: its row is the one that its bits write. It does nothing.
+    /// States that the row of a value is the one of its bits. Does nothing.
     fn law_bits(value: Self::Value)
         ensures { bits_row Self.kind (row_bits (width_of Self.kind) (Self.value_row value)) ≡ Self.value_row value };
 
-    // The rows of an array are stored as values.
+    // Rows of an array are stored as values.
     ghost values_law: { AreValues Self.value_row };
 
     ghost stored_law: { (a : Self) → StoresValues Self.value_row (Self.slots a) };
 
-    // A value that is a scalar is the same row as one that is stored.
+    // A value has the same row as a scalar and as a stored value.
     ghost eq_scalar_law: { (s : Self.Value) → Self.TotalEqKernel.scalar_row s ≡ Self.value_row s };
 
     ghost ord_scalar_law: { (s : Self.Value) → Self.TotalOrdKernel.scalar_row s ≡ Self.value_row s };
@@ -43,14 +44,14 @@ pub trait KernelArray: RowArray
 
     ghost extreme_scalar_law: { (s : Self.Value) → Self.MinMaxKernel.scalar_row s ≡ Self.value_row s };
 
-    // Kernels that name rows mean those of the array, and as many bits as the type has.
+    // Kernels that name rows name those of the array, with the width of the type.
     ghost bit_rows_law: { (a : Self) → Self.BitwiseKernel.rows a ≡ rows_under (Self.mask a) (Self.slots a) };
 
     ghost extreme_rows_law: { (a : Self) → Self.MinMaxKernel.rows a ≡ rows_under (Self.mask a) (Self.slots a) };
 
     ghost bit_width_law: { Self.BitwiseKernel.width ≡ width_of Self.kind };
 
-    // Any two arrays of one length can be compared, and any array with any scalar.
+    // Any two arrays of equal length can be compared, and any array with any scalar.
     ghost comparable_law: { (a b : Self) → length (Self.slots a) ≡ length (Self.slots b) → Self.TotalEqKernel.comparable a b };
 
     ghost fits_law: { (a : Self) (s : Self.Value) → Self.TotalEqKernel.fits a s };
@@ -59,7 +60,7 @@ pub trait KernelArray: RowArray
 
     ghost broadcasts_law: { Self.TotalEqKernel.broadcasts ≡ true };
 
-    // Each array is good, and two are of one type.
+    // Each array is good, and any two are of one type.
     ghost good_law: { (a : Self) → Self.good a };
 
     ghost one_type_law: { (a b : Self) → Self.same_type a b };

@@ -1,4 +1,4 @@
-//! The types of numbers that a line can name, and what operations ask of them.
+//! Number types that a line can name, with all that operations require of them.
 
 ghost use Rattle.std.specs.Prelude.{◌≡◌, false, refl};
 ghost use Rattle.polars_arrays_flat.specs.Row.{Int};
@@ -13,17 +13,17 @@ use polars_compute_bits::wrapping::law_wrapped;
 use polars_compute_slots::number::UniqueNumber;
 use polars_tables_rows::row_number::RowNumber;
 
-/// A type of numbers that a line can name.
+/// A number type that a line can name.
 pub trait LineNumber: RowNumber
     + HasPrimitiveArithmeticKernel
     + BitNumber
     + WrappingSum
     + UniqueNumber
     + 'static {
-    // They are no truth values.
+    // They are not truth values.
     ghost number_kind_law: { is_boolean Self.kind ≡ false };
 
-    /// A law of every number: it is the one that its bits write. It does nothing.
+    /// States that a number is the one of its bits. Does nothing.
     final fn law_number_bits(self)
         ensures { bits_row Self.kind (number_bits (width_of Self.kind) (Self.value self)) ≡ Int (Self.value self) }
     {

@@ -1,4 +1,4 @@
-//! What the operations on numbers answer.
+//! Operations on numbers.
 
 ghost use Rattle.std.specs.Prelude.{◌≡◌, IfOk, map, Ok};
 ghost use Rattle.std.specs.String.{string_bytes};
@@ -30,7 +30,7 @@ use polars_tables_rows::fault::LineError;
 use polars_tables_rows::row_array::RowArray;
 use std::alloc::{AllocError, Global};
 
-// The one list.
+// Returns the only list.
 fn into_one<A: Drop>(lists: Vec<A>) -> Result<A, LineError>
     ensures { Tells {Y = A} (λ list. list) (of_one lists.items (λ list. Ok list)) result }
 {
@@ -44,7 +44,7 @@ fn into_one<A: Drop>(lists: Vec<A>) -> Result<A, LineError>
     Ok(list)
 }
 
-// The two lists.
+// Returns the two lists.
 fn into_two<A: Drop>(lists: Vec<A>) -> Result<(A, A), LineError>
     ensures { Tells {Y = A × A} (λ pair. pair) (of_two lists.items (λ left right. Ok (left, right))) result }
 {
@@ -56,7 +56,7 @@ fn into_two<A: Drop>(lists: Vec<A>) -> Result<(A, A), LineError>
     Ok((left, right))
 }
 
-// The one number of a list of rows that is lent.
+// Returns the only number of a borrowed list of rows.
 fn lent_scalar<T: LineNumber>(scalars: &PrimitiveArray<T>) -> Result<T, LineError>
     ensures { Tells T.value (of_number_scalar (number_rows T.value scalars.now) (λ n. Ok n)) result }
 {
@@ -69,14 +69,14 @@ fn lent_scalar<T: LineNumber>(scalars: &PrimitiveArray<T>) -> Result<T, LineErro
     }
 }
 
-// The one number of a list of rows.
+// Returns the only number of a list of rows.
 fn scalar_of<T: LineNumber>(scalars: PrimitiveArray<T>) -> Result<T, LineError>
     ensures { Tells T.value (of_number_scalar (number_rows T.value scalars) (λ n. Ok n)) result }
 {
     lent_scalar(&scalars)
 }
 
-// What is made of each number of a list.
+// Applies a function of one number to each number of a list.
 #[tactic(auto, using(crate::proofs::Answered::answered))]
 fn answer_change<T: LineNumber>(
     alloc: Global,
@@ -89,7 +89,7 @@ fn answer_change<T: LineNumber>(
     write_made(alloc, change_rows(alloc, change, rows))
 }
 
-// What is made of the numbers of two lists, which have to be equally long.
+// Calculates with the numbers of two lists, which must have equal lengths.
 #[tactic(auto, using(crate::proofs::Answered::answered))]
 fn answer_rows<T: LineNumber>(
     alloc: Global,
@@ -106,7 +106,7 @@ fn answer_rows<T: LineNumber>(
     write_made(alloc, calculate_rows(alloc, calculation, left, right))
 }
 
-// What is made of the numbers of a list, each on the left, and a scalar.
+// Calculates with the numbers of a list on the left, and a scalar on the right.
 #[tactic(auto, using(crate::proofs::Answered::answered))]
 fn answer_scalar<T: LineNumber>(
     alloc: Global,
@@ -120,7 +120,7 @@ fn answer_scalar<T: LineNumber>(
     write_made(alloc, calculate_scalar(alloc, calculation, rows, scalar))
 }
 
-// What a calculation answers to its lists of rows.
+// Returns the result of a calculation for its lists of rows.
 fn answer_calculation<T: LineNumber>(
     alloc: Global,
     calculation: Calculation,
@@ -136,7 +136,7 @@ fn answer_calculation<T: LineNumber>(
     }
 }
 
-// What is made of a scalar, on the left, and the numbers of a list.
+// Calculates with a scalar on the left, and the numbers of a list on the right.
 #[tactic(auto, using(crate::proofs::Answered::answered))]
 fn answer_from_scalar<T: LineNumber>(
     alloc: Global,
@@ -153,14 +153,14 @@ fn answer_from_scalar<T: LineNumber>(
     )
 }
 
-// The word of the sum of rows.
+// Returns the word of the sum of rows.
 fn write_sum<T: LineNumber>(alloc: Global, rows: &PrimitiveArray<T>) -> Result<String, AllocError>
     ensures { IfOk result (λ text. string_bytes text ≡ row_word (Int (wrapped (least_in T.kind) (width_of T.kind) (total (number_rows T.value rows.now))))) }
 {
     wrapping_sum_arr(rows).to_string(alloc)
 }
 
-// The sum of a list.
+// Returns the sum of a list.
 fn answer_sum<T: LineNumber>(
     alloc: Global,
     lists: Vec<PrimitiveArray<T>>,
@@ -171,7 +171,7 @@ fn answer_sum<T: LineNumber>(
     Ok(write_sum(alloc, &rows)?)
 }
 
-// The state of the range that the first of two lists tells, to which the rows of the second are appended.
+// Creates the state of the range whose ends are the first list, and appends the rows of the second.
 fn state_of_lists<T: LineNumber>(
     alloc: Global,
     lists: Vec<PrimitiveArray<T>>,
@@ -184,7 +184,7 @@ fn state_of_lists<T: LineNumber>(
     state
 }
 
-// What is asked of the distinct rows of a list, whose numbers lie between two ends.
+// Returns the distinct rows of a list, or their number. The numbers lie between two ends.
 fn answer_range<T: LineNumber>(
     alloc: Global,
     asked: Distinct,
@@ -195,7 +195,7 @@ fn answer_range<T: LineNumber>(
     answer_distinct(alloc, asked, state_of_lists(alloc, lists)?)
 }
 
-// Whether a list has all numbers between two ends, and a null.
+// Returns whether a list has all numbers between two ends, and a null.
 fn answer_all<T: LineNumber>(
     alloc: Global,
     lists: Vec<PrimitiveArray<T>>,
@@ -206,7 +206,7 @@ fn answer_all<T: LineNumber>(
     Ok(write_all_seen(alloc, &state)?)
 }
 
-/// What an operation on numbers answers to its lists of rows.
+/// Returns the result of an operation on numbers for its lists of rows.
 pub fn answer_numeric<T: LineNumber>(
     alloc: Global,
     operation: NumericOperation,

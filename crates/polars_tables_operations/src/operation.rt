@@ -5,8 +5,8 @@ ghost use Rattle.polars_tables_operations.specs.Operations.{lists_taken, operati
 
 use polars_tables_rows::tables::find;
 
-/// A comparison of two rows. The first six answer null where either row is null. The last two always answer a
-/// truth value: null is equal to null, and to nothing else.
+/// A comparison of two rows. The first six are null if either row is null. The last two are always
+/// a truth value: null is equal to null alone.
 #[derive(Clone, Copy, Debug, PartialEq, Eq)]
 pub enum Comparison {
     Equal,
@@ -19,16 +19,16 @@ pub enum Comparison {
     UnequalMissing,
 }
 
-/// What the rows of a list are set against.
+/// The right side of a comparison or calculation.
 #[derive(Clone, Copy, Debug, PartialEq, Eq)]
 pub enum Operand {
-    /// Row by row the rows of a second list.
+    /// The rows of a second list, row by row.
     Rows,
-    /// Each of them one scalar.
+    /// One scalar for all rows.
     Scalar,
 }
 
-/// Which bits of a row are counted.
+/// A kind of bits of a row, to be counted.
 #[derive(Clone, Copy, Debug, PartialEq, Eq)]
 pub enum BitCount {
     Ones,
@@ -39,14 +39,14 @@ pub enum BitCount {
     TrailingZeros,
 }
 
-/// What the present rows of a list are reduced to.
+/// A reduction of the present rows of a list.
 #[derive(Clone, Copy, Debug, PartialEq, Eq)]
 pub enum Reduction {
-    /// Each bit by itself: whether it is 1 in all rows.
+    /// The bitwise AND of all rows.
     And,
-    /// Whether it is 1 in one of them.
+    /// The bitwise OR of all rows.
     Or,
-    /// Whether it is 1 in an odd number of them.
+    /// The bitwise exclusive OR of all rows.
     Xor,
     /// The least row.
     Least,
@@ -54,25 +54,25 @@ pub enum Reduction {
     Greatest,
 }
 
-/// What is made of each number by itself.
+/// A function of one number.
 #[derive(Clone, Copy, Debug, PartialEq, Eq)]
 pub enum Change {
     Magnitude,
     Negation,
 }
 
-/// What is made of two numbers whose order matters.
+/// A calculation with two numbers whose order matters.
 #[derive(Clone, Copy, Debug, PartialEq, Eq)]
 pub enum OrderedCalculation {
     Subtract,
     FloorDivide,
     TruncatedDivide,
     Modulo,
-    /// Another name of the quotient that is rounded down.
+    /// Another name of division, rounding down.
     LegacyDivide,
 }
 
-/// What is made of two numbers.
+/// A calculation with two numbers.
 #[derive(Clone, Copy, Debug, PartialEq, Eq)]
 pub enum Calculation {
     Add,
@@ -80,25 +80,25 @@ pub enum Calculation {
     Ordered(OrderedCalculation),
 }
 
-/// What is asked of the distinct rows of a list.
+/// A question about the distinct rows of a list.
 #[derive(Clone, Copy, Debug, PartialEq, Eq)]
 pub enum Distinct {
     /// All of them, ascending, and a null last.
     Listed,
-    /// How many there are, null among them.
+    /// The number of them, including null.
     Counted,
-    /// How many of them are present.
+    /// The number of them that are present.
     PresentCounted,
 }
 
-/// An operation on rows of every type.
+/// An operation on rows of any type.
 #[derive(Clone, Copy, Debug, PartialEq, Eq)]
 pub enum GeneralOperation {
     /// A comparison of the rows of a list.
     Compare(Comparison, Operand),
     /// A count of each row's bits.
     CountBits(BitCount),
-    /// What the rows of a list are reduced to, if one is present.
+    /// A reduction of the rows of a list, if one is present.
     Reduce(Reduction),
     /// The least and the greatest row of a list, if one is present.
     Extremes,
@@ -107,11 +107,11 @@ pub enum GeneralOperation {
 /// An operation on numbers.
 #[derive(Clone, Copy, Debug, PartialEq, Eq)]
 pub enum NumericOperation {
-    /// What is made of each number of a list.
+    /// A function of each number of a list.
     Change(Change),
-    /// What is made of the numbers of a list, each on the left.
+    /// A calculation with the numbers of a list on the left.
     Calculate(Calculation, Operand),
-    /// What is made of a scalar, on the left, and each number of a list.
+    /// A calculation with a scalar on the left and each number of a list on the right.
     CalculateFromScalar(OrderedCalculation),
     /// The sum of a list, wrapped.
     Sum,
@@ -121,7 +121,7 @@ pub enum NumericOperation {
     HasAllOfRange,
 }
 
-/// What a line asks for.
+/// The operation that a line names.
 #[derive(Clone, Copy, Debug, PartialEq, Eq)]
 pub enum Operation {
     /// An operation on rows of every type.
@@ -132,7 +132,7 @@ pub enum Operation {
     DistinctTruths(Distinct),
 }
 
-// Lines of the table, of a name each: a comparison and with what it compares the rows of a list;
+// A row of the table: a comparison, and the kind of its right side.
 macro_rules! compares {
     ($name:expr, $comparison:ident, $operand:ident) => {
         (
@@ -145,7 +145,7 @@ macro_rules! compares {
     };
 }
 
-// which bits are counted;
+// A row of the table: a count of bits.
 macro_rules! counts {
     ($name:expr, $count:ident) => {
         (
@@ -155,7 +155,7 @@ macro_rules! counts {
     };
 }
 
-// what rows are reduced to;
+// A row of the table: a reduction of rows.
 macro_rules! reduces {
     ($name:expr, $reduction:ident) => {
         (
@@ -165,14 +165,14 @@ macro_rules! reduces {
     };
 }
 
-// an operation on numbers;
+// A row of the table: an operation on numbers.
 macro_rules! numeric {
     ($name:expr, $operation:expr) => {
         ($name, Operation::Numeric($operation))
     };
 }
 
-// what is made of the numbers of a list, and by what;
+// A row of the table: a calculation, and the kind of its right side.
 macro_rules! calculates {
     ($name:expr, $calculation:ident, $operand:ident) => {
         numeric!(
@@ -182,7 +182,7 @@ macro_rules! calculates {
     };
 }
 
-// the same, where the order matters;
+// A row of the table: a calculation in which the order matters, and the kind of its right side.
 macro_rules! calculates_in_order {
     ($name:expr, $calculation:ident, $operand:ident) => {
         numeric!(
@@ -195,7 +195,7 @@ macro_rules! calculates_in_order {
     };
 }
 
-// and where the scalar stands on the left.
+// A row of the table: a calculation with a scalar on the left.
 macro_rules! calculates_from_scalar {
     ($name:expr, $calculation:ident) => {
         numeric!(
@@ -205,7 +205,7 @@ macro_rules! calculates_from_scalar {
     };
 }
 
-/// The operations by their names. A new one is a line here and in `specs/Operations.antt`.
+/// The operations by name. A new one needs a row here and in `specs/Operations.antt`.
 const OPERATIONS: [(&str, Operation); 57] = [
     compares!("eq", Equal, Rows),
     compares!("ne", Unequal, Rows),
@@ -279,14 +279,14 @@ const OPERATIONS: [(&str, Operation); 57] = [
 ];
 
 impl Operation {
-    /// The operation of this name.
+    /// Returns the operation of a name.
     pub fn from_name(name: &str) -> Option<Operation>
         ensures { result ≡ operation_of name.now }
     {
         find(&OPERATIONS, name)
     }
 
-    /// Returns how many lists of rows the operation takes.
+    /// Returns the number of lists of rows that the operation accepts.
     pub fn lists_taken(self) -> usize
         ensures { result ≡ lists_taken self }
     {

@@ -14,7 +14,7 @@ use polars_tables_rows::fault::{LineError, or_memory};
 use polars_tables_rows::row_array::RowArray;
 use std::alloc::Global;
 
-// The two ends that a list of rows has.
+// Returns the two ends in a list of rows.
 fn ends_of<T: LineNumber>(ends: &PrimitiveArray<T>) -> Result<(T, T), LineError>
     ensures { Tells {Y = ℤ × ℤ} (λ pair. (T.value pair.0, T.value pair.1)) (of_ends (number_rows T.value ends.now) (λ m n. Ok (m, n))) result }
 {
@@ -27,7 +27,7 @@ fn ends_of<T: LineNumber>(ends: &PrimitiveArray<T>) -> Result<(T, T), LineError>
     Ok((first, last))
 }
 
-// Whether two numbers are in order, and at most a million lie between them, both counted.
+// Returns whether two numbers are in order, and their range has at most a million numbers.
 fn are_ends<T: LineNumber>(first: T, last: T) -> bool
     ensures { result ≡ are_ends (T.value first) (T.value last) }
 {
@@ -35,7 +35,7 @@ fn are_ends<T: LineNumber>(first: T, last: T) -> bool
     first <= last && last - first < 1_000_000
 }
 
-// The state of the numbers between two ends, to which rows are appended.
+// Creates the state of the numbers between two ends, and appends rows.
 fn seen_between<T: LineNumber>(
     alloc: Global,
     first: T,
@@ -56,7 +56,7 @@ fn seen_between<T: LineNumber>(
     Ok(state)
 }
 
-/// The state of the range that a list of two ends tells, to which rows are appended.
+/// Creates the state of the range given by a list of its two ends, and appends rows.
 pub fn state_of<T: LineNumber>(
     alloc: Global,
     ends: &PrimitiveArray<T>,

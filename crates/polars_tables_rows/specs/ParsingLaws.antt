@@ -1,4 +1,4 @@
--- What `parse` reads of a word is the value that the word writes.
+-- `parse` returns the value that a word denotes.
 use Rattle.std.proofs.Common.{◌≡◌, ◌<◌, ◌&&◌, ◌==◌, ◌-◌, ◌^◌, ℕ, Bool, true, false, not, List, [], ◌∷◌, length, Option, Some, None, Result, Ok, Err, refl, sym, ap, ◌∙◌, arith}
 use Rattle.std.specs.Prelude.{ℤ, pos, negsuc, FitsSigned, if◌then◌else◌, option_map, codes}
 use Rattle.std.specs.Int.{Width}
@@ -67,7 +67,7 @@ module _ (w : Width) (bits : ℕ) (wide : hbits w ≡ bits - 1) where
       let value = signed_digits_value 10 word in
       sym (if_not (are_digits ds && is_signed bits value) value (λ t. let parts = both (are_digits ds) (is_signed bits value) t in h (numeral_is ds parts.0, fits value parts.1)))
 
-  -- the same, as a row
+  -- a parsed signed number, as a row
   pub signed_row : {E : Type 0} (word : List ℕ) (r : Result ℤ E) → ParsesSigned w 10 word r → option_map Int (result_ok r) ≡ option_map Int (signed_number bits word)
   signed_row word r h = ap (λ (o : Option ℤ). option_map Int o) (parsed_signed word r h)
 
@@ -85,7 +85,7 @@ map_twice : (o : Option ℕ) → option_map (λ n. Int (pos n)) o ≡ option_map
 map_twice None = refl
 map_twice (Some n) = refl
 
--- the same, as a row
+-- a parsed unsigned number, as a row
 pub unsigned_row : {E : Type 0} (bits : ℕ) (word : List ℕ) (r : Result ℕ E) → ParsesUnsigned bits 10 word r → option_map (λ n. Int (pos n)) (result_ok r) ≡ option_map Int (unsigned_number bits word)
 unsigned_row bits word r h = map_twice (result_ok r) ∙ ap (λ (o : Option ℤ). option_map Int o) (parsed_unsigned bits word r h)
 
@@ -106,6 +106,6 @@ parsed_truth word (Ok true) h = sym (named word true _ (test_true word true_text
 parsed_truth word (Ok false) h = sym (rw h refl)
 parsed_truth word (Err e) h = sym (named word false false (test_not word true_text h.0) (test_not word false_text h.1))
 
--- the same, as a row
+-- a parsed truth value, as a row
 pub truth_row : {E : Type 0} (word : List ℕ) (r : Result Bool E) → ParsesBool word r → option_map Truth (result_ok r) ≡ option_map Truth (truth_of word)
 truth_row word r h = ap (λ (o : Option Bool). option_map Truth o) (parsed_truth word r h)

@@ -1,4 +1,4 @@
--- What stands at a place of rows under a validity.
+-- Rows under a validity, by place.
 use Rattle.std.proofs.Common.{◌≡◌, ◌<◌, ◌∙◌, ℕ, zero, suc, Bool, true, false, List, [], ◌∷◌, Option, Some, None, length, map, get_or, refl, sym, ap, arith, slice_index_or}
 use Rattle.std.specs.Prelude.{slice_get, unwrap_or}
 use Rattle.std.proofs.lemmas.Option.{unwrap_or-slice_get, get_or_from_slice_get}
@@ -29,12 +29,12 @@ masked-at (b ∷ bits) [] i e h = absurd (omega arith)
 masked-at (b ∷ bits) (x ∷ rows) zero e h = refl
 masked-at (b ∷ bits) (x ∷ rows) (suc i) e h = masked-at bits rows i (omega arith) (omega arith)
 
--- rows under a validity are as many as are stored
+-- there are as many rows under a validity as stored rows
 pub length-rows : (v : Option (List Bool)) (slots : List Row) → HasBits (length slots) v → length (rows_under v slots) ≡ length slots
 length-rows None slots h = refl
 length-rows (Some bits) slots h = length-masked bits slots h
 
--- each is the stored one, where it is present
+-- each row is the stored one if it is present
 pub row-at : (v : Option (List Bool)) (slots : List Row) (i : ℕ) → HasBits (length slots) v → i < length slots → row (rows_under v slots) i ≡ kept (is_present v i) (row slots i)
 row-at None slots i h k = refl
 row-at (Some bits) slots i h k = masked-at bits slots i h k
@@ -49,7 +49,7 @@ module _ {A : Type 0} (f : A → Row) (v : Option (List Bool)) (xs : List A) (i 
       ∙ ap (λ (b : Bool). kept b (row (map f xs) i)) (sym p)
       ∙ sym (row-at v (map f xs) i bits h)
 
-  -- and any other is Null
+  -- a row that is not present is Null
   pub value-masked : is_present v i ≡ false → Null ≡ row (rows_under v (map f xs)) i
   value-masked p =
       ap (λ (b : Bool). kept b (row (map f xs) i)) (sym p)
@@ -58,6 +58,6 @@ module _ {A : Type 0} (f : A → Row) (v : Option (List Bool)) (xs : List A) (i 
   pub value-read : (x : A) → is_present v i ≡ true → slice_get xs i ≡ Some x → f x ≡ row (rows_under v (map f xs)) i
   value-read x p e = value-present x p (sym (get_or_from_slice_get xs i x x e))
 
--- stored values are as many as rows
+-- there are as many stored values as rows
 pub length-values : {A : Type 0} (f : A → Row) (v : Option (List Bool)) (xs : List A) → HasBits (length (map f xs)) v → length (map f xs) ≡ length (rows_under v (map f xs))
 length-values f v xs h = sym (length-rows v (map f xs) h)

@@ -1,4 +1,4 @@
--- The types of rows: their names, and which numbers they have.
+-- The types of rows: their names, and their numbers.
 use Rattle.std.specs.Prelude.{ℕ, ℤ, Bool, true, false, List, [], ◌∷◌, codes, Option}
 use Rattle.polars_arrays_numbers.specs.Ranges.{least_of}
 use Rattle.polars_tables_rows.specs.declared.row_type.RowType.{RowType}
@@ -22,12 +22,12 @@ row_types = (codes "i8", I8)
 abbrev pub row_type_of : List ℕ → Option RowType
 row_type_of name = find row_types name
 
--- whether the rows are truth values, and no numbers
+-- whether the rows are truth values
 abbrev pub is_boolean : RowType → Bool
 is_boolean Boolean = true
 is_boolean type = false
 
--- how many bits a row has; a truth value has one
+-- the number of bits of a row; a truth value has one
 abbrev pub width_of : RowType → ℕ
 width_of I8 = 8
 width_of I16 = 16

@@ -16,6 +16,6 @@ row_word (Int n) = signed_decimal n
 row_word (Truth b) = truth_word b
 row_word x = []
 
--- rows as words, parted by one space
+-- rows as words, separated by one space
 abbrev pub row_words : List Row → List ℕ
 row_words rows = join_with_byte 32 (map row_word rows)

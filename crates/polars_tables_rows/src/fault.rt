@@ -1,4 +1,4 @@
-//! Why a line is refused.
+//! Faults of a line.
 
 ghost use Rattle.std.specs.Prelude.{◌≡◌, IfOk, IfErr, Ok};
 ghost use Rattle.polars_arrays_bits.specs.Errors.{IsMemory};
@@ -8,25 +8,25 @@ use polars_arrays_bits::error::ComputeError;
 use std::alloc::{AllocError, AllocFailed};
 use thiserror::Error;
 
-/// Why a line is refused. Where several reasons hold, it is the first of them in this order.
+/// The fault of a line. If there are several, it is the first of them in this order.
 #[derive(Debug, Drop, PartialEq, Eq, Error)]
 pub enum LineError {
     /// There is no word, or the first one names no operation.
     #[error("op")]
     Op,
-    /// There is no second word, or it names no type that the operation takes.
+    /// There is no second word, or it names no type that the operation accepts.
     #[error("type")]
     TypeName,
     /// A later word is neither a bar nor a row of the type.
     #[error("row")]
     Row,
-    /// There are not as many lists as the operation takes, or they are not as long as it asks.
+    /// The number of lists is not that of the operation, or their lengths are wrong.
     #[error("length")]
     Length,
-    /// A scalar or an end of a range is null, or no state has the range, or a row lies outside it.
+    /// A scalar or an end of a range is null, or the range has no state, or a row lies outside it.
     #[error("range")]
     Range,
-    /// A growth was refused. This may come before a fault further on in the line is found.
+    /// An allocation failed. This may come before a later fault of the line is found.
     #[error("memory")]
     Memory,
 }
@@ -47,8 +47,8 @@ impl<T: Drop> From<AllocFailed<T>> for LineError {
     }
 }
 
-/// The answer of a call whose contract allows one error alone, a refused growth. So `Unsupported` and
-/// `KeyOutOfRange` never become `LineError::Memory`.
+/// Converts the result of a call whose only error, by its contract, is a failed allocation. So
+/// `Unsupported` and `KeyOutOfRange` never become `LineError::Memory`.
 pub fn or_memory<X>(answer: Result<X, ComputeError>) -> Result<X, LineError>
     requires { IfErr answer IsMemory }
     ensures answered { IfOk result (λ x. answer ≡ Ok x) }

@@ -1,4 +1,4 @@
-//! The words of lines, and the rows that they stand for: how they are read into arrays, and written.
+//! Words of lines and their rows: reading them into arrays, and writing them.
 #![tactic(auto)]
 
 pub mod fault;

@@ -1,4 +1,4 @@
-//! What the line language asks of a kind of array.
+//! Requirements of the line language on a kind of array.
 
 ghost use Rattle.std.specs.Prelude.{◌≡◌, ◌<◌, ℕ, List, Result, Some, length, map, option_map, vec_len, MatchResult};
 ghost use Rattle.std.specs.Result.{result_ok};
@@ -23,19 +23,19 @@ use std::alloc::Global;
 use std::fmt::Display;
 use std::str::FromStr;
 
-/// A kind of array that a line can ask for: words are read as its values, which are written as words.
+/// A kind of array that a line can name. Words are read as its values, and values are written as
+/// words.
 pub trait RowArray: Array + Sized + Drop {
-    /// The values of its rows.
+    /// The type of the values of its rows.
     type Value: FromStr<Err: Drop> + Display + Copy + Default;
 
     // The type of its rows.
     ghost kind: { RowType };
 
-    // The row that a value is.
+    // The row of a value.
     ghost value_row: { Self.Value → Row };
 
-    /// The array of these values, each of which is a row where its bit is set and null where it is not. The error
-    /// is `Memory`.
+    /// Creates an array of values. A row is null if its bit is not set. The error is `Memory`.
     fn from_values(
         alloc: Global,
         values: Vec<Self::Value>,
@@ -46,17 +46,17 @@ pub trait RowArray: Array + Sized + Drop {
             (λ array. rows_under (Self.mask array) (Self.slots array) ≡ masked present (map value_row values.items))
             IsMemory };
 
-    /// How many rows it has, null or not.
+    /// Returns the number of rows, null or not.
     fn count(&self) -> usize
         ensures rows { result ≡ length (rows_under (Self.mask self.now) (Self.slots self.now)) }
         ensures slots { result ≡ length (Self.slots self.now) };
 
-    /// The value of row `i`, if it is not null.
+    /// Returns the value of row `i`, or `None` if it is null.
     fn value(&self, i: usize) -> Option<Self::Value>
         requires { i < length (Self.slots self.now) }
         ensures { row_from value_row result ≡ row (rows_under (Self.mask self.now) (Self.slots self.now)) i };
 
-    // To parse a word gives the value that the word writes.
+    // Parsing a word gives the value that the word denotes.
     ghost parse_law: { (word : List ℕ) (r : Result Self.Value Self.Value.Err) → Self.Value.from_str_gives word r
         → option_map value_row (result_ok r) ≡ value_of kind word };
 
@@ -86,7 +86,7 @@ impl<T: RowNumber> RowArray for PrimitiveArray<T> {
     }
 
     fn count(&self) -> usize {
-        // its contract says that the validity has a bit for each row
+        // its contract states that the validity has a bit for each row
         let _ = self.validity();
         self.len()
     }
@@ -129,7 +129,7 @@ impl RowArray for BooleanArray {
     }
 
     fn count(&self) -> usize {
-        // its contract says that the validity has a bit for each row
+        // its contract states that the validity has a bit for each row
         let _ = self.validity();
         self.len()
     }

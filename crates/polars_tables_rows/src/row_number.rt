@@ -1,4 +1,4 @@
-//! The types of numbers that a line can name.
+//! Number types that a line can name.
 
 ghost use Rattle.std.specs.Prelude.{◌≡◌, ℕ, List, Result, Some, option_map, refl};
 ghost use Rattle.std.specs.Int.{w8, w16, w32, w64};
@@ -16,19 +16,19 @@ use polars_arrays_numbers::native_type::NativeType;
 use std::fmt::Display;
 use std::str::FromStr;
 
-/// A type of numbers that a line can name.
+/// A number type that a line can name.
 pub trait RowNumber: NativeType + FromStr<Err: Drop> + Display + Default {
     // The type of rows of these numbers.
     ghost kind: { RowType };
 
-    // To parse a word gives the number that the word writes.
+    // Parsing a word gives the number that the word denotes.
     ghost number_law: { (word : List ℕ) (r : Result Self Self.Err) → Self.from_str_gives word r
         → option_map (λ x. Int (Self.value x)) (result_ok r) ≡ value_of kind word };
 
     // A number is printed as its word.
     ghost shown_law: { (x : Self) → Self.Display.output x ≡ Some (row_word (Int (Self.value x))) };
 
-    // Rows of the type have the least number of this one, and as many bits.
+    // Rows of the type have the least number and the width of this type.
     ghost least_law: { least_in kind ≡ Self.low };
 
     ghost width_law: { width_of kind ≡ bit_len Self.width };

@@ -5,7 +5,7 @@ ghost use Rattle.polars_tables_rows.specs.Types.{row_type_of};
 
 use crate::tables::find;
 
-/// What the rows of a line are: numbers with a sign or without one, of so many bits, or truth values.
+/// A type of rows of a line: signed or unsigned numbers of some width, or truth values.
 #[derive(Clone, Copy, Debug, PartialEq, Eq)]
 pub enum RowType {
     I8,
@@ -19,7 +19,7 @@ pub enum RowType {
     Boolean,
 }
 
-/// The types by their names.
+/// The types by name.
 const ROW_TYPES: [(&str, RowType); 9] = [
     ("i8", RowType::I8),
     ("i16", RowType::I16),
@@ -33,7 +33,7 @@ const ROW_TYPES: [(&str, RowType); 9] = [
 ];
 
 impl RowType {
-    /// The type of this name.
+    /// Returns the type of a name.
     pub fn from_name(name: &str) -> Option<RowType>
         ensures { result ≡ row_type_of name.now }
     {

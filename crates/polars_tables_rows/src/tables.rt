@@ -3,7 +3,7 @@
 ghost use Rattle.std.specs.Prelude.{◌≡◌, map};
 ghost use Rattle.polars_tables_rows.specs.Tables.{find};
 
-/// What a name stands for, by the first line of the table that has the name, if there is one.
+/// Looks up a name in a table, and returns the value of the first row that has it.
 pub fn find<T: Copy>(table: &[(&str, T)], name: &str) -> Option<T>
     ensures { result ≡ find (map (λ line. (line.0.now, line.1)) table.now) name.now }
 {

@@ -1,4 +1,4 @@
-//! The words of a line, and the arrays of the rows that they stand for.
+//! Words of a line, and the arrays of their rows.
 
 ghost use Rattle.std.specs.Prelude.{◌≡◌, ◌∷◌, ◌<◌, ◌≤◌, [], Some, None, length, map, vec_len, option_map, is_some, IfOk, IfErr, IfSome, MatchOption};
 ghost use Rattle.polars_arrays_flat.specs.StoredRows.{masked, rows_under};
@@ -11,8 +11,8 @@ use crate::row_array::RowArray;
 use polars_arrays_bits::bitmap::Bitmap;
 use std::alloc::Global;
 
-/// Returns the first word of a text and what follows it, or `None` where the text has no word.
-/// Words stand between spaces.
+/// Returns the first word of a text and the text after it, or `None` if the text has no word. Words
+/// are separated by spaces.
 pub fn next_word(text: &str) -> Option<(&str, &str)>
     ensures word { MatchOption result (words_of text.now ≡ []) (λ pair. words_of text.now ≡ pair.0.now ∷ words_of pair.1.now) }
     ensures shorter { IfSome result (λ pair. length pair.1.now < length text.now) }
@@ -30,21 +30,21 @@ pub fn next_word(text: &str) -> Option<(&str, &str)>
     Some((rest, ""))
 }
 
-/// Whether the word parts two lists of rows.
+/// Returns whether a word is a bar, which separates two lists of rows.
 fn is_bar(word: &str) -> bool
     ensures { result ≡ is_bar word.now }
 {
     word == "|"
 }
 
-/// The value that a word writes.
+/// Parses a word as a value.
 fn parse_value<A: RowArray>(word: &str) -> Option<A::Value>
     ensures { option_map A.value_row result ≡ value_of A.kind word.now }
 {
     word.parse().ok()
 }
 
-/// The row that a word stands for, where `Some(None)` is null; `None` for a word that is no row.
+/// Parses a word as a row: `Some(None)` is null, and `None` is no row.
 fn parse_row<A: RowArray>(word: &str) -> Option<Option<A::Value>>
     ensures { option_map (row_from A.value_row) result ≡ row_of A.kind word.now }
 {
@@ -54,7 +54,7 @@ fn parse_row<A: RowArray>(word: &str) -> Option<Option<A::Value>>
     parse_value::<A>(word).map(Some)
 }
 
-/// The value that is stored for a row. For a null it is any one, since no answer depends on it.
+/// Returns the value to store for a row. For null it is arbitrary; no result depends on it.
 fn stored_value<V: Copy + Default>(row: Option<V>) -> V
     ensures { IfSome row (λ value. result ≡ value) }
 {
@@ -64,7 +64,7 @@ fn stored_value<V: Copy + Default>(row: Option<V>) -> V
     }
 }
 
-/// Returns the array of rows that were read, each of them null where its flag is not set.
+/// Creates the array of rows that were read. A row is null if its flag is not set.
 fn make_array<A: RowArray>(
     alloc: Global,
     values: Vec<A::Value>,
@@ -78,7 +78,7 @@ fn make_array<A: RowArray>(
     or_memory(A::from_values(alloc, values, bits))
 }
 
-/// Returns the array of the first list of a text, and what follows the bar behind the list, if
+/// Returns the array of the first list of a text, and the text after the bar that ends the list, if
 /// there is one.
 fn parse_list<'a, A: RowArray>(
     alloc: Global,
@@ -108,7 +108,7 @@ fn parse_list<'a, A: RowArray>(
     Ok((array, None))
 }
 
-/// Tests whether every word of a text is a bar or a row of the type.
+/// Returns whether every word of a text is a bar or a row of the type.
 fn are_rows<A: RowArray>(text: &str) -> bool
     ensures { result ≡ is_some (lists_of A.kind (words_of text.now)) }
 {
@@ -122,9 +122,8 @@ fn are_rows<A: RowArray>(text: &str) -> bool
     true
 }
 
-/// Returns the arrays of the lists of rows that a text has, parted at the bars. Where there are
-/// more than `most`, none is kept and the fault is `Length`, once every further word was found to
-/// be a bar or a row.
+/// Returns the arrays of the lists of rows of a text, which are separated by bars. If there are
+/// more than `most`, the fault is `Length`, provided that every further word is a bar or a row.
 pub fn parse_lists<A: RowArray>(alloc: Global, most: usize, text: &str) -> Result<Vec<A>, LineError>
     ensures lists { IfOk result (λ lists. lists_of A.kind (words_of text.now)
         ≡ Some (map (λ a. rows_under (A.mask a) (A.slots a)) lists.items)) }

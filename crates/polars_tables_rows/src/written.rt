@@ -1,4 +1,4 @@
-//! The rows of arrays, written as words.
+//! Rows of arrays written as words.
 
 ghost use Rattle.std.specs.Prelude.{◌≡◌, ◌++◌, ◌<◌, length, IfOk, OnOk};
 ghost use Rattle.std.specs.String.{string_bytes};
@@ -8,7 +8,7 @@ ghost use Rattle.polars_tables_rows.specs.Written.{row_word, row_words};
 use crate::row_array::RowArray;
 use std::alloc::{AllocError, Global};
 
-/// Adds the word of row `i` to a text.
+/// Appends the word of row `i` to a text.
 fn push_row<A: RowArray>(text: &mut String, array: &A, i: usize) -> Result<(), AllocError>
     requires { i < length (A.slots array.now) }
     ensures { OnOk result (string_bytes text.new ≡ string_bytes text.old ++ row_word (row (rows_under (A.mask array.now) (A.slots array.now)) i)) }
@@ -19,7 +19,7 @@ fn push_row<A: RowArray>(text: &mut String, array: &A, i: usize) -> Result<(), A
     }
 }
 
-/// The rows of an array as words, parted by one space.
+/// Returns the rows of an array as words, separated by one space.
 pub fn write_rows<A: RowArray>(alloc: Global, array: &A) -> Result<String, AllocError>
     ensures { IfOk result (λ text. string_bytes text ≡ row_words (rows_under (A.mask array.now) (A.slots array.now))) }
 {

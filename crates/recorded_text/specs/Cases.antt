@@ -3,6 +3,6 @@ use Rattle.std.specs.List.{All}
 use Rattle.polars_arrays_nested.specs.GoodParts.{IsGood}
 use Rattle.recorded_text.specs.declared.store.Store.{Store}
 
--- those that have names are made of good parts
+-- all named arrays are made of good parts
 abbrev pub HasGoodArrays : Store → Type 0
 HasGoodArrays store = All (λ named. IsGood named.array) store.arrays.items

@@ -7,12 +7,12 @@ use polars_arrays_bits::error::ComputeError;
 use polars_arrays_flat::mask::Mask;
 use std::alloc::Global;
 
-/// A bit as a digit.
+/// Returns a bit as a digit.
 fn digit(bit: bool) -> char {
     if bit { '1' } else { '0' }
 }
 
-/// Whether a row is null, by the bits of its array.
+/// Returns whether a row is null by its validity.
 pub fn is_null(validity: Option<&Bitmap>, i: usize) -> bool {
     match validity {
         Some(bits) => bits.get(i) == Some(false),
@@ -20,19 +20,19 @@ pub fn is_null(validity: Option<&Bitmap>, i: usize) -> bool {
     }
 }
 
-/// The text of bits: `b0:` and a digit for each.
+/// Returns the text of bits: `b0:` and a digit for each.
 pub fn write_bits(alloc: Global, bits: &Bitmap) -> Result<String, Fault> {
     let mut text = String::new(alloc);
     push_bits(&mut text, bits)?;
     Ok(text)
 }
 
-/// The text of the bits that a call made.
+/// Returns the text of the bits that a call returned.
 pub fn write_made(alloc: Global, bits: Result<Bitmap, ComputeError>) -> Result<String, Fault> {
     write_bits(alloc, &bits?)
 }
 
-/// The text of the mask that a call made: that of its bits, or `none` where it has none.
+/// Returns the text of the mask that a call returned: that of its bits, or `none` if it has none.
 pub fn write_made_mask(
     alloc: Global,
     mask: Result<Mask<'_>, ComputeError>,
@@ -40,7 +40,7 @@ pub fn write_made_mask(
     write_mask(alloc, &mask?)
 }
 
-// The text of a mask.
+// Returns the text of a mask.
 fn write_mask(alloc: Global, mask: &Mask<'_>) -> Result<String, Fault> {
     match mask.bits() {
         Some(bits) => write_lent(alloc, &bits),
@@ -48,7 +48,7 @@ fn write_mask(alloc: Global, mask: &Mask<'_>) -> Result<String, Fault> {
     }
 }
 
-// The text of bits that are lent.
+// Returns the text of borrowed bits.
 fn write_lent(alloc: Global, bits: &BitMask<'_>) -> Result<String, Fault> {
     let mut text = String::new(alloc);
     text.push_str("b0:")?;
@@ -58,7 +58,7 @@ fn write_lent(alloc: Global, bits: &BitMask<'_>) -> Result<String, Fault> {
     Ok(text)
 }
 
-/// Adds the text of bits to a text.
+/// Appends the text of bits.
 pub fn push_bits(text: &mut String, bits: &Bitmap) -> Result<(), Fault> {
     text.push_str("b0:")?;
     for i in 0..bits.len() {
@@ -67,8 +67,8 @@ pub fn push_bits(text: &mut String, bits: &Bitmap) -> Result<(), Fault> {
     Ok(())
 }
 
-/// The text of bits that say something only where no validity masks the row: `b0:` and a digit for each, or
-/// `x` in place of one.
+/// Returns the text of bits that are defined only where no validity masks the row: `b0:` and for
+/// each row a digit, or `x` if it is masked.
 pub fn write_present(
     alloc: Global,
     bits: &Bitmap,
@@ -84,12 +84,13 @@ pub fn write_present(
     Ok(text)
 }
 
-/// A bit as a digit, or `x` for a masked row.
+/// Returns a bit as a digit, or `x` for a masked row.
 fn digit_or_mask(bit: bool, masked: bool) -> char {
     if masked { 'x' } else { digit(bit) }
 }
 
-/// The same of the bits that a call made.
+/// Returns the text of bits that a call returned and that are defined only where no validity masks
+/// the row: `b0:` and for each row a digit, or `x` if it is masked.
 pub fn write_made_present(
     alloc: Global,
     bits: Result<Bitmap, ComputeError>,
@@ -99,8 +100,8 @@ pub fn write_made_present(
     write_present(alloc, &bits?, left, right)
 }
 
-/// The text of bits that say something only where both masks have the row: `b0:` and a digit for each, or `x` in
-/// place of one.
+/// Returns the text of bits that are defined only where both masks have the row: `b0:` and for each
+/// row a digit, or `x`.
 pub fn write_unmasked(
     alloc: Global,
     bits: &Bitmap,

@@ -9,7 +9,7 @@ const DIGITS: [char; 16] = [
     '0', '1', '2', '3', '4', '5', '6', '7', '8', '9', 'a', 'b', 'c', 'd', 'e', 'f',
 ];
 
-/// Adds a byte string to a text.
+/// Appends the text of a byte string.
 pub fn push_bytes(text: &mut String, bytes: &[u8]) -> Result<(), Fault> {
     text.push('x')?;
     for byte in bytes {
@@ -19,14 +19,15 @@ pub fn push_bytes(text: &mut String, bytes: &[u8]) -> Result<(), Fault> {
     Ok(())
 }
 
-/// The text of a byte string.
+/// Returns the text of a byte string.
 pub fn write_bytes(alloc: Global, bytes: &[u8]) -> Result<String, Fault> {
     let mut text = String::new(alloc);
     push_bytes(&mut text, bytes)?;
     Ok(text)
 }
 
-/// The byte strings of an array, those of null rows too, with how many rows there are and how many are null.
+/// Returns the number of rows of an array, the number of nulls, and the byte strings, including
+/// those of null rows.
 pub fn write_strings<R: ByteRows>(alloc: Global, rows: &R) -> Result<String, Fault> {
     let mut text = String::new(alloc);
     for i in 0..rows.count() {

@@ -1,26 +1,26 @@
-//! Why a line gets no answer.
+//! Errors of a line.
 
 use polars_arrays_bits::error::{ArrayError, ComputeError};
 use std::alloc::{AllocError, AllocFailed};
 use std::io;
 use thiserror::Error;
 
-/// Why a line gets no answer.
+/// The reason why a line has no result.
 #[derive(Debug, Drop, Error)]
 pub enum Fault {
-    /// A growth was refused.
+    /// An allocation failed.
     #[error("out of memory")]
     Memory,
-    /// A word is missing, or is not what should stand in its place.
+    /// A word is missing or wrong.
     #[error("a word is missing or is another one than should stand there")]
     Word,
-    /// Arrays lie deeper in others than the reader allows, which is so many levels.
+    /// Arrays are nested deeper than the reader allows; the number is the limit.
     #[error("arrays hold arrays more than {0} levels deep")]
     Depth(usize),
-    /// The parts of an array do not fit each other.
+    /// The parts of an array do not match.
     #[error("no array: {0}")]
     Parts(ArrayError),
-    /// The arrays of a case are not there, or have no such answer.
+    /// The arrays of a case do not exist, or do not have such a result.
     #[error("no such array, or no such answer")]
     Case,
     /// A line could not be read or written.

@@ -1,4 +1,4 @@
-//! Arrays of one level, as words write them.
+//! Readers of arrays of one level.
 
 ghost use Rattle.std.specs.Prelude.{IfOk};
 ghost use Rattle.polars_arrays_nested.specs.GoodParts.{IsGood};
@@ -24,7 +24,7 @@ use polars_arrays_views::view::View;
 use std::alloc::Global;
 use std::str::FromStr;
 
-/// Truth values: their bits, and the validity.
+/// Reads truth values: their bits, and the validity.
 pub fn read_booleans(alloc: Global, kept: Kept, words: &mut Words) -> Result<AnyArray, Fault>
     ensures { IfOk result (λ a. IsGood a) }
 {
@@ -33,7 +33,7 @@ pub fn read_booleans(alloc: Global, kept: Kept, words: &mut Words) -> Result<Any
     Ok(AnyArray::Boolean(BooleanArray::try_new(values, validity)?))
 }
 
-/// Numbers: how many, each of them, and the validity.
+/// Reads numbers: their count, each of them, and the validity.
 pub fn read_integers<T: NativeType + FromStr<Err: Drop>>(
     alloc: Global,
     kept: Kept,
@@ -44,7 +44,7 @@ pub fn read_integers<T: NativeType + FromStr<Err: Drop>>(
     Ok(PrimitiveArray::try_new(values, validity)?)
 }
 
-// What strings between offsets are made of.
+// The parts of an array of strings between offsets.
 #[derive(Drop)]
 struct StringParts<O: Offset> {
     offsets: Buffer<O>,
@@ -52,7 +52,7 @@ struct StringParts<O: Offset> {
     validity: Option<Bitmap>,
 }
 
-// The parts of strings between offsets.
+// Reads the parts of an array of strings between offsets.
 fn read_string_parts<O: Offset + FromStr<Err: Drop>>(
     alloc: Global,
     kept: Kept,
@@ -68,7 +68,7 @@ fn read_string_parts<O: Offset + FromStr<Err: Drop>>(
     })
 }
 
-/// Byte strings between offsets: the offsets, the bytes, and the validity.
+/// Reads byte strings between offsets: the offsets, the bytes, and the validity.
 pub fn read_binary<O: Offset + FromStr<Err: Drop>>(
     alloc: Global,
     kept: Kept,
@@ -78,7 +78,7 @@ pub fn read_binary<O: Offset + FromStr<Err: Drop>>(
     Ok(BinaryArray::try_new(parts.offsets, parts.values, parts.validity)?)
 }
 
-/// Texts between offsets, as byte strings.
+/// Reads texts between offsets, written as byte strings are.
 pub fn read_text<O: Offset + FromStr<Err: Drop>>(
     alloc: Global,
     kept: Kept,
@@ -88,7 +88,7 @@ pub fn read_text<O: Offset + FromStr<Err: Drop>>(
     Ok(Utf8Array::try_new(parts.offsets, parts.values, parts.validity)?)
 }
 
-// What strings by views are made of.
+// The parts of an array of strings in views.
 #[derive(Drop)]
 struct ViewParts {
     views: Buffer<View>,
@@ -96,7 +96,7 @@ struct ViewParts {
     validity: Option<Bitmap>,
 }
 
-// The parts of strings by views.
+// Reads the parts of an array of strings in views.
 fn read_view_parts(alloc: Global, kept: Kept, words: &mut Words) -> Result<ViewParts, Fault> {
     let views = kept.buffer(alloc, read_views(alloc, words)?)?;
     let buffers = read_buffers(alloc, kept, words)?;
@@ -108,7 +108,7 @@ fn read_view_parts(alloc: Global, kept: Kept, words: &mut Words) -> Result<ViewP
     })
 }
 
-/// Byte strings by views: the views, the buffers, and the validity.
+/// Reads byte strings in views: the views, the buffers, and the validity.
 pub fn read_binary_view(alloc: Global, kept: Kept, words: &mut Words) -> Result<AnyArray, Fault>
     ensures { IfOk result (λ a. IsGood a) }
 {
@@ -116,7 +116,7 @@ pub fn read_binary_view(alloc: Global, kept: Kept, words: &mut Words) -> Result<
     Ok(AnyArray::BinaryView(BinaryViewArray::try_new(parts.views, parts.buffers, parts.validity)?))
 }
 
-/// Texts by views, as byte strings.
+/// Reads texts in views, written as byte strings are.
 pub fn read_text_view(alloc: Global, kept: Kept, words: &mut Words) -> Result<AnyArray, Fault>
     ensures { IfOk result (λ a. IsGood a) }
 {
@@ -124,7 +124,7 @@ pub fn read_text_view(alloc: Global, kept: Kept, words: &mut Words) -> Result<An
     Ok(AnyArray::Utf8View(Utf8ViewArray::try_new(parts.views, parts.buffers, parts.validity)?))
 }
 
-/// Byte strings of one size: the size, how many, the bytes, and the validity.
+/// Reads byte strings of one size: the size, the count, the bytes, and the validity.
 pub fn read_sized(alloc: Global, kept: Kept, words: &mut Words) -> Result<AnyArray, Fault>
     ensures { IfOk result (λ a. IsGood a) }
 {

@@ -1,8 +1,8 @@
-//! How many leaf slots arrays have, found by a walk over what they lend.
+//! The number of leaf slots of arrays, computed from their parts.
 //!
-//! They are the most comparisons that it may take to tell where rows are equal: a slot for each row of an
-//! array of one level, those of all items for lists, of all fields for structs, and of the entry for each
-//! present row of a dictionary.
+//! They are the greatest number of comparisons that equality may take: a slot for each row of an
+//! array of one level, those of all items for lists, of all fields for structs, and of the entry
+//! for each present row of a dictionary.
 
 ghost use Rattle.polars_arrays_nested.specs.GoodParts.{IsGood};
 ghost use Rattle.polars_arrays_nested.specs.declared.any_array.AnyArray.{List, FixedSizeList, Struct, Dictionary};
@@ -16,7 +16,7 @@ use polars_arrays_nested::fixed_size_list::FixedSizeListArray;
 use polars_arrays_nested::list::ListArray;
 use polars_arrays_nested::struct_array::StructArray;
 
-/// How many leaf slots `n` rows from row `from` on have.
+/// Returns the number of leaf slots of the `n` rows from row `from` on.
 #[cycle(slots)]
 pub fn leaf_slots(array: &AnyArray, from: usize, n: usize) -> Result<usize, Fault>
     requires { IsGood array.now }
@@ -31,7 +31,7 @@ pub fn leaf_slots(array: &AnyArray, from: usize, n: usize) -> Result<usize, Faul
     }
 }
 
-// Those of the items between the first and the last offset.
+// Counts the leaf slots of lists: those of the items between the first and the last offset.
 #[cycle(slots)]
 fn list_slots(array: &ListArray, from: usize, n: usize) -> Result<usize, Fault>
     requires { IsGood (List array.now) }
@@ -45,7 +45,7 @@ fn list_slots(array: &ListArray, from: usize, n: usize) -> Result<usize, Fault>
     leaf_slots(array.values(), first, last.saturating_sub(first))
 }
 
-// Those of the items of lists of one width.
+// Counts the leaf slots of lists of one width: those of their items.
 #[cycle(slots)]
 fn fixed_list_slots(array: &FixedSizeListArray, from: usize, n: usize) -> Result<usize, Fault>
     requires { IsGood (FixedSizeList array.now) }
@@ -59,7 +59,7 @@ fn fixed_list_slots(array: &FixedSizeListArray, from: usize, n: usize) -> Result
     leaf_slots(array.values(), first, count)
 }
 
-// Those of all fields.
+// Counts the leaf slots of structs: those of all fields.
 #[cycle(slots)]
 fn struct_slots(array: &StructArray, from: usize, n: usize) -> Result<usize, Fault>
     requires { IsGood (Struct array.now) }
@@ -71,7 +71,7 @@ fn struct_slots(array: &StructArray, from: usize, n: usize) -> Result<usize, Fau
     Ok(slots)
 }
 
-// Those of the entry of each present row.
+// Counts the leaf slots of a dictionary array: those of the entry of each present row.
 #[cycle(slots)]
 fn dictionary_slots(array: &DictionaryArray, from: usize, n: usize) -> Result<usize, Fault>
     requires { IsGood (Dictionary array.now) }

@@ -1,9 +1,9 @@
-//! Values as text, for programs that answer recorded cases: arrays as the words of a line write them, and
-//! bits, rows and leaf slots as text.
+//! Values as text, for programs that check recorded cases: readers of arrays from the words of a
+//! line, and writers of bits, rows and leaf slots.
 //!
-//! An array is its first row, how many rows, its kind, and the parts of the kind: `1 2 i32 3 7 8 9 b0:101` are
-//! the last two of three numbers, of which the second is null. `nested` says what the parts of each kind are, and
-//! `names` finds what a name stands for.
+//! An array is written as its first row, the number of rows, its kind, and the parts of the kind:
+//! `1 2 i32 3 7 8 9 b0:101` are the last two of three numbers, the second of them null. `nested`
+//! describes the parts of each kind, and `names` looks up names.
 #![tactic(auto)]
 
 pub mod bits_text;

@@ -1,8 +1,8 @@
-//! Names in tables, and what they stand for.
+//! Lookups of names in tables.
 
 use crate::fault::Fault;
 
-/// What a table has for a name, or None where it does not have the name.
+/// Returns the value of a name in a table, or `None` if the table does not have it.
 pub fn find<T: Copy>(table: &[(&str, T)], name: &str) -> Option<T> {
     for (each, found) in table {
         if *each == name {
@@ -12,7 +12,7 @@ pub fn find<T: Copy>(table: &[(&str, T)], name: &str) -> Option<T> {
     None
 }
 
-/// What a table has for a word. The error is `Word`, where it does not have the word.
+/// Returns the value of a word in a table. The error is `Word`, if the table does not have it.
 pub fn find_word<T: Copy>(table: &[(&str, T)], word: &str) -> Result<T, Fault> {
     find(table, word).ok_or(Fault::Word)
 }

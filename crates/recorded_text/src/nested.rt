@@ -1,4 +1,4 @@
-//! Arrays of any kind, as words write them.
+//! Readers of arrays of any kind.
 
 ghost use Rattle.std.specs.Prelude.{IfOk};
 ghost use Rattle.std.specs.List.{All};
@@ -23,11 +23,12 @@ use polars_arrays_nested::list_offsets::ListOffsets;
 use polars_arrays_nested::struct_array::StructArray;
 use std::alloc::Global;
 
-/// How deep arrays hold arrays at the most. A stack of 8 MiB holds more than twice as many levels of this reader.
+/// Greatest depth of nested arrays. A stack of 8 MiB has room for more than twice as many levels of
+/// this reader.
 const DEPTH: usize = 500;
 
-/// The array that words write, in parts that are kept as the first of them says. The error is `Depth`, where
-/// it holds arrays too deep.
+/// Reads an array. Its first word says whether its parts are shared. The error is `Depth`, if it is
+/// nested too deeply.
 pub fn read_any(alloc: Global, words: &mut Words) -> Result<AnyArray, Fault>
     ensures { IfOk result (λ a. IsGood a) }
 {
@@ -35,8 +36,8 @@ pub fn read_any(alloc: Global, words: &mut Words) -> Result<AnyArray, Fault>
     read_array(alloc, kept, words, DEPTH)
 }
 
-// The array that words write: its first row, how many rows, its kind, and the parts of the kind. It holds
-// arrays at most `depth` deep.
+// Reads an array: its first row, the number of rows, its kind, and the parts of the kind. It is
+// nested at most `depth` levels deep.
 #[cycle(read)]
 fn read_array(alloc: Global, kept: Kept, words: &mut Words, depth: usize) -> Result<AnyArray, Fault>
     ensures { IfOk result (λ a. IsGood a) }
@@ -46,7 +47,7 @@ fn read_array(alloc: Global, kept: Kept, words: &mut Words, depth: usize) -> Res
     slice_of(read_whole(alloc, kept, words, depth)?, at, n)
 }
 
-// The `n` rows of an array from row `at` on. The error is `Word`, where it has fewer.
+// Returns the `n` rows of an array from row `at` on. The error is `Word`, if it has fewer.
 fn slice_of(mut array: AnyArray, at: usize, n: usize) -> Result<AnyArray, Fault>
     requires { IsGood array }
     ensures { IfOk result (λ a. IsGood a) }
@@ -59,7 +60,7 @@ fn slice_of(mut array: AnyArray, at: usize, n: usize) -> Result<AnyArray, Fault>
     Ok(array)
 }
 
-// The array before it is sliced.
+// Reads an array before it is sliced.
 #[cycle(read)]
 fn read_whole(alloc: Global, kept: Kept, words: &mut Words, depth: usize) -> Result<AnyArray, Fault>
     ensures { IfOk result (λ a. IsGood a) }
@@ -76,7 +77,7 @@ fn read_whole(alloc: Global, kept: Kept, words: &mut Words, depth: usize) -> Res
     }
 }
 
-// An array that holds no arrays.
+// Reads an array that holds no arrays.
 fn read_flat(alloc: Global, kept: Kept, words: &mut Words, kind: &str) -> Result<AnyArray, Fault>
     ensures { IfOk result (λ a. IsGood a) }
 {
@@ -94,7 +95,7 @@ fn read_flat(alloc: Global, kept: Kept, words: &mut Words, kind: &str) -> Result
     }
 }
 
-// An array of numbers.
+// Reads an array of numbers.
 fn read_number_array(
     alloc: Global,
     kept: Kept,
@@ -118,7 +119,7 @@ fn read_number_array(
     }
 }
 
-// An array that holds arrays, these at most `depth` deep.
+// Reads an array that holds arrays, which are nested at most `depth` levels deep.
 #[cycle(read)]
 fn read_holder(
     alloc: Global,
@@ -137,7 +138,7 @@ fn read_holder(
     }
 }
 
-// Lists: the offsets, the validity, and the items.
+// Reads lists: the offsets, the validity, and the items.
 #[cycle(read)]
 fn read_list(
     alloc: Global,
@@ -157,7 +158,7 @@ fn read_list(
     )
 }
 
-// Lists of these parts.
+// Creates lists of these parts.
 fn list_of(
     offsets: ListOffsets,
     values: Result<Box<AnyArray>, Fault>,
@@ -175,7 +176,7 @@ fn list_of(
     }
 }
 
-/// An array, boxed for one that holds it.
+/// Puts an array in a box, for one that holds it.
 pub(crate) fn boxed(alloc: Global, array: Result<AnyArray, Fault>) -> Result<Box<AnyArray>, Fault>
     requires { IfOk array (λ a. IsGood a) }
     ensures { IfOk result (λ a. IsGood a.value) }
@@ -186,7 +187,7 @@ pub(crate) fn boxed(alloc: Global, array: Result<AnyArray, Fault>) -> Result<Box
     }
 }
 
-// The offsets of lists.
+// Reads the offsets of lists.
 fn read_offsets(
     alloc: Global,
     kept: Kept,
@@ -200,7 +201,7 @@ fn read_offsets(
     }
 }
 
-// Lists of one width: the width, how many, the validity, and the items.
+// Reads lists of one width: the width, the count, the validity, and the items.
 #[cycle(read)]
 fn read_fixed_list(
     alloc: Global,
@@ -217,14 +218,15 @@ fn read_fixed_list(
     Ok(AnyArray::FixedSizeList(FixedSizeListArray::try_new(width, len, values, validity)?))
 }
 
-// The columns of structs, and the name of each.
+// The columns of structs, and their names.
 #[derive(Drop)]
 struct Columns<'a> {
     names: Vec<&'a str>,
     values: Vec<AnyArray>,
 }
 
-// Structs: how many, how many fields, the validity, and a name and an array for each field.
+// Reads structs: the count, the number of fields, the validity, and a name and an array for each
+// field.
 #[cycle(read)]
 fn read_struct(
     alloc: Global,
@@ -245,7 +247,7 @@ fn read_struct(
     )
 }
 
-// So many columns, a name and an array for each.
+// Reads columns: a name and an array for each.
 #[cycle(read)]
 fn read_columns<'a>(
     alloc: Global,
@@ -265,7 +267,7 @@ fn read_columns<'a>(
     Ok(Columns { names, values })
 }
 
-// Structs of these columns.
+// Creates structs of these columns.
 fn of_columns(
     alloc: Global,
     len: usize,
@@ -279,7 +281,7 @@ fn of_columns(
     struct_of(alloc, &names, len, values, validity)
 }
 
-/// Structs of columns of these names.
+/// Creates structs of columns with these names.
 pub(crate) fn struct_of(
     alloc: Global,
     names: &[&str],
@@ -294,7 +296,7 @@ pub(crate) fn struct_of(
     Ok(AnyArray::Struct(StructArray::try_new(fields, len, values, validity)?))
 }
 
-// A field for each column, of its name and type.
+// Creates a field for each column, with its name and type.
 fn fields_of(alloc: Global, names: &[&str], columns: &[AnyArray]) -> Result<Vec<Field>, Fault> {
     let mut fields = Vec::new(alloc);
     for (name, column) in names.iter().zip(columns) {
@@ -303,14 +305,14 @@ fn fields_of(alloc: Global, names: &[&str], columns: &[AnyArray]) -> Result<Vec<
     Ok(fields)
 }
 
-/// A field of that name and of an array's type.
+/// Creates a field with a name and an array's type.
 pub fn field_of(alloc: Global, name: &str, column: &AnyArray) -> Result<Field, Fault> {
     let dtype = column.dtype(alloc)?;
     let name = name.to_string(alloc)?;
     Ok(Field { name, dtype })
 }
 
-// A dictionary array: the type of its keys, the keys, their validity, and the entries.
+// Reads a dictionary array: the type of its keys, the keys, their validity, and the entries.
 #[cycle(read)]
 fn read_dictionary(
     alloc: Global,
@@ -324,7 +326,7 @@ fn read_dictionary(
     dictionary_of(keys, boxed(alloc, read_array(alloc, kept, words, depth)))
 }
 
-// A dictionary array of these parts.
+// Creates a dictionary array of these parts.
 fn dictionary_of(keys: DictKeys, values: Result<Box<AnyArray>, Fault>) -> Result<AnyArray, Fault>
     requires { IfOk values (λ a. IsGood a.value) }
     ensures { IfOk result (λ a. IsGood a) }
@@ -338,7 +340,7 @@ fn dictionary_of(keys: DictKeys, values: Result<Box<AnyArray>, Fault>) -> Result
     }
 }
 
-// The keys of a dictionary array, of the type that the next word names.
+// Reads the keys of a dictionary array, of the type that the next word names.
 fn read_keys(alloc: Global, kept: Kept, words: &mut Words) -> Result<DictKeys, Fault> {
     match words.read()? {
         "i8" => Ok(DictKeys::Int8(read_integers(alloc, kept, words)?)),

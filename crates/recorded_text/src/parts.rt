@@ -1,4 +1,4 @@
-//! The parts of arrays, as words write them.
+//! Readers of the parts of arrays.
 
 ghost use Rattle.std.specs.Prelude.{◌≡◌, ◌<◌, IfOk, IfSome};
 
@@ -12,17 +12,17 @@ use polars_arrays_views::view::View;
 use std::alloc::Global;
 use std::str::FromStr;
 
-/// How the parts of an array are kept.
+/// Storage of the parts of an array.
 #[derive(Clone, Copy, PartialEq, Eq, Debug)]
 pub enum Kept {
-    /// Each part has its elements for itself.
+    /// Each part owns its elements.
     Owned,
-    /// The parts share their elements with those of clones.
+    /// The parts share their elements with clones.
     Shared,
 }
 
 impl Kept {
-    /// How the parts of the array that follows are kept: shared after the word `shared`.
+    /// Reads how the parts of the next array are stored: shared if the word is `shared`.
     pub fn read(words: &mut Words) -> Kept {
         if words.take("shared") {
             Kept::Shared
@@ -31,7 +31,7 @@ impl Kept {
         }
     }
 
-    /// The buffer, kept so.
+    /// Returns a buffer, shared if its elements are to be.
     pub fn buffer<T: Copy>(self, alloc: Global, buffer: Buffer<T>) -> Result<Buffer<T>, Fault>
         ensures { IfOk result (λ kept. kept.items ≡ buffer.items) }
     {
@@ -41,7 +41,7 @@ impl Kept {
         }
     }
 
-    /// The bits, kept so.
+    /// Returns bits, shared if they are to be.
     pub fn bits(self, alloc: Global, bits: Bitmap) -> Result<Bitmap, Fault>
         ensures { IfOk result (λ kept. kept ≡ bits) }
     {
@@ -52,7 +52,7 @@ impl Kept {
     }
 }
 
-/// The bits that a word `b<at>:<0 and 1..>` writes: those from place `at` on.
+/// Reads bits from a word `b<at>:<0 and 1..>`: those from place `at` on.
 pub fn read_bits(alloc: Global, word: &str) -> Result<Bitmap, Fault> {
     let Some((at, digits)) = word.split_once(':') else {
         return Err(Fault::Word);
@@ -65,7 +65,7 @@ pub fn read_bits(alloc: Global, word: &str) -> Result<Bitmap, Fault> {
     from_place(Bitmap::from_bools(alloc, &bools), at)
 }
 
-/// The bits that digits write.
+/// Reads bits from digits.
 fn read_bools(alloc: Global, digits: &str) -> Result<Vec<bool>, Fault> {
     let mut bools = Vec::new(alloc);
     for digit in digits.as_bytes() {
@@ -74,7 +74,7 @@ fn read_bools(alloc: Global, digits: &str) -> Result<Vec<bool>, Fault> {
     Ok(bools)
 }
 
-/// The bits from place `at` on.
+/// Returns the bits from place `at` on.
 fn from_place(bits: Result<Bitmap, ComputeError>, at: usize) -> Result<Bitmap, Fault> {
     let mut bits = bits?;
     if at > bits.len() {
@@ -85,7 +85,7 @@ fn from_place(bits: Result<Bitmap, ComputeError>, at: usize) -> Result<Bitmap, F
     Ok(bits)
 }
 
-/// The bit that a digit writes.
+/// Reads a bit from a digit.
 fn read_bit(digit: u8) -> Result<bool, Fault> {
     match digit {
         b'0' => Ok(false),
@@ -94,7 +94,7 @@ fn read_bit(digit: u8) -> Result<bool, Fault> {
     }
 }
 
-/// The number that a word writes.
+/// Reads a number from a word.
 fn read_place(word: &str) -> Result<usize, Fault> {
     match word.parse() {
         Ok(place) => Ok(place),
@@ -102,7 +102,7 @@ fn read_place(word: &str) -> Result<usize, Fault> {
     }
 }
 
-/// A validity: none where the next word is `-`, or else its bits.
+/// Reads a validity: `-` for none, otherwise its bits.
 pub fn read_validity(
     alloc: Global,
     kept: Kept,
@@ -115,12 +115,12 @@ pub fn read_validity(
     Ok(Some(read_kept(alloc, kept, word)?))
 }
 
-/// The bits that a word writes, kept so.
+/// Reads bits from a word, shared if they are to be.
 pub fn read_kept(alloc: Global, kept: Kept, word: &str) -> Result<Bitmap, Fault> {
     kept.bits(alloc, read_bits(alloc, word)?)
 }
 
-/// What a hexadecimal digit is worth.
+/// Returns the value of a hexadecimal digit.
 fn digit_value(digit: u8) -> Option<u8>
     ensures { IfSome result (λ value. value < 16) }
 {
@@ -131,7 +131,7 @@ fn digit_value(digit: u8) -> Option<u8>
     }
 }
 
-/// The byte that two hexadecimal digits write.
+/// Returns the byte of two hexadecimal digits.
 fn byte_of(high: u8, low: u8) -> Result<u8, Fault> {
     let (Some(high), Some(low)) = (digit_value(high), digit_value(low)) else {
         return Err(Fault::Word);
@@ -139,7 +139,7 @@ fn byte_of(high: u8, low: u8) -> Result<u8, Fault> {
     Ok(high * 16 + low)
 }
 
-/// The bytes that a word `x<two digits for each byte>` writes.
+/// Reads bytes from a word `x<two digits for each byte>`.
 pub fn read_bytes(alloc: Global, word: &str) -> Result<Vec<u8>, Fault> {
     let Some(digits) = word.strip_prefix('x') else {
         return Err(Fault::Word);
@@ -155,7 +155,7 @@ pub fn read_bytes(alloc: Global, word: &str) -> Result<Vec<u8>, Fault> {
     Ok(bytes)
 }
 
-/// As many numbers as the next word says.
+/// Reads a count, and that many numbers.
 pub fn read_number_list<N: NativeType + FromStr<Err: Drop>>(
     alloc: Global,
     words: &mut Words,
@@ -168,7 +168,7 @@ pub fn read_number_list<N: NativeType + FromStr<Err: Drop>>(
     Ok(numbers)
 }
 
-/// As many numbers as the next word says, as a buffer.
+/// Reads a count, and that many numbers, into a buffer.
 pub fn read_numbers<N: NativeType + FromStr<Err: Drop>>(
     alloc: Global,
     words: &mut Words,
@@ -177,7 +177,7 @@ pub fn read_numbers<N: NativeType + FromStr<Err: Drop>>(
     Ok(Buffer::from_vec(numbers))
 }
 
-/// As many numbers as the next word says, as a buffer that is kept so.
+/// Reads a count, and that many numbers, into a buffer that is shared if it is to be.
 pub(crate) fn read_kept_numbers<N: NativeType + FromStr<Err: Drop>>(
     alloc: Global,
     kept: Kept,
@@ -186,7 +186,7 @@ pub(crate) fn read_kept_numbers<N: NativeType + FromStr<Err: Drop>>(
     kept.buffer(alloc, read_numbers(alloc, words)?)
 }
 
-/// The view that a word's sixteen bytes are.
+/// Reads a view from the sixteen bytes of a word.
 pub fn read_view(alloc: Global, word: &str) -> Result<View, Fault> {
     let bytes = read_bytes(alloc, word)?;
     match <[u8; 16]>::try_from(bytes.as_slice()) {
@@ -195,7 +195,7 @@ pub fn read_view(alloc: Global, word: &str) -> Result<View, Fault> {
     }
 }
 
-/// As many views as the next word says.
+/// Reads a count, and that many views.
 pub fn read_views(alloc: Global, words: &mut Words) -> Result<Buffer<View>, Fault> {
     let count: usize = words.read_number()?;
     let mut views = Vec::new(alloc);
@@ -205,13 +205,13 @@ pub fn read_views(alloc: Global, words: &mut Words) -> Result<Buffer<View>, Faul
     Ok(Buffer::from_vec(views))
 }
 
-/// The bytes that the next word writes, as a buffer.
+/// Reads bytes from the next word, into a buffer.
 pub fn read_byte_buffer(alloc: Global, kept: Kept, words: &mut Words) -> Result<Buffer<u8>, Fault> {
     let bytes = read_bytes(alloc, words.read()?)?;
     kept.buffer(alloc, Buffer::from_vec(bytes))
 }
 
-/// As many buffers as the next word says.
+/// Reads a count, and that many buffers.
 pub fn read_buffers(
     alloc: Global,
     kept: Kept,

@@ -1,8 +1,8 @@
-//! Rows as text, found by a walk over what arrays lend.
+//! Rows as text, read from the parts of arrays.
 //!
-//! A row is `null`, a number, `true` or `false`, `x` and the hexadecimal digits of its bytes, the items of a
-//! list between brackets, the fields of a struct between braces, or the entry of a dictionary between `<`
-//! and `>`. A key that names a null row is `null` too.
+//! A row is `null`, a number, `true` or `false`, `x` and the hexadecimal digits of its bytes, the
+//! items of a list between brackets, the fields of a struct between braces, or the entry of a
+//! dictionary between `<` and `>`. A key to a null entry is `null` too.
 
 ghost use Rattle.polars_arrays_nested.specs.GoodParts.{IsGood};
 ghost use Rattle.polars_arrays_nested.specs.declared.any_array.AnyArray.{List, FixedSizeList, Struct, Dictionary};
@@ -51,7 +51,7 @@ fn push_string<A: ByteRows>(text: &mut String, array: &A, i: usize) -> Result<()
     push_bytes(text, array.bytes(i))
 }
 
-// The stored value at place `i` of an array of one level.
+// Appends the stored value at place `i` of an array of one level.
 fn push_stored(text: &mut String, array: &AnyArray, i: usize) -> Result<(), Fault> {
     match array {
         AnyArray::Boolean(array) => push_truth(text, array, i),
@@ -76,8 +76,8 @@ fn push_stored(text: &mut String, array: &AnyArray, i: usize) -> Result<(), Faul
     }
 }
 
-// Whether row `i` of an array is null: by its validity, as each row of a null array, or as a key that names a
-// null row. A row that is not there is.
+// Returns whether row `i` of an array is null: by its validity, as a row of a null array, or as a
+// key to a null entry. A row that does not exist is null.
 fn is_null_row(array: &AnyArray, i: usize) -> bool
     requires { IsGood array.now }
 {
@@ -91,7 +91,7 @@ fn is_null_row(array: &AnyArray, i: usize) -> bool
     }
 }
 
-/// Adds row `i` of an array to a text.
+/// Appends row `i` of an array.
 #[cycle(walk)]
 pub fn push_row(alloc: Global, text: &mut String, array: &AnyArray, i: usize) -> Result<(), Fault>
     requires { IsGood array.now }
@@ -109,7 +109,7 @@ pub fn push_row(alloc: Global, text: &mut String, array: &AnyArray, i: usize) ->
     }
 }
 
-// Adds list `i`.
+// Appends list `i`.
 #[cycle(walk)]
 fn push_list(alloc: Global, text: &mut String, array: &ListArray, i: usize) -> Result<(), Fault>
     requires { IsGood (List array.now) }
@@ -127,7 +127,7 @@ fn push_list(alloc: Global, text: &mut String, array: &ListArray, i: usize) -> R
     )
 }
 
-// Adds list `i` of one width.
+// Appends list `i` of one width.
 #[cycle(walk)]
 fn push_fixed_list(
     alloc: Global,
@@ -144,7 +144,7 @@ fn push_fixed_list(
     push_rows(alloc, text, array.values(), from, to)
 }
 
-// Adds the rows from row `from` on and before row `to`, between brackets.
+// Appends the rows from row `from` up to row `to`, between brackets.
 #[cycle(walk)]
 fn push_rows(
     alloc: Global,
@@ -166,7 +166,7 @@ fn push_rows(
     Ok(())
 }
 
-// Adds struct `i`.
+// Appends struct `i`.
 #[cycle(walk)]
 fn push_struct(alloc: Global, text: &mut String, array: &StructArray, i: usize) -> Result<(), Fault>
     requires { IsGood (Struct array.now) }
@@ -182,7 +182,7 @@ fn push_struct(alloc: Global, text: &mut String, array: &StructArray, i: usize) 
     Ok(())
 }
 
-// Adds the entry that key `i` names, which is not null.
+// Appends the entry that key `i` names, which is not null.
 #[cycle(walk)]
 fn push_entry(
     alloc: Global,
@@ -201,7 +201,7 @@ fn push_entry(
     Ok(())
 }
 
-/// The rows of an array, parted by spaces.
+/// Returns the rows of an array, separated by spaces.
 pub fn write_rows(alloc: Global, array: &AnyArray) -> Result<String, Fault>
     requires { IsGood array.now }
 {
@@ -215,7 +215,7 @@ pub fn write_rows(alloc: Global, array: &AnyArray) -> Result<String, Fault>
     Ok(text)
 }
 
-/// The rows of an array that was made to be written, parted by spaces.
+/// Returns the rows of an array that a call returned, separated by spaces.
 pub fn write_made(alloc: Global, array: AnyArray) -> Result<String, Fault>
     requires { IsGood array }
 {

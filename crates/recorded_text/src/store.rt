@@ -1,4 +1,4 @@
-//! The arrays of a case, by their names.
+//! The arrays of a case, by name.
 
 ghost use Rattle.std.specs.Prelude.{IfOk};
 ghost use Rattle.polars_arrays_nested.specs.GoodParts.{IsGood};
@@ -23,7 +23,7 @@ pub struct Store {
 }
 
 impl Store {
-    /// A store without arrays.
+    /// Creates an empty store.
     pub fn new(alloc: Global) -> Store
         ensures { HasGoodArrays result }
     {
@@ -32,14 +32,14 @@ impl Store {
         }
     }
 
-    /// Forgets all arrays.
+    /// Removes all arrays.
     pub fn clear(&mut self)
         ensures { HasGoodArrays self.new }
     {
         self.arrays.clear();
     }
 
-    /// Names an array. The error is `Case`, where an array has the name, or else `Memory`.
+    /// Adds an array with a name. The error is `Case`, if an array has the name, or else `Memory`.
     pub fn add(&mut self, alloc: Global, name: &str, array: AnyArray) -> Result<(), Fault>
         requires arrays { HasGoodArrays self.old }
         requires array { IsGood array }
@@ -54,7 +54,7 @@ impl Store {
         }
     }
 
-    // A name that no array has. The error is `Case`, where one has it, or else `Memory`.
+    // Copies a name that no array has. The error is `Case`, if one has it, or else `Memory`.
     fn new_name(&self, alloc: Global, name: &str) -> Result<String, Fault>
         requires { HasGoodArrays self.now }
     {
@@ -64,7 +64,7 @@ impl Store {
         Ok(name.to_string(alloc)?)
     }
 
-    // Adds an array with a name of its own.
+    // Appends an array with its name.
     fn push(&mut self, named: NamedArray) -> Result<(), Fault>
         requires arrays { HasGoodArrays self.old }
         requires array { IsGood named.array }
@@ -74,7 +74,7 @@ impl Store {
         Ok(())
     }
 
-    /// The array of that name. The error is `Case`, where there is none.
+    /// Returns the array of a name. The error is `Case`, if there is none.
     pub fn array(&self, name: &str) -> Result<&AnyArray, Fault>
         requires { HasGoodArrays self.now }
         ensures { IfOk result (λ array. IsGood array.now) }
@@ -87,7 +87,7 @@ impl Store {
         Err(Fault::Case)
     }
 
-    /// The array that the next word names.
+    /// Returns the array that the next word names.
     pub fn read(&self, words: &mut Words) -> Result<&AnyArray, Fault>
         requires { HasGoodArrays self.now }
         ensures { IfOk result (λ array. IsGood array.now) }

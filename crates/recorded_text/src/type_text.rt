@@ -1,20 +1,20 @@
 //! Types of arrays as text.
 //!
-//! A type is named as the words of a line name an array's kind; the types that it holds stand between
-//! parentheses: `list(i32)`, `fixedlist(3 i32)`, `struct(a list(i32), b dict(i8 utf8))`, `fixedbinary(2)`.
+//! A type has the name of the array's kind; the types that it holds stand between parentheses:
+//! `list(i32)`, `fixedlist(3 i32)`, `struct(a list(i32), b dict(i8 utf8))`, `fixedbinary(2)`.
 
 use crate::fault::Fault;
 use polars_arrays_flat::data_type::{ArrowDataType, Field, IntegerType};
 use std::alloc::Global;
 
-/// The text of a type.
+/// Returns the text of a type.
 pub fn write_type(alloc: Global, dtype: &ArrowDataType) -> Result<String, Fault> {
     let mut text = String::new(alloc);
     push_type(&mut text, dtype)?;
     Ok(text)
 }
 
-/// The name of a type of keys.
+/// Returns the name of a type of keys.
 pub fn key_name(keys: IntegerType) -> &'static str {
     match keys {
         IntegerType::Int8 => "i8",
@@ -28,7 +28,8 @@ pub fn key_name(keys: IntegerType) -> &'static str {
     }
 }
 
-// The name of a type without a number, with the parenthesis behind it where the type holds others, or None.
+// Returns the name of a type without a number, with the opening parenthesis if it holds other
+// types.
 fn plain_name(dtype: &ArrowDataType) -> Option<&'static str> {
     let name = match dtype {
         ArrowDataType::Null => "null",
@@ -57,7 +58,7 @@ fn plain_name(dtype: &ArrowDataType) -> Option<&'static str> {
     Some(name)
 }
 
-// Adds a type to a text.
+// Appends the text of a type.
 #[cycle(types)]
 fn push_type(text: &mut String, dtype: &ArrowDataType) -> Result<(), Fault> {
     push_head(text, dtype)?;
@@ -71,7 +72,7 @@ fn push_type(text: &mut String, dtype: &ArrowDataType) -> Result<(), Fault> {
     }
 }
 
-// Adds what stands before the types that a type holds, or all of one that holds none.
+// Appends the text before the types that a type holds, or all of it if it holds none.
 fn push_head(text: &mut String, dtype: &ArrowDataType) -> Result<(), Fault> {
     match dtype {
         ArrowDataType::FixedSizeBinary(size) => write!(text, "fixedbinary({size})")?,
@@ -82,7 +83,7 @@ fn push_head(text: &mut String, dtype: &ArrowDataType) -> Result<(), Fault> {
     Ok(())
 }
 
-// Adds the name of a type without a number.
+// Appends the name of a type without a number.
 fn push_plain(text: &mut String, dtype: &ArrowDataType) -> Result<(), Fault> {
     match plain_name(dtype) {
         Some(name) => text.push_str(name)?,
@@ -91,7 +92,7 @@ fn push_plain(text: &mut String, dtype: &ArrowDataType) -> Result<(), Fault> {
     Ok(())
 }
 
-// Adds the one type that another one holds.
+// Appends the only type that another one holds.
 #[cycle(types)]
 fn push_held(text: &mut String, held: &ArrowDataType) -> Result<(), Fault> {
     push_type(text, held)?;
@@ -99,7 +100,7 @@ fn push_held(text: &mut String, held: &ArrowDataType) -> Result<(), Fault> {
     Ok(())
 }
 
-// Adds the fields of a struct.
+// Appends the fields of a struct.
 #[cycle(types)]
 fn push_fields(text: &mut String, fields: &[Field]) -> Result<(), Fault> {
     for (i, field) in fields.iter().enumerate() {
@@ -112,7 +113,7 @@ fn push_fields(text: &mut String, fields: &[Field]) -> Result<(), Fault> {
     Ok(())
 }
 
-// Adds the name and the type of a field.
+// Appends the name and the type of a field.
 #[cycle(types)]
 fn push_field(text: &mut String, field: &Field) -> Result<(), Fault> {
     text.push_str(&field.name)?;

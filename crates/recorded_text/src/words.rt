@@ -3,7 +3,7 @@
 use crate::fault::Fault;
 use std::str::FromStr;
 
-/// The words of a line, and which is read next.
+/// The words of a line, and the index of the next one.
 #[derive(Drop)]
 pub struct Words<'a> {
     words: &'a [&'a str],
@@ -15,7 +15,7 @@ impl<'a> Words<'a> {
         Words { words, next: 0 }
     }
 
-    /// The next word.
+    /// Returns the next word.
     pub fn read(&mut self) -> Result<&'a str, Fault> {
         match self.words.get(self.next) {
             Some(word) => {
@@ -26,7 +26,7 @@ impl<'a> Words<'a> {
         }
     }
 
-    /// The number that the next word writes.
+    /// Reads a number from the next word.
     pub fn read_number<N: FromStr<Err: Drop>>(&mut self) -> Result<N, Fault> {
         match self.read()?.parse() {
             Ok(number) => Ok(number),
@@ -34,7 +34,7 @@ impl<'a> Words<'a> {
         }
     }
 
-    /// Reads the next word exactly where it is this one, and says whether it was.
+    /// Reads the next word if it is `word`, and returns whether it was.
     pub fn take(&mut self, word: &str) -> bool {
         match self.words.get(self.next) {
             Some(next) if *next == word => {
@@ -45,14 +45,14 @@ impl<'a> Words<'a> {
         }
     }
 
-    /// The words that are left, all of which are then read.
+    /// Returns all words that are left, and marks them as read.
     pub fn rest(&mut self) -> &'a [&'a str] {
         let rest = self.words.get(self.next..).unwrap_or_default();
         self.next = self.words.len();
         rest
     }
 
-    /// Whether each word was read.
+    /// Returns whether all words were read.
     pub fn are_read(&self) -> bool {
         self.next >= self.words.len()
     }

@@ -1,7 +1,8 @@
-//! Arrays that lie many levels deep in others, made by a loop: to read them takes no stack for the levels.
+//! Arrays that are nested many levels deep, made by a loop: reading them takes no stack for the
+//! levels.
 //!
-//! A level has a row for each row of the array that it holds: a list of that row alone, between offsets or of
-//! width 1, a struct whose only field `f` has that row, or a key that names it.
+//! A level has a row for each row of the array that it holds: a list of that row alone, between
+//! offsets or of width 1; a struct with that row in its only field `f`; or a key that names it.
 
 ghost use Rattle.std.specs.Prelude.{IfOk};
 ghost use Rattle.std.specs.List.{All};
@@ -20,15 +21,15 @@ use polars_arrays_nested::list::ListArray;
 use polars_arrays_nested::list_offsets::ListOffsets;
 use std::alloc::Global;
 
-/// How many levels a line may ask for where the stack is the usual one of 8 MiB.
+/// Greatest number of levels of a line for the usual stack of 8 MiB.
 pub const LEVELS: usize = 1000;
 
-/// How many levels it may ask for where it says that the stack is larger.
+/// Greatest number of levels of a line that names a larger stack.
 pub const FAR_LEVELS: usize = 100_000;
 
-/// The array that words write in other arrays: how many levels of these, their kinds from the outermost on,
-/// parted by commas and taken again and again, and the array. The error is `Depth`, where there are more than
-/// `most` levels.
+/// Reads an array nested in others: the number of levels, their kinds from the outermost on,
+/// separated by commas and repeated as needed, and the array. The error is `Depth`, if there are
+/// more than `most` levels.
 pub fn read_wrapped(alloc: Global, words: &mut Words, most: usize) -> Result<AnyArray, Fault>
     ensures { IfOk result (λ a. IsGood a) }
 {
@@ -37,7 +38,7 @@ pub fn read_wrapped(alloc: Global, words: &mut Words, most: usize) -> Result<Any
     wrap_all(alloc, levels, &kinds, read_any(alloc, words))
 }
 
-// How many levels the next word asks for, at the most so many.
+// Reads the number of levels, at most `most`.
 fn read_levels(words: &mut Words, most: usize) -> Result<usize, Fault> {
     let levels: usize = words.read_number()?;
     if levels > most {
@@ -46,12 +47,12 @@ fn read_levels(words: &mut Words, most: usize) -> Result<usize, Fault> {
     Ok(levels)
 }
 
-// The kinds that the next word names, parted by commas.
+// Reads the kinds of levels, separated by commas.
 fn read_kinds<'a>(alloc: Global, words: &mut Words<'a>) -> Result<Vec<&'a str>, Fault> {
     Ok(words.read()?.split(',').collect(alloc)?)
 }
 
-// An array in so many levels of these kinds.
+// Wraps an array in `levels` levels of these kinds.
 fn wrap_all(
     alloc: Global,
     levels: usize,
@@ -68,7 +69,7 @@ fn wrap_all(
     Ok(Box::into_inner(wrapped))
 }
 
-// The kind of a level, or nothing where no kinds are named.
+// Returns the kind of a level, or an empty name if there are no kinds.
 fn kind_at<'a>(kinds: &[&'a str], level: usize) -> &'a str {
     if kinds.is_empty() {
         return "";
@@ -76,7 +77,7 @@ fn kind_at<'a>(kinds: &[&'a str], level: usize) -> &'a str {
     kinds[level % kinds.len()]
 }
 
-// An array in one level of that kind.
+// Wraps an array in one level of a kind.
 fn wrap(alloc: Global, kind: &str, array: Box<AnyArray>) -> Result<AnyArray, Fault>
     requires { IsGood array.value }
     ensures { IfOk result (λ a. IsGood a) }
@@ -90,7 +91,7 @@ fn wrap(alloc: Global, kind: &str, array: Box<AnyArray>) -> Result<AnyArray, Fau
     }
 }
 
-// Lists of one row each.
+// Wraps each row in a list.
 fn in_lists(alloc: Global, items: Box<AnyArray>) -> Result<AnyArray, Fault>
     requires { IsGood items.value }
     ensures { IfOk result (λ a. IsGood a) }
@@ -99,7 +100,7 @@ fn in_lists(alloc: Global, items: Box<AnyArray>) -> Result<AnyArray, Fault>
     Ok(AnyArray::List(ListArray::try_new(ListOffsets::Small(offsets), items, None)?))
 }
 
-// Lists of width 1.
+// Wraps each row in a list of width 1.
 fn in_fixed_lists(items: Box<AnyArray>) -> Result<AnyArray, Fault>
     requires { IsGood items.value }
     ensures { IfOk result (λ a. IsGood a) }
@@ -108,7 +109,7 @@ fn in_fixed_lists(items: Box<AnyArray>) -> Result<AnyArray, Fault>
     Ok(AnyArray::FixedSizeList(FixedSizeListArray::try_new(1, len, items, None)?))
 }
 
-// Structs of one field.
+// Wraps each row in a struct of one field.
 fn in_structs(alloc: Global, column: Box<AnyArray>) -> Result<AnyArray, Fault>
     requires { IsGood column.value }
     ensures { IfOk result (λ a. IsGood a) }
@@ -118,7 +119,7 @@ fn in_structs(alloc: Global, column: Box<AnyArray>) -> Result<AnyArray, Fault>
     struct_of(alloc, &["f"], len, columns, None)
 }
 
-// One column.
+// Creates a list of one column.
 fn only_column(alloc: Global, column: AnyArray) -> Result<Vec<AnyArray>, Fault>
     requires { IsGood column }
     ensures { IfOk result (λ columns. All IsGood columns.items) }
@@ -128,7 +129,7 @@ fn only_column(alloc: Global, column: AnyArray) -> Result<Vec<AnyArray>, Fault>
     Ok(columns)
 }
 
-// A dictionary array whose keys name each entry once.
+// Creates a dictionary array whose keys name each entry once.
 fn in_dictionary(alloc: Global, entries: Box<AnyArray>) -> Result<AnyArray, Fault>
     requires { IsGood entries.value }
     ensures { IfOk result (λ a. IsGood a) }
@@ -137,13 +138,13 @@ fn in_dictionary(alloc: Global, entries: Box<AnyArray>) -> Result<AnyArray, Faul
     Ok(AnyArray::Dictionary(DictionaryArray::try_new(keys, entries)?))
 }
 
-// Keys that name the first `count` places.
+// Creates keys that name the first `count` entries.
 fn place_keys(alloc: Global, count: usize) -> Result<DictKeys, Fault> {
     let places = places(alloc, count)?;
     Ok(DictKeys::Int32(PrimitiveArray::try_new(places, None)?))
 }
 
-// The first `count` numbers, from 0 on.
+// Creates the first `count` numbers, from 0 on.
 fn places(alloc: Global, count: usize) -> Result<Buffer<i32>, Fault> {
     let mut places = Vec::new(alloc);
     for place in 0..count {
@@ -152,7 +153,7 @@ fn places(alloc: Global, count: usize) -> Result<Buffer<i32>, Fault> {
     Ok(Buffer::from_vec(places))
 }
 
-// A place as a number of 32 bits.
+// Converts a place to a number of 32 bits.
 fn place_of(place: usize) -> Result<i32, Fault> {
     match i32::try_from(place) {
         Ok(place) => Ok(place),
