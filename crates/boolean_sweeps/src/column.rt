@@ -7,35 +7,35 @@ use polars_arrays_flat::boolean::BooleanArray;
 use recorded_text::fault::Fault;
 use std::alloc::{AllocError, Global};
 
-/// How many bits stand behind the rows.
+/// The number of bits after the rows.
 const BEHIND: usize = 66;
 
-/// How much room is made for truth values: for those before the rows, the rows, and those behind.
+/// The room for truth values: those before the rows, the rows, and those after them.
 const ROOM: usize = 264;
 
-/// What rows are drawn.
+/// The distribution of rows.
 #[derive(Clone, Copy)]
 pub struct Sort {
     /// Whether there is a validity.
     pub has_validity: bool,
-    /// In how many of 32 chances a row is null.
+    /// Chances in 32 that a row is null.
     pub nulls: u64,
-    /// In how many of 32 chances a present row is true. Any other bit is true in the other chances.
+    /// Chances in 32 that a present row is true. Any other bit is true in the other cases.
     pub trues: u64,
 }
 
-/// Where an array begins.
+/// The place where an array begins.
 #[derive(Clone, Copy)]
 pub struct Place {
-    /// The first bit of the values.
+    /// First bit of the values.
     pub values: usize,
-    /// The first bit of the validity.
+    /// First bit of the validity.
     pub validity: usize,
 }
 
 impl Place {
-    // Returns how many rows in front are cut off by slicing the array. The bitmaps are sliced to
-    // begin with these.
+    // Returns the number of leading rows that slicing the array cuts off. The bitmaps are first
+    // sliced to begin with these.
     fn rows_ahead(self) -> usize {
         if self.values % 2 == 0 {
             0
@@ -45,7 +45,7 @@ impl Place {
     }
 }
 
-/// Rows, and an array that has them.
+/// Rows, and an array of them.
 #[derive(Drop)]
 pub struct Column {
     rows: Vec<Option<bool>>,
@@ -53,7 +53,7 @@ pub struct Column {
 }
 
 impl Column {
-    /// Draws `len` rows, and makes their array.
+    /// Draws `len` rows, and creates their array.
     pub fn draw(
         alloc: Global,
         sort: Sort,
@@ -65,7 +65,7 @@ impl Column {
         Column::of_rows(alloc, sort, rows, place, draw)
     }
 
-    /// Makes the array of rows.
+    /// Creates the array of rows.
     pub fn of_rows(
         alloc: Global,
         sort: Sort,
@@ -77,7 +77,7 @@ impl Column {
         Ok(Column { rows, array })
     }
 
-    /// Returns the rows that the array is said to have.
+    /// Returns the rows that the array should have.
     pub fn rows(&self) -> &[Option<bool>] {
         &self.rows
     }
@@ -87,7 +87,7 @@ impl Column {
         &self.array
     }
 
-    /// Says of a present row that it is the other truth value. The array stays.
+    /// Negates a present row of the list of rows. The array stays unchanged.
     pub fn turn_row(&mut self, i: usize) {
         if let Some(Some(truth)) = self.rows.get_mut(i) {
             *truth = !*truth;
@@ -111,7 +111,7 @@ fn draw_rows(
     Ok(rows)
 }
 
-// Makes an array of rows.
+// Creates an array of rows.
 fn store_rows(
     alloc: Global,
     sort: Sort,
@@ -123,7 +123,7 @@ fn store_rows(
     cut_rows(array, place.rows_ahead(), rows.len())
 }
 
-// Makes the same array with the rows before and behind that slicing cuts off.
+// Creates an array of rows, and of the rows before and after them that slicing cuts off.
 fn store_wide(
     alloc: Global,
     sort: Sort,
@@ -136,7 +136,7 @@ fn store_wide(
     Ok(BooleanArray::try_new(values, validity)?)
 }
 
-// Makes the values of rows. Under a null stands any value.
+// Creates the values of rows. The value of a null is arbitrary.
 fn store_values(
     alloc: Global,
     sort: Sort,
@@ -149,7 +149,7 @@ fn store_values(
     cut_bits(alloc, &truths, place.values, place.rows_ahead())
 }
 
-// Pushes the values of rows, and those before and behind them.
+// Pushes the values of rows, and those before and after them.
 fn push_values(
     truths: &mut Vec<bool>,
     sort: Sort,
@@ -165,7 +165,7 @@ fn push_values(
     push_others(truths, BEHIND, others, draw)
 }
 
-// Makes the validity of rows, if there is to be one.
+// Creates the validity of rows, if there is to be one.
 fn store_validity(
     alloc: Global,
     sort: Sort,
@@ -180,7 +180,7 @@ fn store_validity(
     }
 }
 
-// Makes the validity of rows.
+// Creates the validity of rows.
 fn store_present(
     alloc: Global,
     sort: Sort,
@@ -193,7 +193,7 @@ fn store_present(
     cut_bits(alloc, &truths, place.validity, place.rows_ahead())
 }
 
-// Pushes whether rows are present, and bits before and behind them.
+// Pushes whether rows are present, and bits before and after them.
 fn push_present(
     truths: &mut Vec<bool>,
     sort: Sort,
@@ -208,7 +208,7 @@ fn push_present(
     push_others(truths, BEHIND, sort.nulls, draw)
 }
 
-// Pushes truth values that are no rows.
+// Pushes truth values that are not rows.
 fn push_others(
     truths: &mut Vec<bool>,
     n: usize,
@@ -222,7 +222,7 @@ fn push_others(
 }
 
 // Packs truth values, and keeps the rows, which begin at bit `at`, and `ahead` bits before and
-// behind them.
+// after them.
 fn cut_bits(alloc: Global, truths: &[bool], at: usize, ahead: usize) -> Result<Bitmap, Fault> {
     let mut bits = Bitmap::from_bools(alloc, truths)?;
     let from = at.saturating_sub(ahead);
@@ -235,7 +235,7 @@ fn cut_bits(alloc: Global, truths: &[bool], at: usize, ahead: usize) -> Result<B
     Ok(bits)
 }
 
-// Keeps `n` rows from row `at` on.
+// Keeps the `n` rows from row `at` on.
 fn cut_rows(array: BooleanArray, at: usize, n: usize) -> Result<BooleanArray, Fault> {
     let mut array = array;
     if at > array.len() || n > array.len() - at {

@@ -21,7 +21,7 @@ pub enum Count {
     TrailingZeros,
 }
 
-/// The counts by their names.
+/// The counts by name.
 pub const COUNTS: [(&str, Count); 6] = [
     ("count_ones", Count::Ones),
     ("count_zeros", Count::Zeros),
@@ -32,7 +32,7 @@ pub const COUNTS: [(&str, Count); 6] = [
 ];
 
 impl Count {
-    // Returns the count of a row, or None where it is null.
+    // Returns the count of a row, or `None` if it is null.
     fn of(self, row: Option<bool>) -> Option<u32> {
         let truth = row?;
         let counted = match self {

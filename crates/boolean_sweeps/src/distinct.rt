@@ -1,4 +1,4 @@
-//! Distinct truth values, of an array and by states.
+//! Distinct truth values, by a kernel of arrays and by states.
 
 use crate::column::Column;
 use crate::mask::masked;
@@ -10,7 +10,7 @@ use polars_compute_unique::kernel::{GenericUniqueKernel, RangedUniqueKernel};
 use recorded_text::fault::Fault;
 use std::alloc::{AllocError, Global};
 
-/// What is asked of the distinct rows.
+/// A call on distinct rows.
 #[derive(Clone, Copy)]
 pub enum Distinct {
     Unique,
@@ -22,7 +22,7 @@ pub enum Distinct {
     FinalizeNUniqueNonNull,
 }
 
-/// The calls by their names.
+/// The calls by name.
 pub const DISTINCT: [(&str, Distinct); 7] = [
     ("unique", Distinct::Unique),
     ("n_unique", Distinct::NUnique),
@@ -47,7 +47,7 @@ pub fn ask(alloc: Global, tallies: &mut [Tally<Distinct>], column: &Column) -> R
     Ok(())
 }
 
-// Returns the distinct rows: false, true and null, where they are rows.
+// Returns the distinct rows: false, true and null, those that there are.
 fn distinct_rows(alloc: Global, rows: &[Option<bool>]) -> Result<Vec<Option<bool>>, AllocError> {
     let mut distinct = Vec::new(alloc);
     for row in [Some(false), Some(true), None] {
@@ -58,7 +58,7 @@ fn distinct_rows(alloc: Global, rows: &[Option<bool>]) -> Result<Vec<Option<bool
     Ok(distinct)
 }
 
-// Returns whether a call answers as the distinct rows say.
+// Returns whether the result of a call is that of the distinct rows.
 fn agrees(
     alloc: Global,
     call: Distinct,
@@ -80,7 +80,7 @@ fn agrees(
     Ok(agrees)
 }
 
-// Returns the state that an array is appended to, by way of another one.
+// Returns a state to which an array was appended by way of another state.
 fn state_of(array: &BooleanArray) -> BooleanUniqueKernelState {
     let mut state = BooleanUniqueKernelState::new();
     let mut other = BooleanUniqueKernelState::new();
@@ -93,7 +93,7 @@ fn state_of(array: &BooleanArray) -> BooleanUniqueKernelState {
     state
 }
 
-// Returns how many of distinct rows are not null.
+// Returns the number of distinct rows that are not null.
 fn present_rows(distinct: &[Option<bool>]) -> usize {
     distinct
         .len()

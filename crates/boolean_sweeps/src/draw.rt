@@ -1,11 +1,11 @@
-//! Truth values that look drawn by chance, and are the same in each run.
+//! Pseudorandom truth values, the same in each run.
 
-// The numbers of a linear congruential generator of 64 bits.
+// Constants of a linear congruential generator of 64 bits.
 const FACTOR: u64 = 6_364_136_223_846_793_005;
 
 const TERM: u64 = 1_442_695_040_888_963_407;
 
-/// How many chances there are: a truth value is true in none to all of them.
+/// The number of chances: a truth value is true in none to all of them.
 pub const CHANCES: u64 = 32;
 
 /// A generator of truth values.
@@ -15,7 +15,7 @@ pub struct Draw {
 }
 
 impl Draw {
-    /// Returns the generator of a place, which numbers tell.
+    /// Creates the generator of a place, which is given by numbers.
     pub fn new(place: &[usize]) -> Draw {
         let mut draw = Draw { state: 0 };
         for number in place {
@@ -25,7 +25,7 @@ impl Draw {
         draw
     }
 
-    // Goes to the next number.
+    // Advances to the next number.
     fn step(&mut self) {
         self.state = self.state.wrapping_mul(FACTOR).wrapping_add(TERM);
     }

@@ -1,4 +1,4 @@
-//! The kernels that compare rows, and what they answer.
+//! The kernels that compare rows, and their expected results.
 
 /// A kernel that compares rows.
 #[derive(Clone, Copy)]
@@ -14,7 +14,7 @@ pub enum Kernel {
 }
 
 impl Kernel {
-    /// Returns the bit of two rows, or None where none is promised.
+    /// Returns the bit of two rows, or `None` if none is promised.
     pub fn bit(self, left: Option<bool>, right: Option<bool>) -> Option<bool> {
         match self {
             Kernel::EqualMissing => Some(left == right),

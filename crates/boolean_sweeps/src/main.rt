@@ -1,15 +1,14 @@
-//! The kernels of `BooleanArray` at all pairs of bit offsets, set against rows that are kept as a
-//! list.
+//! The kernels of `BooleanArray` at all pairs of bit offsets, compared with rows in a list.
 //!
-//! Each array is made of a list of rows, and what each call has to answer is worked out from that
-//! list, row by row, without bitmaps or kernels. The values of an array begin at one of 66 bits,
-//! and its validity at another. The bits before and behind them, and the values under nulls, are
-//! drawn by chance, or are the opposite of the rows.
+//! Each array is created from a list of rows, and the expected result of each call is computed from
+//! that list, row by row, without bitmaps or kernels. The values of an array begin at one of 66
+//! bits, and its validity at another. The bits before and after them, and the values of nulls, are
+//! pseudorandom, or the opposite of the rows.
 //!
-//! A line for each call says how often it was called, how many answers it gave (one for each row,
-//! or one for an array), how many of these are promised and were compared, and how many differ. The
-//! last lines are of rows of which one is told wrong, so that answers have to differ.
-//! `tests/outside/boolean_sweeps.py` prints the same lines by an account of its own.
+//! For each call the program prints the number of calls, the number of results (one for each row,
+//! or one for an array), the number of results that are promised and were compared, and the number
+//! of those that differ. The last lines are those of lists with one wrong row, so that results must
+//! differ. `tests/outside/boolean_sweeps.py` computes and prints the same lines independently.
 #![tactic(auto)]
 
 use recorded_text::fault::Fault;
@@ -29,7 +28,7 @@ mod singles;
 mod tally;
 mod turned;
 
-// Makes all calls, and prints what was compared.
+// Makes all calls, and prints the counts.
 fn sweep_all(rt: &(impl Print + AllocGlobal)) -> Result<(), Fault> {
     pairs::sweep(rt)?;
     singles::sweep(rt)?;

@@ -14,7 +14,7 @@ use polars_compare_order::kernel::TotalOrdKernel;
 use recorded_text::fault::Fault;
 use std::alloc::Global;
 
-/// The kernels by their names.
+/// The kernels by name.
 const KERNELS: [(&str, Kernel); 8] = [
     ("tot_eq_kernel", Kernel::Equal),
     ("tot_ne_kernel", Kernel::Unequal),
@@ -35,7 +35,7 @@ const ROUNDS: [(Sort, Sort); 5] = [
     (PLAIN, FEW_FALSE),
 ];
 
-/// Makes the calls at all pairs of offsets, and prints what was compared.
+/// Makes the calls at all pairs of offsets, and prints the counts.
 pub fn sweep(rt: &(impl Print + AllocGlobal)) -> Result<(), Fault> {
     let alloc = rt.alloc();
     let mut tallies = begin(alloc, &KERNELS)?;
@@ -61,7 +61,7 @@ fn sweep_round(
     Ok(())
 }
 
-// Makes an array for each offset.
+// Creates an array for each offset.
 fn columns(
     alloc: Global,
     sort: Sort,
@@ -75,7 +75,7 @@ fn columns(
     Ok(columns)
 }
 
-// Makes the array of an offset.
+// Creates the array of an offset.
 fn push_column(
     alloc: Global,
     columns: &mut Vec<Column>,
@@ -121,7 +121,7 @@ fn ask_all(
     Ok(())
 }
 
-// Calls a kernel. The error is `Case` where the lengths differ.
+// Calls a kernel. The error is `Case`, if the lengths differ.
 fn call(
     alloc: Global,
     kernel: Kernel,
@@ -144,7 +144,7 @@ fn call(
     Ok(bits?)
 }
 
-// Compares the bits of a kernel with those of the rows.
+// Compares the bits of a kernel with the expected ones.
 fn compare_bits(counts: &mut Counts, kernel: Kernel, left: &Column, right: &Column, bits: &Bitmap) {
     let rows = left.rows().iter().zip(right.rows());
     counts.begin_call(bits.len() == left.rows().len());
@@ -153,8 +153,8 @@ fn compare_bits(counts: &mut Counts, kernel: Kernel, left: &Column, right: &Colu
     }
 }
 
-/// Makes the calls twice on two arrays of true rows. Row 100 is told as false, once of the right
-/// array and once of the left one.
+/// Makes the calls twice on two arrays of true rows. In the list of rows, row 100 is false, once of
+/// the right array and once of the left one.
 pub fn sweep_turned(rt: &(impl Print + AllocGlobal)) -> Result<(), Fault> {
     let alloc = rt.alloc();
     let mut tallies = begin(alloc, &KERNELS)?;
@@ -168,7 +168,7 @@ pub fn sweep_turned(rt: &(impl Print + AllocGlobal)) -> Result<(), Fault> {
     print(rt, &tallies)
 }
 
-// Makes an array of 129 rows that are true.
+// Creates an array of 129 true rows.
 fn all_true(alloc: Global, side: usize) -> Result<Column, Fault> {
     let place = Place {
         values: 3,

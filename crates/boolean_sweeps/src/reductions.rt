@@ -1,4 +1,4 @@
-//! The present rows of an array reduced to one truth value, and their extremes.
+//! Reductions and extremes of the present rows of an array.
 
 use crate::column::Column;
 use crate::tally::Tally;
@@ -6,7 +6,7 @@ use polars_arrays_flat::boolean::BooleanArray;
 use polars_compare_extremes::kernel::MinMaxKernel;
 use polars_compute_bits::bitwise::BitwiseKernel;
 
-/// What is asked of the present rows.
+/// A reduction of the present rows.
 #[derive(Clone, Copy)]
 pub enum Reduction {
     And,
@@ -20,7 +20,7 @@ pub enum Reduction {
     MinMaxPropagate,
 }
 
-/// The calls by their names.
+/// The calls by name.
 pub const REDUCTIONS: [(&str, Reduction); 9] = [
     ("reduce_and", Reduction::And),
     ("reduce_or", Reduction::Or),
@@ -33,11 +33,11 @@ pub const REDUCTIONS: [(&str, Reduction); 9] = [
     ("min_max_propagate_nan_kernel", Reduction::MinMaxPropagate),
 ];
 
-/// What stands for one truth value where a call answers one.
+/// The result of a call: two truth values, or one of them twice.
 type Pair = Option<(bool, bool)>;
 
 impl Reduction {
-    // Calls it. One truth value stands for two of it.
+    // Calls it. A single truth value is returned twice.
     fn call(self, array: &BooleanArray) -> Pair {
         match self {
             Reduction::And => twice(array.reduce_and()),
@@ -52,7 +52,7 @@ impl Reduction {
         }
     }
 
-    // Returns what it is of two pairs of reduced rows.
+    // Returns the reduction of two pairs of reduced rows.
     fn join(self, left: (bool, bool), right: (bool, bool)) -> (bool, bool) {
         match self {
             Reduction::And | Reduction::Min | Reduction::MinPropagate => {
@@ -68,7 +68,7 @@ impl Reduction {
         }
     }
 
-    // Returns what it is of rows.
+    // Returns the reduction of rows.
     fn of(self, rows: &[Option<bool>]) -> Pair {
         let mut reduced = None;
         for row in rows {

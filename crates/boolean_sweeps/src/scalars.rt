@@ -10,7 +10,7 @@ use polars_compare_order::kernel::TotalOrdKernel;
 use recorded_text::fault::Fault;
 use std::alloc::Global;
 
-/// The kernels by their names.
+/// The kernels by name.
 pub const KERNELS: [(&str, Kernel); 8] = [
     ("tot_eq_kernel_broadcast", Kernel::Equal),
     ("tot_ne_kernel_broadcast", Kernel::Unequal),
@@ -53,7 +53,7 @@ fn call(
     Ok(bits?)
 }
 
-// Compares the bits of a kernel with those of the rows.
+// Compares the bits of a kernel with the expected ones.
 fn compare_bits(counts: &mut Counts, kernel: Kernel, column: &Column, scalar: bool, bits: &Bitmap) {
     counts.begin_call(bits.len() == column.rows().len());
     for (i, row) in column.rows().iter().enumerate() {

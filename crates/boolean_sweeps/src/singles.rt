@@ -24,7 +24,7 @@ const ROUNDS: [Sort; 6] = [
     ALL_NULL,
 ];
 
-/// What was compared of each call.
+/// The counts of each call.
 #[derive(Drop)]
 pub struct Singles {
     broadcasts: Vec<Tally<Kernel>>,
@@ -34,7 +34,7 @@ pub struct Singles {
 }
 
 impl Singles {
-    /// Begins before the first call.
+    /// Creates counts before the first call.
     pub fn new(alloc: Global) -> Result<Singles, Fault> {
         let broadcasts = begin(alloc, &scalars::KERNELS)?;
         let counts = begin(alloc, &counts::COUNTS)?;
@@ -56,7 +56,7 @@ impl Singles {
         distinct::ask(alloc, &mut self.distinct, column)
     }
 
-    /// Prints what was compared.
+    /// Prints the counts.
     pub fn print(&self, rt: &impl Print) -> Result<(), Fault> {
         print(rt, &self.broadcasts)?;
         print(rt, &self.counts)?;
@@ -65,7 +65,7 @@ impl Singles {
     }
 }
 
-/// Makes the calls at all pairs of offsets, and prints what was compared.
+/// Makes the calls at all pairs of offsets, and prints the counts.
 pub fn sweep(rt: &(impl Print + AllocGlobal)) -> Result<(), Fault> {
     let mut singles = Singles::new(rt.alloc())?;
     for (round, sort) in ROUNDS.iter().enumerate() {
@@ -89,7 +89,7 @@ fn sweep_round(
     Ok(())
 }
 
-// Makes the calls on arrays whose values begin at one bit, and their validities at each.
+// Makes the calls on arrays whose values begin at one bit, and whose validities begin at each bit.
 fn sweep_offset(
     alloc: Global,
     singles: &mut Singles,

@@ -1,10 +1,10 @@
-//! How many answers of a call were compared, and how many differ.
+//! Counts of the compared results of a call, and of those that differ.
 
 use polars_arrays_bits::bitmap::Bitmap;
 use recorded_text::fault::Fault;
 use std::alloc::{AllocError, Global};
 
-/// How many answers of a call were compared.
+/// The counts of the results of a call.
 #[derive(Drop)]
 pub struct Counts {
     calls: u64,
@@ -24,30 +24,30 @@ impl Counts {
         }
     }
 
-    /// Counts one more call, whose answers are as many as they should be, or are not.
+    /// Counts one more call, and whether the number of its results is right.
     pub fn begin_call(&mut self, is_whole: bool) {
         self.calls = self.calls.saturating_add(1);
         self.note(is_whole);
     }
 
-    // Counts what differs.
+    // Counts a difference.
     fn note(&mut self, agrees: bool) {
         self.differ = self.differ.saturating_add(u64::from(!agrees));
     }
 
-    /// Counts an answer, which is as expected or is not.
+    /// Counts a result, and whether it is as expected.
     pub fn compare(&mut self, agrees: bool) {
         self.answers = self.answers.saturating_add(1);
         self.compared = self.compared.saturating_add(1);
         self.note(agrees);
     }
 
-    /// Counts an answer of which nothing is promised.
+    /// Counts a result about which nothing is promised.
     pub fn pass_over(&mut self) {
         self.answers = self.answers.saturating_add(1);
     }
 
-    /// Counts bit `i` of an answer.
+    /// Counts bit `i` of a result.
     pub fn compare_bit(&mut self, expected: Option<bool>, bits: &Bitmap, i: usize) {
         match expected {
             Some(_) => self.compare(bits.get(i) == expected),
@@ -56,7 +56,7 @@ impl Counts {
     }
 }
 
-/// A call, and what was compared of it.
+/// A call, and its counts.
 #[derive(Drop)]
 pub struct Tally<C: Copy> {
     pub name: &'static str,
@@ -64,7 +64,7 @@ pub struct Tally<C: Copy> {
     pub counts: Counts,
 }
 
-/// Begins the tallies of calls.
+/// Creates the tallies of calls.
 pub fn begin<C: Copy>(
     alloc: Global,
     calls: &[(&'static str, C)],

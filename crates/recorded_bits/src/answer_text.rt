@@ -1,4 +1,4 @@
-//! Answers that are no bits, as text.
+//! Results other than bits as text.
 
 use polars_arrays_bits::bitmap::Bitmap;
 use recorded_text::bits_text::write_bits;
@@ -6,12 +6,12 @@ use recorded_text::fault::Fault;
 use std::alloc::Global;
 use std::fmt::Display;
 
-/// The text of a value.
+/// Returns the text of a value.
 pub fn write_value<N: Display + Drop>(alloc: Global, value: N) -> Result<String, Fault> {
     value.to_string(alloc).map_err(Fault::from)
 }
 
-/// What was found, or `none`.
+/// Returns the text of a value, or `none`.
 pub fn write_found<N: Display + Drop>(alloc: Global, found: Option<N>) -> Result<String, Fault> {
     match found {
         Some(found) => write_value(alloc, found),
@@ -19,14 +19,14 @@ pub fn write_found<N: Display + Drop>(alloc: Global, found: Option<N>) -> Result
     }
 }
 
-/// Numbers between brackets, parted by one space.
+/// Returns numbers between brackets, separated by one space.
 pub fn write_numbers<N: Display>(alloc: Global, numbers: &[N]) -> Result<String, Fault> {
     let mut text = String::new(alloc);
     push_numbers(&mut text, numbers)?;
     Ok(text)
 }
 
-/// Adds numbers between brackets to a text, parted by one space.
+/// Appends numbers between brackets, separated by one space.
 fn push_numbers<N: Display>(text: &mut String, numbers: &[N]) -> Result<(), Fault> {
     text.push('[')?;
     for i in 0..numbers.len() {
@@ -38,7 +38,7 @@ fn push_numbers<N: Display>(text: &mut String, numbers: &[N]) -> Result<(), Faul
     text.push(']').map_err(Fault::from)
 }
 
-/// All answers, where there are these, with bits as the last one.
+/// Returns the results of the operations so far, unless one failed, and bits as the last result.
 pub fn write_told(
     alloc: Global,
     told: Result<Told, Fault>,
@@ -47,21 +47,21 @@ pub fn write_told(
     told?.with_bits(alloc, bits)
 }
 
-/// The answers to the operations of one line, parted by one space.
+/// The results of the operations of one line, separated by one space.
 #[derive(Drop)]
 pub struct Told {
     text: String,
 }
 
 impl Told {
-    /// No answer yet.
+    /// Creates an empty list of results.
     pub fn new(alloc: Global) -> Told {
         Told {
             text: String::new(alloc),
         }
     }
 
-    /// One answer more.
+    /// Appends a result.
     pub fn add(&mut self, answer: &str) -> Result<(), Fault> {
         if !self.text.is_empty() {
             self.text.push(' ')?;
@@ -69,29 +69,29 @@ impl Told {
         self.text.push_str(answer).map_err(Fault::from)
     }
 
-    /// One answer more, where there is one that is known when the code is compiled.
+    /// Appends a result that is a constant text, unless there is an error.
     pub fn add_found(&mut self, answer: Result<&str, Fault>) -> Result<(), Fault> {
         self.add(answer?)
     }
 
-    /// One answer more, where there is one.
+    /// Appends a result, unless there is an error.
     pub fn add_text(&mut self, answer: Result<String, Fault>) -> Result<(), Fault> {
         let answer = answer?;
         self.add(&answer)
     }
 
-    /// One answer more, a value.
+    /// Appends a value as a result.
     pub fn add_value<N: Display + Drop>(&mut self, alloc: Global, value: N) -> Result<(), Fault> {
         self.add_text(write_value(alloc, value))
     }
 
-    // All answers, with bits as the last one.
+    // Returns all results, with bits as the last one.
     fn with_bits(mut self, alloc: Global, bits: &Bitmap) -> Result<String, Fault> {
         self.add_text(write_bits(alloc, bits))?;
         Ok(self.into_text())
     }
 
-    /// All answers.
+    /// Returns all results.
     pub fn into_text(self) -> String {
         let Told { text } = self;
         text

@@ -1,22 +1,22 @@
-//! What is asked of bitmaps.
+//! Calls on bitmaps.
 //!
-//! | Question | Answer |
+//! | Call | Result |
 //! |---|---|
 //! | `and X Y`, `or`, `xor`, `xnor`, `and_not`, `or_not` | the bits of the operator on two bitmaps of one length |
-//! | `not X` | the other bits |
+//! | `not X` | the negated bits |
 //! | `merge_eq Q L R`, `merge_ne Q L R` | equality and inequality of rows by their values' bits and presence |
-//! | `set_bits X`, `unset_bits X`, `bitmap_len X` | how many bits are true, are false, and are there |
-//! | `num_intersections_with X Y` | how many bits are true in both |
-//! | `get_bit X I`, `bitmap_get X I` | bit I; by the second call also `none` |
-//! | `bitmap_slice X AT N` | N bits from place AT on |
+//! | `set_bits X`, `unset_bits X`, `bitmap_len X` | the number of true bits, of false bits, and of all |
+//! | `num_intersections_with X Y` | the number of places where both are true |
+//! | `get_bit X I`, `bitmap_get X I` | bit I; `bitmap_get` also returns `none` |
+//! | `bitmap_slice X AT N` | the N bits from place AT on |
 //! | `bitmap_share X`, `clone_bitmap X` | the same bits, shared and copied |
 //! | `slice_clone X AT N` | those N bits of a clone that shares the words of X, and then X |
-//! | `meet_shared X P Q N` | how many of N bits are true in two windows, at P and Q, of shared words |
+//! | `meet_shared X P Q N` | the number of places where two windows of N bits, at P and Q, of shared words are true |
 //! | `new_zeroed N`, `new_with_value VALUE N` | N bits of one value |
-//! | `set_bits_filled VALUE N` | how many of N bits of one value are true |
+//! | `set_bits_filled VALUE N` | the number of true bits among N bits of one value |
 //! | `from_bools N VALUE..`, `from_words N WORD.. AT COUNT` | the bits of truth values, or of words from bit AT on |
 //! | `from_values X`, `from_wide_values X` | the bits of X, packed one by one |
-//! | `from_counted X N COST..` | the same, and what a counter shows that rises by the cost of each |
+//! | `from_counted X N COST..` | the bits of X, packed one by one, and a counter to which the cost of each is added |
 
 ghost use Rattle.std.specs.Prelude.{◌↔◌, ◌+◌, ◌≤◌, IsTrue};
 
@@ -33,7 +33,7 @@ use recorded_text::words::Words;
 use std::alloc::Global;
 use std::str::FromStr;
 
-/// What is asked of one bitmap.
+/// A call on one bitmap.
 #[derive(Clone, Copy)]
 pub enum OfOne {
     Not,
@@ -52,7 +52,7 @@ pub enum OfOne {
     Counted,
 }
 
-/// What is asked of bitmaps, and of those that are made.
+/// A call on bitmaps, including those that create one.
 #[derive(Clone, Copy)]
 pub enum Asked {
     One(OfOne),
@@ -66,7 +66,7 @@ pub enum Asked {
     Words,
 }
 
-/// What bitmaps answer that the next words write or make.
+/// Returns the result of a call on the bitmaps of the next words.
 pub fn ask(alloc: Global, asked: Asked, words: &mut Words) -> Result<String, Fault> {
     match asked {
         Asked::One(of_one) => ask_next(alloc, of_one, words),
@@ -82,7 +82,7 @@ pub fn ask(alloc: Global, asked: Asked, words: &mut Words) -> Result<String, Fau
     }
 }
 
-// What the bitmaps answer that were read.
+// Returns the result of a call on bitmaps that were read.
 fn ask_more(
     alloc: Global,
     asked: Asked,
@@ -91,7 +91,7 @@ fn ask_more(
     ask_all(alloc, asked, &operands?)
 }
 
-// What two or three bitmaps answer.
+// Returns the result of a call on two or three bitmaps.
 fn ask_all(alloc: Global, asked: Asked, operands: &[Bitmap]) -> Result<String, Fault> {
     match (asked, operands) {
         (Asked::Combined(operator), [x, y]) => write_read(alloc, combine(alloc, operator, x, y)),
@@ -103,14 +103,14 @@ fn ask_all(alloc: Global, asked: Asked, operands: &[Bitmap]) -> Result<String, F
     }
 }
 
-/// Whether there are `n` places from place `at` on.
+/// Returns whether there are `n` places from place `at` on.
 pub fn is_within(at: usize, n: usize, len: usize) -> bool
     ensures { IsTrue result ↔ (at + n ≤ len) }
 {
     at <= len && n <= len - at
 }
 
-/// The truth value that the next word writes.
+/// Reads a truth value from the next word.
 pub fn read_truth(words: &mut Words) -> Result<bool, Fault> {
     match words.read()? {
         "true" => Ok(true),
@@ -119,7 +119,7 @@ pub fn read_truth(words: &mut Words) -> Result<bool, Fault> {
     }
 }
 
-/// The two numbers that the next words write.
+/// Reads two numbers from the next words.
 pub fn read_pair<A: Copy + FromStr<Err: Drop>, B: Copy + FromStr<Err: Drop>>(
     words: &mut Words,
 ) -> Result<(A, B), Fault> {
@@ -128,12 +128,12 @@ pub fn read_pair<A: Copy + FromStr<Err: Drop>, B: Copy + FromStr<Err: Drop>>(
     Ok((first, second))
 }
 
-/// The bits that the next word writes.
+/// Reads bits from the next word.
 pub fn read_bitmap(alloc: Global, words: &mut Words) -> Result<Bitmap, Fault> {
     read_bits(alloc, words.read()?)
 }
 
-/// So many bitmaps, which the next words write.
+/// Reads `count` bitmaps from the next words.
 pub fn read_bitmaps(alloc: Global, words: &mut Words, count: usize) -> Result<Vec<Bitmap>, Fault> {
     let mut bitmaps = Vec::new(alloc);
     for _ in 0..count {
@@ -142,7 +142,7 @@ pub fn read_bitmaps(alloc: Global, words: &mut Words, count: usize) -> Result<Ve
     Ok(bitmaps)
 }
 
-/// An operator on the bits of two bitmaps, which must be as many.
+/// Applies an operator to the bits of two bitmaps, which must have equal lengths.
 pub fn combine(alloc: Global, operator: Operator, x: &Bitmap, y: &Bitmap) -> Result<Bitmap, Fault> {
     if x.len() != y.len() {
         return Err(Fault::Case);
@@ -158,7 +158,7 @@ pub fn combine(alloc: Global, operator: Operator, x: &Bitmap, y: &Bitmap) -> Res
     bits.map_err(Fault::from)
 }
 
-/// A merge of three bitmaps, which must have as many bits.
+/// Merges three bitmaps, which must have equal lengths.
 pub fn combine_three(
     alloc: Global,
     merge: Merge,
@@ -176,7 +176,7 @@ pub fn combine_three(
     bits.map_err(Fault::from)
 }
 
-/// How many bits are true in both bitmaps.
+/// Counts the places where both bitmaps are true.
 pub fn count_both(x: &Bitmap, y: &Bitmap) -> Result<usize, Fault> {
     if x.len() != y.len() {
         return Err(Fault::Case);
@@ -184,7 +184,7 @@ pub fn count_both(x: &Bitmap, y: &Bitmap) -> Result<usize, Fault> {
     Ok(x.num_intersections_with(y))
 }
 
-/// Keeps a window of a bitmap, where it has one.
+/// Keeps a window of a bitmap. The error is `Word`, if it is out of range.
 pub fn keep(bits: &mut Bitmap, at: usize, n: usize) -> Result<(), Fault> {
     if !is_within(at, n, bits.len()) {
         return Err(Fault::Case);
@@ -193,25 +193,25 @@ pub fn keep(bits: &mut Bitmap, at: usize, n: usize) -> Result<(), Fault> {
     Ok(())
 }
 
-/// A window of a bitmap, where it has one, as a clone.
+/// Returns a window of a bitmap as a clone. The error is `Word`, if it is out of range.
 pub fn cut(alloc: Global, bits: &Bitmap, at: usize, n: usize) -> Result<Bitmap, Fault> {
     let mut window = bits.clone_bitmap(alloc)?;
     keep(&mut window, at, n)?;
     Ok(window)
 }
 
-/// The text of bits, where they could be read or found.
+/// Returns the text of bits, unless there is an error.
 pub fn write_read(alloc: Global, bits: Result<Bitmap, Fault>) -> Result<String, Fault> {
     write_bits(alloc, &bits?)
 }
 
-// What the bitmap answers that the next word writes.
+// Returns the result of a call on the bitmap of the next word.
 fn ask_next(alloc: Global, asked: OfOne, words: &mut Words) -> Result<String, Fault> {
     let x = read_bitmap(alloc, words)?;
     ask_one(alloc, asked, &x, words)
 }
 
-// What one bitmap answers.
+// Returns the result of a call on one bitmap.
 fn ask_one(alloc: Global, asked: OfOne, x: &Bitmap, words: &mut Words) -> Result<String, Fault> {
     match asked {
         OfOne::Not => write_made(alloc, x.not(alloc)),
@@ -231,17 +231,17 @@ fn ask_one(alloc: Global, asked: OfOne, x: &Bitmap, words: &mut Words) -> Result
     }
 }
 
-// A clone of a bitmap that shares its words with later clones.
+// Returns a clone of a bitmap that shares its words with later clones.
 fn share(alloc: Global, bits: &Bitmap) -> Result<Bitmap, Fault> {
     bits.clone_bitmap(alloc)?.share(alloc).map_err(Fault::from)
 }
 
-// The bits of a bitmap, packed one by one.
+// Packs the bits of a bitmap one by one.
 fn one_by_one(alloc: Global, bits: &Bitmap, wide: bool) -> Result<Bitmap, ComputeError> {
     Bitmap::from_values(alloc, &SingleBits { bits, wide })
 }
 
-// Bit `i`, where there is one.
+// Returns bit `i`, if it exists.
 fn bit(alloc: Global, x: &Bitmap, i: Result<usize, Fault>) -> Result<String, Fault> {
     let i = i?;
     if i >= x.len() {
@@ -250,25 +250,25 @@ fn bit(alloc: Global, x: &Bitmap, i: Result<usize, Fault>) -> Result<String, Fau
     write_value(alloc, x.get_bit(i))
 }
 
-// Bit `i`, or `none`.
+// Returns bit `i`, or `none`.
 fn get(alloc: Global, x: &Bitmap, i: Result<usize, Fault>) -> Result<String, Fault> {
     write_found(alloc, x.get(i?))
 }
 
-// A window of a clone.
+// Returns a window of a clone.
 fn slice(alloc: Global, x: &Bitmap, words: &mut Words) -> Result<String, Fault> {
     let (at, n) = read_pair(words)?;
     write_read(alloc, cut(alloc, x, at, n))
 }
 
-// A window of a clone of shared words, and then the bitmap itself.
+// Returns a window of a clone of shared words, and then the bitmap itself.
 fn slice_clone(alloc: Global, x: &Bitmap, words: &mut Words) -> Result<String, Fault> {
     let (at, n) = read_pair(words)?;
     let x = share(alloc, x)?;
     write_both(alloc, cut(alloc, &x, at, n), &x)
 }
 
-// Bits that were found, and others behind them.
+// Returns the text of bits, unless there is an error, and of others after them.
 fn write_both(
     alloc: Global,
     first: Result<Bitmap, Fault>,
@@ -280,7 +280,7 @@ fn write_both(
     Ok(text)
 }
 
-// How many bits are true in two windows of a bitmap, of which clones share the words.
+// Counts the places where two windows of a bitmap, of clones that share its words, are true.
 fn meet_shared(alloc: Global, x: &Bitmap, words: &mut Words) -> Result<String, Fault> {
     let (p, q) = read_pair(words)?;
     let n = words.read_number()?;
@@ -288,41 +288,41 @@ fn meet_shared(alloc: Global, x: &Bitmap, words: &mut Words) -> Result<String, F
     write_count(alloc, meet(alloc, &x, p, q, n))
 }
 
-// How many of `n` bits are true in two windows of a bitmap.
+// Counts the places where two windows of `n` bits of a bitmap are true.
 fn meet(alloc: Global, x: &Bitmap, p: usize, q: usize, n: usize) -> Result<usize, Fault> {
     let left = cut(alloc, x, p, n)?;
     count_with(&left, cut(alloc, x, q, n))
 }
 
-// How many bits are true in a bitmap and in one that was found.
+// Counts the places where a bitmap and another one are true, unless there is an error.
 fn count_with(x: &Bitmap, y: Result<Bitmap, Fault>) -> Result<usize, Fault> {
     count_both(x, &y?)
 }
 
-// The text of a count, where there is one.
+// Returns the text of a count, unless there is an error.
 fn write_count(alloc: Global, count: Result<usize, Fault>) -> Result<String, Fault> {
     write_value(alloc, count?)
 }
 
-// As many bits as the next word says, all false.
+// Creates false bits; the next word is their number.
 fn read_zeroed(alloc: Global, words: &mut Words) -> Result<Bitmap, Fault> {
     Bitmap::new_zeroed(alloc, words.read_number()?).map_err(Fault::from)
 }
 
-// As many bits as the next words say, of one value.
+// Creates bits of one value; the next words are the value and the number.
 fn read_filled(alloc: Global, words: &mut Words) -> Result<Bitmap, Fault> {
     let value = read_truth(words)?;
     let n = words.read_number()?;
     Bitmap::new_with_value(alloc, value, n).map_err(Fault::from)
 }
 
-// How many of these bits are true.
+// Counts the true ones among bits of one value.
 fn count_filled(alloc: Global, words: &mut Words) -> Result<String, Fault> {
     let bits = read_filled(alloc, words)?;
     write_value(alloc, bits.set_bits())
 }
 
-// The bits of truth values.
+// Creates the bits of truth values.
 fn read_bools(alloc: Global, words: &mut Words) -> Result<Bitmap, Fault> {
     let count: usize = words.read_number()?;
     let mut values = Vec::new(alloc);
@@ -332,7 +332,7 @@ fn read_bools(alloc: Global, words: &mut Words) -> Result<Bitmap, Fault> {
     Bitmap::from_bools(alloc, &values).map_err(Fault::from)
 }
 
-// The bits of words from a bit on.
+// Creates the bits of words from a bit on.
 fn read_words(alloc: Global, words: &mut Words) -> Result<Bitmap, Fault> {
     let numbers = read_numbers::<u64>(alloc, words)?;
     let (at, n) = read_pair(words)?;
@@ -342,7 +342,7 @@ fn read_words(alloc: Global, words: &mut Words) -> Result<Bitmap, Fault> {
     }
 }
 
-// The bits of a bitmap, packed one by one, and what a counter shows that rises by the cost of each.
+// Packs the bits of a bitmap one by one, and returns them and the sum of their costs.
 fn of_counted(
     alloc: Global,
     bits: &Bitmap,
@@ -351,7 +351,7 @@ fn of_counted(
     write_costly(alloc, bits, &costs?)
 }
 
-// The same, where there is a cost for each bit.
+// Packs the bits of a bitmap one by one, if there is a cost for each.
 fn write_costly(alloc: Global, bits: &Bitmap, costs: &[usize]) -> Result<String, Fault> {
     if costs.len() != bits.len() {
         return Err(Fault::Case);
@@ -359,7 +359,7 @@ fn write_costly(alloc: Global, bits: &Bitmap, costs: &[usize]) -> Result<String,
     write_counted(alloc, &CostlyBits { bits, costs })
 }
 
-// What each bit costs.
+// Reads the costs of bits.
 fn read_costs(alloc: Global, words: &mut Words) -> Result<Vec<usize>, Fault> {
     let count: usize = words.read_number()?;
     let mut costs = Vec::new(alloc);
@@ -369,7 +369,7 @@ fn read_costs(alloc: Global, words: &mut Words) -> Result<Vec<usize>, Fault> {
     Ok(costs)
 }
 
-// Bits that are packed one by one, and what they cost.
+// Packs bits one by one, and returns them and the sum of their costs.
 fn write_counted(alloc: Global, values: &CostlyBits) -> Result<String, Fault> {
     let mut steps = Steps::new();
     let mut text = write_made(alloc, Bitmap::from_counted(alloc, values, &mut steps))?;

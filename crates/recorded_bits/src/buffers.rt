@@ -1,17 +1,17 @@
-//! What is asked of buffers.
+//! Calls on buffers.
 //!
-//! The question is `buffer TYPE N NUMBER.. OPERATION..`, for a buffer that owns N numbers, up to the operation
-//! `end`. The answer is what the operations answer, one after the other.
+//! A call is `buffer TYPE N NUMBER.. OPERATION..`, for a buffer that owns N numbers, up to the
+//! operation `end`. The result is the results of the operations, one after the other.
 //!
-//! | Operation | Answer |
+//! | Operation | Result |
 //! |---|---|
-//! | `slice AT N` | none: N elements from place AT on are kept |
-//! | `share` | none: the elements lie from now on in a slice that clones share |
-//! | `clone` | none: the next operations go to a clone |
-//! | `get_mut I NUMBER` | `some` where the buffer may be written, and then element I becomes the number, or `none` |
-//! | `as_mut_slice I NUMBER` | none: element I becomes the number |
-//! | `is_owned` | whether the buffer may be written |
-//! | `len` | how many elements there are |
+//! | `slice AT N` | none: keeps the N elements from place AT on |
+//! | `share` | none: makes the elements shared with later clones |
+//! | `clone` | none: the next operations are those of a clone |
+//! | `get_mut I NUMBER` | `some` if the buffer owns its elements, and then sets element I to the number; otherwise `none` |
+//! | `as_mut_slice I NUMBER` | none: sets element I to the number |
+//! | `is_owned` | whether the buffer owns its elements |
+//! | `len` | the number of elements |
 //! | `list` | the elements |
 //! | `first` | the elements of the buffer that was cloned last |
 
@@ -35,7 +35,7 @@ struct Clones<T: NativeType> {
     first: Option<Buffer<T>>,
 }
 
-// What an operation does.
+// An operation on a buffer.
 #[derive(Clone, Copy)]
 enum Operation {
     Slice,
@@ -49,7 +49,7 @@ enum Operation {
     First,
 }
 
-// The operations by their names.
+// The operations by name.
 const OPERATIONS: [(&str, Operation); 9] = [
     ("slice", Operation::Slice),
     ("share", Operation::Share),
@@ -62,7 +62,7 @@ const OPERATIONS: [(&str, Operation); 9] = [
     ("first", Operation::First),
 ];
 
-/// What the operations of a line answer.
+/// Returns the results of the operations of a line.
 pub fn operate<T: NativeType + Display + FromStr<Err: Drop>>(
     alloc: Global,
     words: &mut Words,
@@ -71,7 +71,7 @@ pub fn operate<T: NativeType + Display + FromStr<Err: Drop>>(
     tell(alloc, &mut clones, words)
 }
 
-// The buffer that a line begins with, which was not cloned yet.
+// Reads the buffer of a line.
 fn read_clones<T: NativeType + FromStr<Err: Drop>>(
     alloc: Global,
     words: &mut Words,
@@ -83,7 +83,7 @@ fn read_clones<T: NativeType + FromStr<Err: Drop>>(
     })
 }
 
-// What the operations before `end` do to buffers answer.
+// Applies the operations before `end`, and returns their results.
 fn tell<T: NativeType + Display + FromStr<Err: Drop>>(
     alloc: Global,
     clones: &mut Clones<T>,
@@ -94,7 +94,7 @@ fn tell<T: NativeType + Display + FromStr<Err: Drop>>(
     Ok(told.into_text())
 }
 
-// What the operations before `end` do to buffers, and answer.
+// Applies the operations before `end`, and appends their results.
 fn apply_all<T: NativeType + Display + FromStr<Err: Drop>>(
     alloc: Global,
     clones: &mut Clones<T>,
@@ -110,7 +110,7 @@ fn apply_all<T: NativeType + Display + FromStr<Err: Drop>>(
     Ok(())
 }
 
-// What an operation does to buffers, and answers.
+// Applies an operation, and appends its result.
 fn apply<T: NativeType + Display + FromStr<Err: Drop>>(
     alloc: Global,
     clones: &mut Clones<T>,
@@ -131,21 +131,21 @@ fn apply<T: NativeType + Display + FromStr<Err: Drop>>(
     }
 }
 
-// The elements of a buffer lie from now on in a slice that clones share.
+// Makes the elements of a buffer shared with later clones.
 fn share<T: NativeType>(alloc: Global, buffer: &mut Buffer<T>) -> Result<(), Fault> {
     let elements = replace(buffer, Buffer::from_vec(Vec::new(alloc)));
     *buffer = elements.share(alloc)?;
     Ok(())
 }
 
-// A clone takes the place of the buffer, which is kept as the one that was cloned last.
+// Replaces the buffer by a clone, and keeps it as the one that was cloned last.
 fn clone<T: NativeType>(alloc: Global, clones: &mut Clones<T>) -> Result<(), Fault> {
     let copy = clones.buffer.clone_buffer(alloc)?;
     clones.first = Some(replace(&mut clones.buffer, copy));
     Ok(())
 }
 
-// The elements of the buffer that was cloned last.
+// Returns the elements of the buffer that was cloned last.
 fn list<T: NativeType + Display>(
     alloc: Global,
     first: &Option<Buffer<T>>,
@@ -156,7 +156,7 @@ fn list<T: NativeType + Display>(
     }
 }
 
-// Keeps elements of a buffer, where it has them.
+// Keeps elements of a buffer, if it has them.
 fn slice<T: NativeType>(
     buffer: &mut Buffer<T>,
     places: Result<(usize, usize), Fault>,
@@ -169,7 +169,7 @@ fn slice<T: NativeType>(
     Ok(())
 }
 
-// Writes an element, where there is one.
+// Writes an element, if it exists.
 fn write_at<T: NativeType>(elements: &mut [T], i: usize, element: T) -> Result<(), Fault> {
     if i >= elements.len() {
         return Err(Fault::Case);
@@ -178,7 +178,8 @@ fn write_at<T: NativeType>(elements: &mut [T], i: usize, element: T) -> Result<(
     Ok(())
 }
 
-// Writes an element of a buffer that owns its elements: `some` where it does, or `none`.
+// Writes an element and returns `some` if the buffer owns its elements, and returns `none`
+// otherwise.
 fn write_if_owned<T: NativeType>(
     buffer: &mut Buffer<T>,
     written: Result<(usize, T), Fault>,
@@ -190,7 +191,7 @@ fn write_if_owned<T: NativeType>(
     }
 }
 
-// Writes an element of a buffer that has to own its elements.
+// Writes an element of a buffer, which must own its elements.
 fn write_owned<T: NativeType>(
     buffer: &mut Buffer<T>,
     written: Result<(usize, T), Fault>,

@@ -1,16 +1,16 @@
-//! What is asked of bitmaps in the making.
+//! Calls on bitmap builders.
 //!
-//! The question is `builder N OPERATION..`, for a builder with room for N bits, up to the operation `freeze`.
-//! The answer is what the operations answer, one after the other.
+//! A call is `builder N OPERATION..`, for a builder with room for N bits, up to the operation
+//! `freeze`. The result is the results of the operations, one after the other.
 //!
-//! | Operation | Answer |
+//! | Operation | Result |
 //! |---|---|
-//! | `push VALUE` | none, as of the next two |
-//! | `fill N VALUE` | N bits of one value |
-//! | `values X`, `wide_values X` | the bits of X, packed one by one |
-//! | `len` | how many bits there are |
-//! | `room N` | whether N bits more may be pushed |
-//! | `fallen` | by how much the room has fallen since the builder was made |
+//! | `push VALUE` | none: pushes a bit |
+//! | `fill N VALUE` | none: pushes N bits of one value |
+//! | `values X`, `wide_values X` | none: pushes the bits of X, packed one by one |
+//! | `len` | the number of bits |
+//! | `room N` | whether N more bits fit |
+//! | `fallen` | the decrease of the room since the builder was created |
 //! | `freeze` | all bits |
 
 use crate::answer_text::{Told, write_told};
@@ -23,7 +23,7 @@ use recorded_text::names::find_word;
 use recorded_text::words::Words;
 use std::alloc::Global;
 
-// What an operation does.
+// An operation on a builder.
 #[derive(Clone, Copy)]
 enum Operation {
     Push,
@@ -35,7 +35,7 @@ enum Operation {
     Fallen,
 }
 
-// The operations by their names.
+// The operations by name.
 const OPERATIONS: [(&str, Operation); 7] = [
     ("push", Operation::Push),
     ("fill", Operation::Fill),
@@ -46,26 +46,26 @@ const OPERATIONS: [(&str, Operation); 7] = [
     ("fallen", Operation::Fallen),
 ];
 
-/// What the operations of a line answer.
+/// Returns the results of the operations of a line.
 pub fn operate(alloc: Global, words: &mut Words) -> Result<String, Fault> {
     let mut builder = read_builder(alloc, words)?;
     let told = tell(alloc, &mut builder, words);
     write_told(alloc, told, &builder.freeze())
 }
 
-// A builder with as much room as the next word says.
+// Creates a builder; the next word is its room.
 fn read_builder(alloc: Global, words: &mut Words) -> Result<BitmapBuilder, Fault> {
     BitmapBuilder::with_capacity(alloc, words.read_number()?).map_err(Fault::from)
 }
 
-// What the operations before `freeze` do to a builder answer.
+// Applies the operations before `freeze`, and returns their results.
 fn tell(alloc: Global, builder: &mut BitmapBuilder, words: &mut Words) -> Result<Told, Fault> {
     let mut told = Told::new(alloc);
     apply_all(alloc, builder, words, &mut told)?;
     Ok(told)
 }
 
-// What the operations before `freeze` do to a builder, and answer.
+// Applies the operations before `freeze`, and appends their results.
 fn apply_all(
     alloc: Global,
     builder: &mut BitmapBuilder,
@@ -89,7 +89,7 @@ fn apply_all(
     Ok(())
 }
 
-// What an operation does to a builder that had so much room, and answers.
+// Applies an operation to a builder that had `room` at first, and appends its result.
 fn apply(
     alloc: Global,
     builder: &mut BitmapBuilder,
@@ -109,7 +109,7 @@ fn apply(
     }
 }
 
-// Tells whether `n` bits more may be pushed.
+// Appends whether `n` more bits fit.
 fn tell_room(
     alloc: Global,
     builder: &BitmapBuilder,
@@ -119,18 +119,18 @@ fn tell_room(
     told.add_value(alloc, n? <= builder.room())
 }
 
-// Pushes the truth value that was read.
+// Pushes a truth value, unless there is an error.
 fn push_truth(builder: &mut BitmapBuilder, value: Result<bool, Fault>) -> Result<(), Fault> {
     push(builder, value?)
 }
 
-// Pushes as many bits as the next words say, of one value.
+// Pushes bits of one value; the next words are the number and the value.
 fn fill_read(builder: &mut BitmapBuilder, words: &mut Words) -> Result<(), Fault> {
     let n = words.read_number()?;
     fill(builder, n, read_truth(words)?)
 }
 
-// Pushes the bits that were read, packed one by one.
+// Pushes bits, packed one by one, unless there is an error.
 fn push_read(
     builder: &mut BitmapBuilder,
     bits: Result<Bitmap, Fault>,
@@ -139,7 +139,7 @@ fn push_read(
     push_all(builder, &bits?, wide)
 }
 
-/// Pushes one bit, where there is room for it.
+/// Pushes one bit, if there is room.
 pub fn push(builder: &mut BitmapBuilder, value: bool) -> Result<(), Fault> {
     if builder.room() == 0 {
         return Err(Fault::Case);
@@ -148,7 +148,7 @@ pub fn push(builder: &mut BitmapBuilder, value: bool) -> Result<(), Fault> {
     Ok(())
 }
 
-/// Pushes `n` times one bit, where there is room for them.
+/// Pushes one bit `n` times, if there is room.
 pub fn fill(builder: &mut BitmapBuilder, n: usize, value: bool) -> Result<(), Fault> {
     if builder.room() < n {
         return Err(Fault::Case);
@@ -157,7 +157,7 @@ pub fn fill(builder: &mut BitmapBuilder, n: usize, value: bool) -> Result<(), Fa
     Ok(())
 }
 
-/// Pushes the bits of a bitmap, packed one by one, where there is room for them.
+/// Pushes the bits of a bitmap, packed one by one, if there is room.
 pub fn push_all(builder: &mut BitmapBuilder, bits: &Bitmap, wide: bool) -> Result<(), Fault> {
     if builder.room() < bits.len() {
         return Err(Fault::Case);

@@ -1,46 +1,46 @@
-//! The calls by their names, and what they ask.
+//! The calls by name.
 
 use crate::comparisons::Compared;
 use crate::numbers::{OfOffset, OfType};
 use crate::operators::{Merge, Operator};
 use crate::{bits, masks};
 
-/// What is asked.
+/// A call.
 #[derive(Clone, Copy)]
 pub enum Call {
-    /// Something about the number type that the next word names.
+    /// A call on the number type that the next word names.
     NumberType(OfType),
     /// The place of an offset.
     Offset(OfOffset),
     /// The entry of a key.
     Key,
-    /// What a counter shows.
+    /// The count of a counter.
     Steps,
-    /// What a counter shows that was made by default.
+    /// The count of a counter made by `default`.
     DefaultSteps,
-    /// Something about bitmaps.
+    /// A call on bitmaps.
     Bits(bits::Asked),
-    /// Something about masks.
+    /// A call on masks.
     Masks(masks::Asked),
-    /// What the operations on a builder answer.
+    /// Operations on a builder.
     Builder,
-    /// What the operations on bits that are changed in place answer.
+    /// Operations on bits that are changed in place.
     MutableBits,
-    /// What the operations on a buffer answer.
+    /// Operations on a buffer.
     Buffer,
-    /// Whether numbers pass a comparison.
+    /// A comparison of numbers.
     Compared(Compared),
     /// The text of an error of a computation.
     ComputeError,
     /// The text of an error of the parts of an array.
     ArrayError,
-    /// The sum over the answers to a call.
+    /// The sum of the results of a call at all places.
     Sweep,
-    /// The sum over the answers of blocks.
+    /// The sum of the results of blocks at all places.
     SweepOfBlocks,
 }
 
-/// The calls by their names.
+/// The calls by name.
 pub const CALLS: [(&str, Call); 67] = [
     ("least_value", Call::NumberType(OfType::Least)),
     ("greatest_value", Call::NumberType(OfType::Greatest)),

@@ -1,13 +1,13 @@
-//! What is asked of comparisons of numbers. A COMPARISON is `equal`, `unequal`, `less`, `less_or_equal`, `greater` or
-//! `greater_or_equal`, and LIST is how many numbers there are and each of them.
+//! Calls of comparisons of numbers. A COMPARISON is `equal`, `unequal`, `less`, `less_or_equal`,
+//! `greater` or `greater_or_equal`, and a LIST is a count and that many numbers.
 //!
-//! | Question | Answer |
+//! | Call | Result |
 //! |---|---|
-//! | `compare COMPARISON TYPE LEFT RIGHT` | whether two numbers pass |
+//! | `compare COMPARISON TYPE LEFT RIGHT` | whether the comparison holds of two numbers |
 //! | `packs_by_bit COMPARISON TYPE` | whether the numbers have more than 64 bits |
-//! | `compare_pairs COMPARISON TYPE LIST LIST` | which pairs of two lists of one length pass |
-//! | `compare_windows COMPARISON TYPE LIST AT LIST AT N` | the same of N numbers each from a place on |
-//! | `compare_constant COMPARISON TYPE LIST NUMBER` | which numbers pass with the last one |
+//! | `compare_pairs COMPARISON TYPE LIST LIST` | for two lists of equal length, whether it holds at each place |
+//! | `compare_windows COMPARISON TYPE LIST AT LIST AT N` | for N numbers of each list from a place on, whether it holds at each place |
+//! | `compare_constant COMPARISON TYPE LIST NUMBER` | for each number of a list, whether it holds of it and the last number |
 
 use crate::answer_text::write_value;
 use crate::bits::{is_within, read_pair};
@@ -26,7 +26,7 @@ use recorded_text::words::Words;
 use std::alloc::Global;
 use std::str::FromStr;
 
-/// What numbers are asked with a comparison.
+/// A call of a comparison.
 #[derive(Clone, Copy)]
 pub enum Compared {
     Two,
@@ -36,7 +36,7 @@ pub enum Compared {
     Constant,
 }
 
-/// The comparisons.
+/// A comparison.
 #[derive(Clone, Copy)]
 pub enum Test {
     Equal,
@@ -47,7 +47,7 @@ pub enum Test {
     GreaterOrEqual,
 }
 
-// The comparisons by their names.
+// The comparisons by name.
 const TESTS: [(&str, Test); 6] = [
     ("equal", Test::Equal),
     ("unequal", Test::Unequal),
@@ -57,13 +57,13 @@ const TESTS: [(&str, Test); 6] = [
     ("greater_or_equal", Test::GreaterOrEqual),
 ];
 
-/// The answer to a call with the comparison and at the type that the next words name.
+/// Returns the result of a call, for the comparison and the type that the next words name.
 pub fn by_name(alloc: Global, compared: Compared, words: &mut Words) -> Result<String, Fault> {
     let test = find_word(&TESTS, words.read()?)?;
     ask_next(alloc, Asked::Compared(compared, test), words)
 }
 
-/// The answer to a call with a comparison.
+/// Returns the result of a call of a comparison.
 pub fn by_test<T: NativeType + FromStr<Err: Drop>>(
     alloc: Global,
     compared: Compared,
@@ -95,7 +95,7 @@ fn ask<T: NativeType + FromStr<Err: Drop>, E: Comparison<T, T>>(
     }
 }
 
-// Whether two numbers pass.
+// Compares two numbers.
 fn two<T: NativeType + FromStr<Err: Drop>, E: Comparison<T, T>>(
     alloc: Global,
     comparison: &E,
@@ -105,7 +105,7 @@ fn two<T: NativeType + FromStr<Err: Drop>, E: Comparison<T, T>>(
     write_value(alloc, comparison.compare(left, right))
 }
 
-// Which pairs of two lists pass.
+// Compares two lists, place by place.
 fn pairs<T: NativeType + FromStr<Err: Drop>, E: Comparison<T, T>>(
     alloc: Global,
     comparison: &E,
@@ -116,7 +116,7 @@ fn pairs<T: NativeType + FromStr<Err: Drop>, E: Comparison<T, T>>(
     write_pairs(alloc, comparison, left.as_slice(), right.as_slice())
 }
 
-// Which pairs pass, where the lists are of one length.
+// Compares two lists, place by place, if they have equal lengths.
 fn write_pairs<T: NativeType, E: Comparison<T, T>>(
     alloc: Global,
     comparison: &E,
@@ -136,7 +136,7 @@ struct Part<T: NativeType> {
     at: usize,
 }
 
-// The list that words write, and the place behind it.
+// Reads a list, and a place in it.
 fn read_part<T: NativeType + FromStr<Err: Drop>>(
     alloc: Global,
     words: &mut Words,
@@ -146,7 +146,7 @@ fn read_part<T: NativeType + FromStr<Err: Drop>>(
     Ok(Part { numbers, at })
 }
 
-// Which pairs of two windows pass.
+// Compares two windows, place by place.
 fn windows<T: NativeType + FromStr<Err: Drop>, E: Comparison<T, T>>(
     alloc: Global,
     comparison: &E,
@@ -157,7 +157,7 @@ fn windows<T: NativeType + FromStr<Err: Drop>, E: Comparison<T, T>>(
     write_windows(alloc, comparison, &left, &right, words.read_number())
 }
 
-// Which pairs pass, of so many numbers each as were read.
+// Compares two windows of `n` numbers, unless there is an error.
 fn write_windows<T: NativeType, E: Comparison<T, T>>(
     alloc: Global,
     comparison: &E,
@@ -174,7 +174,7 @@ fn write_windows<T: NativeType, E: Comparison<T, T>>(
     write_made(alloc, bits)
 }
 
-// Which numbers pass with the last one.
+// Compares the numbers of a list with one number.
 fn constant<T: NativeType + FromStr<Err: Drop>, E: Comparison<T, T>>(
     alloc: Global,
     comparison: &E,

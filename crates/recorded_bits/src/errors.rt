@@ -1,6 +1,6 @@
 //! The texts of errors.
 //!
-//! | Question | Answer |
+//! | Call | Result |
 //! |---|---|
 //! | `compute_error memory`, `compute_error unsupported`, `compute_error key KEY LEN` | the text of an error of a computation |
 //! | `array_error length`, `array_error offsets ROW`, `array_error field AT`, `array_error view ROW`, `array_error not_utf8 ROW`, `array_error key ROW` | the text of an error of the parts of an array |
@@ -12,17 +12,17 @@ use recorded_text::words::Words;
 use std::alloc::{AllocError, Global};
 use std::fmt::Display;
 
-/// The text of the error of a computation that the next words name.
+/// Returns the text of the computation error that the next words name.
 pub fn write_compute_error(alloc: Global, words: &mut Words) -> Result<String, Fault> {
     write_error(alloc, read_compute_error(words))
 }
 
-/// The text of the error of an array's parts that the next words name.
+/// Returns the text of the array error that the next words name.
 pub fn write_array_error(alloc: Global, words: &mut Words) -> Result<String, Fault> {
     write_error(alloc, read_array_error(words))
 }
 
-// The text of an error, where the words name one.
+// Returns the text of an error, if the words name one.
 fn write_error<E: Display + Drop>(alloc: Global, error: Result<E, Fault>) -> Result<String, Fault> {
     error?.to_string(alloc).map_err(Fault::from)
 }
@@ -48,7 +48,7 @@ fn read_array_error(words: &mut Words) -> Result<ArrayError, Fault> {
     }
 }
 
-// The error of that name, which is about a place.
+// Returns the error of a name, with a place.
 fn error_at(name: &str, at: usize) -> Result<ArrayError, Fault> {
     match name {
         "offsets" => Ok(ArrayError::Offsets { row: at }),

@@ -1,5 +1,5 @@
-//! The recorded cases of numbers, bitmaps, masks, builders, buffers and comparisons of slices: calls whose
-//! operands a line gives in full.
+//! Recorded cases of numbers, bitmaps, masks, builders, buffers and comparisons of slices: calls
+//! whose operands are written out in a line.
 #![tactic(auto)]
 
 mod answer_text;
@@ -25,7 +25,7 @@ use recorded_text::names::find;
 use recorded_text::words::Words;
 use std::alloc::Global;
 
-/// The answer to a call of one of these subjects, or None for another one's.
+/// Returns the result of a call of these subjects, or `None` for any other call.
 pub fn answer(alloc: Global, call: &str, words: &mut Words) -> Result<Option<String>, Fault> {
     match find(&CALLS, call) {
         Some(call) => ask(alloc, call, words).map(Some),
@@ -33,7 +33,7 @@ pub fn answer(alloc: Global, call: &str, words: &mut Words) -> Result<Option<Str
     }
 }
 
-// The answer to a call.
+// Returns the result of a call.
 fn ask(alloc: Global, call: Call, words: &mut Words) -> Result<String, Fault> {
     match call {
         Call::NumberType(asked) => ask_next(alloc, Asked::Type(asked), words),

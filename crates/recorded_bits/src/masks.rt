@@ -1,18 +1,18 @@
-//! What is asked of windows of bitmaps that are borrowed. A MASK is three words: bits, the place where its
-//! window begins, and how many bits it has.
+//! Calls on borrowed windows of bitmaps. A MASK is three words: bits, the place where its window
+//! begins, and the number of its bits.
 //!
-//! | Question | Answer |
+//! | Call | Result |
 //! |---|---|
 //! | `mask_and MASK MASK`, `mask_or`, `mask_xor`, `mask_xnor`, `mask_and_not`, `mask_or_not` | the bits of the operator on two windows of one length |
-//! | `mask_not MASK` | the other bits |
+//! | `mask_not MASK` | the negated bits |
 //! | `mask_merge_eq MASK MASK MASK`, `mask_merge_ne MASK MASK MASK` | equality and inequality of rows by their values' bits and presence |
 //! | `to_bitmap MASK` | the bits |
-//! | `window MASK AT N` | N bits from place AT on |
-//! | `mask_len MASK`, `mask_unset_bits MASK` | how many bits there are, and are false |
+//! | `window MASK AT N` | the N bits from place AT on |
+//! | `mask_len MASK`, `mask_unset_bits MASK` | the number of bits, and of false bits |
 //! | `mask_get MASK I` | bit I |
 //! | `few_bits MASK AT N` | the N bits from place AT on as a number, the first one lowest |
 //! | `all_set MASK AT N` | whether the N bits from place AT on are all true |
-//! | `all_in_blocks MASK WIDTH N` | whether all bits are true, of each of N blocks of WIDTH bits |
+//! | `all_in_blocks MASK WIDTH N` | for each of N blocks of WIDTH bits, whether all its bits are true |
 
 ghost use Rattle.std.specs.Prelude.{◌≡◌, ◌+◌, ◌≤◌, length, IfOk};
 
@@ -26,7 +26,7 @@ use recorded_text::fault::Fault;
 use recorded_text::words::Words;
 use std::alloc::Global;
 
-/// What is asked of one window.
+/// A call on one window.
 #[derive(Clone, Copy)]
 pub enum OfOne {
     Not,
@@ -40,7 +40,7 @@ pub enum OfOne {
     Blocks,
 }
 
-/// What is asked of windows.
+/// A call on windows.
 #[derive(Clone, Copy)]
 pub enum Asked {
     One(OfOne),
@@ -48,7 +48,7 @@ pub enum Asked {
     Merged(Merge),
 }
 
-/// What the windows answer that the next words write.
+/// Returns the result of a call on the windows of the next words.
 pub fn ask(alloc: Global, asked: Asked, words: &mut Words) -> Result<String, Fault> {
     match asked {
         Asked::One(of_one) => ask_next(alloc, of_one, words),
@@ -57,7 +57,7 @@ pub fn ask(alloc: Global, asked: Asked, words: &mut Words) -> Result<String, Fau
     }
 }
 
-// So many windows, which the next words write.
+// Reads `count` windows from the next words.
 fn read_windows(alloc: Global, words: &mut Words, count: usize) -> Result<Vec<Window>, Fault> {
     let mut windows = Vec::new(alloc);
     for _ in 0..count {
@@ -66,7 +66,7 @@ fn read_windows(alloc: Global, words: &mut Words, count: usize) -> Result<Vec<Wi
     Ok(windows)
 }
 
-// What the windows answer that were read.
+// Returns the result of a call on windows that were read.
 fn ask_more(
     alloc: Global,
     asked: Asked,
@@ -75,7 +75,7 @@ fn ask_more(
     ask_all(alloc, asked, &operands?)
 }
 
-// What two or three windows answer.
+// Returns the result of a call on two or three windows.
 fn ask_all(alloc: Global, asked: Asked, operands: &[Window]) -> Result<String, Fault> {
     match (asked, operands) {
         (Asked::Combined(operator), [x, y]) => {
@@ -91,7 +91,7 @@ fn ask_all(alloc: Global, asked: Asked, operands: &[Window]) -> Result<String, F
     }
 }
 
-/// A window of bits, where they have one.
+/// Returns a window of bits, if it is in range.
 pub fn window_of<'a>(bits: &'a Bitmap, at: usize, n: usize) -> Result<BitMask<'a>, Fault>
     ensures { IfOk result (λ mask. length mask ≡ n) }
 {
@@ -111,7 +111,7 @@ struct Window {
 }
 
 impl Window {
-    // The bits and the window that the next three words write.
+    // Reads bits and a window from the next three words.
     fn read(alloc: Global, words: &mut Words) -> Result<Window, Fault> {
         let bits = read_bitmap(alloc, words)?;
         let (at, n) = read_pair(words)?;
@@ -121,13 +121,13 @@ impl Window {
         Ok(Window { bits, at, n })
     }
 
-    // The window, borrowed.
+    // Borrows the window.
     fn mask(&self) -> BitMask<'_> {
         BitMask::from_bitmap(&self.bits).window(self.at, self.n)
     }
 }
 
-/// An operator on the bits of two windows, which must be as many.
+/// Applies an operator to the bits of two windows, which must have equal lengths.
 pub fn combine(
     alloc: Global,
     operator: Operator,
@@ -148,7 +148,7 @@ pub fn combine(
     bits.map_err(Fault::from)
 }
 
-/// A merge of three windows, which must have as many bits.
+/// Merges three windows, which must have equal lengths.
 pub fn combine_three(
     alloc: Global,
     merge: Merge,
@@ -166,7 +166,7 @@ pub fn combine_three(
     bits.map_err(Fault::from)
 }
 
-/// Whether the `n` bits of a window from place `at` on are all true.
+/// Returns whether the `n` bits of a window from place `at` on are all true.
 pub fn is_all_set(mask: &BitMask<'_>, at: usize, n: usize) -> Result<bool, Fault> {
     if !is_within(at, n, mask.len()) {
         return Err(Fault::Case);
@@ -174,7 +174,7 @@ pub fn is_all_set(mask: &BitMask<'_>, at: usize, n: usize) -> Result<bool, Fault
     Ok(mask.all_set(at, n))
 }
 
-/// Whether all bits of each block of a window are true.
+/// Returns for each block of a window whether all its bits are true.
 pub fn fold_blocks(
     alloc: Global,
     mask: &BitMask<'_>,
@@ -189,13 +189,13 @@ pub fn fold_blocks(
     }
 }
 
-// What the window answers that the next words write.
+// Returns the result of a call on the window of the next words.
 fn ask_next(alloc: Global, asked: OfOne, words: &mut Words) -> Result<String, Fault> {
     let window = Window::read(alloc, words)?;
     ask_one(alloc, asked, &window.mask(), words)
 }
 
-// What one window answers.
+// Returns the result of a call on one window.
 fn ask_one(
     alloc: Global,
     asked: OfOne,
@@ -212,7 +212,8 @@ fn ask_one(
     }
 }
 
-// What a window answers for two numbers: a place and how many bits, or the width and the number of blocks.
+// Returns the result of a call on a window with two numbers: a place and a number of bits, or the
+// width and the number of blocks.
 fn ask_part(
     alloc: Global,
     asked: OfOne,
@@ -229,12 +230,12 @@ fn ask_part(
     }
 }
 
-// The text of a truth value, where there is one.
+// Returns the text of a truth value, unless there is an error.
 fn write_truth(alloc: Global, truth: Result<bool, Fault>) -> Result<String, Fault> {
     write_value(alloc, truth?)
 }
 
-// A part of a window, where it has one.
+// Returns a part of a window, if it is in range.
 fn part(alloc: Global, mask: &BitMask<'_>, at: usize, n: usize) -> Result<String, Fault> {
     if !is_within(at, n, mask.len()) {
         return Err(Fault::Case);
@@ -242,7 +243,7 @@ fn part(alloc: Global, mask: &BitMask<'_>, at: usize, n: usize) -> Result<String
     write_made(alloc, mask.window(at, n).to_bitmap(alloc))
 }
 
-// At most 64 bits of a window as a number, where it has them.
+// Returns at most 64 bits of a window as a number, if they are in range.
 fn few_bits(alloc: Global, mask: &BitMask<'_>, at: usize, n: usize) -> Result<String, Fault> {
     if n > 64 || !is_within(at, n, mask.len()) {
         return Err(Fault::Case);
@@ -250,7 +251,7 @@ fn few_bits(alloc: Global, mask: &BitMask<'_>, at: usize, n: usize) -> Result<St
     write_value(alloc, mask.few_bits(at, n))
 }
 
-// Bit `i`, where there is one.
+// Returns bit `i`, if it exists.
 fn bit(alloc: Global, mask: &BitMask<'_>, i: Result<usize, Fault>) -> Result<String, Fault> {
     let i = i?;
     if i >= mask.len() {

@@ -1,19 +1,19 @@
-//! What is asked of bitmaps that are changed in place.
+//! Calls on bitmaps that are changed in place.
 //!
-//! The question is `mutable zeroed N OPERATION..`, `mutable set N OPERATION..` or `mutable of X OPERATION..`, for N
-//! bits that are all false or all true, or for the bits of X, up to the operation `freeze`. The answer is what the
-//! operations answer, one after the other.
+//! A call is `mutable zeroed N OPERATION..`, `mutable set N OPERATION..` or
+//! `mutable of X OPERATION..`, for N false bits, N true bits, or the bits of X, up to the operation
+//! `freeze`. The result is the results of the operations, one after the other.
 //!
-//! | Operation | Answer |
+//! | Operation | Result |
 //! |---|---|
-//! | `set I VALUE` | none, as of the next ones |
-//! | `or X` | each bit becomes true where that of X is, which is made a bitmap of this kind |
-//! | `and X` | each bit stays true where that of X is |
-//! | `and_values X`, `and_wide_values X` | the same, the bits of X being packed one by one |
-//! | `and_mask X`, `or_not_mask X` | each bit stays true where that of X is, or becomes true where that of X is false |
-//! | `merge_eq L R`, `merge_ne L R` | equality and inequality of rows by their values' bits, by L and R, which say which rows are present |
+//! | `set I VALUE` | none: sets bit I |
+//! | `or X` | none: joins each bit with that of X by OR; X becomes a mutable bitmap |
+//! | `and X` | none: joins each bit with that of X by AND |
+//! | `and_values X`, `and_wide_values X` | none: joins each bit with that of X by AND; the bits of X are packed one by one |
+//! | `and_mask X`, `or_not_mask X` | none: joins each bit with that of X by AND, or with its negation by OR |
+//! | `merge_eq L R`, `merge_ne L R` | none: equality and inequality of rows, from that of their values; L and R have the present rows |
 //! | `get I` | bit I |
-//! | `len`, `count` | how many bits there are, and are true |
+//! | `len`, `count` | the number of bits, and of true bits |
 //! | `freeze` | all bits |
 
 use crate::answer_text::{Told, write_told, write_value};
@@ -28,7 +28,7 @@ use recorded_text::names::find_word;
 use recorded_text::words::Words;
 use std::alloc::Global;
 
-// The bits that the operations of a line begin with.
+// Creates the bits of a line.
 fn begin(alloc: Global, words: &mut Words) -> Result<MutableBitmap, Fault> {
     match words.read()? {
         "zeroed" => read_zeroed(alloc, words),
@@ -38,17 +38,17 @@ fn begin(alloc: Global, words: &mut Words) -> Result<MutableBitmap, Fault> {
     }
 }
 
-// As many bits as the next word says, all false.
+// Creates false bits; the next word is their number.
 fn read_zeroed(alloc: Global, words: &mut Words) -> Result<MutableBitmap, Fault> {
     MutableBitmap::from_len_zeroed(alloc, words.read_number()?).map_err(Fault::from)
 }
 
-// As many bits as the next word says, all true.
+// Creates true bits; the next word is their number.
 fn read_set(alloc: Global, words: &mut Words) -> Result<MutableBitmap, Fault> {
     MutableBitmap::from_len_set(alloc, words.read_number()?).map_err(Fault::from)
 }
 
-// What an operation does.
+// An operation on bits.
 #[derive(Clone, Copy)]
 enum Operation {
     Set,
@@ -60,7 +60,7 @@ enum Operation {
     Count,
 }
 
-// How the bits of a bitmap are joined with those that are there.
+// A join of bits with the bits of a bitmap.
 #[derive(Clone, Copy)]
 enum Join {
     And,
@@ -70,7 +70,7 @@ enum Join {
     OrNotMask,
 }
 
-// The operations by their names.
+// The operations by name.
 const OPERATIONS: [(&str, Operation); 12] = [
     ("set", Operation::Set),
     ("or", Operation::Or),
@@ -86,21 +86,21 @@ const OPERATIONS: [(&str, Operation); 12] = [
     ("count", Operation::Count),
 ];
 
-/// What the operations of a line answer.
+/// Returns the results of the operations of a line.
 pub fn operate(alloc: Global, words: &mut Words) -> Result<String, Fault> {
     let mut bits = begin(alloc, words)?;
     let told = tell(alloc, &mut bits, words);
     write_told(alloc, told, &bits.freeze())
 }
 
-// What the operations before `freeze` do to bits answer.
+// Applies the operations before `freeze`, and returns their results.
 fn tell(alloc: Global, bits: &mut MutableBitmap, words: &mut Words) -> Result<Told, Fault> {
     let mut told = Told::new(alloc);
     apply_all(alloc, bits, words, &mut told)?;
     Ok(told)
 }
 
-// What the operations before `freeze` do to bits, and answer.
+// Applies the operations before `freeze`, and appends their results.
 fn apply_all(
     alloc: Global,
     bits: &mut MutableBitmap,
@@ -116,7 +116,7 @@ fn apply_all(
     Ok(())
 }
 
-// What an operation does to bits, and answers.
+// Applies an operation, and appends its result.
 fn apply(
     alloc: Global,
     bits: &mut MutableBitmap,
@@ -135,7 +135,7 @@ fn apply(
     }
 }
 
-// Bit `i`, where there is one.
+// Returns bit `i`, if it exists.
 fn bit(alloc: Global, bits: &MutableBitmap, i: Result<usize, Fault>) -> Result<String, Fault> {
     let i = i?;
     if i >= bits.len() {
@@ -144,13 +144,13 @@ fn bit(alloc: Global, bits: &MutableBitmap, i: Result<usize, Fault>) -> Result<S
     write_value(alloc, bits.get(i))
 }
 
-// The bit becomes the value that the next words tell.
+// Sets a bit; the next words are its index and value.
 fn set_read(bits: &mut MutableBitmap, words: &mut Words) -> Result<(), Fault> {
     let i = words.read_number()?;
     set(bits, i, read_truth(words)?)
 }
 
-// Bit `i` becomes `value`, where there is one.
+// Sets bit `i` to `value`, if it exists.
 fn set(bits: &mut MutableBitmap, i: usize, value: bool) -> Result<(), Fault> {
     if i >= bits.len() {
         return Err(Fault::Case);
@@ -159,14 +159,14 @@ fn set(bits: &mut MutableBitmap, i: usize, value: bool) -> Result<(), Fault> {
     Ok(())
 }
 
-// The bits that the next word writes, to be changed.
+// Reads bits from the next word, as a mutable bitmap.
 fn read_mutable(alloc: Global, words: &mut Words) -> Result<MutableBitmap, Fault> {
     read_bitmap(alloc, words)?
         .into_mut(alloc)
         .map_err(Fault::from)
 }
 
-// Each bit becomes true where the other's is, where they are as many.
+// Joins each bit with the other's by OR, if the lengths are equal.
 fn or_assign(bits: &mut MutableBitmap, other: Result<MutableBitmap, Fault>) -> Result<(), Fault> {
     let other = other?;
     if other.len() != bits.len() {
@@ -176,7 +176,7 @@ fn or_assign(bits: &mut MutableBitmap, other: Result<MutableBitmap, Fault>) -> R
     Ok(())
 }
 
-// The bits are joined with those that were read.
+// Joins bits with others, unless there is an error.
 fn join_read(
     bits: &mut MutableBitmap,
     join: Join,
@@ -185,7 +185,7 @@ fn join_read(
     join_with(bits, join, &other?)
 }
 
-// Each bit is joined with the other's, where they are as many.
+// Joins each bit with the other's, if the lengths are equal.
 fn join_with(bits: &mut MutableBitmap, join: Join, other: &Bitmap) -> Result<(), Fault> {
     if other.len() != bits.len() {
         return Err(Fault::Case);
@@ -206,7 +206,7 @@ fn join_with(bits: &mut MutableBitmap, join: Join, other: &Bitmap) -> Result<(),
     Ok(())
 }
 
-// The bits are merged with those that were read.
+// Merges bits with two masks, unless there is an error.
 fn merge_read(
     bits: &mut MutableBitmap,
     merge: Merge,
@@ -215,7 +215,7 @@ fn merge_read(
     merge_all(bits, merge, &present?)
 }
 
-// The bits are merged with which rows are present on both sides.
+// Merges bits with the present rows of both sides.
 fn merge_all(bits: &mut MutableBitmap, merge: Merge, present: &[Bitmap]) -> Result<(), Fault> {
     match present {
         [left, right] => merge_masks(
@@ -228,7 +228,7 @@ fn merge_all(bits: &mut MutableBitmap, merge: Merge, present: &[Bitmap]) -> Resu
     }
 }
 
-// The bits are merged with which rows are present on each side, where they are as many.
+// Merges bits with the present rows of each side, if the lengths are equal.
 fn merge_masks(
     bits: &mut MutableBitmap,
     merge: Merge,

@@ -1,4 +1,4 @@
-//! The number types by their names, and what numbers of one type are asked.
+//! The number types by name, and calls with numbers of one type.
 
 use crate::buffers;
 use crate::comparisons::{Compared, Test, by_test};
@@ -11,7 +11,7 @@ use std::alloc::Global;
 use std::fmt::Display;
 use std::str::FromStr;
 
-/// The number types.
+/// A number type.
 #[derive(Clone, Copy)]
 pub enum NumberType {
     Int8,
@@ -26,7 +26,7 @@ pub enum NumberType {
     UInt128,
 }
 
-// The number types by their names.
+// The number types by name.
 const NUMBER_TYPES: [(&str, NumberType); 10] = [
     ("i8", NumberType::Int8),
     ("i16", NumberType::Int16),
@@ -40,23 +40,23 @@ const NUMBER_TYPES: [(&str, NumberType); 10] = [
     ("u128", NumberType::UInt128),
 ];
 
-/// The number type that the next word names.
+/// Reads the number type that the next word names.
 pub fn read_type(words: &mut Words) -> Result<NumberType, Fault> {
     find_word(&NUMBER_TYPES, words.read()?)
 }
 
-/// What numbers of one type are asked.
+/// A call with numbers of one type.
 #[derive(Clone, Copy)]
 pub enum Asked {
-    /// What the type itself is asked.
+    /// A call on the type itself.
     Type(OfType),
-    /// Whether numbers pass a comparison.
+    /// A comparison of numbers.
     Compared(Compared, Test),
-    /// What the operations on a buffer answer.
+    /// Operations on a buffer.
     Buffer,
 }
 
-/// What the numbers answer of the type that the next word names.
+/// Returns the result of a call for the number type that the next word names.
 pub fn ask_next(alloc: Global, asked: Asked, words: &mut Words) -> Result<String, Fault> {
     match read_type(words)? {
         NumberType::Int8 => ask::<i8>(alloc, asked, words),
@@ -72,7 +72,7 @@ pub fn ask_next(alloc: Global, asked: Asked, words: &mut Words) -> Result<String
     }
 }
 
-// What numbers of one type answer.
+// Returns the result of a call with numbers of one type.
 fn ask<T: NativeType + Display + FromStr<Err: Drop>>(
     alloc: Global,
     asked: Asked,

@@ -1,13 +1,13 @@
-//! What is asked of number types, of offsets and keys, and of the counter.
+//! Calls on number types, on offsets and keys, and on the counter.
 //!
-//! | Question | Answer |
+//! | Call | Result |
 //! |---|---|
 //! | `least_value TYPE`, `greatest_value TYPE` | the least and the greatest number of the type |
-//! | `number_width TYPE` | how many bits its numbers have |
+//! | `number_width TYPE` | the number of bits of a value |
 //! | `is_signed TYPE`, `has_wide_values TYPE` | whether it has numbers below 0, and more than 64 bits |
-//! | `to_place TYPE OFFSET`, `place TYPE OFFSET` | the offset as a place; by the first call also `none` |
+//! | `to_place TYPE OFFSET`, `place TYPE OFFSET` | the offset as a place; `to_place` also returns `none` |
 //! | `to_entry TYPE KEY` | the entry that the key names, or `none` |
-//! | `steps N NUMBER..`, `default_steps N NUMBER..` | what a counter shows to which the N numbers were added |
+//! | `steps N NUMBER..`, `default_steps N NUMBER..` | the count of a counter after the N numbers were added |
 
 use crate::answer_text::{write_found, write_value};
 use crate::number_types::{NumberType, read_type};
@@ -24,7 +24,7 @@ use std::alloc::Global;
 use std::fmt::Display;
 use std::str::FromStr;
 
-/// What a number type itself is asked.
+/// A call on a number type itself.
 #[derive(Clone, Copy)]
 pub enum OfType {
     Least,
@@ -34,14 +34,14 @@ pub enum OfType {
     HasWideValues,
 }
 
-/// How an offset is asked for its place.
+/// The two calls that return the place of an offset.
 #[derive(Clone, Copy)]
 pub enum OfOffset {
     Found,
     Known,
 }
 
-/// What is asked of an offset of the type that the next word names.
+/// Returns the result of a call on an offset of the type that the next word names.
 pub fn of_offset(alloc: Global, asked: OfOffset, words: &mut Words) -> Result<String, Fault> {
     match read_type(words)? {
         NumberType::Int32 => ask_offset::<i32>(alloc, asked, words),
@@ -50,7 +50,7 @@ pub fn of_offset(alloc: Global, asked: OfOffset, words: &mut Words) -> Result<St
     }
 }
 
-/// The entry that a key of the type that the next word names stands for.
+/// Returns the entry of a key of the type that the next word names.
 pub fn of_key(alloc: Global, words: &mut Words) -> Result<String, Fault> {
     match read_type(words)? {
         NumberType::Int8 => entry::<i8>(alloc, words),
@@ -65,7 +65,7 @@ pub fn of_key(alloc: Global, words: &mut Words) -> Result<String, Fault> {
     }
 }
 
-/// What a number type itself answers.
+/// Returns the result of a call on a number type itself.
 pub fn ask_type<T: NativeType + Display>(alloc: Global, asked: OfType) -> Result<String, Fault> {
     match asked {
         OfType::Least => write_value(alloc, least_value::<T>()),
@@ -76,7 +76,7 @@ pub fn ask_type<T: NativeType + Display>(alloc: Global, asked: OfType) -> Result
     }
 }
 
-// What is asked of an offset.
+// Returns the result of a call on an offset.
 fn ask_offset<O: Offset + FromStr<Err: Drop>>(
     alloc: Global,
     asked: OfOffset,
@@ -89,7 +89,7 @@ fn ask_offset<O: Offset + FromStr<Err: Drop>>(
     }
 }
 
-// The place of an offset that has one.
+// Returns the place of an offset that has one.
 fn write_place<O: Offset>(alloc: Global, offset: O) -> Result<String, Fault> {
     if offset.to_place().is_none() {
         return Err(Fault::Case);
@@ -97,7 +97,7 @@ fn write_place<O: Offset>(alloc: Global, offset: O) -> Result<String, Fault> {
     write_value(alloc, offset.place())
 }
 
-// The entry that a key names.
+// Returns the entry that a key names.
 fn entry<K: DictionaryKey + FromStr<Err: Drop>>(
     alloc: Global,
     words: &mut Words,
@@ -106,7 +106,7 @@ fn entry<K: DictionaryKey + FromStr<Err: Drop>>(
     write_found(alloc, key.to_entry())
 }
 
-/// What a counter shows to which numbers are added.
+/// Returns the count of a counter after numbers are added.
 pub fn count(alloc: Global, mut steps: Steps, words: &mut Words) -> Result<String, Fault> {
     let numbers = read_numbers::<u64>(alloc, words)?;
     add_all(&mut steps, numbers.as_slice());

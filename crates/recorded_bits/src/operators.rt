@@ -1,6 +1,6 @@
-//! The operators and merges that the calls name.
+//! The operators and merges of the calls.
 
-/// The operators on the bits of two operands.
+/// An operator on the bits of two operands.
 #[derive(Clone, Copy)]
 pub enum Operator {
     And,
@@ -11,7 +11,7 @@ pub enum Operator {
     OrNot,
 }
 
-/// The merges of three operands.
+/// A merge of three operands.
 #[derive(Clone, Copy)]
 pub enum Merge {
     Eq,

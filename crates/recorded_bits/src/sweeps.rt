@@ -1,14 +1,15 @@
-//! Calls at all places of words: sums over the answers to a call at each of them.
+//! Calls at all places of words, with a sum over their results.
 //!
-//! | Question | Answer |
+//! | Call | Result |
 //! |---|---|
-//! | `sweep CALL N` | the sum over the answers to a call of bitmaps or masks of N bits |
-//! | `sweep all_set N`, `sweep extend_values N`, `sweep extend_wide_values N` | the same for runs of N bits |
-//! | `sweep_blocks WIDTH N` | the same for N blocks of WIDTH bits |
+//! | `sweep CALL N` | the sum over the results of a call on bitmaps or masks of N bits |
+//! | `sweep all_set N`, `sweep extend_values N`, `sweep extend_wide_values N` | the sum over the results for runs of N bits |
+//! | `sweep_blocks WIDTH N` | the sum over the results for N blocks of WIDTH bits |
 //!
-//! A call of two or three operands is asked at all pairs of places from 0 to 65: the first operand is the first
-//! list at the first place, the second one the second list at the second place, and the third one the third
-//! list at a place that the two give. The answers' bits go into the sum in order, and a count as one number.
+//! A call with two or three operands is made at all pairs of places from 0 to 65: the first operand
+//! is the first list at the first place, the second one the second list at the second place, and
+//! the third one the third list at a place computed from the two. The bits of results are added in
+//! order, and a count as one number.
 
 use crate::bits::read_pair;
 use crate::builders::{fill, push, push_all};
@@ -23,30 +24,30 @@ use recorded_text::names::find_word;
 use recorded_text::words::Words;
 use std::alloc::Global;
 
-/// How many places in words there are to begin at: those of one word, and two of the next.
+/// The number of places in words where a list may begin: those of one word, and two of the next.
 const PLACES: usize = 66;
 
-/// The sum over the answers to the call that the next words write.
+/// Returns the sum over the results of the call that the next words name.
 pub fn answer(alloc: Global, words: &mut Words) -> Result<String, Fault> {
     let call = words.read()?;
     let n = words.read_number()?;
     write_sum(alloc, sweep(alloc, call, n))
 }
 
-/// The sum over blocks of the width and the number that the next words write.
+/// Returns the sum over blocks; the next words are their width and number.
 pub fn answer_of_blocks(alloc: Global, words: &mut Words) -> Result<String, Fault> {
     let (width, n) = read_pair(words)?;
     let sum = sweep_values(alloc, AtPlace::Blocks { width, n }, pattern(alloc));
     write_sum(alloc, sum)
 }
 
-/// The text of a sum.
+/// Returns the text of a sum.
 fn write_sum(alloc: Global, sum: Result<Sum, Fault>) -> Result<String, Fault> {
     let Sum(sum) = sum?;
     Ok(format!(in alloc; "{sum:016x}")?)
 }
 
-/// A sum over numbers in their order (FNV-1a of 64 bits, with a number in place of a byte).
+/// An ordered sum of numbers (64-bit FNV-1a, with a number in place of a byte).
 #[derive(Drop)]
 struct Sum(u64);
 
@@ -65,31 +66,31 @@ impl Sum {
         }
     }
 
-    /// Adds the bits that a call made.
+    /// Adds the bits that a call returned.
     fn add_made(&mut self, bits: Result<Bitmap, ComputeError>) -> Result<(), Fault> {
         self.add_found(bits.map_err(Fault::from))
     }
 
-    /// Adds bits, where there are some.
+    /// Adds bits, unless there is an error.
     fn add_found(&mut self, bits: Result<Bitmap, Fault>) -> Result<(), Fault> {
         self.add_bits(&bits?);
         Ok(())
     }
 
-    /// Adds a truth value, where there is one.
+    /// Adds a truth value, unless there is an error.
     fn add_truth(&mut self, truth: Result<bool, Fault>) -> Result<(), Fault> {
         self.add(u64::from(truth?));
         Ok(())
     }
 
-    /// Adds a count, where there is one.
+    /// Adds a count, unless there is an error.
     fn add_count(&mut self, count: Result<usize, Fault>) -> Result<(), Fault> {
         self.add(count? as u64);
         Ok(())
     }
 }
 
-/// Bit `i` of a long list with no pattern that words would have.
+/// Returns bit `i` of a long list without a pattern of the length of words.
 fn bit_at(i: usize, list: usize) -> bool {
     let mixed = i
         .wrapping_mul(2654435761)
@@ -104,7 +105,7 @@ struct Places {
     cut: Vec<Bitmap>,
 }
 
-/// A bitmap that has the first `n` bits of a list from bit `at` on, and whose other bits are all set.
+/// Creates a bitmap with the first `n` bits of a list from bit `at` on, and all other bits set.
 fn surrounded(alloc: Global, list: usize, at: usize, n: usize) -> Result<Bitmap, Fault> {
     let capacity = at.saturating_add(n).saturating_add(70);
     let mut builder = BitmapBuilder::with_capacity(alloc, capacity)?;
@@ -112,7 +113,7 @@ fn surrounded(alloc: Global, list: usize, at: usize, n: usize) -> Result<Bitmap,
     Ok(builder.freeze())
 }
 
-/// Pushes the first `n` bits of a list behind `at` true ones and before 70 of these.
+/// Pushes `at` true bits, the first `n` bits of a list, and 70 true bits.
 fn surround(builder: &mut BitmapBuilder, list: usize, at: usize, n: usize) -> Result<(), Fault> {
     fill(builder, at, true)?;
     for i in 0..n {
@@ -121,14 +122,14 @@ fn surround(builder: &mut BitmapBuilder, list: usize, at: usize, n: usize) -> Re
     fill(builder, 70, true)
 }
 
-/// The first `n` bits of a list at each place.
+/// Creates the first `n` bits of a list at each place.
 fn at_each_place(alloc: Global, list: usize, n: usize) -> Result<Places, Fault> {
     let around = surrounded_each(alloc, list, n)?;
     let cut = cut_each(alloc, &around, n)?;
     Ok(Places { around, cut })
 }
 
-/// A list in the bitmaps around it.
+/// Creates a list at each place, in bitmaps whose other bits are set.
 fn surrounded_each(alloc: Global, list: usize, n: usize) -> Result<Vec<Bitmap>, Fault> {
     let mut around = Vec::new(alloc);
     for at in 0..PLACES {
@@ -137,7 +138,7 @@ fn surrounded_each(alloc: Global, list: usize, n: usize) -> Result<Vec<Bitmap>, 
     Ok(around)
 }
 
-/// A list cut out of the bitmaps around it.
+/// Cuts a list out of the bitmaps around it.
 fn cut_each(alloc: Global, around: &[Bitmap], n: usize) -> Result<Vec<Bitmap>, Fault> {
     let mut windows = Vec::new(alloc);
     for (at, bits) in around.iter().enumerate() {
@@ -146,7 +147,7 @@ fn cut_each(alloc: Global, around: &[Bitmap], n: usize) -> Result<Vec<Bitmap>, F
     Ok(windows)
 }
 
-/// Three lists of `n` bits, each of them at each place.
+/// Three lists of `n` bits, each at each place.
 #[derive(Drop)]
 struct Lists {
     first: Places,
@@ -165,7 +166,7 @@ impl Lists {
         })
     }
 
-    /// The three lists as bitmaps, the first two at places `p` and `q`.
+    /// Returns the three lists as bitmaps, the first two at places `p` and `q`.
     fn bitmaps(&self, p: usize, q: usize) -> Result<(&Bitmap, &Bitmap, &Bitmap), Fault> {
         let (Some(x), Some(y), Some(z)) = (
             self.first.cut.get(p),
@@ -177,7 +178,8 @@ impl Lists {
         Ok((x, y, z))
     }
 
-    /// The same as windows of the bitmaps around them.
+    /// Returns the three lists as windows of the bitmaps around them, the first two at places `p`
+    /// and `q`.
     fn masks(&self, p: usize, q: usize) -> Result<(BitMask<'_>, BitMask<'_>, BitMask<'_>), Fault> {
         let r = (p ^ q) % PLACES;
         let (Some(x), Some(y), Some(z)) = (
@@ -195,7 +197,7 @@ impl Lists {
     }
 }
 
-/// The sum over the answers to a call at all pairs of places, or at all places of runs.
+/// Returns the sum over the results of a call at all pairs of places, or at all places of runs.
 fn sweep(alloc: Global, call: &str, n: usize) -> Result<Sum, Fault> {
     match call {
         "all_set" => sweep_values(alloc, AtPlace::Run { n }, pattern(alloc)),
@@ -205,7 +207,7 @@ fn sweep(alloc: Global, call: &str, n: usize) -> Result<Sum, Fault> {
     }
 }
 
-/// What is asked at a pair of places.
+/// A call at a pair of places.
 #[derive(Clone, Copy)]
 enum Asked {
     Combined(Operator),
@@ -216,7 +218,7 @@ enum Asked {
     OfMasks(OfMasks),
 }
 
-/// What masks are asked at a pair of places.
+/// A call on masks at a pair of places.
 #[derive(Clone, Copy)]
 enum OfMasks {
     Combined(Operator),
@@ -226,7 +228,7 @@ enum OfMasks {
     CountUnset,
 }
 
-/// The calls that are asked at pairs of places.
+/// The calls made at pairs of places.
 const PAIRED: [(&str, Asked); 22] = [
     ("and", Asked::Combined(Operator::And)),
     ("or", Asked::Combined(Operator::Or)),
@@ -261,13 +263,13 @@ const PAIRED: [(&str, Asked); 22] = [
     ("mask_unset_bits", Asked::OfMasks(OfMasks::CountUnset)),
 ];
 
-/// The sum over the answers to a call at all pairs of places.
+/// Returns the sum over the results of a call at all pairs of places.
 fn sweep_pairs(alloc: Global, asked: Result<Asked, Fault>, n: usize) -> Result<Sum, Fault> {
     let lists = Lists::new(alloc, n)?;
     sweep_lists(alloc, asked, &lists)
 }
 
-/// The same over three lists.
+/// Returns the sum over the results of a call at all pairs of places of three lists.
 fn sweep_lists(alloc: Global, asked: Result<Asked, Fault>, lists: &Lists) -> Result<Sum, Fault> {
     let asked = asked?;
     let mut sum = Sum::new();
@@ -277,7 +279,7 @@ fn sweep_lists(alloc: Global, asked: Result<Asked, Fault>, lists: &Lists) -> Res
     Ok(sum)
 }
 
-/// The answers where the first list is at place `p`.
+/// Adds the results of a call with the first list at place `p`.
 fn sweep_second(
     alloc: Global,
     asked: Asked,
@@ -291,7 +293,7 @@ fn sweep_second(
     Ok(())
 }
 
-/// The answer where the first two lists are at places `p` and `q`.
+/// Adds the result of a call with the first two lists at places `p` and `q`.
 fn add_answer(
     alloc: Global,
     asked: Asked,
@@ -311,7 +313,7 @@ fn add_answer(
     }
 }
 
-/// The same for a call on masks.
+/// Adds the result of a call on masks with the first two lists at places `p` and `q`.
 fn add_mask_answer(
     alloc: Global,
     asked: OfMasks,
@@ -330,7 +332,7 @@ fn add_mask_answer(
     }
 }
 
-/// A pattern of 200 truth values with few false ones, in no step with words.
+/// Creates a pattern of 200 truth values with few false ones, out of step with words.
 fn pattern(alloc: Global) -> Result<Bitmap, Fault> {
     let mut values = [false; 200];
     for i in 0..200 {
@@ -339,27 +341,27 @@ fn pattern(alloc: Global) -> Result<Bitmap, Fault> {
     Bitmap::from_bools(alloc, &values).map_err(Fault::from)
 }
 
-/// The first `n` values of the pattern.
+/// Returns the first `n` values of the pattern.
 fn first_values(alloc: Global, n: usize) -> Result<Bitmap, Fault> {
     let mut values = pattern(alloc)?;
     bits::keep(&mut values, 0, n)?;
     Ok(values)
 }
 
-/// What is asked of values at each place.
+/// A call on values at each place.
 #[derive(Clone, Copy)]
 enum AtPlace {
     /// Whether the run of `n` values from the place on is true throughout.
     Run { n: usize },
-    /// The values behind true ones up to the place and before a false one.
+    /// True values up to the place, then the values, and a false one.
     Appended,
-    /// The same, packed in the way for wide elements.
+    /// The values appended in the same way, packed as wide elements are.
     WideAppended,
-    /// The `n` blocks of so many values from the place on.
+    /// The `n` blocks of `width` values from the place on.
     Blocks { width: usize, n: usize },
 }
 
-/// The sum over the answers of values at each place.
+/// Returns the sum over the results of a call on values at each place, unless there is an error.
 fn sweep_values(
     alloc: Global,
     asked: AtPlace,
@@ -368,7 +370,7 @@ fn sweep_values(
     sweep_places(alloc, asked, &values?)
 }
 
-/// The same of values that are there.
+/// Returns the sum over the results of a call on values at each place.
 fn sweep_places(alloc: Global, asked: AtPlace, values: &Bitmap) -> Result<Sum, Fault> {
     let mut sum = Sum::new();
     for at in 0..PLACES {
@@ -377,7 +379,7 @@ fn sweep_places(alloc: Global, asked: AtPlace, values: &Bitmap) -> Result<Sum, F
     Ok(sum)
 }
 
-/// The answer of values at a place.
+/// Adds the result of a call on values at a place.
 fn add_at(
     alloc: Global,
     asked: AtPlace,
@@ -395,7 +397,7 @@ fn add_at(
     }
 }
 
-/// Which of `n` blocks of values from place `at` on are true throughout.
+/// Returns for each of `n` blocks of values from place `at` on whether it is all true.
 fn blocks(
     alloc: Global,
     values: &Bitmap,
@@ -407,7 +409,7 @@ fn blocks(
     masks::fold_blocks(alloc, &mask, width, n)
 }
 
-/// These values behind `at` true ones and before a false one.
+/// Returns `at` true values, then these values, and a false one.
 fn appended(alloc: Global, at: usize, values: &Bitmap, wide: bool) -> Result<Bitmap, Fault> {
     let capacity = at.saturating_add(values.len()).saturating_add(1);
     let mut builder = BitmapBuilder::with_capacity(alloc, capacity)?;
@@ -415,7 +417,7 @@ fn appended(alloc: Global, at: usize, values: &Bitmap, wide: bool) -> Result<Bit
     Ok(builder.freeze())
 }
 
-/// Pushes these values behind `at` true ones and before a false one.
+/// Pushes `at` true values, then these values, and a false one.
 fn append(
     builder: &mut BitmapBuilder,
     at: usize,

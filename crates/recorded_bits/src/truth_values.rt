@@ -1,4 +1,4 @@
-//! Truth values that are asked for one by one.
+//! Truth values that are read one by one.
 
 ghost use Rattle.std.specs.Prelude.{◌≡◌, length, nat_eq, slice_index};
 
@@ -7,8 +7,7 @@ use polars_arrays_bits::counting::CountedValues;
 use polars_arrays_bits::packing::TruthValues;
 use polars_arrays_numbers::steps::Steps;
 
-/// The bits of a bitmap, each asked for by itself. They are packed in the way for wide elements where
-/// `wide` says so.
+/// The bits of a bitmap, read one by one. If `wide`, they are packed as wide elements are.
 #[derive(Drop)]
 pub struct SingleBits<'a> {
     pub bits: &'a Bitmap,
@@ -31,7 +30,7 @@ impl TruthValues for SingleBits<'_> {
     }
 }
 
-/// The bits of a bitmap, and what each of them costs.
+/// The bits of a bitmap, and the cost of each.
 #[derive(Drop)]
 pub struct CostlyBits<'a> {
     pub bits: &'a Bitmap,
@@ -59,7 +58,7 @@ impl CountedValues for CostlyBits<'_> {
         self.bits.get_bit(i)
     }
 
-    // What costs nothing may be guessed.
+    // A value that costs nothing may be guessed.
     fn is_sure(&self, i: usize) -> bool {
         self.costs[i] == 0
     }

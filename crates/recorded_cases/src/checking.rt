@@ -1,4 +1,4 @@
-//! Answers that are recorded beside their questions.
+//! Comparisons of results with recorded ones.
 
 ghost use Rattle.recorded_text.specs.Cases.{HasGoodArrays};
 
@@ -6,7 +6,7 @@ use crate::question::{Answer, answer_line};
 use recorded_text::fault::Fault;
 use recorded_text::store::Store;
 
-/// What is done with the answers to a file's questions.
+/// The use made of the results of a file's calls.
 #[derive(Clone, Copy, Debug, PartialEq, Eq)]
 pub enum Mode {
     /// They are compared with the recorded ones.
@@ -17,7 +17,7 @@ pub enum Mode {
     Print,
 }
 
-/// How many answers are as recorded, and how many differ.
+/// The number of results that are as recorded, and the number of those that differ.
 #[derive(Clone, Copy, Debug, Default, PartialEq, Eq)]
 pub struct Tally {
     pub same: u64,
@@ -25,7 +25,7 @@ pub struct Tally {
 }
 
 impl Tally {
-    /// Counts a line, of which `None` says that it asks nothing.
+    /// Counts a line. `None` is a line without a call.
     fn count(&mut self, agrees: Option<bool>) {
         match agrees {
             Some(true) => self.same = self.same.saturating_add(1),
@@ -35,7 +35,7 @@ impl Tally {
     }
 }
 
-/// A line of a file, without the answer that is recorded on it.
+/// A line of a file, without its recorded result.
 #[derive(Clone, Copy)]
 struct Asked<'a> {
     file: &'a str,
@@ -43,7 +43,7 @@ struct Asked<'a> {
     question: &'a str,
 }
 
-/// Returns a line's question, and the answer that is recorded behind it. A heading has none.
+/// Splits a line into its call and its recorded result. A heading has no result.
 fn split_answer(line: &str) -> (&str, Option<&str>) {
     if line.starts_with('#') {
         return (line, None);
@@ -54,7 +54,7 @@ fn split_answer(line: &str) -> (&str, Option<&str>) {
     }
 }
 
-/// Asks the questions of a text, and compares the answers with the recorded ones or prints them.
+/// Makes the calls of a text, and compares the results with the recorded ones or prints them.
 pub fn check_text<R: Print + Eprint + AllocGlobal>(
     rt: &R,
     file: &str,
@@ -79,8 +79,8 @@ pub fn check_text<R: Print + Eprint + AllocGlobal>(
     Ok(tally)
 }
 
-/// Answers a line. Where an allocation fails, says so and answers the line once more: the arrays of
-/// the case have to be as they were.
+/// Makes the call of a line. If an allocation fails, prints that and makes the call once more: the
+/// arrays of the case must be unchanged.
 fn ask<R: Eprint + AllocGlobal>(rt: &R, store: &mut Store, asked: Asked) -> Result<Answer, Fault>
     requires { HasGoodArrays store.old }
     ensures { HasGoodArrays store.new }
@@ -94,7 +94,7 @@ fn ask<R: Eprint + AllocGlobal>(rt: &R, store: &mut Store, asked: Asked) -> Resu
     }
 }
 
-/// Prints a line that has no answer, and why, on standard error.
+/// Prints a line that has no result, and the error, on standard error.
 fn tell(rt: &impl Eprint, asked: Asked, fault: &Fault) -> Result<(), Fault> {
     let Asked {
         file,
@@ -104,7 +104,7 @@ fn tell(rt: &impl Eprint, asked: Asked, fault: &Fault) -> Result<(), Fault> {
     eprintln!(rt; "{file}:{number}: {fault}: {question}").map_err(Fault::from)
 }
 
-/// Compares an answer with the recorded one, or prints it. Names a line that has none.
+/// Compares a result with the recorded one, or prints it. Prints the line if it has none.
 fn check_answer<R: Print + Eprint>(
     rt: &R,
     asked: Asked,
@@ -124,7 +124,7 @@ fn check_answer<R: Print + Eprint>(
     }
 }
 
-/// Prints a heading, or what a question is answered.
+/// Prints a heading, or a call and its result.
 fn print_answer(rt: &impl Print, question: &str, answer: &Answer) -> Result<Option<bool>, Fault> {
     match answer {
         Answer::Nothing if question.starts_with('#') => println!(rt; "{question}")?,
@@ -135,8 +135,8 @@ fn print_answer(rt: &impl Print, question: &str, answer: &Answer) -> Result<Opti
     Ok(None)
 }
 
-/// Compares an answer with the recorded one, and prints both where they differ. Returns `None`
-/// where there is neither.
+/// Compares a result with the recorded one, and prints both if they differ. Returns `None` if there
+/// is neither.
 fn compare(
     rt: &impl Print,
     asked: Asked,

@@ -1,15 +1,15 @@
-//! The line language: what a line is answered, what a run over an input writes, and how the program ends.
+//! Calls of the line language: results of lines, output of runs, and exit statuses of the program.
 //!
-//! | Question | Answer |
+//! | Call | Result |
 //! |---|---|
-//! | `line TEXT` | the answer to the line that stands behind `line ` as it is, or why it is refused |
-//! | `line_bytes BYTES` | the same of the text that these bytes are, for a line that holds what can't be seen |
-//! | `line_repeated N PIECE BYTES` | the same of the text that these bytes are and, behind it, N times the bytes of PIECE, for a line that is very long |
-//! | `run BYTES` | how many lines this input has, how many are refused, and the bytes that are written |
+//! | `line TEXT` | the result of the line after `line `, or its fault |
+//! | `line_bytes BYTES` | the result of the line of these bytes, which may be unprintable |
+//! | `line_repeated N PIECE BYTES` | the result of the line of these bytes and then N times the bytes of PIECE, which may be very long |
+//! | `run BYTES` | the number of lines of this input, the number of refused ones, and the bytes written |
 //! | `demo` | the bytes that the demo writes |
-//! | `command WORD..` | what these arguments ask for |
+//! | `command WORD..` | the command of these arguments |
 //! | `exit_status lines N refused N`, `exit_status FAULT` | the status after such a run |
-//! | `fault_text FAULT` | what is printed where a run stopped: by `read`, `write` or `memory` |
+//! | `fault_text FAULT` | the message of a run that stopped, by `read`, `write` or `memory` |
 
 use polars_tables_lines::arguments::command;
 use polars_tables_lines::demo::demo;
@@ -23,8 +23,8 @@ use recorded_text::words::Words;
 use std::alloc::{AllocError, Global};
 use std::str::from_utf8;
 
-/// The answer to a call of the line language, or None for another one's. `text` is what stands behind the call
-/// and a space, and `words` are its words.
+/// Returns the result of a call of the line language, or `None` for any other call. `text` is the
+/// line after the call and a space, and `words` are its words.
 pub fn answer(
     alloc: Global,
     call: &str,
@@ -45,7 +45,7 @@ pub fn answer(
     answer.map(Some)
 }
 
-/// What arguments ask for.
+/// Returns the command of arguments.
 fn answer_command(alloc: Global, text: &str) -> Result<String, Fault> {
     let arguments = split_arguments(alloc, text)?;
     command_name(command(&arguments))
@@ -53,19 +53,19 @@ fn answer_command(alloc: Global, text: &str) -> Result<String, Fault> {
         .map_err(Fault::from)
 }
 
-/// The status after a run.
+/// Returns the exit status of a run.
 fn answer_status(alloc: Global, words: &mut Words) -> Result<String, Fault> {
     let outcome = read_outcome(words)?;
     exit_status(&outcome).to_string(alloc).map_err(Fault::from)
 }
 
-/// What is printed where a run stopped.
+/// Returns the message of a run that stopped.
 fn answer_fault(alloc: Global, words: &mut Words) -> Result<String, Fault> {
     let fault = read_fault(words.read()?)?;
     fault_text(&fault).to_string(alloc).map_err(Fault::from)
 }
 
-/// What a line is answered.
+/// Returns the result of a line.
 fn answer_text(alloc: Global, line: &str) -> Result<String, Fault> {
     match answer_line(alloc, line) {
         Ok(answer) => Ok(answer),
@@ -74,13 +74,13 @@ fn answer_text(alloc: Global, line: &str) -> Result<String, Fault> {
     }
 }
 
-/// What the line is answered whose bytes the next word has.
+/// Returns the result of the line whose bytes are the next word.
 fn answer_bytes(alloc: Global, words: &mut Words) -> Result<String, Fault> {
     let bytes = read_bytes(alloc, words.read()?)?;
     answer_read(alloc, &bytes)
 }
 
-/// What the line is answered that these bytes are.
+/// Returns the result of the line of these bytes.
 fn answer_read(alloc: Global, bytes: &[u8]) -> Result<String, Fault> {
     match from_utf8(bytes) {
         Ok(line) => answer_text(alloc, line),
@@ -88,14 +88,15 @@ fn answer_read(alloc: Global, bytes: &[u8]) -> Result<String, Fault> {
     }
 }
 
-/// What the line is answered that ends in a piece of text so many times.
+/// Returns the result of a line that ends in a piece of text repeated a number of times.
 fn answer_repeated(alloc: Global, words: &mut Words) -> Result<String, Fault> {
     let times = words.read_number()?;
     let piece = read_bytes(alloc, words.read()?)?;
     answer_ending(alloc, words, times, &piece)
 }
 
-/// What the line is answered that begins with the bytes of the next word.
+/// Returns the result of the line that begins with the bytes of the next word and ends in a
+/// repeated piece.
 fn answer_ending(
     alloc: Global,
     words: &mut Words,
@@ -107,7 +108,7 @@ fn answer_ending(
     answer_read(alloc, &bytes)
 }
 
-/// Adds a piece so many times.
+/// Appends a piece `times` times.
 fn push_repeated(bytes: &mut Vec<u8>, times: u32, piece: &[u8]) -> Result<(), AllocError> {
     for _ in 0..times {
         bytes.extend_from_slice(piece)?;
@@ -115,7 +116,7 @@ fn push_repeated(bytes: &mut Vec<u8>, times: u32, piece: &[u8]) -> Result<(), Al
     Ok(())
 }
 
-/// What a run over the bytes of the next word reports and writes.
+/// Returns the report and the output of a run over the bytes of the next word.
 fn answer_run(alloc: Global, words: &mut Words) -> Result<String, Fault> {
     let input = read_bytes(alloc, words.read()?)?;
     let mut written = Vec::new(alloc);
@@ -125,7 +126,7 @@ fn answer_run(alloc: Global, words: &mut Words) -> Result<String, Fault> {
     }
 }
 
-/// What a run reports, and the bytes that it wrote.
+/// Returns the text of a report and of the output of a run.
 fn write_run(alloc: Global, report: Report, written: &[u8]) -> Result<String, Fault> {
     let Report { lines, refused } = report;
     let mut text = format!(in alloc; "lines {lines} refused {refused} ")?;
@@ -133,7 +134,7 @@ fn write_run(alloc: Global, report: Report, written: &[u8]) -> Result<String, Fa
     Ok(text)
 }
 
-/// The bytes that the demo writes.
+/// Returns the bytes that the demo writes.
 fn answer_demo(alloc: Global) -> Result<String, Fault> {
     let mut written = Vec::new(alloc);
     match demo(alloc, &mut written) {
@@ -142,8 +143,8 @@ fn answer_demo(alloc: Global) -> Result<String, Fault> {
     }
 }
 
-/// Returns the fault of a line whose run stopped: `Memory` where memory was refused to the run,
-/// which then wrote nothing, or to the vector that it writes to, and else `Case`.
+/// Returns the fault of a line whose run stopped: `Memory`, if an allocation failed in the run,
+/// which then wrote nothing, or in the vector that it writes to; otherwise `Case`.
 fn fault_of(fault: RunError, written: &[u8]) -> Fault {
     match fault {
         RunError::Memory if written.is_empty() => Fault::Memory,
@@ -152,7 +153,7 @@ fn fault_of(fault: RunError, written: &[u8]) -> Fault {
     }
 }
 
-/// The arguments that a text has, parted by one space.
+/// Splits a text into arguments, separated by one space.
 fn split_arguments(alloc: Global, text: &str) -> Result<Vec<String>, AllocError> {
     let mut arguments = Vec::new(alloc);
     for word in text.split(' ') {
@@ -163,7 +164,7 @@ fn split_arguments(alloc: Global, text: &str) -> Result<Vec<String>, AllocError>
     Ok(arguments)
 }
 
-/// The name of what the program is asked to do.
+/// Returns the name of a command.
 fn command_name(command: Command) -> &'static str {
     match command {
         Command::Lines => "lines",
@@ -174,7 +175,7 @@ fn command_name(command: Command) -> &'static str {
     }
 }
 
-/// The outcome of a run: `lines N refused N`, or its fault.
+/// Reads the outcome of a run: `lines N refused N`, or its fault.
 fn read_outcome(words: &mut Words) -> Result<Result<Report, RunError>, Fault> {
     match words.read()? {
         "lines" => read_report(words).map(Ok),
@@ -182,7 +183,7 @@ fn read_outcome(words: &mut Words) -> Result<Result<Report, RunError>, Fault> {
     }
 }
 
-/// What a run reports: `N refused N`, behind `lines`.
+/// Reads a report: `N refused N`, after `lines`.
 fn read_report(words: &mut Words) -> Result<Report, Fault> {
     let lines = words.read_number()?;
     if words.read()? != "refused" {
@@ -192,7 +193,7 @@ fn read_report(words: &mut Words) -> Result<Report, Fault> {
     Ok(Report { lines, refused })
 }
 
-/// The fault of a run that a word names.
+/// Returns the fault of a run by name.
 fn read_fault(word: &str) -> Result<RunError, Fault> {
     match word {
         "read" => Ok(RunError::Read),

@@ -1,7 +1,7 @@
-//! Compares what each public call returns with the answer that stands beside its question.
+//! Compares the result of each public call with the recorded result on the same line.
 //!
-//! `recorded_cases [--wrong] FILE..` checks each file in turn, or standard input where none is
-//! named. These are the lines of a file:
+//! `recorded_cases [--wrong] FILE..` checks each file in turn, or standard input if no file is
+//! named. A file has these lines:
 //!
 //! | Line | Meaning |
 //! |---|---|
@@ -12,17 +12,17 @@
 //! | `NAME = copy OTHER` | names a clone of an array |
 //! | `CALL OPERAND.. -> ANSWER` | the call returns this answer |
 //!
-//! Operands are names of arrays, numbers, truth values, names of types, bits
-//! `b<at>:<0 and 1..>`, whose first `<at>` digits are cut off, and bytes `x<hexadecimal digits>`.
-//! Answers are rows, bits with `x` where nothing is promised, numbers, `none`, or `refused: WHY`.
+//! Operands are names of arrays, numbers, truth values, names of types, bits `b<at>:<0 and 1..>`,
+//! whose first `<at>` digits are cut off, and bytes `x<hexadecimal digits>`. Results are rows, bits
+//! with `x` where nothing is promised, numbers, `none`, or `refused: WHY`.
 //!
-//! The program prints each line whose answer differs, with its file, its number and both answers,
-//! and the counts of each file. Every answer of the file behind `--wrong` has to differ. The status
-//! is 0 where all is so, else 1. A line that can't be read ends the run with status 1 and is named
-//! on standard error.
+//! The program prints each line whose result differs, with its file, its number and both results,
+//! and the counts of each file. Every result of the file after `--wrong` must differ. The status is
+//! 0 if all is as it must be, and 1 otherwise. A line that can't be read ends the run with status 1
+//! and is named on standard error.
 //!
-//! `recorded_cases --print FILE..` prints what the calls return in place of comparing it. Its lines
-//! need no answers.
+//! `recorded_cases --print FILE..` prints the results of the calls instead of comparing them. Its
+//! lines need no recorded results.
 #![tactic(auto)]
 
 use crate::checking::{Mode, Tally, check_text};
@@ -35,7 +35,7 @@ mod checking;
 mod lines;
 mod question;
 
-/// Prints the counts of a file, and returns whether they are as they have to be.
+/// Prints the counts of a file, and returns whether they are right.
 fn report(rt: &impl Print, name: &str, tally: Tally, is_wrong: bool) -> Result<bool, Fault> {
     let Tally { same, differing } = tally;
     match (is_wrong, same, differing) {
@@ -50,7 +50,7 @@ fn report(rt: &impl Print, name: &str, tally: Tally, is_wrong: bool) -> Result<b
     })
 }
 
-/// Goes over a file, and returns whether its counts are as they have to be.
+/// Checks a file, and returns whether its counts are right.
 fn check_file<R: Files + Print + Eprint + AllocGlobal>(
     rt: &R,
     name: &str,
@@ -65,7 +65,7 @@ fn check_file<R: Files + Print + Eprint + AllocGlobal>(
     }
 }
 
-/// Goes over standard input, and returns whether its counts are as they have to be.
+/// Checks standard input, and returns whether its counts are right.
 fn check_input<R: Input + Print + Eprint + AllocGlobal>(rt: &R, mode: Mode) -> Result<bool, Fault> {
     let name = "standard input";
     let text = io::read_to_string(rt.alloc(), rt.reader())?;
@@ -76,7 +76,7 @@ fn check_input<R: Input + Print + Eprint + AllocGlobal>(rt: &R, mode: Mode) -> R
     }
 }
 
-/// Goes over each file, and returns whether all counts are as they have to be.
+/// Checks each file, and returns whether all counts are right.
 fn check_files<R: Files + Print + Eprint + AllocGlobal>(
     rt: &R,
     words: &[String],
@@ -95,7 +95,7 @@ fn check_files<R: Files + Print + Eprint + AllocGlobal>(
     Ok(is_well)
 }
 
-/// Goes over each file that the words name, or over standard input where they name none.
+/// Checks each named file, or standard input if none is named.
 fn check_all<R>(rt: &R, words: &[String], mode: Mode) -> Result<bool, Fault>
 where
     R: Files + Input + Print + Eprint + AllocGlobal,
@@ -107,7 +107,7 @@ where
     }
 }
 
-/// Does what the arguments ask for, and returns whether all counts are as they have to be.
+/// Executes the arguments, and returns whether all counts are right.
 fn run<R: Env + Files + Input + Print + Eprint + AllocGlobal>(rt: &R) -> Result<bool, Fault> {
     let words: Vec<String> = env::args(rt)?.skip(1).collect(rt.alloc())?;
     match words.split_first() {

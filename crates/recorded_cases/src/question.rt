@@ -1,4 +1,4 @@
-//! A line of a file of cases, and what it is answered.
+//! A line of a file of cases, and its result.
 
 ghost use Rattle.std.specs.Prelude.{IfOk};
 ghost use Rattle.polars_arrays_nested.specs.GoodParts.{IsGood};
@@ -14,19 +14,19 @@ use recorded_text::wrapped::{FAR_LEVELS, LEVELS, read_wrapped};
 use std::alloc::Global;
 use std::fmt::Display;
 
-/// What a line without its recorded answer is answered.
+/// The result of a line.
 #[derive(Debug, Drop)]
 pub enum Answer {
-    /// Nothing: it is empty, a heading, or names an array that is made.
+    /// No result: the line is empty, a heading, or names an array that was created.
     Nothing,
     /// The name of an array that its parts do not make, and `refused: WHY`.
     Refused(String, String),
-    /// What a call returns.
+    /// The result of a call.
     Returned(String),
 }
 
 impl Answer {
-    /// Returns the text that is compared with the recorded answer, where there is one.
+    /// Returns the text that is compared with the recorded result, if there is one.
     pub fn text(&self) -> Option<&str> {
         match self {
             Answer::Nothing => None,
@@ -36,7 +36,7 @@ impl Answer {
     }
 }
 
-/// Answers a line that has no recorded answer behind it.
+/// Returns the result of a line, given without its recorded result.
 pub fn answer_line(alloc: Global, store: &mut Store, line: &str) -> Result<Answer, Fault>
     requires { HasGoodArrays store.old }
     ensures { HasGoodArrays store.new }
@@ -53,7 +53,7 @@ pub fn answer_line(alloc: Global, store: &mut Store, line: &str) -> Result<Answe
     answer_words(alloc, store, line, &mut words)
 }
 
-// Answers the line of these words.
+// Returns the result of the line of these words.
 fn answer_words(
     alloc: Global,
     store: &mut Store,
@@ -71,7 +71,7 @@ fn answer_words(
     answer_question(alloc, store, line, first, words).map(Answer::Returned)
 }
 
-// The answer to a question, behind whose operands nothing stands.
+// Returns the result of a call, and checks that no words follow its operands.
 fn answer_question(
     alloc: Global,
     store: &Store,
@@ -89,7 +89,7 @@ fn answer_question(
     }
 }
 
-// The answer to a call whose operands are all words that are left.
+// Returns the result of a call whose operands are all words that are left.
 fn answer_operands(
     alloc: Global,
     store: &Store,
@@ -105,8 +105,8 @@ fn answer_operands(
     Ok(answer)
 }
 
-// A copy of an array after the word `copy`, an array in many others after `wrapped`, and in more than the usual stack may
-// hold after `wrapped_far`, or else the array that words write.
+// Reads an array: a clone after the word `copy`; an array nested in others after `wrapped`, or
+// after `wrapped_far` in more than the usual stack has room for; otherwise an array written out.
 fn read_array(alloc: Global, store: &Store, words: &mut Words) -> Result<AnyArray, Fault>
     requires { HasGoodArrays store.now }
     ensures { IfOk result (λ array. IsGood array) }
@@ -123,7 +123,7 @@ fn read_array(alloc: Global, store: &Store, words: &mut Words) -> Result<AnyArra
     read_any(alloc, words)
 }
 
-// A copy of an array.
+// Clones an array.
 fn copy_array(alloc: Global, array: &AnyArray) -> Result<AnyArray, Fault>
     requires { IsGood array.now }
     ensures { IfOk result (λ copy. IsGood copy) }
@@ -132,7 +132,7 @@ fn copy_array(alloc: Global, array: &AnyArray) -> Result<AnyArray, Fault>
     Ok(copy)
 }
 
-// Names an array that was made, or says why it was not.
+// Names an array that was created, or returns the error of creating it.
 fn add_made(
     alloc: Global,
     store: &mut Store,
@@ -170,7 +170,8 @@ fn add(
     Ok(Answer::Nothing)
 }
 
-// Says why parts make no array, or that it would be too deep. Another fault is one of the line.
+// Returns the reason why parts make no array, or that it would be nested too deeply. Any other
+// fault is one of the line.
 fn refuse(alloc: Global, name: &str, fault: Fault) -> Result<Answer, Fault> {
     match fault {
         Fault::Parts(error) => refusal(alloc, name, &error),
@@ -179,14 +180,14 @@ fn refuse(alloc: Global, name: &str, fault: Fault) -> Result<Answer, Fault> {
     }
 }
 
-// Returns a name, and why there is no array of that name.
+// Returns a name, and the reason why there is no array of that name.
 fn refusal(alloc: Global, name: &str, why: &impl Display) -> Result<Answer, Fault> {
     let why = format!(in alloc; "refused: {why}")?;
     let name = name.to_string(alloc)?;
     Ok(Answer::Refused(name, why))
 }
 
-// Returns the first answer that there is.
+// Returns the first result that there is.
 macro_rules! first_answer {
     ($($answer:expr),+ $(,)?) => {
         $(if let Some(answer) = $answer? {
@@ -195,7 +196,7 @@ macro_rules! first_answer {
     };
 }
 
-// The answer of the subject that has the call.
+// Returns the result of a call of any subject.
 fn answer_call(alloc: Global, store: &Store, call: &str, words: &mut Words) -> Result<String, Fault>
     requires { HasGoodArrays store.now }
 {

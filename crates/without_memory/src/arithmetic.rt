@@ -1,4 +1,5 @@
-//! Operations on arrays that own their values, which write over these, and arrays that are shared once more.
+//! Operations on arrays that own their values, which they overwrite, and sharing of arrays that are
+//! shared already.
 
 use crate::told::Told;
 use polars_arrays_bits::bitmap::Bitmap;
@@ -24,7 +25,8 @@ pub fn answer(alloc: Global, told: &mut Told) -> Result<(), Fault> {
     Ok(())
 }
 
-// Each operation on what the one before it made, and whether all of them succeeded.
+// Applies each operation to the result of the one before, and records whether all of them
+// succeeded.
 fn tell_changed<O: Operation>(
     alloc: Global,
     told: &mut Told,
@@ -38,7 +40,7 @@ fn tell_changed<O: Operation>(
     told.end(alloc);
 }
 
-// An array that is shared, shared again, and whether it was.
+// Shares an array that is shared already, and records whether it succeeded.
 fn tell_shared(alloc: Global, told: &mut Told, array: PrimitiveArray<i8>) {
     told.begin(alloc);
     let ended = share_again(alloc, told, array);
@@ -46,7 +48,7 @@ fn tell_shared(alloc: Global, told: &mut Told, array: PrimitiveArray<i8>) {
     told.end(alloc);
 }
 
-// The numbers 100 and -128, and a null.
+// Creates the numbers 100 and -128, and a null.
 fn numbers(alloc: Global) -> Result<PrimitiveArray<i8>, Fault> {
     let values = Buffer::from_vec(Vec::from_slice(alloc, &[100i8, -128, 7])?);
     let validity = Bitmap::from_bools(alloc, &[true, true, false])?;
@@ -65,7 +67,7 @@ enum RowOperation {
     Fill,
 }
 
-/// An operation of the type of number on an array.
+/// An operation on an array, called on the number type.
 enum NumberOperation {
     Abs,
     Neg,
@@ -75,7 +77,7 @@ enum NumberOperation {
     MulScalar,
 }
 
-/// The operations on arrays in their order, with the names of their calls and operands.
+/// The operations on arrays in order, with the names of their calls and operands.
 const ROW_CALLS: [(RowOperation, &str, &str); 8] = [
     (RowOperation::Abs, "wrapping_abs", "100 -128 null"),
     (RowOperation::Neg, "wrapping_neg", "of that"),
@@ -99,7 +101,7 @@ const ROW_CALLS: [(RowOperation, &str, &str); 8] = [
     (RowOperation::Fill, "fill_with 9", "of that"),
 ];
 
-/// The same of those of the type of number.
+/// The operations called on the number type in order, with the names of their calls and operands.
 const NUMBER_CALLS: [(NumberOperation, &str, &str); 6] = [
     (NumberOperation::Abs, "prim_wrapping_abs", "100 -128 null"),
     (NumberOperation::Neg, "prim_wrapping_neg", "of that"),
@@ -125,9 +127,9 @@ const NUMBER_CALLS: [(NumberOperation, &str, &str); 6] = [
     ),
 ];
 
-/// An operation that writes over the values of an array.
+/// An operation that overwrites the values of an array.
 trait Operation {
-    /// What it makes of an array.
+    /// Applies it to an array.
     fn run(
         &self,
         alloc: Global,
@@ -173,7 +175,7 @@ impl Operation for NumberOperation {
     }
 }
 
-// Each operation on what the one before it made.
+// Applies each operation to the result of the one before.
 fn change<O: Operation>(
     alloc: Global,
     told: &mut Told,
@@ -188,7 +190,7 @@ fn change<O: Operation>(
     Ok(())
 }
 
-// An array that is shared, shared again.
+// Shares an array that is shared already.
 fn share_again(
     alloc: Global,
     told: &mut Told,

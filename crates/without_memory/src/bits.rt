@@ -1,4 +1,4 @@
-//! Bitmaps, what makes them, and buffers.
+//! Bitmaps, their builders, and buffers.
 
 use crate::operands::buffer;
 use crate::told::Told;
@@ -19,7 +19,7 @@ pub fn answer(alloc: Global, told: &mut Told) -> Result<(), Fault> {
     answer_buffer(alloc, told)
 }
 
-// Bits of words.
+// Makes the calls on bits of words.
 fn answer_words(alloc: Global, told: &mut Told) -> Result<(), Fault> {
     let words = buffer(alloc, &[9, 1])?;
     told.begin(alloc);
@@ -28,7 +28,7 @@ fn answer_words(alloc: Global, told: &mut Told) -> Result<(), Fault> {
     Ok(())
 }
 
-// Bits of truth values.
+// Makes the calls on bits of truth values.
 fn answer_bits(alloc: Global, told: &mut Told) -> Result<(), Fault> {
     let left = Bitmap::from_bools(alloc, &[true, false, true, true])?;
     let right = Bitmap::from_bools(alloc, &[true, true, false, true])?;
@@ -38,7 +38,7 @@ fn answer_bits(alloc: Global, told: &mut Told) -> Result<(), Fault> {
     Ok(())
 }
 
-// Bits in the making.
+// Makes the calls on bits in a builder.
 fn answer_built(alloc: Global, told: &mut Told) -> Result<(), Fault> {
     let builder = BitmapBuilder::with_capacity(alloc, 3)?;
     told.begin(alloc);
@@ -47,7 +47,7 @@ fn answer_built(alloc: Global, told: &mut Told) -> Result<(), Fault> {
     Ok(())
 }
 
-// Bits that change.
+// Makes the calls on mutable bits.
 fn answer_written(alloc: Global, told: &mut Told) -> Result<(), Fault> {
     let bits = MutableBitmap::from_len_zeroed(alloc, 4)?;
     let other = Bitmap::from_bools(alloc, &[true, true, false, true])?;
@@ -57,7 +57,7 @@ fn answer_written(alloc: Global, told: &mut Told) -> Result<(), Fault> {
     Ok(())
 }
 
-// A buffer.
+// Makes the calls on a buffer.
 fn answer_buffer(alloc: Global, told: &mut Told) -> Result<(), Fault> {
     let numbers = buffer(alloc, &[5u8, 6, 7])?;
     told.begin(alloc);
@@ -66,7 +66,7 @@ fn answer_buffer(alloc: Global, told: &mut Told) -> Result<(), Fault> {
     Ok(())
 }
 
-// A bitmap of words, and a part of it.
+// Calls functions of a bitmap of words, and of a part of it.
 fn tell_words(told: &mut Told, words: Buffer<u64>) {
     if words.len() != 2 {
         return;
@@ -77,7 +77,7 @@ fn tell_words(told: &mut Told, words: Buffer<u64>) {
     told.tell_bits("slice 60 5", "from_words [9, 1] 0 65", &bits);
 }
 
-// What is asked of bits.
+// Calls functions of bits.
 fn tell_bits(told: &mut Told, left: &Bitmap, right: &Bitmap) {
     told.tell("len", "1011", left.len());
     told.tell_found("get 1", "1011", left.get(1));
@@ -107,7 +107,7 @@ fn tell_bits(told: &mut Told, left: &Bitmap, right: &Bitmap) {
     }
 }
 
-// Bits pushed one by one.
+// Pushes bits.
 fn tell_built(told: &mut Told, builder: BitmapBuilder) {
     let mut builder = builder;
     if builder.room() < 3 {
@@ -119,7 +119,7 @@ fn tell_built(told: &mut Told, builder: BitmapBuilder) {
     told.tell_bits("freeze of the builder", "100", &builder.freeze());
 }
 
-// Bits that are written.
+// Writes bits.
 fn tell_written(told: &mut Told, bits: MutableBitmap, other: &Bitmap) {
     let mut bits = bits;
     if bits.len() != 4 || other.len() != 4 {
@@ -139,7 +139,7 @@ fn tell_written(told: &mut Told, bits: MutableBitmap, other: &Bitmap) {
     );
 }
 
-// A buffer that is cut and written.
+// Slices a buffer, and writes it.
 fn tell_buffer(told: &mut Told, numbers: Buffer<u8>) {
     let mut numbers = numbers;
     if numbers.len() != 3 {

@@ -1,4 +1,4 @@
-//! Tests that callers make before other calls, and what arrays lend.
+//! Conditions of other calls, and borrowed parts of arrays.
 
 ghost use Rattle.polars_arrays_nested.specs.GoodParts.{IsGood};
 ghost use Rattle.recorded_text.specs.Cases.{HasGoodArrays};
@@ -11,7 +11,7 @@ use polars_compute_unique::primitive::range_fits;
 use recorded_text::fault::Fault;
 use recorded_text::store::Store;
 
-/// Arrays that are set against each other, under the names that are told.
+/// Arrays that are compared with each other, and the names that are printed.
 const PAIRS: [(&str, &str, &str); 4] = [
     ("numbers others", "numbers", "others"),
     ("numbers short", "numbers", "short"),
@@ -19,7 +19,7 @@ const PAIRS: [(&str, &str, &str); 4] = [
     ("lists lists", "lists", "lists"),
 ];
 
-/// Lists and items, under the names that are told.
+/// Lists and items, and the names that are printed.
 const BROADCASTS: [(&str, &str, &str); 2] = [
     ("lists items", "lists", "items"),
     ("lists texts", "lists", "texts"),
@@ -42,7 +42,7 @@ pub fn answer(told: &mut Told, store: &Store) -> Result<(), Fault>
     Ok(())
 }
 
-// Arrays of one type and of several.
+// Compares arrays of one type and of several.
 fn tell_pairs(told: &mut Told, store: &Store) -> Result<(), Fault>
     requires { HasGoodArrays store.now }
 {
@@ -52,7 +52,7 @@ fn tell_pairs(told: &mut Told, store: &Store) -> Result<(), Fault>
     Ok(())
 }
 
-// Lists, and what may be their items.
+// Compares lists with arrays that may be their items.
 fn tell_broadcasts(told: &mut Told, store: &Store) -> Result<(), Fault>
     requires { HasGoodArrays store.now }
 {
@@ -62,7 +62,8 @@ fn tell_broadcasts(told: &mut Told, store: &Store) -> Result<(), Fault>
     Ok(())
 }
 
-// Whether two arrays are of one type, and can be compared; and how many rows, null ones among them, the left one has.
+// Records whether two arrays are of one type and can be compared, and the numbers of rows and of
+// nulls of the left one.
 fn tell_pair(told: &mut Told, names: &str, left: &AnyArray, right: &AnyArray)
     requires good { IsGood left.now }
     requires good_right { IsGood right.now }
@@ -87,7 +88,7 @@ fn tell_pair(told: &mut Told, names: &str, left: &AnyArray, right: &AnyArray)
     }
 }
 
-// Whether lists can be set against a list of these items.
+// Records whether lists can be compared with a list of these items.
 fn tell_broadcast(told: &mut Told, names: &str, lists: &AnyArray, items: &AnyArray)
     requires good { IsGood lists.now }
     requires good_items { IsGood items.now }

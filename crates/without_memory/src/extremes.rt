@@ -31,7 +31,7 @@ pub fn answer(told: &mut Told, store: &Store) -> Result<(), Fault>
     Ok(())
 }
 
-// The extremes that the type of an array has.
+// Records the extremes that the type of an array has.
 fn tell_typed(told: &mut Told, name: &str, array: &AnyArray) {
     match array {
         AnyArray::Int8(array) => {
@@ -46,7 +46,7 @@ fn tell_typed(told: &mut Told, name: &str, array: &AnyArray) {
     }
 }
 
-// The extremes of numbers and truth values.
+// Records the extremes of numbers and truth values.
 fn tell_plain<A: MinMaxKernel<Scalar: Display>>(told: &mut Told, name: &str, array: &A) {
     told.tell_found("min_ignore_nan_kernel", name, array.min_ignore_nan_kernel());
     told.tell_found("max_ignore_nan_kernel", name, array.max_ignore_nan_kernel());
@@ -72,7 +72,7 @@ fn tell_plain<A: MinMaxKernel<Scalar: Display>>(told: &mut Told, name: &str, arr
     );
 }
 
-// The extremes of byte strings.
+// Records the extremes of byte strings.
 fn tell_strings<A: BytesMinMaxKernel>(told: &mut Told, name: &str, array: &A) {
     told.tell_bytes("min_ignore_nan_kernel", name, array.min_ignore_nan_kernel());
     told.tell_bytes("max_ignore_nan_kernel", name, array.max_ignore_nan_kernel());
@@ -96,7 +96,7 @@ fn tell_strings<A: BytesMinMaxKernel>(told: &mut Told, name: &str, array: &A) {
     }
 }
 
-// The extremes of texts.
+// Records the extremes of texts.
 fn tell_texts<A: TextMinMaxKernel>(told: &mut Told, name: &str, array: &A) {
     told.tell_found("min_ignore_nan_kernel", name, array.min_ignore_nan_kernel());
     told.tell_found("max_ignore_nan_kernel", name, array.max_ignore_nan_kernel());
@@ -122,7 +122,7 @@ fn tell_texts<A: TextMinMaxKernel>(told: &mut Told, name: &str, array: &A) {
     );
 }
 
-// The extremes of an array of any kind.
+// Records the extremes of an array of any kind.
 fn tell_dispatched(told: &mut Told, name: &str, array: &AnyArray) {
     tell_answer(
         told,
@@ -158,7 +158,7 @@ fn tell_dispatched(told: &mut Told, name: &str, array: &AnyArray) {
     }
 }
 
-// An extreme of an array of any kind.
+// Records an extreme of an array of any kind.
 fn tell_answer(
     told: &mut Told,
     call: &str,
@@ -172,7 +172,7 @@ fn tell_answer(
     }
 }
 
-// A row of one of the kinds that are asked here.
+// Records a row of one of the kinds that are called here.
 fn tell_scalar(told: &mut Told, call: &str, name: &str, scalar: AnyScalar<'_>) {
     match scalar {
         AnyScalar::Int8(number) => told.tell(call, name, number),

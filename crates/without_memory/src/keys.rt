@@ -22,7 +22,7 @@ pub fn answer(alloc: Global, told: &mut Told) -> Result<(), Fault> {
     tell_two(alloc, told, &keys)
 }
 
-// Makes the calls on arrays that are lent.
+// Makes the calls on borrowed arrays.
 fn answer_lent(alloc: Global, told: &mut Told) -> Result<(), Fault> {
     let store = store(alloc)?;
     answer_from(alloc, told, &store)
@@ -44,7 +44,7 @@ fn answer_from(alloc: Global, told: &mut Told, store: &Store) -> Result<(), Faul
     Ok(())
 }
 
-// A state of 127 entries, all of them null, to which key 2 is appended.
+// Records a state of 127 null entries to which key 2 is appended.
 fn tell_many(alloc: Global, told: &mut Told, last: &AnyArray) -> Result<(), Fault> {
     let mut state = state_over(alloc, AnyArray::Null(NullArray::new(127)))?;
     tell_state(told, "127 entries", &state);
@@ -53,7 +53,8 @@ fn tell_many(alloc: Global, told: &mut Told, last: &AnyArray) -> Result<(), Faul
     Ok(())
 }
 
-// A state of three entries, the last of them null, to which the keys of the others are appended, and then its own.
+// Records a state of three entries, the last of them null, to which the keys of the other two are
+// appended, and then its own.
 fn tell_three(
     alloc: Global,
     told: &mut Told,
@@ -70,7 +71,7 @@ fn tell_three(
     Ok(())
 }
 
-// Appends the keys of a dictionary array, and tells what the state has seen.
+// Appends the keys of a dictionary array, and records what the state has seen.
 fn append_keys(
     told: &mut Told,
     name: &str,
@@ -83,7 +84,7 @@ fn append_keys(
     }
 }
 
-// A state of two entries, in which keys from 0 to 9 are put.
+// Records a state of two entries whose keys are replaced by keys from 0 to 9.
 fn tell_two(alloc: Global, told: &mut Told, keys: &PrimitiveArray<u32>) -> Result<(), Fault> {
     let entries = boxed(alloc, "0 2 utf8 3 0 1 2 x7879 -")?;
     told.begin(alloc);
@@ -92,7 +93,7 @@ fn tell_two(alloc: Global, told: &mut Told, keys: &PrimitiveArray<u32>) -> Resul
     Ok(())
 }
 
-// What is finalised of a state of entries whose keys are from 0 to 9.
+// Finalises a state of entries whose keys are from 0 to 9, and records the outcome.
 fn tell_out_of_range(
     alloc: Global,
     told: &mut Told,
@@ -107,7 +108,7 @@ fn tell_out_of_range(
     put
 }
 
-// A state of the keys of these entries.
+// Creates a state of the keys of these entries.
 fn state_over(alloc: Global, entries: AnyArray) -> Result<DictionaryRangedUniqueState, Fault>
     requires { IsGood entries }
 {
@@ -118,7 +119,7 @@ fn state_over(alloc: Global, entries: AnyArray) -> Result<DictionaryRangedUnique
     Ok(DictionaryRangedUniqueState::new(alloc, entries)?)
 }
 
-// Puts a state of keys from 0 to 9 in the place of the present one, and appends keys to it.
+// Replaces the state of the keys by one of keys from 0 to 9, and appends keys to it.
 fn put_keys(
     alloc: Global,
     told: &mut Told,
@@ -131,7 +132,7 @@ fn put_keys(
     Ok(())
 }
 
-// Whether a state is finalised, or why not.
+// Finalises a state, and records whether it succeeded, or the error.
 fn tell_finalised<S: RangedUniqueKernel<Array: Drop> + Drop>(
     alloc: Global,
     told: &mut Told,

@@ -18,7 +18,7 @@ pub fn answer(alloc: Global, told: &mut Told) -> Result<(), Fault> {
     answered
 }
 
-// Makes the calls, and asks for no memory.
+// Makes the calls, without allocating.
 fn answer_lent(alloc: Global, told: &mut Told, store: &Store) -> Result<(), Fault>
     requires { HasGoodArrays store.now }
 {

@@ -1,4 +1,4 @@
-//! Arrays of one level, made of parts.
+//! Arrays of one level, created from parts.
 
 use crate::operands::buffer;
 use crate::told::Told;
@@ -29,7 +29,7 @@ pub fn answer(alloc: Global, told: &mut Told) -> Result<(), Fault> {
     make_text_views(alloc, told)
 }
 
-/// How many rows an array has, and how many of them are null, or why there is none.
+/// Records the number of rows of an array and of its nulls, or the error of creating it.
 pub fn tell_made<A: Array + Drop>(told: &mut Told, sort: &str, made: Result<A, ArrayError>) {
     match made {
         Ok(array) => {
@@ -40,7 +40,7 @@ pub fn tell_made<A: Array + Drop>(told: &mut Told, sort: &str, made: Result<A, A
     }
 }
 
-// Numbers, one of them null.
+// Creates numbers, one of them null.
 fn make_numbers(alloc: Global, told: &mut Told) -> Result<(), Fault> {
     let values = buffer(alloc, &[1i32, 2])?;
     let validity = Bitmap::from_bools(alloc, &[true, false])?;
@@ -55,7 +55,7 @@ fn make_numbers(alloc: Global, told: &mut Told) -> Result<(), Fault> {
     Ok(())
 }
 
-// Numbers of a vector, whose rows from the second on are kept.
+// Creates numbers of a vector, and keeps the rows from the second on.
 fn make_vector(alloc: Global, told: &mut Told) -> Result<(), Fault> {
     let values = Vec::from_slice(alloc, &[1i32, 2, 3])?;
     told.begin(alloc);
@@ -64,7 +64,7 @@ fn make_vector(alloc: Global, told: &mut Told) -> Result<(), Fault> {
     Ok(())
 }
 
-// The rows of an array from the second on.
+// Keeps the rows of an array from the second on.
 fn cut_rows(told: &mut Told, array: PrimitiveArray<i32>) {
     let mut array = array;
     if array.len() == 3 {
@@ -74,7 +74,7 @@ fn cut_rows(told: &mut Told, array: PrimitiveArray<i32>) {
     told.tell_rows("slice 1 2", "the array of a vector", &array);
 }
 
-// Truth values, and a validity of another length.
+// Creates truth values, and ones with a validity of another length.
 fn make_truths(alloc: Global, told: &mut Told) -> Result<(), Fault> {
     let values = Bitmap::from_bools(alloc, &[true, false])?;
     let validity = Bitmap::from_bools(alloc, &[true])?;
@@ -88,7 +88,7 @@ fn make_truths(alloc: Global, told: &mut Told) -> Result<(), Fault> {
     Ok(())
 }
 
-// Byte strings.
+// Creates byte strings.
 fn make_bytes(alloc: Global, told: &mut Told) -> Result<(), Fault> {
     let offsets = buffer(alloc, &[0i32, 1, 1])?;
     let values = buffer(alloc, b"a")?;
@@ -102,7 +102,7 @@ fn make_bytes(alloc: Global, told: &mut Told) -> Result<(), Fault> {
     Ok(())
 }
 
-// Texts, whose second one is no UTF-8.
+// Creates texts, the second of which is not UTF-8.
 fn make_texts(alloc: Global, told: &mut Told) -> Result<(), Fault> {
     let offsets = buffer(alloc, &[0i64, 1, 2])?;
     let values = buffer(alloc, &[b'a', 255])?;
@@ -112,7 +112,7 @@ fn make_texts(alloc: Global, told: &mut Told) -> Result<(), Fault> {
     Ok(())
 }
 
-// Byte strings of one size.
+// Creates byte strings of one size.
 fn make_sized(alloc: Global, told: &mut Told) -> Result<(), Fault> {
     let values = buffer(alloc, b"abcd")?;
     told.begin(alloc);
@@ -122,7 +122,7 @@ fn make_sized(alloc: Global, told: &mut Told) -> Result<(), Fault> {
     Ok(())
 }
 
-// Byte strings by views.
+// Creates byte strings in views.
 fn make_views(alloc: Global, told: &mut Told) -> Result<(), Fault> {
     let views = buffer(alloc, &[View::of_short(b"a")])?;
     let buffers = Vec::new(alloc);
@@ -136,7 +136,7 @@ fn make_views(alloc: Global, told: &mut Told) -> Result<(), Fault> {
     Ok(())
 }
 
-// Texts by views.
+// Creates texts in views.
 fn make_text_views(alloc: Global, told: &mut Told) -> Result<(), Fault> {
     let views = buffer(alloc, &[View::of_short(b"a")])?;
     let buffers = Vec::new(alloc);

@@ -1,8 +1,10 @@
-//! The calls that take no memory: each answers also where every request for memory is refused.
+//! Calls that do not allocate: each returns its result even if every allocation fails.
 //!
-//! The program makes its operands, asks for a block of `BEGIN` bytes, makes calls, and asks for one of `END` bytes. Between these two
-//! requests nothing may be asked for: `tests/refused_memory` refuses all that is, and the answers have to stay the same. They are
-//! written into room that was made before, and printed at the end, a line each: the call, its operands, ` -> ` and the answer.
+//! The program creates its operands, allocates a block of `BEGIN` bytes, makes calls, and allocates
+//! one of `END` bytes. Between these two blocks nothing may be allocated: `tests/refused_memory`
+//! lets all allocations there fail, and the output must stay the same. Results are written into
+//! memory that was allocated before, and printed at the end, a line each: the call, its operands,
+//! ` -> ` and the result.
 #![tactic(auto)]
 
 use crate::told::Told;
@@ -25,13 +27,13 @@ mod states;
 mod told;
 mod types;
 
-/// Makes all calls, and prints what they answered, in room that is made before.
+/// Makes all calls, and prints their results from memory allocated before.
 fn answer_all(rt: &(impl Print + AllocGlobal)) -> Result<(), Fault> {
     let mut told = Told::new(rt.alloc())?;
     answer_into(rt, &mut told)
 }
 
-// The same, where there is room for the answers.
+// Makes all calls, and prints their results.
 fn answer_into(rt: &(impl Print + AllocGlobal), told: &mut Told) -> Result<(), Fault> {
     let alloc = rt.alloc();
     lent::answer(alloc, told)?;

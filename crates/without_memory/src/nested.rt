@@ -1,4 +1,4 @@
-//! Arrays that hold arrays, made of parts, and one that is cut.
+//! Nested arrays, created from parts, and a slice of one.
 
 ghost use Rattle.std.specs.List.{All};
 ghost use Rattle.std.specs.Prelude.{IfOk};
@@ -20,7 +20,7 @@ use polars_arrays_nested::struct_array::StructArray;
 use recorded_text::fault::Fault;
 use std::alloc::Global;
 
-/// Numbers that arrays hold.
+/// Numbers as items of arrays.
 const ITEMS: &str = "0 2 i32 2 1 2 -";
 
 /// Makes the calls.
@@ -32,7 +32,7 @@ pub fn answer(alloc: Global, told: &mut Told) -> Result<(), Fault> {
     cut_lists(alloc, told)
 }
 
-// Lists of no and of two items, the first of them null.
+// Creates lists of no items and of two, the first of them null.
 fn make_lists(alloc: Global, told: &mut Told) -> Result<(), Fault> {
     let offsets = buffer(alloc, &[0i32, 0, 2])?;
     let validity = Bitmap::from_bools(alloc, &[false, true])?;
@@ -44,7 +44,7 @@ fn make_lists(alloc: Global, told: &mut Told) -> Result<(), Fault> {
     Ok(())
 }
 
-// Lists of one width.
+// Creates lists of one width.
 fn make_fixed_lists(alloc: Global, told: &mut Told) -> Result<(), Fault> {
     let items = boxed(alloc, ITEMS)?;
     told.begin(alloc);
@@ -57,7 +57,7 @@ fn make_fixed_lists(alloc: Global, told: &mut Told) -> Result<(), Fault> {
     Ok(())
 }
 
-// Structs of one field.
+// Creates structs of one field.
 fn make_structs(alloc: Global, told: &mut Told) -> Result<(), Fault> {
     let fields = fields(alloc)?;
     let columns = columns(alloc)?;
@@ -71,7 +71,7 @@ fn make_structs(alloc: Global, told: &mut Told) -> Result<(), Fault> {
     Ok(())
 }
 
-// A field of numbers.
+// Creates a field of numbers.
 fn fields(alloc: Global) -> Result<Vec<Field>, Fault> {
     let name = String::from_str(alloc, "a")?;
     let mut fields = Vec::new(alloc);
@@ -82,7 +82,7 @@ fn fields(alloc: Global) -> Result<Vec<Field>, Fault> {
     Ok(fields)
 }
 
-// A column of numbers.
+// Creates a column of numbers.
 fn columns(alloc: Global) -> Result<Vec<AnyArray>, Fault>
     ensures { IfOk result (λ columns. All IsGood columns.items) }
 {
@@ -92,7 +92,7 @@ fn columns(alloc: Global) -> Result<Vec<AnyArray>, Fault>
     Ok(columns)
 }
 
-// Entries, whose second key is none of one.
+// Creates a dictionary array of one entry, which the second key does not name.
 fn make_entries(alloc: Global, told: &mut Told) -> Result<(), Fault> {
     let keys = Vec::from_slice(alloc, &[1u32, 2])?;
     let entries = boxed(alloc, ITEMS)?;
@@ -104,7 +104,7 @@ fn make_entries(alloc: Global, told: &mut Told) -> Result<(), Fault> {
     Ok(())
 }
 
-// Lists, of which the second is kept.
+// Creates lists, and keeps the second.
 fn cut_lists(alloc: Global, told: &mut Told) -> Result<(), Fault> {
     let mut lists = boxed(alloc, "0 2 list 3 0 1 2 - 0 2 i32 2 1 2 -")?;
     told.begin(alloc);
@@ -113,7 +113,7 @@ fn cut_lists(alloc: Global, told: &mut Told) -> Result<(), Fault> {
     Ok(())
 }
 
-// The second row of two.
+// Keeps the second row of two.
 fn cut_any(told: &mut Told, array: &mut AnyArray)
     requires { IsGood array.old }
 {

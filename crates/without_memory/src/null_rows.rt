@@ -1,4 +1,4 @@
-//! Which rows are null, of which the keys and the entries of dictionaries say it.
+//! Null rows, including those of keys to null entries.
 
 ghost use Rattle.polars_arrays_nested.specs.GoodParts.{IsGood};
 ghost use Rattle.polars_arrays_nested.specs.declared.any_array.AnyArray.{Dictionary};
@@ -10,7 +10,7 @@ use polars_arrays_nested::dictionary::DictionaryArray;
 use recorded_text::fault::Fault;
 use recorded_text::store::Store;
 
-/// The arrays of which each row is asked for.
+/// The arrays whose rows are tested.
 const ASKED: [&str; 6] = [
     "texts",
     "nulls",
@@ -30,7 +30,7 @@ pub fn answer(told: &mut Told, store: &Store) -> Result<(), Fault>
     Ok(())
 }
 
-// Whether a row of an array may be null, and which are.
+// Records whether a row of an array may be null, and which rows are.
 fn tell_rows(told: &mut Told, name: &str, array: &AnyArray)
     requires { IsGood array.now }
 {
@@ -43,7 +43,7 @@ fn tell_rows(told: &mut Told, name: &str, array: &AnyArray)
     }
 }
 
-// The same, asked of a dictionary array itself.
+// Records which rows of a dictionary array are null.
 fn tell_keys(told: &mut Told, name: &str, array: &DictionaryArray)
     requires { IsGood (Dictionary array.now) }
 {

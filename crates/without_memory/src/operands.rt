@@ -1,4 +1,4 @@
-//! The arrays that calls are asked of.
+//! The arrays that are operands of the calls.
 
 ghost use Rattle.std.specs.Prelude.{◌≡◌, IfOk, Ok};
 ghost use Rattle.polars_arrays_nested.specs.GoodParts.{IsGood};
@@ -12,7 +12,7 @@ use recorded_text::store::Store;
 use recorded_text::words::Words;
 use std::alloc::Global;
 
-/// Arrays by their names, as `recorded_text` reads them.
+/// The arrays by name, in the notation of `recorded_text`.
 const ARRAYS: [(&str, &str); 21] = [
     ("numbers", "0 3 i8 3 100 -128 7 b0:110"),
     ("others", "0 3 i8 3 100 5 7 -"),
@@ -49,7 +49,7 @@ const ARRAYS: [(&str, &str); 21] = [
     ),
 ];
 
-/// The array that words write.
+/// Reads an array.
 pub fn array(alloc: Global, text: &str) -> Result<AnyArray, Fault>
     ensures { IfOk result (λ array. IsGood array) }
 {
@@ -57,14 +57,14 @@ pub fn array(alloc: Global, text: &str) -> Result<AnyArray, Fault>
     read_any(alloc, &mut Words::new(&words))
 }
 
-/// The array that words write, in a box.
+/// Reads an array, and puts it in a box.
 pub fn boxed(alloc: Global, text: &str) -> Result<Box<AnyArray>, Fault>
     ensures { IfOk result (λ array. IsGood array.value) }
 {
     in_box(alloc, array(alloc, text))
 }
 
-// What was made, in a box.
+// Puts a value in a box.
 fn in_box<T: Drop>(alloc: Global, made: Result<T, Fault>) -> Result<Box<T>, Fault>
     ensures { IfOk result (λ boxed. made ≡ Ok boxed.value) }
 {
@@ -72,7 +72,7 @@ fn in_box<T: Drop>(alloc: Global, made: Result<T, Fault>) -> Result<Box<T>, Faul
     Ok(boxed)
 }
 
-/// All arrays that are lent.
+/// Creates the store of all arrays that are borrowed.
 pub fn store(alloc: Global) -> Result<Store, Fault>
     ensures { IfOk result (λ store. HasGoodArrays store) }
 {
@@ -81,7 +81,7 @@ pub fn store(alloc: Global) -> Result<Store, Fault>
     Ok(store)
 }
 
-// Adds all arrays that are lent.
+// Adds all arrays that are borrowed.
 fn add_all(alloc: Global, store: &mut Store) -> Result<(), Fault>
     requires { HasGoodArrays store.old }
     ensures { HasGoodArrays store.new }
@@ -93,7 +93,7 @@ fn add_all(alloc: Global, store: &mut Store) -> Result<(), Fault>
     Ok(())
 }
 
-// Adds the array that words write.
+// Reads an array, and adds it.
 fn add(alloc: Global, store: &mut Store, name: &str, text: &str) -> Result<(), Fault>
     requires { HasGoodArrays store.old }
     ensures { HasGoodArrays store.new }
@@ -101,7 +101,7 @@ fn add(alloc: Global, store: &mut Store, name: &str, text: &str) -> Result<(), F
     store.add(alloc, name, array(alloc, text)?)
 }
 
-/// A buffer of these elements.
+/// Creates a buffer of these elements.
 pub fn buffer<T: Copy>(alloc: Global, elements: &[T]) -> Result<Buffer<T>, Fault> {
     Ok(Buffer::from_vec(Vec::from_slice(alloc, elements)?))
 }

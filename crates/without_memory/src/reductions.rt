@@ -37,7 +37,7 @@ pub fn answer(told: &mut Told, store: &Store) -> Result<(), Fault>
     Ok(())
 }
 
-// The reductions of the bits of an array's rows.
+// Records the bitwise reductions of an array's rows.
 fn tell_reductions<A: BitwiseKernel<Scalar: Copy + Display>>(
     told: &mut Told,
     name: &str,
@@ -48,7 +48,7 @@ fn tell_reductions<A: BitwiseKernel<Scalar: Copy + Display>>(
     told.tell_found("reduce_xor", name, array.reduce_xor());
 }
 
-// The operators on the bits of two scalars.
+// Records the operators on the bits of two scalars.
 fn tell_operators<A: BitwiseKernel<Scalar: Copy + Display>>(
     told: &mut Told,
     operands: &str,
@@ -60,7 +60,7 @@ fn tell_operators<A: BitwiseKernel<Scalar: Copy + Display>>(
     told.tell("bit_xor", operands, A::bit_xor(left, right));
 }
 
-// The sums of an array's rows, of its stored values, and of those that the validity lets stand.
+// Records the sums of an array's rows, of its stored values, and of those under its validity.
 fn tell_sums(told: &mut Told, name: &str, array: &PrimitiveArray<i8>) {
     told.tell("wrapping_sum_arr", name, wrapping_sum_arr(array));
     told.tell("wrapping_sum", name, i8::wrapping_sum(array.values()));
@@ -74,13 +74,13 @@ fn tell_sums(told: &mut Told, name: &str, array: &PrimitiveArray<i8>) {
     }
 }
 
-// How many distinct rows there are.
+// Records the numbers of distinct rows.
 fn tell_distinct(told: &mut Told, name: &str, array: &BooleanArray) {
     told.tell("n_unique", name, array.n_unique());
     told.tell("n_unique_non_null", name, array.n_unique_non_null());
 }
 
-// Operations on single numbers, wrapped to 8 bits.
+// Records operations on single numbers, wrapped to 8 bits.
 fn tell_single(told: &mut Told) {
     let sum = WrappingAdd::wrapping_add(&127i8, &1);
     told.tell("WrappingAdd::wrapping_add", "127 1", sum);
@@ -95,7 +95,7 @@ fn tell_single(told: &mut Told) {
     told.tell("wrapping_mul", "100 3", product);
 }
 
-// Divisions of single numbers.
+// Records divisions of single numbers.
 fn tell_divided(told: &mut Told) {
     let quotient = PlNumArithmetic::wrapping_floor_div(-7i8, 2);
     told.tell("wrapping_floor_div", "-7 2", quotient);

@@ -1,4 +1,5 @@
-//! Calls that a kind of array does not have: the broadcasts of nulls, structs and dictionaries, and the extremes of kinds without an order.
+//! Calls that a kind of array does not support: the broadcasts of nulls, structs and dictionaries,
+//! and the extremes of kinds without an order.
 
 ghost use Rattle.polars_arrays_nested.specs.GoodParts.{IsGood};
 ghost use Rattle.recorded_text.specs.Cases.{HasGoodArrays};
@@ -39,7 +40,7 @@ pub fn answer(alloc: Global, told: &mut Told, store: &Store) -> Result<(), Fault
     Ok(())
 }
 
-// The broadcasts of an array beside a scalar that is an array.
+// Records the broadcasts of an array whose scalar is an array.
 fn tell_broadcasts(
     alloc: Global,
     told: &mut Told,
@@ -59,7 +60,7 @@ fn tell_broadcasts(
     Ok(())
 }
 
-// The four broadcasts of an array.
+// Records the four broadcasts of an array.
 fn tell_each_broadcast<A: TotalEqKernel>(
     alloc: Global,
     told: &mut Told,
@@ -83,7 +84,7 @@ fn tell_each_broadcast<A: TotalEqKernel>(
     told.tell_outcome("tot_ne_missing_kernel_broadcast", name, bits);
 }
 
-// The extremes of an array.
+// Records the extremes of an array.
 fn tell_extremes(told: &mut Told, name: &str, array: &AnyArray) {
     tell_none(
         told,
@@ -113,7 +114,7 @@ fn tell_extremes(told: &mut Told, name: &str, array: &AnyArray) {
     tell_none(told, "dyn_array_min_max_propagate_nan", name, both);
 }
 
-// Why there is no answer.
+// Records the error of a call.
 fn tell_none<T: Copy>(told: &mut Told, call: &str, name: &str, answer: Result<T, ComputeError>) {
     match answer {
         Ok(_) => told.tell(call, name, "an answer"),

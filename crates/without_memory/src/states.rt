@@ -38,7 +38,7 @@ fn answer_from(alloc: Global, told: &mut Told, store: &Store) -> Result<(), Faul
     Ok(())
 }
 
-// A tree of a state that has seen nothing and another one.
+// Creates a tree of a new state and another one.
 fn tree_of(
     alloc: Global,
     other: BooleanUniqueKernelState,
@@ -48,7 +48,7 @@ fn tree_of(
     Ok(MergeTree::Node(left, right))
 }
 
-// A state as a leaf, in a box.
+// Creates a leaf of a tree, in a box.
 fn leaf_of(
     alloc: Global,
     state: BooleanUniqueKernelState,
@@ -56,7 +56,8 @@ fn leaf_of(
     Ok(Box::new(alloc, MergeTree::Leaf(state))?)
 }
 
-/// A state of the numbers from one to another. The error is `Case` where there is none.
+/// Creates a state of the numbers from `least` to `greatest`. The error is `Case`, if there can be
+/// none.
 pub fn new_state<T: UniqueNumber>(
     alloc: Global,
     least: T,
@@ -68,7 +69,7 @@ pub fn new_state<T: UniqueNumber>(
     Ok(PrimitiveRangedUniqueState::new(alloc, least, greatest)?)
 }
 
-/// What a state has seen.
+/// Records what a state has seen.
 pub fn tell_state<S: RangedUniqueKernel>(told: &mut Told, name: &str, state: &S) {
     told.tell("has_seen_all", name, state.has_seen_all());
     told.tell("finalize_n_unique", name, state.finalize_n_unique());
@@ -79,7 +80,7 @@ pub fn tell_state<S: RangedUniqueKernel>(told: &mut Told, name: &str, state: &S)
     );
 }
 
-/// Appends an array, where the state accepts it.
+/// Appends an array, if the state accepts it.
 pub fn append<S: RangedUniqueKernel>(told: &mut Told, name: &str, state: &mut S, array: &S::Array) {
     let accepted = state.accepts(array);
     told.tell("accepts", name, accepted);
@@ -88,7 +89,7 @@ pub fn append<S: RangedUniqueKernel>(told: &mut Told, name: &str, state: &mut S,
     }
 }
 
-// States of no numbers, of as many as a word has slots for, and of truth values.
+// Records states of no numbers, of as many as a word has slots for, and of truth values.
 fn tell_states(alloc: Global, told: &mut Told, store: &Store) -> Result<(), Fault>
     requires { HasGoodArrays store.now }
 {
@@ -106,12 +107,12 @@ fn tell_states(alloc: Global, told: &mut Told, store: &Store) -> Result<(), Faul
     Ok(())
 }
 
-// A state of no numbers.
+// Records a state of no numbers.
 fn tell_empty(told: &mut Told, empty: PrimitiveRangedUniqueState<i64>) {
     tell_state(told, "new_empty", &empty);
 }
 
-// Two states of the numbers from 0 to 126.
+// Records two states of the numbers from 0 to 126.
 fn tell_two(alloc: Global, told: &mut Told, few: &PrimitiveArray<u8>) -> Result<(), Fault> {
     let state = new_state(alloc, 0u8, 126)?;
     let other = new_state(alloc, 0u8, 126)?;
@@ -119,7 +120,7 @@ fn tell_two(alloc: Global, told: &mut Told, few: &PrimitiveArray<u8>) -> Result<
     Ok(())
 }
 
-// A state of the numbers from 0 to 126.
+// Records a state of the numbers from 0 to 126.
 fn tell_numbers(
     told: &mut Told,
     state: PrimitiveRangedUniqueState<u8>,
@@ -141,7 +142,7 @@ fn tell_numbers(
     );
 }
 
-// A state to which all arrays and another state are appended.
+// Records a state to which all arrays and another state are appended.
 fn tell_joined(
     told: &mut Told,
     state: PrimitiveRangedUniqueState<u8>,
@@ -160,7 +161,7 @@ fn tell_joined(
     tell_state(told, "a state appended to one of nothing", &state);
 }
 
-// A state of truth values that has seen some.
+// Creates a state of truth values that has seen some.
 fn truths_seen(store: &Store) -> Result<BooleanUniqueKernelState, Fault>
     requires { HasGoodArrays store.now }
 {
@@ -173,7 +174,7 @@ fn truths_seen(store: &Store) -> Result<BooleanUniqueKernelState, Fault>
     Ok(state)
 }
 
-// The states of a tree merged.
+// Records the merged states of a tree.
 fn tell_merged(told: &mut Told, tree: MergeTree<BooleanUniqueKernelState>) {
     let one = tree.one_range();
     told.tell("one_range", "two states of truth values", one);

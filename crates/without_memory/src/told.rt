@@ -1,4 +1,5 @@
-//! Answers as lines, in room that was made before, and the requests that say where calls begin and end.
+//! Results as lines, in memory that was allocated before, and the allocations that mark where calls
+//! begin and end.
 
 use polars_arrays_bits::bitmap::Bitmap;
 use polars_arrays_bits::error::ComputeError;
@@ -11,27 +12,27 @@ use recorded_text::fault::Fault;
 use std::alloc::Global;
 use std::fmt::Display;
 
-/// How many bytes there is room for.
+/// The number of bytes for lines.
 const ROOM: usize = 32_768;
 
-/// How large the block is that is asked for before calls that may ask for nothing.
+/// The size of the block that is allocated before calls that may not allocate.
 const BEGIN: usize = 77_777;
 
-/// How large the block is that is asked for behind them.
+/// The size of the block that is allocated after them.
 const END: usize = 88_888;
 
-/// Lines of answers.
+/// Lines of results.
 #[derive(Drop)]
 pub struct Told {
     text: String,
-    // The block that was asked for last.
+    // The block that was allocated last.
     block: Vec<u8>,
-    // Whether an answer was not written, or a block was refused.
+    // Whether a result was not written, or the allocation of a block failed.
     is_short: bool,
 }
 
 impl Told {
-    /// No answers, and room for all.
+    /// Creates an empty list of lines with room for all.
     pub fn new(alloc: Global) -> Result<Told, Fault> {
         let text = String::with_capacity(alloc, ROOM)?;
         let block = Vec::new(alloc);
@@ -42,17 +43,17 @@ impl Told {
         })
     }
 
-    /// Asks for the block behind which nothing may be asked for.
+    /// Allocates the block that marks where calls begin.
     pub fn begin(&mut self, alloc: Global) {
         self.ask(alloc, BEGIN);
     }
 
-    /// Asks for the block behind which memory may be asked for again.
+    /// Allocates the block that marks where calls end.
     pub fn end(&mut self, alloc: Global) {
         self.ask(alloc, END);
     }
 
-    // Asks for a block of so many bytes, and notes whether there was one.
+    // Allocates a block, and records whether it succeeded.
     fn ask(&mut self, alloc: Global, bytes: usize) {
         match Vec::with_capacity(alloc, bytes) {
             Ok(block) => self.block = block,
@@ -60,7 +61,8 @@ impl Told {
         }
     }
 
-    /// All lines. The error is `Memory`, where one was not written, or a block was refused.
+    /// Returns all lines. The error is `Memory`, if one was not written, or if the allocation of a
+    /// block failed.
     pub fn lines(&self) -> Result<&str, Fault> {
         if self.is_short {
             return Err(Fault::Memory);
@@ -68,24 +70,24 @@ impl Told {
         Ok(self.text.trim_end())
     }
 
-    // Notes whether an answer was written.
+    // Records whether a result was written.
     fn note<E: Drop>(&mut self, written: Result<(), E>) {
         self.is_short |= written.is_err();
     }
 
-    /// The answer of a call.
+    /// Writes the result of a call.
     pub fn tell<T: Copy + Display>(&mut self, call: &str, operands: &str, answer: T) {
         let written = writeln!(self.text, "{call} {operands} -> {answer}");
         self.note(written);
     }
 
-    /// The answer of a call about row `i` of an array.
+    /// Writes the result of a call for row `i` of an array.
     pub fn tell_row<T: Copy + Display>(&mut self, call: &str, array: &str, i: usize, answer: T) {
         let written = writeln!(self.text, "{call} {array} {i} -> {answer}");
         self.note(written);
     }
 
-    /// What a call found, or that it found nothing.
+    /// Writes the value that a call returned, or `none`.
     pub fn tell_found<T: Copy + Display>(&mut self, call: &str, operands: &str, found: Option<T>) {
         match found {
             Some(found) => self.tell(call, operands, found),
@@ -93,7 +95,7 @@ impl Told {
         }
     }
 
-    /// What two a call found, or that it found nothing.
+    /// Writes the two values that a call returned, or `none`.
     pub fn tell_pair<T: Copy + Display>(
         &mut self,
         call: &str,
@@ -109,19 +111,19 @@ impl Told {
         }
     }
 
-    /// What byte string a call found.
+    /// Writes the byte string that a call returned, or `none`.
     pub fn tell_bytes(&mut self, call: &str, operands: &str, found: Option<&[u8]>) {
         let written = write_bytes(&mut self.text, call, operands, found);
         self.note(written);
     }
 
-    /// What bits a call gives.
+    /// Writes the bits that a call returned.
     pub fn tell_bits(&mut self, call: &str, operands: &str, bits: &Bitmap) {
         let written = write_bits(&mut self.text, call, operands, bits);
         self.note(written);
     }
 
-    /// What numbers a call gives.
+    /// Writes the numbers that a call returned.
     pub fn tell_rows<T: NativeType + Display>(
         &mut self,
         call: &str,
@@ -132,7 +134,7 @@ impl Told {
         self.note(written);
     }
 
-    /// Whether a call succeeded, or why not.
+    /// Writes whether a call succeeded, or its error.
     pub fn tell_outcome<T: Drop>(
         &mut self,
         call: &str,
@@ -145,14 +147,14 @@ impl Told {
         }
     }
 
-    /// Why a call gave nothing.
+    /// Writes the error of a call.
     pub fn tell_refusal<E: Display>(&mut self, call: &str, operands: &str, refused: &E) {
         let written = writeln!(self.text, "{call} {operands} -> refused: {refused}");
         self.note(written);
     }
 }
 
-// Writes what stands before an answer.
+// Writes the text before a result.
 fn write_call(text: &mut String, call: &str, operands: &str) -> Result<(), Fault> {
     write!(text, "{call} {operands} ->")?;
     Ok(())

@@ -1,4 +1,4 @@
-//! The types of arrays of one level, and second copies that need no memory.
+//! Types of arrays of one level, and clones that do not allocate.
 
 ghost use Rattle.recorded_text.specs.Cases.{HasGoodArrays};
 
@@ -35,7 +35,7 @@ pub fn answer(alloc: Global, told: &mut Told, store: &Store) -> Result<(), Fault
     Ok(())
 }
 
-// The type of an array.
+// Records the type of an array.
 fn tell_type(alloc: Global, told: &mut Told, name: &str, array: &AnyArray) {
     match array {
         AnyArray::Int8(array) => tell_name(told, name, array.dtype(alloc)),
@@ -50,7 +50,7 @@ fn tell_type(alloc: Global, told: &mut Told, name: &str, array: &AnyArray) {
     }
 }
 
-// The name of a type, or why there is none.
+// Records the name of a type, or the error.
 fn tell_name(told: &mut Told, name: &str, dtype: Result<ArrowDataType, ComputeError>) {
     match dtype {
         Ok(dtype) => told.tell("dtype", name, name_of(&dtype)),
@@ -58,7 +58,7 @@ fn tell_name(told: &mut Told, name: &str, dtype: Result<ArrowDataType, ComputeEr
     }
 }
 
-// The name of a type.
+// Returns the name of a type.
 fn name_of(dtype: &ArrowDataType) -> &'static str {
     match dtype {
         ArrowDataType::Int8 => "Int8",
