@@ -1,11 +1,11 @@
-//! Operations on arrays of numbers, of a type of 8 to 64 bits.
+//! Operations on arrays of numbers of a type of 8 to 64 bits.
 //!
-//! | Call | Answer |
+//! | Call | Result |
 //! |---|---|
-//! | `wrapping_abs A`, `wrapping_neg A` | the rows of what the function makes of the array |
-//! | `wrapping_add A B`, and so of `sub`, `mul`, `floor_div`, `trunc_div` and `mod`, `legacy_div A B` | the rows of what the operation makes of two arrays of one type and length |
-//! | `wrapping_add_scalar A NUMBER` and so on | the same of an array and a number |
-//! | `wrapping_sub_scalar_lhs NUMBER A`, and so of `floor_div`, `trunc_div` and `mod`, `legacy_div_scalar_lhs NUMBER A` | the same of a number and an array |
+//! | `wrapping_abs A`, `wrapping_neg A` | the rows of the function's results |
+//! | `wrapping_add A B`, and so of `sub`, `mul`, `floor_div`, `trunc_div` and `mod`, `legacy_div A B` | the rows of the operation's results for two arrays of one type and length |
+//! | `wrapping_add_scalar A NUMBER` and so on | the rows of the operation's results for an array and a number |
+//! | `wrapping_sub_scalar_lhs NUMBER A`, and so of `floor_div`, `trunc_div` and `mod`, `legacy_div_scalar_lhs NUMBER A` | the rows of the operation's results for a number and an array |
 
 ghost use Rattle.std.specs.Prelude.{◌≡◌, length};
 ghost use Rattle.recorded_text.specs.Cases.{HasGoodArrays};
@@ -24,7 +24,7 @@ use std::alloc::Global;
 use std::fmt::Display;
 use std::str::FromStr;
 
-/// What a function makes of the numbers of one type.
+/// Applies a function to numbers of one type, and returns the rows.
 pub fn write_applied<T: HasPrimitiveArithmeticKernel + Display>(
     alloc: Global,
     function: Function,
@@ -36,7 +36,7 @@ pub fn write_applied<T: HasPrimitiveArithmeticKernel + Display>(
     write_made(alloc, made)
 }
 
-// What a function makes of numbers.
+// Applies a function to numbers.
 fn apply<T: HasPrimitiveArithmeticKernel>(
     alloc: Global,
     function: Function,
@@ -48,7 +48,7 @@ fn apply<T: HasPrimitiveArithmeticKernel>(
     }
 }
 
-/// What an operation makes of two arrays.
+/// Applies an operation to two arrays, and returns the rows.
 pub fn of_arrays(
     alloc: Global,
     operation: Operation,
@@ -62,7 +62,7 @@ pub fn of_arrays(
     ask_both(alloc, AskedBoth::Operate(operation), these, those)
 }
 
-/// What an operation makes of numbers of one type on both sides.
+/// Applies an operation to two arrays of one type, and returns the rows.
 pub fn write_operated<T: HasPrimitiveArithmeticKernel + Display>(
     alloc: Global,
     operation: Operation,
@@ -75,7 +75,7 @@ pub fn write_operated<T: HasPrimitiveArithmeticKernel + Display>(
     write_made(alloc, made)
 }
 
-// What an operation makes of as many numbers on both sides.
+// Applies an operation to two arrays of equal length.
 fn operate<T: HasPrimitiveArithmeticKernel>(
     alloc: Global,
     operation: Operation,
@@ -95,7 +95,7 @@ fn operate<T: HasPrimitiveArithmeticKernel>(
     }
 }
 
-/// What an operation makes of an array and a number.
+/// Applies an operation to an array and a number, and returns the rows.
 pub fn of_array_and_number(
     alloc: Global,
     operation: Operation,
@@ -108,7 +108,7 @@ pub fn of_array_and_number(
     ask(alloc, Asked::OperateBy(operation, words.read()?), these)
 }
 
-/// What an operation makes of numbers of one type and the one that a word writes.
+/// Applies an operation to an array of one type and the number of a word, and returns the rows.
 pub fn write_operated_by<T: HasPrimitiveArithmeticKernel + Display + FromStr<Err: Drop>>(
     alloc: Global,
     operation: Operation,
@@ -122,7 +122,7 @@ pub fn write_operated_by<T: HasPrimitiveArithmeticKernel + Display + FromStr<Err
     write_made(alloc, made)
 }
 
-// What an operation makes of numbers and one more.
+// Applies an operation to an array and a number.
 fn operate_by<T: HasPrimitiveArithmeticKernel>(
     alloc: Global,
     operation: Operation,
@@ -140,7 +140,7 @@ fn operate_by<T: HasPrimitiveArithmeticKernel>(
     }
 }
 
-/// What an operation makes of a number and an array.
+/// Applies an operation to a number and an array, and returns the rows.
 pub fn of_number_and_array(
     alloc: Global,
     operation: Operation,
@@ -153,7 +153,7 @@ pub fn of_number_and_array(
     ask_next(alloc, Asked::OperateFrom(operation, word), store, words)
 }
 
-/// What an operation makes of the number that a word writes and numbers of its type.
+/// Applies an operation to the number of a word and an array of its type, and returns the rows.
 pub fn write_operated_from<T: HasPrimitiveArithmeticKernel + Display + FromStr<Err: Drop>>(
     alloc: Global,
     operation: Operation,
@@ -167,7 +167,7 @@ pub fn write_operated_from<T: HasPrimitiveArithmeticKernel + Display + FromStr<E
     write_made(alloc, made)
 }
 
-// What an operation makes of a number and more of them. Sums and products have no such form.
+// Applies an operation to a number and an array. Sums and products have no such form.
 fn operate_from<T: HasPrimitiveArithmeticKernel>(
     alloc: Global,
     operation: Operation,

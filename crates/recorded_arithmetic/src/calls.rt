@@ -1,26 +1,26 @@
-//! The calls by their names, and what they ask.
+//! The calls by name.
 
 use crate::operations::{Function, Operation};
 use recorded_text::names::find;
 
-/// What is asked.
+/// A call.
 #[derive(Clone, Copy)]
 pub enum Call {
-    /// What a function makes of an array.
+    /// A function of an array.
     Apply(Function),
-    /// What an operation makes of two arrays.
+    /// An operation on two arrays.
     Operate(Operation),
-    /// What an operation makes of an array and a number.
+    /// An operation on an array and a number.
     OperateBy(Operation),
-    /// What an operation makes of a number and an array.
+    /// An operation on a number and an array.
     OperateFrom(Operation),
-    /// The answers of a function at each value of an array.
+    /// A function of the stored values of an array.
     UnaryValues,
-    /// The same, of the type of the values.
+    /// A function of the stored values of an array, in place.
     UnaryInPlace,
-    /// The answers of a function at each two values of two arrays.
+    /// A function of the pairs of stored values of two arrays.
     BinaryValues,
-    /// The same, of the type of the values.
+    /// A function of the pairs of stored values of two arrays, in place.
     BinaryInPlace,
     /// The sum of the present rows of an array.
     SumRows,
@@ -28,20 +28,20 @@ pub enum Call {
     SumValues,
     /// The sum of the stored values of an array whose bit is 1.
     SumMasked,
-    /// What a function or an operation answers at single numbers.
+    /// A function of or an operation on single numbers.
     Calculate,
     /// The sum of two single numbers.
     AddNumbers,
 }
 
 impl Call {
-    /// The call of that name, or None where it is another subject's.
+    /// Returns the call of a name, or `None` for a call of another subject.
     pub fn named(name: &str) -> Option<Call> {
         find(&CALLS, name)
     }
 }
 
-// The calls by their names.
+// The calls by name.
 const CALLS: [(&str, Call); 32] = [
     ("wrapping_abs", Call::Apply(Function::Abs)),
     ("wrapping_neg", Call::Apply(Function::Neg)),

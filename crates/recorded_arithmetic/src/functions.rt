@@ -1,11 +1,11 @@
 //! Functions applied to the stored values of arrays.
 //!
-//! | Call | Answer |
+//! | Call | Result |
 //! |---|---|
-//! | `prim_unary_values FUNCTION A` | the rows of the array of the answers |
-//! | `prim_unary_in_place FUNCTION A` | the same, of numbers of 8 to 64 bits |
-//! | `prim_binary_values FUNCTION A B` | the rows of the array of the answers at each two values of two arrays of one length |
-//! | `prim_binary_in_place FUNCTION A B` | the same, of arrays of one type of numbers |
+//! | `prim_unary_values FUNCTION A` | the rows of the array of the function's results |
+//! | `prim_unary_in_place FUNCTION A` | the rows of the array of the function's results, for numbers of 8 to 64 bits |
+//! | `prim_binary_values FUNCTION A B` | the rows of the array of the function's results for the pairs of values of two arrays of equal length |
+//! | `prim_binary_in_place FUNCTION A B` | the rows of the array of the function's results for the pairs of values of two arrays of one type and length |
 //!
 //! Each call has FUNCTIONs of its own.
 
@@ -27,7 +27,8 @@ use recorded_text::words::Words;
 use std::alloc::Global;
 use std::fmt::Display;
 
-/// The answers at each value of an array: twice the value, the value in a wider type, the value negated, and whether it is 0.
+/// Returns the results of a function for each value of an array: twice the value, the value in a
+/// wider type, the value negated, or whether it is 0.
 pub fn unary_values(alloc: Global, store: &Store, words: &mut Words) -> Result<String, Fault>
     requires { HasGoodArrays store.now }
 {
@@ -45,7 +46,7 @@ pub fn unary_values(alloc: Global, store: &Store, words: &mut Words) -> Result<S
     }
 }
 
-// What a function answers at each value.
+// Returns the results of a function for each value.
 fn write_mapped<I: NativeType, O: NativeType + Display, F: Fn(I) -> O>(
     alloc: Global,
     array: &PrimitiveArray<I>,
@@ -59,7 +60,8 @@ fn write_mapped<I: NativeType, O: NativeType + Display, F: Fn(I) -> O>(
     write_made(alloc, made)
 }
 
-/// The answers at each two values of two arrays: a byte before another, the product, and whether the left one is less.
+/// Returns the results of a function for the pairs of values of two arrays: a byte before another,
+/// the product, or whether the left one is less.
 pub fn binary_values(alloc: Global, store: &Store, words: &mut Words) -> Result<String, Fault>
     requires { HasGoodArrays store.now }
 {
@@ -87,7 +89,7 @@ pub fn binary_values(alloc: Global, store: &Store, words: &mut Words) -> Result<
     }
 }
 
-// What a function answers at each two values.
+// Returns the results of a function for pairs of values.
 fn write_pairs<L: NativeType, R: NativeType, O: NativeType + Display, F: Fn(L, R) -> O>(
     alloc: Global,
     left: &PrimitiveArray<L>,
@@ -102,12 +104,12 @@ fn write_pairs<L: NativeType, R: NativeType, O: NativeType + Display, F: Fn(L, R
     write_made(alloc, made)
 }
 
-/// What is made of each value of an array, of its type.
+/// A function of a value, with a result of its type.
 #[derive(Clone, Copy)]
 pub enum Change {
-    /// One more.
+    /// The value plus 1.
     Next,
-    /// The value times itself.
+    /// The square of the value.
     Square,
 }
 
@@ -120,7 +122,7 @@ impl Change {
         }
     }
 
-    // What is made of a value.
+    // Applies the function to a value.
     fn apply<T: PlNumArithmetic>(self, x: T) -> T {
         match self {
             Change::Next => PlNumArithmetic::wrapping_add(x, T::one()),
@@ -129,7 +131,7 @@ impl Change {
     }
 }
 
-/// The answers at each value of an array, of its type.
+/// Returns the results of a function, in place, for each value of an array.
 pub fn unary_in_place(alloc: Global, store: &Store, words: &mut Words) -> Result<String, Fault>
     requires { HasGoodArrays store.now }
 {
@@ -141,7 +143,7 @@ pub fn unary_in_place(alloc: Global, store: &Store, words: &mut Words) -> Result
     }
 }
 
-/// The answers at each value of one type.
+/// Returns the results of a function, in place, for each value of an array of one type.
 pub fn write_changed<T: PlNumArithmetic + Display>(
     alloc: Global,
     change: Change,
@@ -153,7 +155,7 @@ pub fn write_changed<T: PlNumArithmetic + Display>(
     write_made(alloc, made)
 }
 
-/// Which of two values is taken.
+/// A choice between two values.
 #[derive(Clone, Copy)]
 pub enum Choice {
     /// The left one.
@@ -174,7 +176,7 @@ impl Choice {
         }
     }
 
-    // The value that is taken.
+    // Returns the chosen value.
     fn apply<T: NativeType>(self, x: T, y: T) -> T {
         match self {
             Choice::Left => x,
@@ -184,7 +186,7 @@ impl Choice {
     }
 }
 
-/// The answers at each two values of two arrays of one type, of this type.
+/// Returns the values chosen, in place, from the pairs of values of two arrays of one type.
 pub fn binary_in_place(alloc: Global, store: &Store, words: &mut Words) -> Result<String, Fault>
     requires { HasGoodArrays store.now }
 {
@@ -197,7 +199,7 @@ pub fn binary_in_place(alloc: Global, store: &Store, words: &mut Words) -> Resul
     }
 }
 
-// The values that are taken from two arrays.
+// Returns the values chosen from two arrays.
 fn choose(
     alloc: Global,
     choice: Choice,
@@ -218,7 +220,7 @@ fn choose(
     }
 }
 
-/// The values that are taken from two arrays of one type.
+/// Returns the values chosen from two arrays of one type.
 pub fn write_chosen<T: NativeType + Display>(
     alloc: Global,
     choice: Choice,

@@ -1,8 +1,8 @@
-//! The recorded cases of arithmetic: operations on arrays of numbers and on single ones, functions applied to stored
-//! values, and sums.
+//! Recorded cases of arithmetic: operations on arrays of numbers and on single numbers, functions
+//! of stored values, and sums.
 //!
-//! An array is an operand by its name, or by `slice NAME AT N`: N of its rows, the first of them at place AT. A call is
-//! given a clone of it, which owns its values exactly where the array does.
+//! An array is an operand by its name, or as `slice NAME AT N`: its N rows from row AT on. A call
+//! gets a clone of it, which owns its values exactly if the array does.
 #![tactic(auto)]
 
 ghost use Rattle.recorded_text.specs.Cases.{HasGoodArrays};
@@ -25,7 +25,7 @@ use recorded_text::store::Store;
 use recorded_text::words::Words;
 use std::alloc::Global;
 
-/// The answer to a call of one of these subjects, or None for another one's.
+/// Returns the result of a call of these subjects, or `None` for any other call.
 pub fn answer(
     alloc: Global,
     call: &str,
@@ -40,7 +40,7 @@ pub fn answer(
     }
 }
 
-// The answer to a call.
+// Returns the result of a call.
 fn ask(alloc: Global, call: Call, store: &Store, words: &mut Words) -> Result<String, Fault>
     requires { HasGoodArrays store.now }
 {

@@ -1,4 +1,4 @@
-//! The arrays and the numbers that calls make, as text.
+//! Arrays and numbers that calls return, as text.
 
 use polars_arrays_bits::error::ComputeError;
 use polars_arrays_flat::array::Array;
@@ -9,7 +9,7 @@ use recorded_text::fault::Fault;
 use std::alloc::Global;
 use std::fmt::Display;
 
-/// The rows of the array that a call made, parted by spaces.
+/// Returns the rows of the array that a call returned, separated by spaces.
 pub fn write_made<T: NativeType + Display>(
     alloc: Global,
     made: Result<PrimitiveArray<T>, ComputeError>,
@@ -20,12 +20,12 @@ pub fn write_made<T: NativeType + Display>(
     text
 }
 
-/// A number.
+/// Returns a number as text.
 pub fn write_number<T: Copy + Display>(alloc: Global, number: T) -> Result<String, Fault> {
     number.to_string(alloc).map_err(Fault::from)
 }
 
-// The rows of an array of numbers, parted by spaces.
+// Returns the rows of an array of numbers, separated by spaces.
 fn write_rows<T: NativeType + Display>(
     alloc: Global,
     array: &PrimitiveArray<T>,
@@ -40,7 +40,7 @@ fn write_rows<T: NativeType + Display>(
     Ok(text)
 }
 
-// A number, or `null`.
+// Appends a number, or `null`.
 fn push_row<T: Display>(text: &mut String, value: &T, is_null: bool) -> Result<(), Fault> {
     if is_null {
         text.push_str("null").map_err(Fault::from)

@@ -1,6 +1,6 @@
-//! The kinds of arrays of numbers on which there is arithmetic.
+//! The kinds of arrays of numbers with arithmetic.
 
-/// What is asked of the numbers inside an array. One of another kind has no answer.
+/// Calls a function with the array of numbers inside an array. For any other kind it is an error.
 macro_rules! of_numbers {
     ($any:expr, $array:ident => $each:expr) => {
         match $any {
@@ -19,7 +19,8 @@ macro_rules! of_numbers {
 
 pub(crate) use of_numbers;
 
-/// What is asked of the numbers inside two arrays of one kind. It has an answer for the kinds that are named alone.
+/// Calls a function with the arrays of numbers inside two arrays of one kind. For any other kinds
+/// it is an error.
 macro_rules! of_one_kind {
     ($these:expr, $those:expr, $left:ident, $right:ident => $each:expr, $($kind:ident)+) => {
         match $these {

@@ -1,4 +1,4 @@
-//! What one array of numbers is asked, and what two of them are.
+//! Calls on one array of numbers, and on two.
 
 ghost use Rattle.recorded_text.specs.Cases.{HasGoodArrays};
 
@@ -20,16 +20,16 @@ use std::alloc::Global;
 use std::fmt::Display;
 use std::str::FromStr;
 
-/// What an array of numbers is asked.
+/// A call on an array of numbers.
 #[derive(Clone, Copy)]
 pub enum Asked<'a> {
-    /// What a function makes of it.
+    /// A function of it.
     Apply(Function),
-    /// What an operation makes of it and of the number that a word writes.
+    /// An operation on it and the number of a word.
     OperateBy(Operation, &'a str),
-    /// What an operation makes of the number that a word writes and of it.
+    /// An operation on the number of a word and it.
     OperateFrom(Operation, &'a str),
-    /// What is made of each value.
+    /// A function of each value.
     Change(Change),
     /// The sum of its present rows.
     SumRows,
@@ -39,7 +39,7 @@ pub enum Asked<'a> {
     SumMasked(&'a Bitmap),
 }
 
-/// What the array answers that the next words tell.
+/// Returns the result of a call on the array that the next words name.
 pub fn ask_next(
     alloc: Global,
     asked: Asked<'_>,
@@ -51,12 +51,13 @@ pub fn ask_next(
     ask(alloc, asked, read_operand(store, words)?)
 }
 
-/// What an array answers. One that is not of numbers of 8 to 64 bits has no answer.
+/// Returns the result of a call on an array. It is an error if the array is not of numbers of 8 to
+/// 64 bits.
 pub fn ask(alloc: Global, asked: Asked<'_>, these: Operand<'_>) -> Result<String, Fault> {
     of_numbers!(these.array, array => ask_numbers(alloc, asked, array, these.part))
 }
 
-// What the numbers of one type answer.
+// Returns the result of a call on an array of numbers of one type.
 fn ask_numbers<T: HasPrimitiveArithmeticKernel + WrappingSum + Display + FromStr<Err: Drop>>(
     alloc: Global,
     asked: Asked<'_>,
@@ -76,16 +77,17 @@ fn ask_numbers<T: HasPrimitiveArithmeticKernel + WrappingSum + Display + FromStr
     }
 }
 
-/// What two arrays of numbers of one type are asked.
+/// A call on two arrays of numbers of one type.
 #[derive(Clone, Copy)]
 pub enum AskedBoth {
-    /// What an operation makes of them.
+    /// An operation on them.
     Operate(Operation),
-    /// The values that are taken from them.
+    /// The values chosen from them.
     Choose(Choice),
 }
 
-/// What two arrays answer. Those that are not of numbers of one type of 8 to 64 bits have no answer.
+/// Returns the result of a call on two arrays. It is an error if they are not of numbers of one
+/// type of 8 to 64 bits.
 pub fn ask_both(
     alloc: Global,
     asked: AskedBoth,
@@ -98,7 +100,7 @@ pub fn ask_both(
         Int8 Int16 Int32 Int64 UInt8 UInt16 UInt32 UInt64)
 }
 
-// What numbers of one type on both sides answer.
+// Returns the result of a call on two arrays of numbers of one type.
 fn ask_pair<T: HasPrimitiveArithmeticKernel + Display>(
     alloc: Global,
     asked: AskedBoth,

@@ -1,4 +1,5 @@
-//! Arrays and numbers that calls are given. The store lends an array, and a call is given a clone of the rows that are meant.
+//! Arrays and numbers as operands. The store lends an array, and a call gets a clone of some of its
+//! rows.
 
 ghost use Rattle.std.specs.Prelude.{◌≡◌, ◌+◌, ◌≤◌, IfOk, IfSome, length};
 ghost use Rattle.recorded_text.specs.Cases.{HasGoodArrays};
@@ -13,7 +14,7 @@ use recorded_text::words::Words;
 use std::alloc::Global;
 use std::str::FromStr;
 
-/// Which rows of an array are meant.
+/// Some rows of an array.
 #[derive(Clone, Copy)]
 pub enum Part {
     /// All of them.
@@ -23,8 +24,8 @@ pub enum Part {
 }
 
 impl Part {
-    // From which of so many rows on how many are meant, or None where all are. The error is `Case`, where there are not
-    // as many.
+    // Returns the first row and the number of rows, or `None` for all rows. The error is `Case`, if
+    // there are too few rows.
     fn window(self, len: usize) -> Result<Option<(usize, usize)>, Fault>
         ensures { IfOk result (λ window. IfSome window (λ rows. rows.0 + rows.1 ≤ len)) }
     {
@@ -36,14 +37,14 @@ impl Part {
     }
 }
 
-/// An array of the store, and which of its rows are meant.
+/// An array of the store, and some of its rows.
 #[derive(Clone, Copy)]
 pub struct Operand<'a> {
     pub array: &'a AnyArray,
     pub part: Part,
 }
 
-/// The array that the next word names, or after the word `slice` those of its rows that two more words tell.
+/// Reads an array by name, or after the word `slice` some of its rows.
 pub fn read_operand<'a>(store: &'a Store, words: &mut Words) -> Result<Operand<'a>, Fault>
     requires { HasGoodArrays store.now }
 {
@@ -59,8 +60,8 @@ pub fn read_operand<'a>(store: &'a Store, words: &mut Words) -> Result<Operand<'
     Ok(Operand { array, part })
 }
 
-/// A clone of the rows that are meant, which owns its values exactly where the array does. The error is `Case`, where
-/// the array does not have them.
+/// Clones some rows of an array. The clone owns its values exactly if the array does. The error is
+/// `Case`, if the array does not have the rows.
 pub fn clone_part<T: NativeType>(
     alloc: Global,
     array: &PrimitiveArray<T>,
@@ -74,7 +75,7 @@ pub fn clone_part<T: NativeType>(
     Ok(copy)
 }
 
-/// Clones of the rows that are meant of two arrays, which must be as many of both.
+/// Clones some rows of two arrays, which must be equally many.
 pub fn clone_parts<L: NativeType, R: NativeType>(
     alloc: Global,
     left: &PrimitiveArray<L>,
@@ -93,7 +94,7 @@ pub fn clone_parts<L: NativeType, R: NativeType>(
     }
 }
 
-// Two arrays, which must have as many rows.
+// Returns two arrays, which must have equal lengths.
 fn pair<L: NativeType, R: NativeType>(
     left: PrimitiveArray<L>,
     right: PrimitiveArray<R>,
@@ -108,7 +109,7 @@ fn pair<L: NativeType, R: NativeType>(
     Err(Fault::Case)
 }
 
-/// The number that a word writes.
+/// Reads a number from a word.
 pub fn number_of<N: FromStr<Err: Drop>>(word: &str) -> Result<N, Fault> {
     match word.parse() {
         Ok(number) => Ok(number),

@@ -1,10 +1,10 @@
-//! Operations on single numbers, of a type of 8 to 64 bits.
+//! Operations on single numbers of a type of 8 to 64 bits.
 //!
-//! | Call | Answer |
+//! | Call | Result |
 //! |---|---|
-//! | `pl_num wrapping_abs TYPE NUMBER`, and so of `wrapping_neg` | the number that the function answers |
-//! | `pl_num wrapping_add TYPE NUMBER NUMBER`, and so of `sub`, `mul`, `floor_div`, `trunc_div`, `mod` and `legacy_div` | the number that the operation answers, and 0 of a quotient by 0 and of what it leaves |
-//! | `wrapping_add_number TYPE NUMBER NUMBER` | the sum of two numbers, of which the type may be `isize` or `usize` too |
+//! | `pl_num wrapping_abs TYPE NUMBER`, and so of `wrapping_neg` | the function's result |
+//! | `pl_num wrapping_add TYPE NUMBER NUMBER`, and so of `sub`, `mul`, `floor_div`, `trunc_div`, `mod` and `legacy_div` | the operation's result, which is 0 for a quotient by 0 and its modulus |
+//! | `wrapping_add_number TYPE NUMBER NUMBER` | the sum of two numbers, also of the types `isize` and `usize` |
 
 use crate::made::write_number;
 use crate::operations::{Function, Operation};
@@ -17,7 +17,7 @@ use std::alloc::Global;
 use std::fmt::Display;
 use std::str::FromStr;
 
-// What numbers of one type are asked.
+// A call with numbers of one type.
 #[derive(Clone, Copy)]
 enum Asked {
     Apply(Function),
@@ -25,7 +25,7 @@ enum Asked {
     Add,
 }
 
-// The functions and the operations by their names.
+// The functions and the operations by name.
 const CALCULATIONS: [(&str, Asked); 9] = [
     ("wrapping_abs", Asked::Apply(Function::Abs)),
     ("wrapping_neg", Asked::Apply(Function::Neg)),
@@ -38,13 +38,13 @@ const CALCULATIONS: [(&str, Asked); 9] = [
     ("legacy_div", Asked::Operate(Operation::LegacyDiv)),
 ];
 
-/// What the function or the operation answers that the next word names.
+/// Returns the result of the function or the operation that the next word names.
 pub fn calculate(alloc: Global, words: &mut Words) -> Result<String, Fault> {
     let asked = find_word(&CALCULATIONS, words.read()?)?;
     ask(alloc, asked, words.read()?, words)
 }
 
-/// The sum of two numbers of the type that the next word names.
+/// Returns the sum of two numbers of the type that the next word names.
 pub fn add(alloc: Global, words: &mut Words) -> Result<String, Fault> {
     match words.read()? {
         "isize" => add_two::<isize>(alloc, words),
@@ -53,7 +53,7 @@ pub fn add(alloc: Global, words: &mut Words) -> Result<String, Fault> {
     }
 }
 
-// What numbers of the type of that name answer.
+// Returns the result of a call with numbers of a type, given by name.
 fn ask(alloc: Global, asked: Asked, name: &str, words: &mut Words) -> Result<String, Fault> {
     match name {
         "i8" => ask_type::<i8>(alloc, asked, words),
@@ -68,7 +68,7 @@ fn ask(alloc: Global, asked: Asked, name: &str, words: &mut Words) -> Result<Str
     }
 }
 
-// What numbers of one type answer.
+// Returns the result of a call with numbers of one type.
 fn ask_type<T: PlNumArithmetic + Display + FromStr<Err: Drop>>(
     alloc: Global,
     asked: Asked,
@@ -81,7 +81,7 @@ fn ask_type<T: PlNumArithmetic + Display + FromStr<Err: Drop>>(
     }
 }
 
-// What a function answers at the number that the next word writes.
+// Returns the result of a function for the number of the next word.
 fn write_applied<T: PlNumArithmetic + Display + FromStr<Err: Drop>>(
     alloc: Global,
     function: Function,
@@ -91,7 +91,7 @@ fn write_applied<T: PlNumArithmetic + Display + FromStr<Err: Drop>>(
     write_number(alloc, apply(function, number))
 }
 
-// What a function answers at a number.
+// Returns the result of a function for a number.
 fn apply<T: PlNumArithmetic>(function: Function, number: T) -> T {
     match function {
         Function::Abs => PlNumArithmetic::wrapping_abs(number),
@@ -99,7 +99,7 @@ fn apply<T: PlNumArithmetic>(function: Function, number: T) -> T {
     }
 }
 
-// What an operation answers at the two numbers that the next words write.
+// Returns the result of an operation for the two numbers of the next words.
 fn write_operated<T: PlNumArithmetic + Display + FromStr<Err: Drop>>(
     alloc: Global,
     operation: Operation,
@@ -109,7 +109,7 @@ fn write_operated<T: PlNumArithmetic + Display + FromStr<Err: Drop>>(
     write_number(alloc, operate(operation, left, right))
 }
 
-// What an operation answers at two numbers.
+// Returns the result of an operation for two numbers.
 fn operate<T: PlNumArithmetic>(operation: Operation, left: T, right: T) -> T {
     match operation {
         Operation::Add => PlNumArithmetic::wrapping_add(left, right),
@@ -122,7 +122,7 @@ fn operate<T: PlNumArithmetic>(operation: Operation, left: T, right: T) -> T {
     }
 }
 
-// The sum of two numbers.
+// Returns the sum of two numbers.
 fn add_two<T: WrappingAdd + Copy + Display + FromStr<Err: Drop>>(
     alloc: Global,
     words: &mut Words,

@@ -1,6 +1,6 @@
-//! Sums of numbers, of a type of 8 to 64 bits.
+//! Sums of numbers of a type of 8 to 64 bits.
 //!
-//! | Call | Answer |
+//! | Call | Result |
 //! |---|---|
 //! | `wrapping_sum_arr A` | the sum of the present rows |
 //! | `wrapping_sum A` | the sum of the stored values |
@@ -22,7 +22,7 @@ use recorded_text::words::Words;
 use std::alloc::Global;
 use std::fmt::Display;
 
-/// The sum of the stored values of an array whose bit is 1.
+/// Returns the sum of the stored values of an array whose bit is 1.
 pub fn of_masked_values(alloc: Global, store: &Store, words: &mut Words) -> Result<String, Fault>
     requires { HasGoodArrays store.now }
 {
@@ -33,7 +33,7 @@ pub fn of_masked_values(alloc: Global, store: &Store, words: &mut Words) -> Resu
     text
 }
 
-/// The sum of the present rows of an array of one type.
+/// Returns the sum of the present rows of an array of one type.
 pub fn add_rows<T: WrappingSum + Display>(
     alloc: Global,
     array: &PrimitiveArray<T>,
@@ -45,7 +45,7 @@ pub fn add_rows<T: WrappingSum + Display>(
     write_number(alloc, sum)
 }
 
-/// The sum of the stored values of an array of one type.
+/// Returns the sum of the stored values of an array of one type.
 pub fn add_values<T: WrappingSum + Display>(
     alloc: Global,
     array: &PrimitiveArray<T>,
@@ -57,7 +57,7 @@ pub fn add_values<T: WrappingSum + Display>(
     write_number(alloc, sum)
 }
 
-/// The sum of the stored values of an array of one type whose bit is 1.
+/// Returns the sum of the stored values of an array of one type whose bit is 1.
 pub fn add_masked<T: WrappingSum + Display>(
     alloc: Global,
     array: &PrimitiveArray<T>,
@@ -70,7 +70,7 @@ pub fn add_masked<T: WrappingSum + Display>(
     text
 }
 
-// The sum of the numbers whose bit is 1. There must be a bit for each number.
+// Returns the sum of the numbers whose bit is 1. There must be a bit for each number.
 fn add_where_set<T: WrappingSum + Display>(
     alloc: Global,
     values: &[T],

@@ -1,4 +1,4 @@
-//! What an array of any kind is asked as one of its kind.
+//! Calls of the trait `Array` on arrays of any kind.
 
 ghost use Rattle.polars_arrays_nested.specs.GoodParts.{IsGood};
 
@@ -9,18 +9,18 @@ use recorded_text::bits_text::write_made_mask;
 use recorded_text::fault::Fault;
 use std::alloc::Global;
 
-/// What an array of any kind is asked.
+/// A call on an array.
 #[derive(Clone, Copy)]
 pub enum Asked {
-    /// How many rows there are.
+    /// The number of rows.
     Len,
-    /// How many rows are null.
+    /// The number of null rows.
     NullCount,
-    /// Which rows are present.
+    /// The mask.
     MissingMask,
 }
 
-/// What an array answers, asked as one of its kind.
+/// Returns the result of a call on the array inside an array of any kind.
 pub fn ask(alloc: Global, asked: Asked, array: &AnyArray) -> Result<String, Fault>
     requires { IsGood array.now }
 {
@@ -51,7 +51,7 @@ pub fn ask(alloc: Global, asked: Asked, array: &AnyArray) -> Result<String, Faul
     }
 }
 
-// What an array of one kind answers.
+// Returns the result of a call on an array of one kind.
 fn ask_kind<A: Array>(alloc: Global, asked: Asked, array: &A) -> Result<String, Fault>
     requires { A.good array.now }
 {

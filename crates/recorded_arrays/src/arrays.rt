@@ -1,4 +1,4 @@
-//! Arrays of any kind: their rows, those of copies and slices, and how many leaf slots they have.
+//! Arrays of any kind: their rows, those of clones and slices, and the number of their leaf slots.
 
 ghost use Rattle.polars_arrays_nested.specs.GoodParts.{IsGood};
 
@@ -10,7 +10,7 @@ use recorded_text::row_text::{write_made, write_rows};
 use recorded_text::words::Words;
 use std::alloc::Global;
 
-/// What is asked of an array.
+/// A call on an array.
 #[derive(Clone, Copy)]
 pub enum Asked {
     Rows,
@@ -18,7 +18,7 @@ pub enum Asked {
     Slice,
 }
 
-/// What an array answers.
+/// Returns the result of a call on an array.
 pub fn ask(
     alloc: Global,
     asked: Asked,
@@ -34,14 +34,14 @@ pub fn ask(
     }
 }
 
-// The rows of a clone of an array.
+// Returns the rows of a clone of an array.
 fn write_copy(alloc: Global, array: &AnyArray) -> Result<String, Fault>
     requires { IsGood array.now }
 {
     write_made(alloc, array.clone_array(alloc)?)
 }
 
-// The rows that a slice of a clone of an array has.
+// Returns the rows of a slice of a clone of an array.
 fn write_slice(alloc: Global, array: &AnyArray, words: &mut Words) -> Result<String, Fault>
     requires { IsGood array.now }
 {
@@ -51,7 +51,7 @@ fn write_slice(alloc: Global, array: &AnyArray, words: &mut Words) -> Result<Str
     write_made(alloc, copy)
 }
 
-/// How many leaf slots each of two arrays has.
+/// Returns the number of leaf slots of each of two arrays.
 pub fn write_leaves(alloc: Global, left: &AnyArray, right: &AnyArray) -> Result<String, Fault>
     requires left { IsGood left.now }
     requires right { IsGood right.now }

@@ -1,4 +1,4 @@
-//! Byte strings compared, and pairs of numbers.
+//! Comparisons of byte strings, and of pairs of numbers.
 
 use crate::values_text::write_value;
 use polars_arrays_flat::byte_equality::bytes_equal;
@@ -8,14 +8,14 @@ use recorded_text::parts::read_bytes;
 use recorded_text::words::Words;
 use std::alloc::Global;
 
-/// How two byte strings are compared.
+/// A comparison of two byte strings.
 #[derive(Clone, Copy)]
 pub enum Comparison {
     Equal,
     Less,
 }
 
-/// Whether a comparison of two byte strings holds.
+/// Returns whether a comparison of two byte strings holds.
 pub fn compare(alloc: Global, comparison: Comparison, words: &mut Words) -> Result<String, Fault> {
     let (left, right) = (words.read()?, words.read()?);
     let left = read_bytes(alloc, left)?;
@@ -24,7 +24,7 @@ pub fn compare(alloc: Global, comparison: Comparison, words: &mut Words) -> Resu
     write_value(alloc, holds)
 }
 
-// Whether a comparison holds.
+// Returns whether a comparison holds.
 fn is_told(comparison: Comparison, left: &[u8], right: &[u8]) -> bool {
     match comparison {
         Comparison::Equal => bytes_equal(left, right),
@@ -32,7 +32,7 @@ fn is_told(comparison: Comparison, left: &[u8], right: &[u8]) -> bool {
     }
 }
 
-/// Whether a pair of numbers is less, the second of each being a length.
+/// Returns whether a pair of numbers is less. The second number of each is a length.
 pub fn less_pair(alloc: Global, words: &mut Words) -> Result<String, Fault> {
     let (p, q) = (words.read_number()?, words.read_number()?);
     let (n, m) = (words.read_number()?, words.read_number()?);

@@ -1,4 +1,4 @@
-//! The calls by their names, and what they ask.
+//! The calls by name.
 
 use crate::types::{NamedComparison, Strings};
 use crate::{
@@ -6,30 +6,30 @@ use crate::{
 };
 use recorded_text::names::find;
 
-/// What is asked.
+/// A call.
 #[derive(Clone, Copy)]
 pub enum Call {
-    /// Something about the array that the next word names.
+    /// A call on the array that the next word names.
     One(OfOne),
-    /// Something about the two arrays that the next words name.
+    /// A call on the two arrays that the next words name.
     Two(OfTwo),
     /// Structs of fields and columns.
     StructOfParts,
-    /// Something about the type of numbers that the next word names.
+    /// A call on the type of numbers that the next word names.
     NumberType(number_types::Asked),
     /// The type of an array of strings between offsets.
     StringsType(Strings),
-    /// How two byte strings compare.
+    /// A comparison of two byte strings.
     Bytes(byte_strings::Comparison),
-    /// Whether a pair of numbers is less.
+    /// A comparison of two pairs of numbers.
     PairLess,
-    /// Something about the view that the next word's bytes are.
+    /// A call on the view whose bytes are the next word.
     View(views::Asked),
     /// The view of a short row.
     ViewOfShort,
 }
 
-/// What is asked of one array.
+/// A call on one array.
 #[derive(Clone, Copy)]
 pub enum OfOne {
     Array(arrays::Asked),
@@ -41,7 +41,7 @@ pub enum OfOne {
     TypeCopy,
 }
 
-/// What is asked of two arrays.
+/// A call on two arrays.
 #[derive(Clone, Copy)]
 pub enum OfTwo {
     Leaves,
@@ -49,13 +49,13 @@ pub enum OfTwo {
 }
 
 impl Call {
-    /// The call of that name, or None where it is another subject's.
+    /// Returns the call of a name, or `None` for a call of another subject.
     pub fn named(name: &str) -> Option<Call> {
         find(&CALLS, name)
     }
 }
 
-// The calls by their names.
+// The calls by name.
 const CALLS: [(&str, Call); 66] = [
     ("rows", Call::One(OfOne::Array(arrays::Asked::Rows))),
     ("copy", Call::One(OfOne::Array(arrays::Asked::Copy))),

@@ -1,5 +1,5 @@
-//! What arrays lend: how many rows and nulls there are, validities, stored values, offsets, views and buffers,
-//! keys, and the arrays that they hold.
+//! Parts that arrays lend: lengths and counts of nulls, validities, stored values, offsets, views
+//! and buffers, keys, and the arrays that they hold.
 
 ghost use Rattle.polars_arrays_nested.specs.GoodParts.{IsGood};
 ghost use Rattle.polars_arrays_nested.specs.declared.any_array.AnyArray.{List, Struct, Dictionary};
@@ -21,7 +21,7 @@ use recorded_text::type_text::key_name;
 use recorded_text::words::Words;
 use std::alloc::Global;
 
-/// What is asked of an array.
+/// A call on an array.
 #[derive(Clone, Copy)]
 pub enum Asked {
     Len,
@@ -39,7 +39,7 @@ pub enum Asked {
     Size,
 }
 
-/// What an array lends.
+/// Returns a part that an array lends.
 pub fn ask(
     alloc: Global,
     asked: Asked,
@@ -65,7 +65,7 @@ pub fn ask(
     }
 }
 
-// The validity.
+// Returns the validity.
 fn validity(alloc: Global, array: &AnyArray) -> Result<String, Fault>
     requires { IsGood array.now }
 {
@@ -75,7 +75,8 @@ fn validity(alloc: Global, array: &AnyArray) -> Result<String, Fault>
     }
 }
 
-// The stored values, those of null rows and of no row too; of arrays that hold an array, its rows.
+// Returns the stored values, including those of null rows and of no row; for arrays that hold an
+// array, its rows.
 fn values(alloc: Global, array: &AnyArray, words: &mut Words) -> Result<String, Fault>
     requires { IsGood array.now }
 {
@@ -92,7 +93,7 @@ fn values(alloc: Global, array: &AnyArray, words: &mut Words) -> Result<String, 
     }
 }
 
-// The rows of each column of structs, parted by bars.
+// Returns the rows of each column of structs, separated by bars.
 fn columns(alloc: Global, array: &StructArray) -> Result<String, Fault>
     requires { IsGood (Struct array.now) }
 {
@@ -106,7 +107,7 @@ fn columns(alloc: Global, array: &StructArray) -> Result<String, Fault>
     Ok(text)
 }
 
-// The rows of the column of structs that the next word tells.
+// Returns the rows of the column of structs whose index is the next word.
 fn column(alloc: Global, array: &AnyArray, k: Result<usize, Fault>) -> Result<String, Fault>
     requires { IsGood array.now }
 {
@@ -117,7 +118,7 @@ fn column(alloc: Global, array: &AnyArray, k: Result<usize, Fault>) -> Result<St
     }
 }
 
-// The offsets of byte strings, of texts or of lists.
+// Returns the offsets of byte strings, of texts or of lists.
 fn offsets(alloc: Global, array: &AnyArray) -> Result<String, Fault>
     requires { IsGood array.now }
 {
@@ -131,7 +132,7 @@ fn offsets(alloc: Global, array: &AnyArray) -> Result<String, Fault>
     }
 }
 
-// The offsets of lists, and whether they have 64 bits.
+// Returns the offsets of lists, and whether they have 64 bits.
 fn list_offsets(alloc: Global, array: &ListArray) -> Result<String, Fault>
     requires { IsGood (List array.now) }
 {
@@ -146,7 +147,7 @@ fn list_offsets(alloc: Global, array: &ListArray) -> Result<String, Fault>
     Ok(text)
 }
 
-// The views of byte strings or of texts.
+// Returns the views of byte strings or of texts.
 fn views(alloc: Global, array: &AnyArray) -> Result<String, Fault> {
     match array {
         AnyArray::BinaryView(array) => write_views(alloc, array.views()),
@@ -155,7 +156,7 @@ fn views(alloc: Global, array: &AnyArray) -> Result<String, Fault> {
     }
 }
 
-// The sixteen bytes of each view.
+// Returns the sixteen bytes of each view.
 fn write_views(alloc: Global, views: &[View]) -> Result<String, Fault> {
     let mut text = String::new(alloc);
     for (i, view) in views.iter().enumerate() {
@@ -167,7 +168,7 @@ fn write_views(alloc: Global, views: &[View]) -> Result<String, Fault> {
     Ok(text)
 }
 
-// The buffers of byte strings or of texts.
+// Returns the buffers of byte strings or of texts.
 fn buffers(alloc: Global, array: &AnyArray) -> Result<String, Fault> {
     match array {
         AnyArray::BinaryView(array) => write_buffers(alloc, array),
@@ -176,7 +177,7 @@ fn buffers(alloc: Global, array: &AnyArray) -> Result<String, Fault> {
     }
 }
 
-// The bytes of each buffer.
+// Returns the bytes of each buffer.
 fn write_buffers(alloc: Global, array: &BinaryViewArray) -> Result<String, Fault> {
     let mut text = String::new(alloc);
     for (i, buffer) in array.buffers().iter().enumerate() {
@@ -188,7 +189,8 @@ fn write_buffers(alloc: Global, array: &BinaryViewArray) -> Result<String, Fault
     Ok(text)
 }
 
-// The keys of a dictionary array, those of null rows too, their type, and how many are null.
+// Returns the keys of a dictionary array, including those of null rows, their type, and the number
+// of nulls.
 fn keys(alloc: Global, array: &AnyArray) -> Result<String, Fault> {
     let AnyArray::Dictionary(array) = array else {
         return Err(Fault::Case);
@@ -203,7 +205,7 @@ fn keys(alloc: Global, array: &AnyArray) -> Result<String, Fault> {
     Ok(text)
 }
 
-// The number of the entry of the row of a dictionary array that the next word tells.
+// Returns the index of the entry of the row of a dictionary array whose index is the next word.
 fn key_value(alloc: Global, array: &AnyArray, i: Result<usize, Fault>) -> Result<String, Fault>
     requires { IsGood array.now }
 {
@@ -214,7 +216,7 @@ fn key_value(alloc: Global, array: &AnyArray, i: Result<usize, Fault>) -> Result
     }
 }
 
-// The number of the entry of row `i`, where it is present.
+// Returns the index of the entry of row `i`, if it is present.
 fn entry_of(alloc: Global, array: &DictionaryArray, i: usize) -> Result<String, Fault>
     requires { IsGood (Dictionary array.now) }
 {
@@ -225,7 +227,7 @@ fn entry_of(alloc: Global, array: &DictionaryArray, i: usize) -> Result<String, 
     write_value(alloc, array.key_value(i))
 }
 
-// How many lists of one width or structs there are.
+// Returns the number of lists of one width or of structs.
 fn count(alloc: Global, array: &AnyArray) -> Result<String, Fault> {
     match array {
         AnyArray::FixedSizeList(array) => write_value(alloc, array.len()),
@@ -234,7 +236,7 @@ fn count(alloc: Global, array: &AnyArray) -> Result<String, Fault> {
     }
 }
 
-// How many items each list has.
+// Returns the number of items of each list.
 fn width(alloc: Global, array: &AnyArray) -> Result<String, Fault> {
     match array {
         AnyArray::FixedSizeList(array) => write_value(alloc, array.width()),
@@ -242,7 +244,7 @@ fn width(alloc: Global, array: &AnyArray) -> Result<String, Fault> {
     }
 }
 
-// How many bytes each string has.
+// Returns the number of bytes of each string.
 fn size(alloc: Global, array: &AnyArray) -> Result<String, Fault> {
     match array {
         AnyArray::FixedSizeBinary(array) => write_value(alloc, array.size()),

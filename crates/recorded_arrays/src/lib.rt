@@ -1,4 +1,5 @@
-//! The recorded cases of arrays: what is made of parts, sliced, copied and shared, what arrays lend, which rows are null, and types.
+//! Recorded cases of arrays: constructors, slices, clones and sharing, borrowed parts, null rows,
+//! and types.
 #![tactic(auto)]
 
 ghost use Rattle.polars_arrays_nested.specs.GoodParts.{IsGood};
@@ -26,7 +27,7 @@ use recorded_text::store::Store;
 use recorded_text::words::Words;
 use std::alloc::Global;
 
-/// The answer to a call of one of these subjects, or None for another one's.
+/// Returns the result of a call of these subjects, or `None` for any other call.
 pub fn answer(
     alloc: Global,
     call: &str,
@@ -41,7 +42,7 @@ pub fn answer(
     }
 }
 
-// The answer to a call.
+// Returns the result of a call.
 fn ask(alloc: Global, call: Call, store: &Store, words: &mut Words) -> Result<String, Fault>
     requires { HasGoodArrays store.now }
 {
@@ -58,14 +59,14 @@ fn ask(alloc: Global, call: Call, store: &Store, words: &mut Words) -> Result<St
     }
 }
 
-// What the array answers that the next word names.
+// Returns the result of a call on the array that the next word names.
 fn ask_next(alloc: Global, asked: OfOne, store: &Store, words: &mut Words) -> Result<String, Fault>
     requires { HasGoodArrays store.now }
 {
     ask_one(alloc, asked, store.read(words)?, words)
 }
 
-// What an array answers.
+// Returns the result of a call on an array.
 fn ask_one(
     alloc: Global,
     asked: OfOne,
@@ -85,7 +86,7 @@ fn ask_one(
     }
 }
 
-// What the two arrays answer that the next words name.
+// Returns the result of a call on the two arrays that the next words name.
 fn ask_next_two(
     alloc: Global,
     asked: OfTwo,

@@ -1,7 +1,7 @@
-//! Which rows of an array are null, asked row by row and as masks.
+//! Null rows of an array, one by one and as masks.
 //!
-//! A mask is written as its bits, 1 where a row is present, or as `none`, where no row is masked and there are
-//! no bits.
+//! A mask is written as its bits, 1 if a row is present, or as `none`, if no row is masked and
+//! there are no bits.
 
 ghost use Rattle.polars_arrays_nested.specs.GoodParts.{IsGood};
 ghost use Rattle.polars_arrays_nested.specs.declared.any_array.AnyArray.{Dictionary};
@@ -16,7 +16,7 @@ use recorded_text::fault::Fault;
 use recorded_text::words::Words;
 use std::alloc::Global;
 
-/// What is asked of an array.
+/// A call on an array.
 #[derive(Clone, Copy)]
 pub enum Asked {
     IsNullRow,
@@ -27,7 +27,7 @@ pub enum Asked {
     WindowMask,
 }
 
-/// What an array answers.
+/// Returns the result of a call on an array.
 pub fn ask(
     alloc: Global,
     asked: Asked,
@@ -46,7 +46,7 @@ pub fn ask(
     }
 }
 
-// Whether row `i` is null.
+// Returns whether row `i` is null.
 fn is_null_row(alloc: Global, array: &AnyArray, i: Result<usize, Fault>) -> Result<String, Fault>
     requires { IsGood array.now }
 {
@@ -57,7 +57,7 @@ fn is_null_row(alloc: Global, array: &AnyArray, i: Result<usize, Fault>) -> Resu
     write_value(alloc, array.is_null_row(i))
 }
 
-// The same, asked of a dictionary array itself.
+// Returns whether row `i` is null, by the call of dictionary arrays.
 fn is_null_key(alloc: Global, array: &AnyArray, i: Result<usize, Fault>) -> Result<String, Fault>
     requires { IsGood array.now }
 {
@@ -68,7 +68,7 @@ fn is_null_key(alloc: Global, array: &AnyArray, i: Result<usize, Fault>) -> Resu
     }
 }
 
-// Whether row `i` of a dictionary array is null.
+// Returns whether row `i` of a dictionary array is null.
 fn names_null(alloc: Global, array: &DictionaryArray, i: usize) -> Result<String, Fault>
     requires { IsGood (Dictionary array.now) }
 {
@@ -78,7 +78,7 @@ fn names_null(alloc: Global, array: &DictionaryArray, i: usize) -> Result<String
     write_value(alloc, array.is_null_row(i))
 }
 
-// Which of so many rows from a row on are present.
+// Returns the mask of some rows.
 fn window_mask(alloc: Global, array: &AnyArray, words: &mut Words) -> Result<String, Fault>
     requires { IsGood array.now }
 {

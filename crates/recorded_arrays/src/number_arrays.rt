@@ -1,7 +1,7 @@
-//! Arrays of numbers: their stored values, and how they are written to, shared, and given another validity.
+//! Arrays of numbers: their stored values, writing and sharing these, and replacing the validity.
 //!
-//! The answer to a change is the array that it leaves: its rows, the values stored below them, and whether it owns
-//! these.
+//! The result of a change is the changed array: its rows, its stored values, and whether it owns
+//! them.
 
 ghost use Rattle.std.specs.Prelude.{IfOk};
 ghost use Rattle.polars_arrays_flat.specs.Validity.{HasBits};
@@ -22,7 +22,7 @@ use std::alloc::Global;
 use std::fmt::Display;
 use std::str::FromStr;
 
-/// What is asked of an array of numbers, or is done to a clone of it.
+/// A call on an array of numbers, or a change of a clone of it.
 #[derive(Clone, Copy)]
 pub enum Asked {
     IsOwned,
@@ -35,7 +35,7 @@ pub enum Asked {
     AsMutValues,
 }
 
-/// What an array of numbers answers. One of another kind has no answer.
+/// Returns the result of a call on an array of numbers. It is an error for any other array.
 pub fn ask(
     alloc: Global,
     asked: Asked,
@@ -57,7 +57,7 @@ pub fn ask(
     }
 }
 
-// What an array of one type of numbers answers.
+// Returns the result of a call on an array of one type of numbers.
 fn ask_numbers<T: NativeType + Display + FromStr<Err: Drop>>(
     alloc: Global,
     asked: Asked,
@@ -76,7 +76,7 @@ fn ask_numbers<T: NativeType + Display + FromStr<Err: Drop>>(
     }
 }
 
-// An array of numbers: its rows, the stored values, and whether it owns these.
+// Returns an array of numbers as text: its rows, its stored values, and whether it owns them.
 fn write_array<T: NativeType + Display>(
     alloc: Global,
     array: &PrimitiveArray<T>,
@@ -86,7 +86,7 @@ fn write_array<T: NativeType + Display>(
     Ok(text)
 }
 
-/// An array of numbers that was made to be written.
+/// Returns an array of numbers as text, and drops it.
 pub fn write_owned<T: NativeType + Display>(
     alloc: Global,
     array: PrimitiveArray<T>,
@@ -96,7 +96,7 @@ pub fn write_owned<T: NativeType + Display>(
     text
 }
 
-/// The array of numbers that a call made.
+/// Returns the array of numbers that a call returned as text.
 pub fn write_made<T: NativeType + Display>(
     alloc: Global,
     made: Result<PrimitiveArray<T>, ComputeError>,
@@ -104,7 +104,7 @@ pub fn write_made<T: NativeType + Display>(
     write_owned(alloc, made?)
 }
 
-// Adds an array of numbers: its rows, the stored values, and whether it owns these.
+// Appends an array of numbers: its rows, its stored values, and whether it owns them.
 fn push_array<T: NativeType + Display>(
     text: &mut String,
     array: &PrimitiveArray<T>,
@@ -116,7 +116,7 @@ fn push_array<T: NativeType + Display>(
     write!(text, "{} null, {kept}", array.null_count()).map_err(Fault::from)
 }
 
-// Adds numbers, and `null` in place of those that a validity masks.
+// Appends numbers, with `null` in place of those that a validity masks.
 fn push_values<T: NativeType + Display>(
     text: &mut String,
     values: &[T],
@@ -132,7 +132,7 @@ fn push_values<T: NativeType + Display>(
     Ok(())
 }
 
-// A clone that shares its values.
+// Returns a clone that shares its values.
 fn share<T: NativeType + Display>(
     alloc: Global,
     array: &PrimitiveArray<T>,
@@ -140,7 +140,7 @@ fn share<T: NativeType + Display>(
     write_made(alloc, array.clone_array(alloc)?.share(alloc))
 }
 
-// The validity of a clone, and what it leaves.
+// Removes the validity of a clone, and returns both.
 fn take_validity<T: NativeType + Display>(
     alloc: Global,
     array: &PrimitiveArray<T>,
@@ -151,7 +151,7 @@ fn take_validity<T: NativeType + Display>(
     text
 }
 
-// A validity, and the array that it was taken from.
+// Returns a validity, and the array that it was removed from.
 fn write_taken<T: NativeType + Display>(
     alloc: Global,
     taken: Option<Bitmap>,
@@ -163,7 +163,7 @@ fn write_taken<T: NativeType + Display>(
     Ok(text)
 }
 
-// The bits of a validity, or `none`.
+// Returns the bits of a validity, or `none`.
 fn write_validity(alloc: Global, validity: Option<Bitmap>) -> Result<String, Fault> {
     match validity {
         Some(bits) => write_bits(alloc, &bits),
@@ -171,7 +171,7 @@ fn write_validity(alloc: Global, validity: Option<Bitmap>) -> Result<String, Fau
     }
 }
 
-// A clone under the validity that the next word writes.
+// Returns a clone with the validity of the next word.
 fn with_validity<T: NativeType + Display>(
     alloc: Global,
     array: &PrimitiveArray<T>,
@@ -181,7 +181,7 @@ fn with_validity<T: NativeType + Display>(
     write_owned(alloc, array.clone_array(alloc)?.with_validity(validity))
 }
 
-// The validity of so many rows that the next word writes. The error is `Case`, where it is one of more or of less.
+// Reads a validity of `len` rows. The error is `Case`, if it has another length.
 fn read_fitting(alloc: Global, len: usize, words: &mut Words) -> Result<Option<Bitmap>, Fault>
     ensures { IfOk result (λ validity. HasBits len validity) }
 {
@@ -193,7 +193,7 @@ fn read_fitting(alloc: Global, len: usize, words: &mut Words) -> Result<Option<B
     }
 }
 
-// A clone whose values are all the next word's.
+// Returns a clone filled with the value of the next word.
 fn fill_with<T: NativeType + Display + FromStr<Err: Drop>>(
     alloc: Global,
     array: &PrimitiveArray<T>,
@@ -203,7 +203,8 @@ fn fill_with<T: NativeType + Display + FromStr<Err: Drop>>(
     write_made(alloc, array.clone_array(alloc)?.fill_with(alloc, value))
 }
 
-// A clone of which each value that it lends is the next word's, or none where it lends none.
+// Writes the value of the next word over each value of a clone, if it lends them, and returns
+// `none` otherwise.
 fn get_mut_values<T: NativeType + Display + FromStr<Err: Drop>>(
     alloc: Global,
     array: &PrimitiveArray<T>,
@@ -216,7 +217,7 @@ fn get_mut_values<T: NativeType + Display + FromStr<Err: Drop>>(
     text
 }
 
-// An array of which each value that it lends is this one, or none where it lends none.
+// Writes a value over each value of an array, if it lends them, and returns `none` otherwise.
 fn write_filled<T: NativeType + Display>(
     alloc: Global,
     array: &mut PrimitiveArray<T>,
@@ -229,7 +230,7 @@ fn write_filled<T: NativeType + Display>(
     }
 }
 
-// Writes a number into each value that an array lends, and says whether it lends them.
+// Writes a number over each value that an array lends, and returns whether it lends them.
 fn write_all<T: NativeType>(array: &mut PrimitiveArray<T>, value: T) -> bool {
     match array.get_mut_values() {
         Some(values) => {
@@ -242,7 +243,7 @@ fn write_all<T: NativeType>(array: &mut PrimitiveArray<T>, value: T) -> bool {
     }
 }
 
-// A clone that owns its values, of which the one at a place is the last word's.
+// Writes the last word's value at a place of a clone that owns its values.
 fn as_mut_values<T: NativeType + Display + FromStr<Err: Drop>>(
     alloc: Global,
     array: &PrimitiveArray<T>,
@@ -256,7 +257,7 @@ fn as_mut_values<T: NativeType + Display + FromStr<Err: Drop>>(
     text
 }
 
-// An array that owns its values, of which the one at a place is this one.
+// Writes a value at a place of an array that owns its values.
 fn write_changed<T: NativeType + Display>(
     alloc: Global,
     array: &mut PrimitiveArray<T>,
@@ -267,7 +268,7 @@ fn write_changed<T: NativeType + Display>(
     write_array(alloc, array)
 }
 
-// Writes the value at a place of an array that owns its values, where there is one.
+// Writes a value at a place of an array that owns its values, if the place exists.
 fn set_value<T: NativeType>(
     array: &mut PrimitiveArray<T>,
     at: usize,

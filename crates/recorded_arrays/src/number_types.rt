@@ -1,4 +1,4 @@
-//! What is made of a type of numbers that a word names: arrays of them, and the type of these.
+//! Arrays of a type of numbers that a word names, and their type.
 
 use crate::number_arrays::{write_made, write_owned};
 use crate::types::write_made_type;
@@ -14,7 +14,7 @@ use std::alloc::Global;
 use std::fmt::Display;
 use std::str::FromStr;
 
-/// What is asked of a type of numbers.
+/// A call on a type of numbers.
 #[derive(Clone, Copy)]
 pub enum Asked {
     FromVec,
@@ -22,7 +22,7 @@ pub enum Asked {
     DataType,
 }
 
-// The types of numbers.
+// A type of numbers.
 #[derive(Clone, Copy)]
 enum NumberType {
     Int8,
@@ -37,7 +37,7 @@ enum NumberType {
     UInt128,
 }
 
-// The types of numbers by their names.
+// The types of numbers by name.
 const NUMBER_TYPES: [(&str, NumberType); 10] = [
     ("i8", NumberType::Int8),
     ("i16", NumberType::Int16),
@@ -51,7 +51,7 @@ const NUMBER_TYPES: [(&str, NumberType); 10] = [
     ("u128", NumberType::UInt128),
 ];
 
-/// What the type of numbers answers that the next word names.
+/// Returns the result of a call on the type of numbers that the next word names.
 pub fn ask(alloc: Global, asked: Asked, words: &mut Words) -> Result<String, Fault> {
     match find_word(&NUMBER_TYPES, words.read()?)? {
         NumberType::Int8 => ask_type::<i8>(alloc, asked, words),
@@ -67,7 +67,7 @@ pub fn ask(alloc: Global, asked: Asked, words: &mut Words) -> Result<String, Fau
     }
 }
 
-// What a type of numbers answers.
+// Returns the result of a call on a type of numbers.
 fn ask_type<T: ArrowType + Zero + Display + FromStr<Err: Drop>>(
     alloc: Global,
     asked: Asked,
@@ -80,7 +80,7 @@ fn ask_type<T: ArrowType + Zero + Display + FromStr<Err: Drop>>(
     }
 }
 
-// An array of the numbers that words write.
+// Creates an array of the numbers of the next words.
 fn from_vec<T: NativeType + Display + FromStr<Err: Drop>>(
     alloc: Global,
     words: &mut Words,
@@ -89,7 +89,7 @@ fn from_vec<T: NativeType + Display + FromStr<Err: Drop>>(
     write_owned(alloc, PrimitiveArray::<T>::from_vec(numbers))
 }
 
-// As many nulls as the next word says.
+// Creates nulls; the next word is their number.
 fn full_null<T: NativeType + Display + Zero>(
     alloc: Global,
     words: &mut Words,

@@ -1,4 +1,4 @@
-//! Arrays of byte strings and of texts: what they lend of each row, null or not.
+//! Arrays of byte strings and of texts: the values of all rows, null or not.
 
 ghost use Rattle.std.specs.Prelude.{◌≡◌};
 
@@ -19,7 +19,7 @@ use recorded_text::fault::Fault;
 use recorded_text::words::Words;
 use std::alloc::Global;
 
-/// What is asked of an array of byte strings or of texts.
+/// A call on an array of byte strings or of texts.
 #[derive(Clone, Copy)]
 pub enum Asked {
     Bytes,
@@ -29,7 +29,7 @@ pub enum Asked {
     AsBinview,
 }
 
-/// What an array answers.
+/// Returns the result of a call on an array.
 pub fn ask(
     alloc: Global,
     asked: Asked,
@@ -45,7 +45,7 @@ pub fn ask(
     }
 }
 
-// The byte strings, those of null rows too.
+// Returns the byte strings, including those of null rows.
 fn bytes(alloc: Global, array: &AnyArray) -> Result<String, Fault> {
     match array {
         AnyArray::Binary(array) => write_strings(alloc, array),
@@ -59,7 +59,7 @@ fn bytes(alloc: Global, array: &AnyArray) -> Result<String, Fault> {
     }
 }
 
-// The text of row `i`, null or not.
+// Returns the text of row `i`, null or not.
 fn value(alloc: Global, array: &AnyArray, i: Result<usize, Fault>) -> Result<String, Fault> {
     let i = i?;
     match array {
@@ -70,7 +70,7 @@ fn value(alloc: Global, array: &AnyArray, i: Result<usize, Fault>) -> Result<Str
     }
 }
 
-// The text of row `i`.
+// Returns the text of row `i`.
 fn text_at<O: Offset>(alloc: Global, array: &Utf8Array<O>, i: usize) -> Result<String, Fault> {
     if i >= array.offsets().len().saturating_sub(1) {
         return Err(Fault::Case);
@@ -78,7 +78,7 @@ fn text_at<O: Offset>(alloc: Global, array: &Utf8Array<O>, i: usize) -> Result<S
     write_value(alloc, array.value(i))
 }
 
-// The text of row `i`, kept by a view.
+// Returns the text of row `i` of an array of views.
 fn viewed_text(alloc: Global, array: &Utf8ViewArray, i: usize) -> Result<String, Fault> {
     if i >= array.views().len() {
         return Err(Fault::Case);
@@ -86,7 +86,7 @@ fn viewed_text(alloc: Global, array: &Utf8ViewArray, i: usize) -> Result<String,
     write_value(alloc, array.value(i))
 }
 
-// The byte strings of an array of that size, known when the code is compiled.
+// Returns the byte strings of an array of a size that is a constant of the code.
 fn of_size(alloc: Global, array: &AnyArray, size: Result<usize, Fault>) -> Result<String, Fault> {
     let size = size?;
     let AnyArray::FixedSizeBinary(array) = array else {
@@ -103,7 +103,7 @@ fn of_size(alloc: Global, array: &AnyArray, size: Result<usize, Fault>) -> Resul
     }
 }
 
-// The byte strings of an array of that size.
+// Returns the byte strings of an array of size `SIZE`.
 fn sized<const SIZE: usize>(alloc: Global, array: &FixedSizeBinaryArray) -> Result<String, Fault> {
     if array.size() != SIZE {
         return Err(Fault::Case);
@@ -111,7 +111,7 @@ fn sized<const SIZE: usize>(alloc: Global, array: &FixedSizeBinaryArray) -> Resu
     write_strings(alloc, &OfSize::<SIZE>::new(array))
 }
 
-// The type and the byte strings of the array that texts between offsets are kept in.
+// Returns the type and the byte strings of the array that stores texts between offsets.
 fn as_binary(alloc: Global, array: &AnyArray) -> Result<String, Fault> {
     match array {
         AnyArray::Utf8(array) => binary_of(alloc, array),
@@ -120,13 +120,13 @@ fn as_binary(alloc: Global, array: &AnyArray) -> Result<String, Fault> {
     }
 }
 
-// The type and the byte strings of the array that texts are kept in.
+// Returns the type and the byte strings of the array that stores texts.
 fn binary_of<O: OffsetType>(alloc: Global, array: &Utf8Array<O>) -> Result<String, Fault> {
     let binary = array.as_binary();
     write_typed(alloc, binary.dtype(alloc), binary)
 }
 
-// The type and the byte strings of the array that texts by views are kept in.
+// Returns the type and the byte strings of the array that stores texts in views.
 fn as_binview(alloc: Global, array: &AnyArray) -> Result<String, Fault> {
     let AnyArray::Utf8View(array) = array else {
         return Err(Fault::Case);
@@ -135,7 +135,7 @@ fn as_binview(alloc: Global, array: &AnyArray) -> Result<String, Fault> {
     write_typed(alloc, binary.dtype(alloc), binary)
 }
 
-// A type and byte strings.
+// Returns a type and byte strings as text.
 fn write_typed<A: ByteRows>(
     alloc: Global,
     dtype: Result<ArrowDataType, ComputeError>,

@@ -1,4 +1,4 @@
-//! Structs that are made of fields and columns, which need not fit each other.
+//! Structs of fields and columns that need not match.
 
 ghost use Rattle.std.specs.Prelude.{IfOk};
 ghost use Rattle.std.specs.List.{All};
@@ -17,9 +17,9 @@ use recorded_text::store::Store;
 use recorded_text::words::Words;
 use std::alloc::Global;
 
-/// The rows of the structs that words write, or why there are none: the number of rows, the validity, how many fields
-/// there are, the name of each and an array of its type, how many columns there are, and an array of which each is a
-/// copy.
+/// Reads structs, and returns their rows or the error: the number of rows, the validity, the number
+/// of fields, the name of each and an array of its type, the number of columns, and for each the
+/// array that it is a clone of.
 pub fn try_new(alloc: Global, store: &Store, words: &mut Words) -> Result<String, Fault>
     requires { HasGoodArrays store.now }
 {
@@ -30,7 +30,7 @@ pub fn try_new(alloc: Global, store: &Store, words: &mut Words) -> Result<String
     write_struct(alloc, StructArray::try_new(fields, len, columns, validity))
 }
 
-// The rows of structs, or why there are none.
+// Returns the rows of structs, or the error.
 fn write_struct(alloc: Global, made: Result<StructArray, ArrayError>) -> Result<String, Fault>
     requires { IfOk made (λ array. IsGood (Struct array)) }
 {
@@ -40,12 +40,12 @@ fn write_struct(alloc: Global, made: Result<StructArray, ArrayError>) -> Result<
     }
 }
 
-// Why there are no structs.
+// Returns the error of creating structs.
 fn refusal(alloc: Global, error: &ArrayError) -> Result<String, Fault> {
     format!(in alloc; "refused: {error}").map_err(Fault::from)
 }
 
-// As many fields as the next word says.
+// Reads a count, and that many fields.
 fn read_fields(alloc: Global, store: &Store, words: &mut Words) -> Result<Vec<Field>, Fault>
     requires { HasGoodArrays store.now }
 {
@@ -59,7 +59,7 @@ fn read_fields(alloc: Global, store: &Store, words: &mut Words) -> Result<Vec<Fi
     Ok(fields)
 }
 
-// As many columns as the next word says.
+// Reads a count, and that many columns.
 fn read_columns(alloc: Global, store: &Store, words: &mut Words) -> Result<Vec<AnyArray>, Fault>
     requires { HasGoodArrays store.now }
     ensures { IfOk result (λ columns. All IsGood columns.items) }
@@ -73,7 +73,7 @@ fn read_columns(alloc: Global, store: &Store, words: &mut Words) -> Result<Vec<A
     Ok(columns)
 }
 
-// A copy of the array that the next word names.
+// Returns a clone of the array that the next word names.
 fn read_copy(alloc: Global, store: &Store, words: &mut Words) -> Result<AnyArray, Fault>
     requires { HasGoodArrays store.now }
     ensures { IfOk result (λ copy. IsGood copy) }

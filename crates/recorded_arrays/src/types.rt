@@ -1,4 +1,4 @@
-//! Types of arrays: their names, and when they are the same.
+//! Types of arrays: their names, and comparisons of them.
 
 use crate::values_text::write_value;
 use polars_arrays_bits::error::ComputeError;
@@ -11,7 +11,7 @@ use recorded_text::type_text::write_type;
 use recorded_text::words::Words;
 use std::alloc::Global;
 
-/// Whether the types of two arrays stand a test.
+/// Returns whether a test of the types of two arrays holds.
 pub fn write_comparison(
     alloc: Global,
     left: &AnyArray,
@@ -21,7 +21,7 @@ pub fn write_comparison(
     write_value(alloc, is_told(alloc, left, right, comparison)?)
 }
 
-/// What is tested of the types of two arrays.
+/// A test of the types of two arrays.
 #[derive(Clone, Copy)]
 pub enum NamedComparison {
     SameType,
@@ -34,7 +34,8 @@ pub enum NamedComparison {
     EqualField,
 }
 
-// Whether the types of two arrays stand the test, where fields are tested the first fields of structs.
+// Returns whether a test of the types of two arrays holds. Tests of fields are of the first fields
+// of structs.
 fn is_told(
     alloc: Global,
     left: &AnyArray,
@@ -54,7 +55,7 @@ fn is_told(
     }
 }
 
-// Whether an array has a type.
+// Returns whether an array has a type.
 fn has_type(array: &AnyArray, dtype: Result<ArrowDataType, ComputeError>) -> Result<bool, Fault> {
     let dtype = dtype?;
     let holds = array.has_type(&dtype);
@@ -62,7 +63,7 @@ fn has_type(array: &AnyArray, dtype: Result<ArrowDataType, ComputeError>) -> Res
     Ok(holds)
 }
 
-// Whether a type is that of structs of these fields.
+// Returns whether a type is that of structs of these fields.
 fn has_fields(fields: &[Field], dtype: Result<ArrowDataType, ComputeError>) -> Result<bool, Fault> {
     let dtype = dtype?;
     let holds = is_struct_of(fields, &dtype);
@@ -70,7 +71,7 @@ fn has_fields(fields: &[Field], dtype: Result<ArrowDataType, ComputeError>) -> R
     Ok(holds)
 }
 
-// Whether the types of two arrays are equal, or only of one kind.
+// Returns whether the types of two arrays are equal, by `==` or by `same_kind`.
 fn compare_types(
     alloc: Global,
     left: &AnyArray,
@@ -83,7 +84,7 @@ fn compare_types(
     holds
 }
 
-// Whether two types are equal, or only of one kind.
+// Returns whether two types are equal, by `==` or by `same_kind`.
 fn compare_type(
     left: &ArrowDataType,
     right: Result<ArrowDataType, ComputeError>,
@@ -98,7 +99,7 @@ fn compare_type(
     Ok(holds)
 }
 
-// The fields of structs.
+// Returns the fields of structs.
 fn fields(array: &AnyArray) -> Result<&[Field], Fault> {
     match array {
         AnyArray::Struct(array) => Ok(array.fields()),
@@ -106,7 +107,7 @@ fn fields(array: &AnyArray) -> Result<&[Field], Fault> {
     }
 }
 
-// The first field of structs.
+// Returns the first field of structs.
 fn first_field(array: &AnyArray) -> Result<&Field, Fault> {
     match fields(array)?.first() {
         Some(field) => Ok(field),
@@ -114,7 +115,7 @@ fn first_field(array: &AnyArray) -> Result<&Field, Fault> {
     }
 }
 
-// The text of a type that was made to be written.
+// Returns the text of a type, and drops it.
 pub fn write_made_type(
     alloc: Global,
     made: Result<ArrowDataType, ComputeError>,
@@ -125,12 +126,12 @@ pub fn write_made_type(
     text
 }
 
-/// The type of an array.
+/// Returns the type of an array.
 pub fn dtype(alloc: Global, array: &AnyArray) -> Result<String, Fault> {
     write_made_type(alloc, array.dtype(alloc))
 }
 
-/// A copy of the type of an array.
+/// Returns a clone of the type of an array.
 pub fn copied_type(alloc: Global, array: &AnyArray) -> Result<String, Fault> {
     let dtype = array.dtype(alloc)?;
     let copy = clone_type(alloc, &dtype);
@@ -138,14 +139,15 @@ pub fn copied_type(alloc: Global, array: &AnyArray) -> Result<String, Fault> {
     write_made_type(alloc, copy)
 }
 
-/// What stands between offsets.
+/// The strings between offsets.
 #[derive(Clone, Copy)]
 pub enum Strings {
     Bytes,
     Texts,
 }
 
-/// The type of an array of byte strings, or of texts, between offsets of the type that the next word names.
+/// Returns the type of an array of byte strings, or of texts, with offsets of the type that the
+/// next word names.
 pub fn strings_data_type(
     alloc: Global,
     strings: Strings,
@@ -158,7 +160,7 @@ pub fn strings_data_type(
     }
 }
 
-// The type of an array of strings between such offsets.
+// Returns the type of an array of strings with such offsets.
 fn data_type<O: OffsetType>(strings: Strings) -> ArrowDataType {
     match strings {
         Strings::Bytes => O::binary_data_type(),

@@ -1,4 +1,4 @@
-//! Views: what their sixteen bytes say, and when two of them agree.
+//! Views: the contents of their sixteen bytes, and comparisons of two.
 
 ghost use Rattle.std.specs.Prelude.{◌+◌, ◌≤◌, IsTrue, drop};
 ghost use Rattle.polars_arrays_views.specs.Views.{AllZero, view_len};
@@ -12,7 +12,7 @@ use recorded_text::parts::{Kept, read_buffers, read_bytes, read_view};
 use recorded_text::words::Words;
 use std::alloc::Global;
 
-/// What is asked of a view.
+/// A call on a view.
 #[derive(Clone, Copy)]
 pub enum Asked {
     AsU128,
@@ -28,12 +28,12 @@ pub enum Asked {
     InlinedLess,
 }
 
-/// What the view answers that the next word's bytes are.
+/// Returns the result of a call on the view whose bytes are the next word.
 pub fn ask_next(alloc: Global, asked: Asked, words: &mut Words) -> Result<String, Fault> {
     ask(alloc, asked, read(alloc, words)?, words)
 }
 
-/// The view of a row of at most 12 bytes.
+/// Returns the view of a row of at most 12 bytes.
 pub fn of_short(alloc: Global, words: &mut Words) -> Result<String, Fault> {
     let bytes = read_bytes(alloc, words.read()?)?;
     if bytes.len() > 12 {
@@ -43,12 +43,12 @@ pub fn of_short(alloc: Global, words: &mut Words) -> Result<String, Fault> {
     write_bytes(alloc, &view.as_u128().to_le_bytes())
 }
 
-// The view that the next word's bytes are.
+// Reads the view whose bytes are the next word.
 fn read(alloc: Global, words: &mut Words) -> Result<View, Fault> {
     read_view(alloc, words.read()?)
 }
 
-// What a view answers, together with another view or with the buffers that follow.
+// Returns the result of a call on a view, and another view or the buffers of the next words.
 fn ask(alloc: Global, asked: Asked, view: View, words: &mut Words) -> Result<String, Fault> {
     match asked {
         Asked::AsU128 => write_value(alloc, view.as_u128()),
@@ -65,7 +65,7 @@ fn ask(alloc: Global, asked: Asked, view: View, words: &mut Words) -> Result<Str
     }
 }
 
-// Whether a view and one that was read are the same in part, or the left row is less.
+// Returns whether a view and another one agree in part, or whether the left row is less.
 fn compare(
     alloc: Global,
     asked: Asked,
@@ -80,7 +80,7 @@ fn compare(
     }
 }
 
-// The bytes of a row of at most 12 bytes.
+// Returns the bytes of a row of at most 12 bytes.
 fn inlined(alloc: Global, view: &View) -> Result<String, Fault> {
     if view.len() > 12 {
         return Err(Fault::Case);
@@ -88,7 +88,7 @@ fn inlined(alloc: Global, view: &View) -> Result<String, Fault> {
     write_bytes(alloc, view.inlined())
 }
 
-// The bytes of a longer row, which lies in one of the buffers that follow.
+// Returns the bytes of a longer row, which lies in one of the buffers of the next words.
 fn in_buffer(alloc: Global, view: &View, words: &mut Words) -> Result<String, Fault> {
     let buffers = read_buffers(alloc, Kept::Owned, words)?;
     let text = write_long(alloc, view, &buffers);
@@ -96,7 +96,7 @@ fn in_buffer(alloc: Global, view: &View, words: &mut Words) -> Result<String, Fa
     text
 }
 
-// The bytes of a longer row, which lies in one of these buffers.
+// Returns the bytes of a longer row, which lies in one of these buffers.
 fn write_long(alloc: Global, view: &View, buffers: &[Buffer<u8>]) -> Result<String, Fault> {
     if view.len() <= 12 || !view.is_good(buffers) {
         return Err(Fault::Case);
@@ -104,7 +104,7 @@ fn write_long(alloc: Global, view: &View, buffers: &[Buffer<u8>]) -> Result<Stri
     write_bytes(alloc, view.in_buffer(buffers))
 }
 
-// Whether the view stands for a row over the buffers that follow.
+// Returns whether the view describes a row of the buffers of the next words.
 fn is_good(alloc: Global, view: &View, words: &mut Words) -> Result<String, Fault> {
     let buffers = read_buffers(alloc, Kept::Owned, words)?;
     let good = view.is_good(&buffers);
@@ -112,7 +112,7 @@ fn is_good(alloc: Global, view: &View, words: &mut Words) -> Result<String, Faul
     write_value(alloc, good)
 }
 
-// Whether the left row is less, where both have at most 12 bytes and zeros behind them.
+// Returns whether the left row is less. Both must have at most 12 bytes, padded with zeros.
 fn inlined_less(alloc: Global, left: &View, right: &View) -> Result<String, Fault> {
     if !is_short(left) || !is_short(right) {
         return Err(Fault::Case);
@@ -120,7 +120,7 @@ fn inlined_less(alloc: Global, left: &View, right: &View) -> Result<String, Faul
     write_value(alloc, left.inlined_less(right))
 }
 
-// Whether a view holds a row of at most 12 bytes, and zeros behind it.
+// Returns whether a view holds a row of at most 12 bytes, padded with zeros.
 fn is_short(view: &View) -> bool
     ensures short { IsTrue result → view_len view.now ≤ 12 }
     ensures zeros { IsTrue result → AllZero (drop (4 + view_len view.now) view.now) }

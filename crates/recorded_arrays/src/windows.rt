@@ -1,11 +1,12 @@
-//! Windows of rows, as words tell them.
+//! Windows of rows in words.
 
 ghost use Rattle.std.specs.Prelude.{◌+◌, ◌≤◌, IfOk};
 
 use recorded_text::fault::Fault;
 use recorded_text::words::Words;
 
-/// From which row on how many rows are meant, of so many. The error is `Case`, where there are not as many.
+/// Reads the first row and the number of rows of a window. The error is `Case`, if there are fewer
+/// rows than that.
 pub fn read_window(words: &mut Words, len: usize) -> Result<(usize, usize), Fault>
     ensures { IfOk result (λ window. window.0 + window.1 ≤ len) }
 {

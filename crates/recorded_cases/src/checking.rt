@@ -9,11 +9,11 @@ use recorded_text::store::Store;
 /// The use made of the results of a file's calls.
 #[derive(Clone, Copy, Debug, PartialEq, Eq)]
 pub enum Mode {
-    /// They are compared with the recorded ones.
+    /// Compare them with the recorded ones.
     Compare,
-    /// They are compared with recorded ones that are all wrong.
+    /// Compare them with recorded ones that are all wrong.
     CompareWrong,
-    /// They are printed.
+    /// Print them.
     Print,
 }
 

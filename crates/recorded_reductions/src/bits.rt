@@ -1,10 +1,10 @@
 //! Counts of the bits of each row, and reductions of the bits of all rows, of truth values and of
 //! numbers of 8 to 64 bits.
 //!
-//! | Call | Answer |
+//! | Call | Result |
 //! |---|---|
 //! | `count_ones A`, and so of `count_zeros`, `leading_ones`, `leading_zeros`, `trailing_ones` and `trailing_zeros` | the rows of the counts |
-//! | `reduce_and A`, and so of `or` and `xor` | a number or a truth value, and `none` without a present row |
+//! | `reduce_and A`, and so of `or` and `xor` | a number or a truth value, or `none` if no row is present |
 
 use crate::calls::{BitQuestion, Count, Join};
 use crate::found_text::push_found;
@@ -19,7 +19,7 @@ use recorded_text::fault::Fault;
 use std::alloc::Global;
 use std::fmt::Display;
 
-/// Adds what is asked of an array's rows.
+/// Appends the result of a call on an array's rows.
 pub fn push_answer(
     alloc: Global,
     text: &mut String,
@@ -30,7 +30,7 @@ pub fn push_answer(
         Boolean Int8 Int16 Int32 Int64 UInt8 UInt16 UInt32 UInt64)
 }
 
-// Adds what is asked of rows of one kind.
+// Appends the result of a call on rows of one kind.
 fn push_of_rows<K: BitwiseKernel<Scalar: Copy + Display>>(
     alloc: Global,
     text: &mut String,
@@ -59,7 +59,7 @@ fn count_each<K: BitwiseKernel>(
     }
 }
 
-// Adds the counts that a call made.
+// Appends the counts that a call returned.
 fn push_made(
     text: &mut String,
     made: Result<PrimitiveArray<u32>, ComputeError>,
@@ -67,7 +67,7 @@ fn push_made(
     push_counts(text, &made?)
 }
 
-// Adds the rows of an array of counts, parted by spaces.
+// Appends the rows of an array of counts, separated by spaces.
 fn push_counts(text: &mut String, counts: &PrimitiveArray<u32>) -> Result<(), Fault> {
     for (i, count) in counts.values().iter().enumerate() {
         let space = if i > 0 { " " } else { "" };
@@ -81,7 +81,7 @@ fn push_counts(text: &mut String, counts: &PrimitiveArray<u32>) -> Result<(), Fa
     Ok(())
 }
 
-// Returns what rows of one kind reduce to.
+// Returns the reduction of rows of one kind.
 fn reduced<K: BitwiseKernel>(join: Join, rows: &K) -> Option<K::Scalar> {
     match join {
         Join::And => rows.reduce_and(),

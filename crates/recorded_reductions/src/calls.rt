@@ -1,26 +1,26 @@
-//! The calls of this library, by their names.
+//! The calls by name.
 
-/// A call, and what it asks.
+/// A call.
 #[derive(Clone, Copy)]
 pub enum Call {
-    /// A question about the bits of the rows of an array.
+    /// A call on the bits of the rows of an array.
     Bits(BitQuestion),
-    /// The extremes of what an array has.
+    /// The extremes of a part of an array.
     Extremes(Subject, Extremes),
     /// The extremes of an array of any kind.
     Dispatched(Extremes),
-    /// A question about the best byte string.
+    /// A call for the best byte string.
     Best(Best),
     /// An operator on the bits of two scalars.
     Join(Join),
 }
 
-/// A question about the bits of the rows of an array.
+/// A call on the bits of the rows of an array.
 #[derive(Clone, Copy)]
 pub enum BitQuestion {
-    /// Their number in each row.
+    /// The count of them in each row.
     Count(Count),
-    /// The bits that those of all rows are joined to.
+    /// Their reduction over all rows.
     Reduce(Join),
 }
 
@@ -43,7 +43,7 @@ pub enum Join {
     Xor,
 }
 
-/// The part of an array that extremes are of.
+/// The part of an array whose extremes are computed.
 #[derive(Clone, Copy)]
 pub enum Subject {
     /// Its rows, which are numbers or truth values.
@@ -67,14 +67,14 @@ pub enum Extremes {
     MinMaxPropagate,
 }
 
-/// A question about the best byte string.
+/// A call for the best byte string.
 #[derive(Clone, Copy)]
 pub enum Best {
     Place,
     Bytes,
 }
 
-/// The calls by their names.
+/// The calls by name.
 pub const CALLS: [(&str, Call); 43] = [
     ("count_ones", Call::Bits(BitQuestion::Count(Count::Ones))),
     ("count_zeros", Call::Bits(BitQuestion::Count(Count::Zeros))),

@@ -1,9 +1,9 @@
 //! Extremes of arrays of any kind.
 //!
-//! | Call | Answer |
+//! | Call | Result |
 //! |---|---|
-//! | `dyn_array_min_ignore_nan A`, and so of `max_ignore_nan`, `min_propagate_nan` and `max_propagate_nan` | the name of the array's kind and the row, `none` without a present one, and `refused: not supported` |
-//! | `dyn_array_min_max_propagate_nan A` | the least and the greatest row in the same way |
+//! | `dyn_array_min_ignore_nan A`, and so of `max_ignore_nan`, `min_propagate_nan` and `max_propagate_nan` | the name of the array's kind and the row, `none` if no row is present, or `refused: not supported` |
+//! | `dyn_array_min_max_propagate_nan A` | the kind and the least and the greatest row, `none`, or `refused: not supported` |
 
 use crate::calls::Extremes;
 use crate::found_text::push_none;
@@ -18,7 +18,7 @@ use recorded_text::bytes_text::push_bytes;
 use recorded_text::fault::Fault;
 use std::fmt::Display;
 
-/// Adds the extremes of an array. For both there is one name alone.
+/// Appends the extremes of an array. The call for both has only one name.
 pub fn push_answer(text: &mut String, asked: Extremes, array: &AnyArray) -> Result<(), Fault> {
     match asked {
         Extremes::MinIgnore => push_extreme(text, dyn_array_min_ignore_nan(array)),
@@ -30,7 +30,7 @@ pub fn push_answer(text: &mut String, asked: Extremes, array: &AnyArray) -> Resu
     }
 }
 
-// Adds an extreme, or why there is none.
+// Appends an extreme, or the error.
 fn push_extreme(
     text: &mut String,
     answer: Result<Option<AnyScalar<'_>>, ComputeError>,
@@ -42,7 +42,7 @@ fn push_extreme(
     }
 }
 
-// Adds both extremes, or why there are none.
+// Appends both extremes, or the error.
 fn push_both(
     text: &mut String,
     answer: Result<Option<(AnyScalar<'_>, AnyScalar<'_>)>, ComputeError>,
@@ -54,7 +54,7 @@ fn push_both(
     }
 }
 
-// Adds why a call is refused, where it is not for memory.
+// Appends the error of a call, unless it is a failed allocation.
 fn push_refusal(text: &mut String, refused: ComputeError) -> Result<(), Fault> {
     match refused {
         ComputeError::Memory(_) => Err(Fault::Memory),
@@ -62,14 +62,14 @@ fn push_refusal(text: &mut String, refused: ComputeError) -> Result<(), Fault> {
     }
 }
 
-// Adds two scalars to a text.
+// Appends two scalars.
 fn push_two(text: &mut String, least: AnyScalar<'_>, greatest: AnyScalar<'_>) -> Result<(), Fault> {
     push_scalar(text, least)?;
     text.push(' ')?;
     push_scalar(text, greatest)
 }
 
-// Adds a scalar to a text: the name of its kind, and the row.
+// Appends a scalar: the name of its kind, and the row.
 fn push_scalar(text: &mut String, scalar: AnyScalar<'_>) -> Result<(), Fault> {
     match scalar {
         AnyScalar::Boolean(truth) => push_plain(text, "bool ", truth),
@@ -92,12 +92,12 @@ fn push_scalar(text: &mut String, scalar: AnyScalar<'_>) -> Result<(), Fault> {
     }
 }
 
-// Adds a name and a number or a truth value.
+// Appends a name and a number or a truth value.
 fn push_plain<T: Copy + Display>(text: &mut String, name: &str, scalar: T) -> Result<(), Fault> {
     write!(text, "{name}{scalar}").map_err(Fault::from)
 }
 
-// Adds a name and a byte string.
+// Appends a name and a byte string.
 fn push_string(text: &mut String, name: &str, bytes: &[u8]) -> Result<(), Fault> {
     text.push_str(name)?;
     push_bytes(text, bytes)

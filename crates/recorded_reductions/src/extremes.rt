@@ -1,12 +1,12 @@
 //! Extremes of arrays of one kind, and of slices of numbers.
 //!
-//! | Call | Answer |
+//! | Call | Result |
 //! |---|---|
-//! | `min_ignore_nan_kernel A`, `max_ignore_nan_kernel A` | the least or the greatest present row of numbers or truth values, and `none` without one |
+//! | `min_ignore_nan_kernel A`, `max_ignore_nan_kernel A` | the least or the greatest present row of numbers or truth values, or `none` |
 //! | `min_max_ignore_nan_kernel A` | both |
-//! | `min_propagate_nan_kernel A`, and so of `max` and `min_max` | the same |
-//! | `slice_min_ignore_nan_kernel A` and so on | the same of the stored numbers of A, those of null rows too |
-//! | `bytes_min_ignore_nan_kernel A`, `text_min_ignore_nan_kernel A` and so on | the same of byte strings, or of texts by their bytes |
+//! | `min_propagate_nan_kernel A`, and so of `max` and `min_max` | the results of the calls with `ignore` |
+//! | `slice_min_ignore_nan_kernel A` and so on | the extremes of the stored numbers of A, including those of null rows |
+//! | `bytes_min_ignore_nan_kernel A`, `text_min_ignore_nan_kernel A` and so on | the extremes of byte strings, or of texts as bytes |
 
 ghost use Rattle.polars_arrays_nested.specs.GoodParts.{IsGood};
 
@@ -19,7 +19,7 @@ use polars_compare_extremes::kernel::MinMaxKernel;
 use recorded_text::fault::Fault;
 use std::fmt::Display;
 
-/// Adds the extremes of what is asked of an array.
+/// Appends the extremes of a part of an array.
 pub fn push_answer(
     text: &mut String,
     subject: Subject,
@@ -36,19 +36,19 @@ pub fn push_answer(
     }
 }
 
-// Adds the extremes of the rows of an array of numbers or truth values.
+// Appends the extremes of the rows of an array of numbers or truth values.
 fn push_of_rows(text: &mut String, asked: Extremes, array: &AnyArray) -> Result<(), Fault> {
     of_kind!(array, rows => push_extremes(text, asked, rows),
         Boolean Int8 Int16 Int32 Int64 Int128 UInt8 UInt16 UInt32 UInt64 UInt128)
 }
 
-// Adds the extremes of the numbers that an array stores.
+// Appends the extremes of the numbers that an array stores.
 fn push_of_stored(text: &mut String, asked: Extremes, array: &AnyArray) -> Result<(), Fault> {
     of_kind!(array, rows => push_extremes(text, asked, &rows.values()),
         Int8 Int16 Int32 Int64 Int128 UInt8 UInt16 UInt32 UInt64 UInt128)
 }
 
-// Adds the extremes of numbers or truth values.
+// Appends the extremes of numbers or truth values.
 fn push_extremes<K: MinMaxKernel<Scalar: Display>>(
     text: &mut String,
     asked: Extremes,
@@ -64,14 +64,14 @@ fn push_extremes<K: MinMaxKernel<Scalar: Display>>(
     }
 }
 
-// Adds the extremes of an array of byte strings.
+// Appends the extremes of an array of byte strings.
 fn push_of_bytes(text: &mut String, asked: Extremes, array: &AnyArray) -> Result<(), Fault>
     requires { IsGood array.now }
 {
     of_kind!(array, rows => push_byte_extremes(text, asked, rows), Binary LargeBinary BinaryView)
 }
 
-// Adds the extremes of byte strings.
+// Appends the extremes of byte strings.
 fn push_byte_extremes<K: BytesMinMaxKernel>(
     text: &mut String,
     asked: Extremes,
@@ -87,14 +87,14 @@ fn push_byte_extremes<K: BytesMinMaxKernel>(
     }
 }
 
-// Adds the extremes of an array of texts.
+// Appends the extremes of an array of texts.
 fn push_of_texts(text: &mut String, asked: Extremes, array: &AnyArray) -> Result<(), Fault>
     requires { IsGood array.now }
 {
     of_kind!(array, rows => push_text_extremes(text, asked, rows), Utf8 LargeUtf8 Utf8View)
 }
 
-// Adds the extremes of texts.
+// Appends the extremes of texts.
 fn push_text_extremes<K: TextMinMaxKernel>(
     text: &mut String,
     asked: Extremes,

@@ -1,16 +1,16 @@
-//! What a call found, as text: a number, a truth value, or `x` and the hexadecimal digits of the
-//! bytes of a string or a text; two of these, parted by a space; and `none`.
+//! Results of searches as text: a number, a truth value, or `x` and the hexadecimal digits of the
+//! bytes of a string or a text; two of these, separated by a space; or `none`.
 
 use recorded_text::bytes_text::push_bytes;
 use recorded_text::fault::Fault;
 use std::fmt::Display;
 
-/// Adds that nothing was found.
+/// Appends `none`.
 pub fn push_none(text: &mut String) -> Result<(), Fault> {
     text.push_str("none").map_err(Fault::from)
 }
 
-/// Adds a number or a truth value.
+/// Appends a number or a truth value, or `none`.
 pub fn push_found<T: Copy + Display>(text: &mut String, found: Option<T>) -> Result<(), Fault> {
     match found {
         Some(found) => write!(text, "{found}").map_err(Fault::from),
@@ -18,7 +18,7 @@ pub fn push_found<T: Copy + Display>(text: &mut String, found: Option<T>) -> Res
     }
 }
 
-/// Adds two numbers or truth values.
+/// Appends two numbers or truth values, or `none`.
 pub fn push_pair<T: Copy + Display>(text: &mut String, found: Option<(T, T)>) -> Result<(), Fault> {
     match found {
         Some((least, greatest)) => write!(text, "{least} {greatest}").map_err(Fault::from),
@@ -26,7 +26,7 @@ pub fn push_pair<T: Copy + Display>(text: &mut String, found: Option<(T, T)>) ->
     }
 }
 
-/// Adds a byte string.
+/// Appends a byte string, or `none`.
 pub fn push_string(text: &mut String, found: Option<&[u8]>) -> Result<(), Fault> {
     match found {
         Some(bytes) => push_bytes(text, bytes),
@@ -34,7 +34,7 @@ pub fn push_string(text: &mut String, found: Option<&[u8]>) -> Result<(), Fault>
     }
 }
 
-/// Adds two byte strings.
+/// Appends two byte strings, or `none`.
 pub fn push_strings(text: &mut String, found: Option<(&[u8], &[u8])>) -> Result<(), Fault> {
     match found {
         Some((least, greatest)) => push_two(text, least, greatest),
@@ -42,7 +42,7 @@ pub fn push_strings(text: &mut String, found: Option<(&[u8], &[u8])>) -> Result<
     }
 }
 
-/// Adds the bytes of a text.
+/// Appends the bytes of a text, or `none`.
 pub fn push_text(text: &mut String, found: Option<&str>) -> Result<(), Fault> {
     match found {
         Some(found) => push_bytes(text, found.as_bytes()),
@@ -50,7 +50,7 @@ pub fn push_text(text: &mut String, found: Option<&str>) -> Result<(), Fault> {
     }
 }
 
-/// Adds the bytes of two texts.
+/// Appends the bytes of two texts, or `none`.
 pub fn push_texts(text: &mut String, found: Option<(&str, &str)>) -> Result<(), Fault> {
     match found {
         Some((least, greatest)) => push_two(text, least.as_bytes(), greatest.as_bytes()),
@@ -58,7 +58,7 @@ pub fn push_texts(text: &mut String, found: Option<(&str, &str)>) -> Result<(), 
     }
 }
 
-// Adds two byte strings, parted by a space.
+// Appends two byte strings, separated by a space.
 fn push_two(text: &mut String, least: &[u8], greatest: &[u8]) -> Result<(), Fault> {
     push_bytes(text, least)?;
     text.push(' ')?;

@@ -1,7 +1,7 @@
-//! The kinds of arrays, where a call is for several of them.
+//! Calls that exist for several kinds of arrays.
 
-/// Asks the array inside one of any kind. There is an answer for the kinds that are named
-/// alone.
+/// Calls a function with the array inside an array of any kind. For kinds that are not named it is
+/// an error.
 macro_rules! of_kind {
     ($any:expr, $array:ident => $each:expr, $($kind:ident)+) => {
         match $any {

@@ -1,9 +1,8 @@
-//! The recorded cases of columns that are counted, reduced and searched: counts of bits, reductions
-//! by bits, and extremes of arrays, of slices and of arrays of any kind.
+//! Recorded cases of counts of bits, bitwise reductions, and extremes of arrays, of slices and of
+//! arrays of any kind.
 //!
-//! An array is an operand by its name, and is lent to the call. Sums are asked for in
-//! `recorded_arithmetic`. Each function adds its answer to one text, which `answer` makes and
-//! lends.
+//! An array is an operand by its name, and is borrowed. Sums are in `recorded_arithmetic`. Each
+//! function appends its result to one text, which `answer` creates.
 #![tactic(auto)]
 
 ghost use Rattle.recorded_text.specs.Cases.{HasGoodArrays};
@@ -24,7 +23,7 @@ use recorded_text::store::Store;
 use recorded_text::words::Words;
 use std::alloc::Global;
 
-/// Returns the answer to a call of one of these subjects, or None for another one's.
+/// Returns the result of a call of these subjects, or `None` for any other call.
 pub fn answer(
     alloc: Global,
     call: &str,
@@ -39,7 +38,7 @@ pub fn answer(
     }
 }
 
-// Returns the answer to a call.
+// Returns the result of a call.
 fn write_answer(
     alloc: Global,
     call: Call,
@@ -53,7 +52,7 @@ fn write_answer(
     Ok(text)
 }
 
-// Adds the answer to a call.
+// Appends the result of a call.
 fn push_answer(
     alloc: Global,
     text: &mut String,

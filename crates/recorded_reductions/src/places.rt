@@ -1,8 +1,8 @@
-//! Where the best of the byte strings of an array stands. A PREFERENCE is `less` or `greater`.
+//! Places of the best byte string of an array. A PREFERENCE is `less` or `greater`.
 //!
-//! | Call | Answer |
+//! | Call | Result |
 //! |---|---|
-//! | `best_place PREFERENCE A` | the place of the first of the best present rows, from 0, and `none` without a present one |
+//! | `best_place PREFERENCE A` | the index of the first best present row, or `none` if no row is present |
 //! | `best_string PREFERENCE A` | its bytes |
 
 ghost use Rattle.polars_arrays_nested.specs.GoodParts.{IsGood};
@@ -20,8 +20,7 @@ use recorded_text::fault::Fault;
 use recorded_text::store::Store;
 use recorded_text::words::Words;
 
-/// Adds what is asked of the best of an array's byte strings, by the preference that the next word
-/// names.
+/// Appends the best of an array's byte strings, by the preference that the next word names.
 pub fn push_answer(
     text: &mut String,
     best: Best,
@@ -37,7 +36,7 @@ pub fn push_answer(
     }
 }
 
-// Adds what is asked of the best of an array's byte strings.
+// Appends the best of an array's byte strings.
 fn push_preferred<P: Preference>(
     text: &mut String,
     best: Best,
@@ -50,7 +49,7 @@ fn push_preferred<P: Preference>(
         Binary LargeBinary Utf8 LargeUtf8 BinaryView Utf8View FixedSizeBinary)
 }
 
-// Adds what is asked of the best of byte strings.
+// Appends the best of byte strings.
 fn push_best<P: Preference, R: ByteRows>(
     text: &mut String,
     best: Best,

@@ -1,6 +1,6 @@
 //! Operators on the bits of two scalars.
 //!
-//! | Call | Answer |
+//! | Call | Result |
 //! |---|---|
 //! | `bit_and TYPE NUMBER NUMBER`, and so of `or` and `xor` | a number |
 //! | `bit_and bool TRUTH TRUTH`, and so of `or` and `xor` | a truth value |
@@ -14,7 +14,7 @@ use recorded_text::words::Words;
 use std::fmt::Display;
 use std::str::FromStr;
 
-/// Adds what two scalars of the type that the next word names are joined to.
+/// Appends the join of two scalars of the type that the next word names.
 pub fn push_answer(text: &mut String, join: Join, words: &mut Words) -> Result<(), Fault> {
     match words.read()? {
         "bool" => push_joined::<BooleanArray>(text, join, words),
@@ -30,7 +30,7 @@ pub fn push_answer(text: &mut String, join: Join, words: &mut Words) -> Result<(
     }
 }
 
-// Adds what the two scalars are joined to that the next words write.
+// Appends the join of the two scalars of the next words.
 fn push_joined<K: BitwiseKernel<Scalar: Copy + Display + FromStr<Err: Drop>>>(
     text: &mut String,
     join: Join,
@@ -42,7 +42,7 @@ fn push_joined<K: BitwiseKernel<Scalar: Copy + Display + FromStr<Err: Drop>>>(
     write!(text, "{joined}").map_err(Fault::from)
 }
 
-// Returns what two scalars are joined to.
+// Returns the join of two scalars.
 fn join_scalars<K: BitwiseKernel>(join: Join, left: K::Scalar, right: K::Scalar) -> K::Scalar {
     match join {
         Join::And => K::bit_and(left, right),
