@@ -1,4 +1,4 @@
-//! Arithmetic on arrays of numbers, written over an array that owns its values or into new ones.
+//! Arithmetic on arrays of numbers, in place in an array that owns its values, or into new ones.
 
 ghost use Rattle.std.specs.Prelude.{◌≡◌, length};
 ghost use Rattle.polars_arrays_flat.specs.StoredRows.{number_slots};
@@ -15,7 +15,7 @@ use polars_arrays_numbers::native_type::NativeType;
 use polars_compute_arithmetic::arithmetic::{ArithmeticKernel, HasPrimitiveArithmeticKernel};
 use std::alloc::Global;
 
-/// What `row_of` answers where there is no number.
+/// The result of `row_of` if there is no number.
 pub(crate) const NO_NUMBER: u64 = 0x5555_5555_5555_5555;
 
 /// An operation on two arrays.
@@ -42,9 +42,9 @@ pub(crate) enum LoneOperation {
     Mod,
 }
 
-/// What stands beside the array that an operation consumes.
+/// The other operand of an operation that consumes an array.
 trait Beside<T: NativeType> {
-    /// The operations on both.
+    /// The type of operations on both.
     type Operation: Copy;
 
     /// Runs an operation once.
@@ -56,7 +56,7 @@ trait Beside<T: NativeType> {
     ) -> Result<PrimitiveArray<T>, ComputeError>;
 }
 
-// A second array, whose values the operation shares.
+// A second array, whose values are shared with the operation's operand.
 impl<T: HasPrimitiveArithmeticKernel> Beside<T> for PrimitiveArray<T> {
     type Operation = PairOperation;
 
@@ -81,7 +81,7 @@ impl<T: HasPrimitiveArithmeticKernel> Beside<T> for PrimitiveArray<T> {
     }
 }
 
-// Runs an operation on two arrays of one length.
+// Runs an operation on two arrays of equal length.
 #[inline(always)]
 fn run_pair<T: HasPrimitiveArithmeticKernel>(
     alloc: Global,
@@ -131,7 +131,7 @@ impl<T: HasPrimitiveArithmeticKernel> Beside<T> for Scalar<T> {
     }
 }
 
-/// The number of row `i`.
+/// Returns the number of row `i`.
 #[inline(always)]
 pub(crate) fn row_of<T: NativeType + AsPrimitive<u64>>(array: &PrimitiveArray<T>, i: usize) -> u64 {
     let present = match array.validity() {
@@ -144,7 +144,7 @@ pub(crate) fn row_of<T: NativeType + AsPrimitive<u64>>(array: &PrimitiveArray<T>
     }
 }
 
-// A copy of an array that owns its values.
+// Copies an array into one that owns its values.
 fn owned_copy<T: NativeType>(
     alloc: Global,
     array: &PrimitiveArray<T>,
@@ -156,7 +156,7 @@ fn owned_copy<T: NativeType>(
     or_unsupported(PrimitiveArray::try_new(Buffer::from_vec(values), validity))
 }
 
-// Runs an operation so many times on what the last run made, which owns its values.
+// Runs an operation `repeats` times, each on the result of the last one, which owns its values.
 #[inline(always)]
 fn repeat_in_place<T: NativeType + AsPrimitive<u64>, B: Beside<T>>(
     alloc: Global,
@@ -177,7 +177,7 @@ fn repeat_in_place<T: NativeType + AsPrimitive<u64>, B: Beside<T>>(
     Ok(checksum)
 }
 
-// Runs an operation so many times on a clone of one array, which shares its values.
+// Runs an operation `repeats` times on a clone of one array, which shares its values.
 #[inline(always)]
 fn repeat_anew<T: NativeType + AsPrimitive<u64>, B: Beside<T>>(
     alloc: Global,
@@ -195,7 +195,7 @@ fn repeat_anew<T: NativeType + AsPrimitive<u64>, B: Beside<T>>(
     Ok(checksum)
 }
 
-// Runs an operation in place or into new values. The checksum is 0 where a run gives nothing.
+// Runs an operation in place or into new values. The checksum is 0 if a run fails.
 #[inline(always)]
 fn repeat<T: NativeType + AsPrimitive<u64>, B: Beside<T>>(
     alloc: Global,
@@ -212,8 +212,8 @@ fn repeat<T: NativeType + AsPrimitive<u64>, B: Beside<T>>(
     checksum.unwrap_or(0)
 }
 
-// Two validities of `len` bits: windows of the words, the second one a word later. None where there are
-// no words.
+// Creates two validities of `len` bits: windows of the words, the second one a word later. Returns
+// `None` for both if there are no words.
 fn validities(
     alloc: Global,
     words: &[u64],
@@ -226,7 +226,7 @@ fn validities(
     Ok((Some(early), Some(late)))
 }
 
-// Two arrays of one type.
+// Creates two arrays of one type.
 fn pair_of<T: NativeType>(
     alloc: Global,
     left: &[i64],
@@ -239,7 +239,7 @@ where
     two_arrays(alloc, left, right, validities(alloc, words, left.len())?)
 }
 
-// An array of one type.
+// Creates an array of one type.
 fn array_of<T: NativeType>(
     alloc: Global,
     values: &[i64],
@@ -283,7 +283,7 @@ fn choose_lone<T: HasPrimitiveArithmeticKernel + AsPrimitive<u64>>(
     )
 }
 
-// Makes two arrays of one type, and runs an operation on them.
+// Creates two arrays of one type, and runs an operation on them.
 fn time_pairs<T: HasPrimitiveArithmeticKernel + AsPrimitive<u64>>(
     alloc: Global,
     left: &[i64],
@@ -303,7 +303,7 @@ where
     Ok(checksum)
 }
 
-// Makes an array of one type, and runs an operation on it and on the number.
+// Creates an array of one type, and runs an operation on it and the number.
 fn time_lone<T: HasPrimitiveArithmeticKernel + AsPrimitive<u64>>(
     alloc: Global,
     values: &[i64],
@@ -324,9 +324,10 @@ where
     Ok(checksum)
 }
 
-/// Runs an operation on arrays of these numbers, cut or widened to the type, of which the right one shares
-/// its values. Their validities are windows of the words, the right one a word later; with no words none
-/// is null. In place the left array owns its values, and each run is given what the last one made.
+/// Runs an operation on arrays of these numbers, converted to the type by truncation or extension.
+/// The right array shares its values. The validities are windows of the words, the right one a word
+/// later; without words no row is null. In place, the left array owns its values, and each run gets
+/// the result of the last one.
 #[unsafe(no_mangle)]
 pub extern "C" fn polars_time_pairs(
     alloc: Global,

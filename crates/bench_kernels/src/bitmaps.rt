@@ -37,7 +37,7 @@ impl Timed for Bitmaps {
     }
 }
 
-// Runs a kernel on the one and the other bitmaps in turn.
+// Runs a kernel on two triples of bitmaps in turn.
 fn time_pair(alloc: Global, operands: (&Bitmaps, &Bitmaps), kernel: u32, repeats: usize) -> u64 {
     by_number!(
         kernel,
@@ -47,8 +47,8 @@ fn time_pair(alloc: Global, operands: (&Bitmaps, &Bitmaps), kernel: u32, repeats
     )
 }
 
-/// Runs a kernel on bitmaps of `len` bits, which begin `shift`, twice and three times `shift` bits into
-/// the words.
+/// Runs a kernel on bitmaps of `len` bits, which begin at bits `shift`, `2 * shift` and `3 * shift`
+/// of the words.
 #[unsafe(no_mangle)]
 pub extern "C" fn polars_time_bitmaps(
     alloc: Global,

@@ -9,7 +9,7 @@ use polars_compute_bits::bitwise::BitwiseKernel;
 use polars_compute_unique::kernel::GenericUniqueKernel;
 use std::alloc::Global;
 
-/// A kernel on two arrays of truth values, or on the left one.
+/// A kernel on two arrays of truth values, or on the left one alone.
 #[derive(Clone, Copy)]
 pub(crate) enum TruthKernel {
     TotEq,
@@ -20,7 +20,7 @@ pub(crate) enum TruthKernel {
     Distinct,
 }
 
-// The truth value as a number, if there is one.
+// Returns the truth value as a number, if there is one.
 #[inline(always)]
 fn number_of(found: Option<bool>) -> u64 {
     match found {
@@ -46,7 +46,7 @@ impl Timed for Truths {
     }
 }
 
-// Runs a kernel on the one and the other arrays in turn.
+// Runs a kernel on two pairs of arrays in turn.
 fn time_pair(alloc: Global, operands: (&Truths, &Truths), kernel: u32, repeats: usize) -> u64 {
     by_number!(
         kernel,
@@ -56,7 +56,7 @@ fn time_pair(alloc: Global, operands: (&Truths, &Truths), kernel: u32, repeats: 
     )
 }
 
-/// Runs a kernel on arrays of `len` truth values, whose values begin `shift` and twice `shift` bits into
+/// Runs a kernel on arrays of `len` truth values, which begin at bits `shift` and `2 * shift` of
 /// the words.
 #[unsafe(no_mangle)]
 pub extern "C" fn polars_time_truths(

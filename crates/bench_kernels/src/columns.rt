@@ -7,7 +7,7 @@ use polars_arrays_flat::primitive::PrimitiveArray;
 use polars_compare_equality::kernel::TotalEqKernel;
 use std::alloc::Global;
 
-/// A kernel on each two columns.
+/// A kernel on each pair of columns.
 #[derive(Clone, Copy)]
 pub(crate) enum ColumnKernel {
     TotEq,
@@ -20,7 +20,7 @@ struct Columns<'a> {
     right: &'a [PrimitiveArray<i32>],
 }
 
-// Bit `i` of what a kernel makes of two columns.
+// Runs a kernel on two columns, and returns bit `i` of its result.
 #[inline(always)]
 fn run_column(
     alloc: Global,
@@ -51,7 +51,7 @@ impl Timed for Columns<'_> {
     }
 }
 
-// Runs a kernel on the columns that the numbers are.
+// Runs a kernel on the columns in the numbers.
 fn time_columns(
     alloc: Global,
     left: &[i32],
@@ -73,7 +73,7 @@ fn time_columns(
     Ok(checksum)
 }
 
-/// Runs a kernel on columns of so many rows, which follow one another in the numbers.
+/// Runs a kernel on columns of equal length, which follow one another in the numbers.
 #[unsafe(no_mangle)]
 pub extern "C" fn polars_time_columns(
     alloc: Global,

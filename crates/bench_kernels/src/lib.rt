@@ -1,14 +1,14 @@
 //! The kernels as a static library, for `bench/` to time beside plain Rust.
 //!
-//! There is one entry point for each shape of operands. It takes the slices that its operands are made
-//! of, and then the number of the kernel and, where the operands have several types, of the type: its
-//! place in the enum. It makes its operands once, runs the kernel `repeats` times, and answers a checksum
-//! of one bit or of the count of each run. It answers 0 where it has no such kernel, type or operands.
-//! Told to run its kernel no times it makes the operands alone.
+//! There is one entry point for each shape of operands. Its parameters are the slices that its
+//! operands are made of, then the number of the kernel and, if operands of several types are
+//! possible, of the type: its place in the enum. It creates its operands once, runs the kernel
+//! `repeats` times, and returns a checksum of one bit or of the count of each run. It returns 0 if
+//! there is no such kernel, type or operands. With `repeats` 0 it only creates the operands.
 #![tactic(auto)]
 
-/// What is said of the entry of an enum whose number is given. There is code for each entry, so that a
-/// loop in what is said has its kernel chosen before it begins.
+/// Evaluates an expression for the entry of an enum with a given number. Each entry has its own
+/// code, so that a loop in the expression has its kernel chosen before it begins.
 macro_rules! by_number {
     ($number:expr, $entries:ident: $($entry:ident)*, |$chosen:ident| $said:expr, $otherwise:expr) => {
         match $number {
@@ -21,7 +21,7 @@ macro_rules! by_number {
     };
 }
 
-/// Calls a function at the type of numbers whose number is given. The checksum is 0 where there is none.
+/// Calls a function for the number type with a given number. The checksum is 0 if there is none.
 macro_rules! at_number_type {
     ($number:expr, $called:ident $arguments:tt) => {
         at_type!(
@@ -32,8 +32,8 @@ macro_rules! at_number_type {
     };
 }
 
-/// Calls a function at the type of numbers with arithmetic whose number is given. The checksum is 0 where
-/// there is none.
+/// Calls a function for the number type with arithmetic that has a given number. The checksum is 0
+/// if there is none.
 macro_rules! at_integer_type {
     ($number:expr, $called:ident $arguments:tt) => {
         at_type!(
@@ -44,8 +44,8 @@ macro_rules! at_integer_type {
     };
 }
 
-/// Calls a function at the type that stands beside the entry of an enum whose number is given. The checksum
-/// is 0 where there is none.
+/// Calls a function for the type that belongs to the entry of an enum with a given number. The
+/// checksum is 0 if there is none.
 macro_rules! at_type {
     ($number:expr, $entries:ident: $($entry:ident = $type:ty),*; $called:ident $arguments:tt) => {
         match $number {
@@ -73,13 +73,13 @@ use polars_arrays_bits::bitmap::Bitmap;
 use polars_arrays_bits::error::ComputeError;
 use std::alloc::Global;
 
-/// What `bit_of` answers where there is no such bit.
+/// The result of `bit_of` if there is no such bit.
 const NO_BIT: u64 = 2;
 
-/// What `bit_of` answers where there is no bitmap.
+/// The result of `bit_of` if there is no bitmap.
 const NO_BITMAP: u64 = 3;
 
-// Bit `i` of what a kernel made.
+// Returns bit `i` of a kernel's result.
 #[inline(always)]
 pub(crate) fn bit_of(made: Result<Bitmap, ComputeError>, i: usize) -> u64 {
     match made {
@@ -93,15 +93,15 @@ pub(crate) fn bit_of(made: Result<Bitmap, ComputeError>, i: usize) -> u64 {
 
 /// Operands of one shape, on which kernels are timed.
 pub(crate) trait Timed {
-    /// The kernels that run on them.
+    /// The type of kernels that run on them.
     type Kernel: Copy;
 
-    /// Runs a kernel once, and answers bit `i` of what it makes, or what it counts.
+    /// Runs a kernel once, and returns bit `i` of its result, or its count.
     fn run(&self, alloc: Global, kernel: Self::Kernel, i: usize) -> u64;
 }
 
-// Runs a kernel so many times, on the one and on the other operands in turn, and each time for the next
-// bit of what it makes. Where it is inlined for one kernel nothing is chosen in its loop.
+// Runs a kernel `repeats` times, on two sets of operands in turn, and each time for the next bit of
+// its result. Inlined for one kernel, its loop chooses nothing.
 #[inline(always)]
 pub(crate) fn repeat<X: Timed>(
     alloc: Global,

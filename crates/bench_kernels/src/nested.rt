@@ -1,4 +1,4 @@
-//! Comparisons of arrays that hold arrays, in which two null rows are equal.
+//! Comparisons of nested arrays, in which two null rows are equal.
 
 ghost use Rattle.polars_arrays_nested.specs.GoodParts.{IsGood};
 ghost use Rattle.polars_arrays_nested.specs.Lengths.{len_of};
@@ -12,13 +12,13 @@ use polars_arrays_nested::any_array::AnyArray;
 use polars_compare_nested::kernels::array_tot_eq_missing_kernel;
 use std::alloc::Global;
 
-/// A kernel on two arrays that hold arrays.
+/// A kernel on two nested arrays.
 #[derive(Clone, Copy)]
 enum NestedKernel {
     TotEqMissing,
 }
 
-// Bit `i` of what a kernel makes.
+// Runs a kernel, and returns bit `i` of its result.
 #[inline(always)]
 fn run_nested(
     alloc: Global,
@@ -86,7 +86,7 @@ fn time_nested(
     )
 }
 
-/// Runs a kernel on arrays of a type, which `Parts` says how to make.
+/// Runs a kernel on arrays of a type, which are made of parts as `NestedType` describes.
 #[unsafe(no_mangle)]
 pub extern "C" fn polars_time_nested(
     alloc: Global,

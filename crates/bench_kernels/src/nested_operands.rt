@@ -1,4 +1,4 @@
-//! Arrays that hold arrays that the kernels are run on, made once for many runs.
+//! Nested arrays as operands, created once for many runs.
 
 ghost use Rattle.std.specs.List.{All};
 ghost use Rattle.std.specs.Prelude.{◌≡◌, IfOk, Ok};
@@ -20,27 +20,26 @@ use polars_arrays_nested::list_offsets::ListOffsets;
 use polars_arrays_nested::struct_array::StructArray;
 use std::alloc::Global;
 
-/// What an array holds.
+/// The type of an array, and the use of its parts.
 #[derive(Clone, Copy)]
 pub(crate) enum NestedType {
-    /// Lists of the items, between the offsets, of which those are null whose bit in the words is not set.
+    /// Lists of the items between the offsets. A list is null if its bit of the words is not set.
     Lists,
     /// Lists of `size` items each.
     FixedLists,
-    /// Columns of `size` rows each, which follow one another in the items, and behind them one of the texts between the offsets in the bytes,
-    /// if there are offsets.
+    /// Columns of `size` rows each, one after the other in the items, and then, if there are
+    /// offsets, a column of the texts between the offsets in the bytes.
     Structs,
-    /// Texts, which lie between the offsets in the bytes, of which those are null whose bit in the words is not set, and of which the
-    /// items name one for each row.
+    /// Keys into texts between the offsets in the bytes. The items are the keys. A text is null if
+    /// its bit of the words is not set.
     Dictionaries,
     /// The first item, in `size` levels of lists of one row.
     DeepLists,
-    /// Lists of texts, which lie between the offsets in the bytes. The items say where each list begins, and behind them where the last one
-    /// ends.
+    /// Lists of texts between the offsets in the bytes. The items are the offsets of the lists.
     TextLists,
 }
 
-/// What an array is made of. Each type reads some of it.
+/// The parts of an array. Each type uses some of them.
 #[derive(Drop)]
 pub(crate) struct Parts<'a> {
     pub(crate) size: usize,
@@ -50,7 +49,7 @@ pub(crate) struct Parts<'a> {
     pub(crate) bytes: &'a [u8],
 }
 
-// A copy of the words as the bits of `rows` rows, or none where there are no words.
+// Copies the words as the bits of `rows` rows, or returns `None` if there are no words.
 fn validity(alloc: Global, words: &[u64], rows: usize) -> Result<Option<Bitmap>, ComputeError> {
     if words.is_empty() {
         return Ok(None);
@@ -62,7 +61,7 @@ fn validity(alloc: Global, words: &[u64], rows: usize) -> Result<Option<Bitmap>,
     Ok(Some(Bitmap::from_words(words, 0, rows)))
 }
 
-/// What was made, in a box.
+/// Puts a value in a box, unless there is an error.
 pub(crate) fn boxed<T: Drop>(
     alloc: Global,
     made: Result<T, ComputeError>,
@@ -73,7 +72,7 @@ pub(crate) fn boxed<T: Drop>(
     Ok(boxed)
 }
 
-// The array in a box.
+// Puts an array in a box.
 fn boxed_array(alloc: Global, array: AnyArray) -> Result<Box<AnyArray>, ComputeError>
     requires { IsGood array }
     ensures { IfOk result (λ a. IsGood a.value) }
@@ -82,14 +81,14 @@ fn boxed_array(alloc: Global, array: AnyArray) -> Result<Box<AnyArray>, ComputeE
     Ok(array)
 }
 
-// An array of the numbers.
+// Creates an array of the numbers.
 fn item_array(alloc: Global, items: &[i32]) -> Result<Box<AnyArray>, ComputeError>
     ensures { IfOk result (λ a. IsGood a.value) }
 {
     boxed(alloc, number_array(alloc, items, None).map(AnyArray::Int32))
 }
 
-// Lists of the items between the offsets.
+// Creates lists of the items between the offsets.
 fn lists_of(
     alloc: Global,
     offsets: Buffer<i32>,
@@ -103,7 +102,7 @@ fn lists_of(
     boxed(alloc, or_unsupported(lists).map(AnyArray::List))
 }
 
-// Lists of numbers between offsets. None is null where there are no words.
+// Creates lists of numbers between offsets. None is null if there are no words.
 fn list_array(alloc: Global, parts: &Parts) -> Result<Box<AnyArray>, ComputeError>
     ensures { IfOk result (λ a. IsGood a.value) }
 {
@@ -112,7 +111,7 @@ fn list_array(alloc: Global, parts: &Parts) -> Result<Box<AnyArray>, ComputeErro
     lists_of(alloc, shared(alloc, parts.offsets)?, items, validity)
 }
 
-// Lists of one width of numbers. The items behind the last whole list are left out.
+// Creates lists of one width of numbers. The items after the last whole list are dropped.
 fn fixed_list_array(
     alloc: Global,
     width: usize,
@@ -126,18 +125,18 @@ fn fixed_list_array(
     boxed(alloc, or_unsupported(lists).map(AnyArray::FixedSizeList))
 }
 
-// How many columns of `rows` rows follow one another in the numbers.
+// Returns the number of columns of `rows` rows in the numbers.
 fn column_count(rows: usize, values: &[i32]) -> usize {
     values.len().checked_div(rows).unwrap_or(0)
 }
 
-// Column `k` of those.
+// Returns column `k` of `rows` rows in the numbers.
 fn column(rows: usize, values: &[i32], k: usize) -> &[i32] {
     let first = rows.saturating_mul(k);
     values.get(first..first.saturating_add(rows)).unwrap_or(&[])
 }
 
-/// The columns of `rows` rows that follow one another in the numbers.
+/// Creates the columns of `rows` rows in the numbers.
 pub(crate) fn columns(
     alloc: Global,
     rows: usize,
@@ -153,7 +152,7 @@ pub(crate) fn columns(
     Ok(columns)
 }
 
-// One of those columns as an array of any kind.
+// Creates column `k` of `rows` rows as an array of any kind.
 fn column_array(
     alloc: Global,
     rows: usize,
@@ -165,7 +164,7 @@ fn column_array(
     number_array(alloc, column(rows, values, k), None).map(AnyArray::Int32)
 }
 
-// Adds a column of the texts, if there are offsets.
+// Appends a column of the texts, if there are offsets.
 fn push_texts(
     alloc: Global,
     fields: &mut Vec<Field>,
@@ -185,7 +184,7 @@ fn push_texts(
     Ok(())
 }
 
-// Structs of those columns, and of the texts.
+// Creates structs of the columns in the items, and of the texts.
 fn struct_array(alloc: Global, parts: &Parts) -> Result<Box<AnyArray>, ComputeError>
     ensures { IfOk result (λ a. IsGood a.value) }
 {
@@ -203,7 +202,7 @@ fn struct_array(alloc: Global, parts: &Parts) -> Result<Box<AnyArray>, ComputeEr
     boxed_array(alloc, AnyArray::Struct(array))
 }
 
-// Texts between offsets. None is null where there are no words.
+// Creates texts between offsets. None is null if there are no words.
 fn text_array(alloc: Global, parts: &Parts) -> Result<AnyArray, ComputeError>
     ensures { IfOk result (λ a. IsGood a) }
 {
@@ -211,7 +210,7 @@ fn text_array(alloc: Global, parts: &Parts) -> Result<AnyArray, ComputeError>
     texts(alloc, parts.offsets, parts.bytes, validity).map(AnyArray::Utf8)
 }
 
-// Lists of texts.
+// Creates lists of texts.
 fn text_list_array(alloc: Global, parts: &Parts) -> Result<Box<AnyArray>, ComputeError>
     ensures { IfOk result (λ a. IsGood a.value) }
 {
@@ -219,7 +218,7 @@ fn text_list_array(alloc: Global, parts: &Parts) -> Result<Box<AnyArray>, Comput
     lists_of(alloc, shared(alloc, parts.items)?, texts, None)
 }
 
-// Rows that keys name among texts between offsets.
+// Creates a dictionary array of texts between offsets.
 fn dictionary_array(alloc: Global, parts: &Parts) -> Result<Box<AnyArray>, ComputeError>
     ensures { IfOk result (λ a. IsGood a.value) }
 {
@@ -229,7 +228,7 @@ fn dictionary_array(alloc: Global, parts: &Parts) -> Result<Box<AnyArray>, Compu
     boxed(alloc, or_unsupported(rows).map(AnyArray::Dictionary))
 }
 
-// Lists of one row, which is all rows of an array.
+// Wraps all rows of an array in one list.
 fn listed(alloc: Global, items: Box<AnyArray>) -> Result<Box<AnyArray>, ComputeError>
     requires { IsGood items.value }
     ensures { IfOk result (λ a. IsGood a.value) }
@@ -238,7 +237,7 @@ fn listed(alloc: Global, items: Box<AnyArray>) -> Result<Box<AnyArray>, ComputeE
     lists_of(alloc, Buffer::from_vec(offsets), items, None)
 }
 
-// That many levels of lists of one row around a number.
+// Wraps a number in `levels` levels of lists of one row.
 fn deep_list_array(alloc: Global, levels: usize, value: i32) -> Result<Box<AnyArray>, ComputeError>
     ensures { IfOk result (λ a. IsGood a.value) }
 {
@@ -249,7 +248,7 @@ fn deep_list_array(alloc: Global, levels: usize, value: i32) -> Result<Box<AnyAr
     Ok(array)
 }
 
-/// The array of a type that the parts make.
+/// Creates the array of a type from its parts.
 pub(crate) fn nested_array(
     alloc: Global,
     nested_type: NestedType,

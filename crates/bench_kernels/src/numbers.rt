@@ -37,7 +37,7 @@ impl<T: NativeType> Timed for Numbers<'_, T> {
     }
 }
 
-// Runs a kernel on the one and the other two arrays in turn.
+// Runs a kernel on two pairs of arrays in turn.
 fn time_pairs<T: NativeType>(
     alloc: Global,
     operands: (&Numbers<T>, &Numbers<T>),
@@ -52,7 +52,7 @@ fn time_pairs<T: NativeType>(
     )
 }
 
-// Clones of two arrays.
+// Clones two arrays.
 fn clones_of<T: NativeType>(
     alloc: Global,
     arrays: &(PrimitiveArray<T>, PrimitiveArray<T>),
@@ -93,8 +93,9 @@ where
     time_clones::<T>(alloc, &arrays, &scalar.as_(), kernel, repeats)
 }
 
-/// Runs a kernel on arrays of these numbers, cut or widened to the type. Their validities are windows of
-/// the words: the left one begins `shift` bits into them, and the right one a word later.
+/// Runs a kernel on arrays of these numbers, converted to the type by truncation or extension. The
+/// validities are windows of the words: the left one begins at bit `shift`, and the right one a
+/// word later.
 #[unsafe(no_mangle)]
 pub extern "C" fn polars_time_numbers(
     alloc: Global,

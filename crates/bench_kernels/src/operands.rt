@@ -1,4 +1,4 @@
-//! What the kernels are run on, made once for many runs.
+//! Operands of the kernels, created once for many runs.
 
 ghost use Rattle.std.specs.Prelude.{◌≡◌, ◌++◌, ◌∷◌, [], length, IfOk, IsOkAnd, Ok};
 ghost use Rattle.polars_arrays_flat.specs.StoredRows.{number_slots, truth_slots};
@@ -14,10 +14,10 @@ use polars_arrays_numbers::native_type::NativeType;
 use polars_compare_equality::kernel::TotalEqKernel;
 use std::alloc::{AllocError, Global};
 
-/// How far apart the two windows of one operand begin, in bits.
+/// The distance of the two windows of one operand, in bits.
 const STRIDE: usize = 64;
 
-/// The types of numbers.
+/// A type of numbers.
 pub(crate) enum NumberType {
     I8,
     I32,
@@ -30,7 +30,7 @@ pub(crate) enum NumberType {
     U64,
 }
 
-/// Two slices of numbers of one length, and a number.
+/// Two slices of numbers of equal length, and a number.
 #[derive(Drop)]
 pub(crate) struct Slices<'a, T: NativeType> {
     pub(crate) left: &'a [T],
@@ -39,7 +39,7 @@ pub(crate) struct Slices<'a, T: NativeType> {
     ghost one_length: { length right.now ≡ length left.now },
 }
 
-/// Three bitmaps of one length.
+/// Three bitmaps of equal length.
 #[derive(Drop)]
 pub(crate) struct Bitmaps {
     pub(crate) first: Bitmap,
@@ -49,7 +49,7 @@ pub(crate) struct Bitmaps {
     ghost third_long: { length third ≡ length first },
 }
 
-/// Two arrays of numbers of one length, and a number.
+/// Two arrays of numbers of equal length, and a number.
 #[derive(Drop)]
 pub(crate) struct Numbers<'a, T: NativeType> {
     pub(crate) left: &'a PrimitiveArray<T>,
@@ -59,7 +59,7 @@ pub(crate) struct Numbers<'a, T: NativeType> {
     ghost as_long: { length (number_slots T.value right.now.values) ≡ length (number_slots T.value left.now.values) },
 }
 
-/// Two arrays of truth values of one length.
+/// Two arrays of truth values of equal length.
 #[derive(Drop)]
 pub(crate) struct Truths {
     pub(crate) left: BooleanArray,
@@ -68,14 +68,14 @@ pub(crate) struct Truths {
     ghost as_long: { length (truth_slots right.values) ≡ length (truth_slots left.values) },
 }
 
-/// A copy of a slice, which clones share.
+/// Copies a slice into a shared buffer.
 pub(crate) fn shared<T: Copy>(alloc: Global, elements: &[T]) -> Result<Buffer<T>, ComputeError>
     ensures { IfOk result (λ buffer. buffer.items ≡ elements.now) }
 {
     Buffer::from_vec(Vec::from_slice(alloc, elements)?).share(alloc)
 }
 
-/// What parts make. The error is `Unsupported` where they make nothing.
+/// Returns the array that parts make. The error is `Unsupported`, if they make none.
 pub(crate) fn or_unsupported<A: Drop>(made: Result<A, ArrayError>) -> Result<A, ComputeError>
     ensures { IfOk result (λ a. made ≡ Ok a) }
 {
@@ -85,7 +85,7 @@ pub(crate) fn or_unsupported<A: Drop>(made: Result<A, ArrayError>) -> Result<A, 
     }
 }
 
-/// Both, where both were made. The error is that of the first that was not.
+/// Returns both values. The error is the first one's, or else the second one's.
 pub(crate) fn both<A: Drop, B: Drop>(
     first: Result<A, ComputeError>,
     second: Result<B, ComputeError>,
@@ -95,7 +95,7 @@ pub(crate) fn both<A: Drop, B: Drop>(
     Ok((first, second))
 }
 
-/// Adds what was made.
+/// Appends a value, unless there is an error.
 pub(crate) fn push<T: Drop>(
     items: &mut Vec<T>,
     made: Result<T, ComputeError>,
@@ -106,7 +106,8 @@ pub(crate) fn push<T: Drop>(
     Ok(())
 }
 
-/// Two windows of `len` bits of a copy of the words: one from bit `at` on, and one from a word later.
+/// Creates two windows of `len` bits of a copy of the words: one from bit `at` on, and one a word
+/// later.
 pub(crate) fn windows(
     alloc: Global,
     words: &[u64],
@@ -126,8 +127,8 @@ pub(crate) fn windows(
     Ok((early, late))
 }
 
-/// Two triples of windows of `len` bits. In the first one the windows begin `shift`, twice `shift`
-/// and three times `shift` bits into copies of the words, and in the second one a word later.
+/// Creates two triples of windows of `len` bits. In the first one the windows begin at bits
+/// `shift`, `2 * shift` and `3 * shift` of copies of the words, and in the second one a word later.
 pub(crate) fn in_two_places(
     alloc: Global,
     first: &[u64],
@@ -153,7 +154,7 @@ pub(crate) fn in_two_places(
     ))
 }
 
-/// The same numbers in another type, cut or widened to it.
+/// Converts numbers to another type, by truncation or extension.
 pub(crate) fn converted<C: AsPrimitive<T>, T: NativeType>(
     alloc: Global,
     values: &[C],
@@ -165,7 +166,7 @@ pub(crate) fn converted<C: AsPrimitive<T>, T: NativeType>(
     Ok(made)
 }
 
-// The numbers in another type, which clones share.
+// Converts numbers to another type, into a shared buffer.
 fn shared_numbers<C: AsPrimitive<T>, T: NativeType>(
     alloc: Global,
     values: &[C],
@@ -173,7 +174,7 @@ fn shared_numbers<C: AsPrimitive<T>, T: NativeType>(
     Buffer::from_vec(converted(alloc, values)?).share(alloc)
 }
 
-/// An array of the numbers in another type, which its clones share.
+/// Creates an array of the numbers in another type, whose values clones share.
 pub(crate) fn number_array<C: AsPrimitive<T>, T: NativeType>(
     alloc: Global,
     values: &[C],
@@ -183,7 +184,7 @@ pub(crate) fn number_array<C: AsPrimitive<T>, T: NativeType>(
     or_unsupported(PrimitiveArray::try_new(values, validity))
 }
 
-/// Two such arrays, each with its validity.
+/// Creates two arrays of the numbers in another type, each with its validity.
 pub(crate) fn two_arrays<T: NativeType>(
     alloc: Global,
     left: &[i64],
@@ -197,7 +198,7 @@ where
     both(left, number_array(alloc, right, late))
 }
 
-/// Two arrays that can be compared, and a number. The error is `Unsupported` where they cannot.
+/// Pairs two arrays that can be compared, and a number. The error is `Unsupported`, if they cannot.
 pub(crate) fn comparable_numbers<'a, T: NativeType>(
     left: &'a PrimitiveArray<T>,
     right: &'a PrimitiveArray<T>,
@@ -213,7 +214,8 @@ pub(crate) fn comparable_numbers<'a, T: NativeType>(
     })
 }
 
-// Two arrays of truth values that can be compared. The error is `Unsupported` where they cannot.
+// Pairs two arrays of truth values that can be compared. The error is `Unsupported`, if they
+// cannot.
 fn comparable_truths(left: Bitmap, right: Bitmap) -> Result<Truths, ComputeError> {
     let left = or_unsupported(BooleanArray::try_new(left, None))?;
     let right = or_unsupported(BooleanArray::try_new(right, None))?;
@@ -223,7 +225,7 @@ fn comparable_truths(left: Bitmap, right: Bitmap) -> Result<Truths, ComputeError
     Ok(Truths { left, right })
 }
 
-// Two pairs of arrays whose values are the early and the late windows of the left and the right ones.
+// Pairs the early and the late windows of two operands as arrays.
 fn two_truths(
     (left, later_left): (Bitmap, Bitmap),
     (right, later_right): (Bitmap, Bitmap),
@@ -233,8 +235,8 @@ fn two_truths(
     Ok((early, later))
 }
 
-/// Two pairs of arrays of `len` truth values. In the first one the values are windows that begin
-/// `shift` and twice `shift` bits into copies of the words, and in the second one a word later.
+/// Creates two pairs of arrays of `len` truth values. In the first one the values begin at bits
+/// `shift` and `2 * shift` of copies of the words, and in the second one a word later.
 pub(crate) fn truths_in_two_places(
     alloc: Global,
     left: &[u64],

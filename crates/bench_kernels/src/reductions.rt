@@ -49,7 +49,7 @@ impl<T: BitNumber + WrappingSum + AsPrimitive<u64>> Timed for PrimitiveArray<T> 
     }
 }
 
-// The number, if there is one.
+// Returns the number, if there is one.
 #[inline(always)]
 fn number_of<T: NativeType + AsPrimitive<u64>>(found: Option<T>) -> u64 {
     match found {
@@ -58,7 +58,7 @@ fn number_of<T: NativeType + AsPrimitive<u64>>(found: Option<T>) -> u64 {
     }
 }
 
-// Both numbers in one, if there are some.
+// Returns both numbers as one, if there are any.
 #[inline(always)]
 fn pair_of<T: NativeType + AsPrimitive<u64>>(found: Option<(T, T)>) -> u64 {
     match found {
@@ -70,7 +70,7 @@ fn pair_of<T: NativeType + AsPrimitive<u64>>(found: Option<(T, T)>) -> u64 {
     }
 }
 
-// The count of row `i`.
+// Returns the count of row `i`.
 #[inline(always)]
 fn count_of(made: Result<PrimitiveArray<u32>, ComputeError>, i: usize) -> u64 {
     match made {
@@ -94,7 +94,7 @@ fn time_clones<T: BitNumber + WrappingSum + AsPrimitive<u64>>(
     )
 }
 
-// A window of `len` bits of the words, or None without words.
+// Creates a window of `len` bits of the words, or returns `None` if there are no words.
 pub(crate) fn validity_from(
     alloc: Global,
     words: &[u64],
@@ -108,7 +108,7 @@ pub(crate) fn validity_from(
     Ok(Some(validity))
 }
 
-// An array of one type, and its clone.
+// Creates an array of one type, and its clone.
 fn array_and_clone<T: NativeType>(
     alloc: Global,
     values: &[i64],
@@ -140,8 +140,8 @@ where
     Ok(time_clones(alloc, (&arrays.0, &arrays.1), kernel, repeats))
 }
 
-/// Runs a kernel on an array of these numbers, cut or widened to the type. Its validity begins `shift` bits into the
-/// words; without words it has none.
+/// Runs a kernel on an array of these numbers, converted to the type by truncation or extension.
+/// Its validity begins at bit `shift` of the words; without words it has none.
 #[unsafe(no_mangle)]
 pub extern "C" fn polars_time_reductions(
     alloc: Global,

@@ -73,7 +73,7 @@ where
     Ok(time_pair::<T>(alloc, &left, &right, &scalar.as_(), kernel, repeats))
 }
 
-/// Runs a kernel on slices of these numbers, cut or widened to the type.
+/// Runs a kernel on slices of these numbers, converted to the type by truncation or extension.
 #[unsafe(no_mangle)]
 pub extern "C" fn polars_time_slices(
     alloc: Global,

@@ -1,4 +1,5 @@
-//! States of distinct values: a column in chunks appended to a new state, two states merged into a third, and truth values.
+//! States of distinct values: appending a column in chunks to a new state, merging two states into
+//! a third, and truth values.
 
 ghost use Rattle.std.specs.Prelude.{◌+◌, ◌≤◌, All, IsTrue, length};
 ghost use Rattle.polars_arrays_flat.specs.ArrayRows.{number_rows};
@@ -16,10 +17,10 @@ use polars_compute_unique::merge::append_all;
 use polars_compute_unique::primitive::{PrimitiveRangedUniqueState, range_fits};
 use std::alloc::Global;
 
-/// What a run answers where there is no state.
+/// The result of a run if there is no state.
 const NO_STATE: u64 = 0x5555_5555_5555_5555;
 
-/// A column in chunks, and a range that its numbers are in.
+/// A column in chunks, and a range that has all its numbers.
 #[derive(Drop)]
 struct Chunks<'a, T: UniqueNumber> {
     arrays: &'a [PrimitiveArray<T>],
@@ -44,7 +45,7 @@ impl<T: UniqueNumber> Timed for Chunks<'_, T> {
     }
 }
 
-// Whether a state accepts each array.
+// Returns whether a state accepts each array.
 fn all_accepted<T: UniqueNumber>(
     state: &PrimitiveRangedUniqueState<T>,
     arrays: &[PrimitiveArray<T>],
@@ -59,7 +60,8 @@ fn all_accepted<T: UniqueNumber>(
     true
 }
 
-// The chunks with their range. The error is `Unsupported` where there is no such state, or a number is not in the range.
+// Returns the chunks with their range. The error is `Unsupported`, if the range has no state, or
+// does not have all numbers.
 fn chunks_between<'a, T: UniqueNumber>(
     alloc: Global,
     arrays: &'a [PrimitiveArray<T>],
@@ -82,7 +84,7 @@ fn chunks_between<'a, T: UniqueNumber>(
     })
 }
 
-// A second array of `n` rows from a place on.
+// Returns a clone of `n` rows from a place on.
 fn part_of<T: UniqueNumber>(
     alloc: Global,
     array: &PrimitiveArray<T>,
@@ -96,7 +98,7 @@ fn part_of<T: UniqueNumber>(
     Ok(part)
 }
 
-// The array in chunks of so many rows, which share its parts.
+// Cuts an array into chunks of `chunk` rows, which share its parts.
 fn cut<T: UniqueNumber>(
     alloc: Global,
     array: &PrimitiveArray<T>,
@@ -115,7 +117,7 @@ fn cut<T: UniqueNumber>(
     Ok(chunks)
 }
 
-// Appends an array to new states, in chunks of so many rows.
+// Appends an array to new states, in chunks of `chunk` rows.
 fn time_cut(
     alloc: Global,
     array: &PrimitiveArray<i32>,
@@ -128,7 +130,7 @@ fn time_cut(
     Ok(repeat(alloc, (), (&chunks, &chunks), repeats))
 }
 
-// Makes an array, and appends it to new states.
+// Creates an array, and appends it to new states.
 fn time_chunks(
     alloc: Global,
     values: &[i64],
@@ -143,8 +145,9 @@ fn time_chunks(
     time_cut(alloc, &array, greatest, chunk, repeats)
 }
 
-/// Appends these numbers, cut to 32 bits, to a state of those from 0 to `greatest`, in chunks of so many rows. Their validity
-/// begins `shift` bits into the words; without words they have none.
+/// Appends these numbers, truncated to 32 bits, to a state of those from 0 to `greatest`, in chunks
+/// of `chunk` rows. Their validity begins at bit `shift` of the words; without words they have
+/// none.
 #[unsafe(no_mangle)]
 pub extern "C" fn polars_time_states(
     alloc: Global,
@@ -158,7 +161,7 @@ pub extern "C" fn polars_time_states(
     time_chunks(alloc, values, validities, greatest, chunk, shift, repeats).unwrap_or(0)
 }
 
-/// Two states, and the range that they are merged in.
+/// Two states, and the range of the state that they are merged into.
 #[derive(Drop)]
 struct Merges<'a, T: UniqueNumber> {
     left: &'a PrimitiveRangedUniqueState<T>,
@@ -195,7 +198,7 @@ impl<T: UniqueNumber> Timed for Merges<'_, T> {
     }
 }
 
-// A state that has seen an array's numbers, where they are from 0 to a greatest one.
+// Creates a state that has seen an array's numbers, if they are from 0 to `greatest`.
 fn state_of(
     alloc: Global,
     array: &PrimitiveArray<i32>,
@@ -211,7 +214,7 @@ fn state_of(
     Ok(state)
 }
 
-// The same of an array of these numbers.
+// Creates a state that has seen these numbers, if they are from 0 to `greatest`.
 fn gathered(
     alloc: Global,
     values: &[i64],
@@ -254,7 +257,8 @@ fn time_merged(
     time_states(alloc, &left, &right, greatest, repeats)
 }
 
-/// Merges the states of two columns of these numbers, cut to 32 bits, into a new one of those from 0 to `greatest`.
+/// Merges the states of two columns of these numbers, truncated to 32 bits, into a new one of those
+/// from 0 to `greatest`.
 #[unsafe(no_mangle)]
 pub extern "C" fn polars_time_merges(
     alloc: Global,

@@ -1,4 +1,4 @@
-//! Arrays of byte strings, texts and views that the kernels are run on, made once for many runs.
+//! Arrays of byte strings, texts and views as operands, created once for many runs.
 
 ghost use Rattle.std.specs.Prelude.{◌≡◌, length};
 
@@ -13,10 +13,10 @@ use polars_arrays_views::binary_view::BinaryViewArray;
 use polars_arrays_views::view::View;
 use std::alloc::Global;
 
-/// How many bytes a string of one size has.
+/// The number of bytes of strings of one size.
 const SIZE: usize = 16;
 
-/// What an array of strings is made of. Each type reads some of it.
+/// The parts of an array of strings. Each type uses some of them.
 #[derive(Drop)]
 pub(crate) struct Parts<'a> {
     pub(crate) views: &'a [[u8; 16]],
@@ -24,7 +24,7 @@ pub(crate) struct Parts<'a> {
     pub(crate) bytes: &'a [u8],
 }
 
-/// Two arrays of as many strings, and a string.
+/// Two arrays of equally many strings, and a string.
 #[derive(Drop)]
 pub(crate) struct Strings<A: ByteRows + Drop, S: Copy> {
     pub(crate) left: A,
@@ -34,7 +34,7 @@ pub(crate) struct Strings<A: ByteRows + Drop, S: Copy> {
     ghost as_long: { length (A.slots right) ≡ length (A.slots left) },
 }
 
-// Two arrays that can be compared, and a string. The error is `Unsupported` where they cannot.
+// Pairs two arrays that can be compared, and a string. The error is `Unsupported`, if they cannot.
 fn comparable_strings<A: ByteRows + Drop, S: Copy>(
     left: A,
     right: A,
@@ -50,7 +50,7 @@ fn comparable_strings<A: ByteRows + Drop, S: Copy>(
     })
 }
 
-/// Two arrays of one type that parts make, and a string.
+/// Creates two arrays of one type from parts, and a string.
 pub(crate) fn strings_of<A: StringArray, S: Copy>(
     alloc: Global,
     left: &Parts,
@@ -61,7 +61,7 @@ pub(crate) fn strings_of<A: StringArray, S: Copy>(
     comparable_strings(left, A::of_parts(alloc, right)?, scalar)
 }
 
-/// Second arrays of the same strings.
+/// Clones both arrays.
 pub(crate) fn clones_of<A: StringArray, S: Copy>(
     alloc: Global,
     strings: &Strings<A, S>,
@@ -70,7 +70,7 @@ pub(crate) fn clones_of<A: StringArray, S: Copy>(
     comparable_strings(left, strings.right.clone_strings(alloc)?, strings.scalar)
 }
 
-// The views, which clones share.
+// Creates a shared buffer of views.
 fn shared_views(alloc: Global, views: &[[u8; 16]]) -> Result<Buffer<View>, ComputeError> {
     let mut rows = Vec::with_capacity(alloc, views.len())?;
     for view in views {
@@ -79,7 +79,7 @@ fn shared_views(alloc: Global, views: &[[u8; 16]]) -> Result<Buffer<View>, Compu
     Buffer::from_vec(rows).share(alloc)
 }
 
-/// Texts between the offsets in the bytes.
+/// Creates texts between the offsets in the bytes.
 pub(crate) fn texts(
     alloc: Global,
     offsets: &[i32],
@@ -93,14 +93,14 @@ pub(crate) fn texts(
 
 /// A type of arrays of strings.
 pub(crate) trait StringArray: ByteRows + Drop + Sized {
-    /// An array of copies of the strings.
+    /// Creates an array of copies of the strings.
     fn of_parts(alloc: Global, parts: &Parts) -> Result<Self, ComputeError>;
 
-    /// A second array of the same strings.
+    /// Clones the array.
     fn clone_strings(&self, alloc: Global) -> Result<Self, ComputeError>;
 }
 
-// Views, and the one buffer that their strings lie in.
+// Views, with one buffer for their strings.
 impl StringArray for BinaryViewArray {
     fn of_parts(alloc: Global, parts: &Parts) -> Result<BinaryViewArray, ComputeError> {
         let views = shared_views(alloc, parts.views)?;

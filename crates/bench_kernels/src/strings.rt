@@ -1,4 +1,5 @@
-//! Comparisons and extremes of arrays of views, of texts between offsets, and of byte strings of one size.
+//! Comparisons and extremes of arrays of views, of texts between offsets, and of byte strings of
+//! one size.
 
 use crate::string_operands::{Parts, StringArray, Strings, clones_of, strings_of};
 use crate::{NO_BIT, NO_BITMAP, Timed, bit_of, repeat};
@@ -14,7 +15,7 @@ use polars_compare_order::kernel::TotalOrdKernel;
 use std::alloc::Global;
 use std::str::from_utf8;
 
-/// A kernel on two arrays of strings, or on one and a string.
+/// A kernel on two arrays of strings, or on one array and a string.
 #[derive(Clone, Copy)]
 pub(crate) enum StringKernel {
     TotEq,
@@ -25,14 +26,14 @@ pub(crate) enum StringKernel {
     Max,
 }
 
-/// How strings lie in an array.
+/// The layout of strings in an array.
 pub(crate) enum StringType {
     Views,
     Texts,
     Sized,
 }
 
-// How many bytes the string has, if there is one.
+// Returns the number of bytes of the string, if there is one.
 #[inline(always)]
 fn length_of(found: Option<&[u8]>) -> u64 {
     match found {
@@ -41,7 +42,7 @@ fn length_of(found: Option<&[u8]>) -> u64 {
     }
 }
 
-// The same of a text.
+// Returns the number of bytes of the text, if there is one.
 #[inline(always)]
 fn text_length_of(found: Option<&str>) -> u64 {
     match found {
@@ -94,7 +95,7 @@ impl Timed for Strings<Utf8Array<i32>, &str> {
     }
 }
 
-// Strings of one size are only compared for equality.
+// Strings of one size are compared for equality only.
 impl Timed for Strings<FixedSizeBinaryArray, &[u8]> {
     type Kernel = StringKernel;
 
@@ -112,7 +113,7 @@ impl Timed for Strings<FixedSizeBinaryArray, &[u8]> {
     }
 }
 
-// Runs a kernel on the one and the other arrays in turn.
+// Runs a kernel on two pairs of arrays in turn.
 fn time_pair<A: StringArray, S: Copy>(
     alloc: Global,
     operands: (&Strings<A, S>, &Strings<A, S>),
@@ -147,9 +148,9 @@ where
     Ok(time_pair(alloc, (&first, &second), kernel, repeats))
 }
 
-/// Runs a kernel on arrays of strings of a type. Views have their long strings in the bytes, texts lie
-/// between the offsets there, and strings of one size follow one another in them. No string is null. A
-/// broadcast is set against the string in the middle of the right ones.
+/// Runs a kernel on arrays of strings of a type. Views have their long strings in the bytes, texts
+/// lie between the offsets there, and strings of one size follow one another in them. No string is
+/// null. A broadcast compares with the string in the middle of the right ones.
 #[unsafe(no_mangle)]
 pub extern "C" fn polars_time_strings(
     alloc: Global,

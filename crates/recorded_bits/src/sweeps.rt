@@ -351,7 +351,7 @@ fn first_values(alloc: Global, n: usize) -> Result<Bitmap, Fault> {
 /// A call on values at each place.
 #[derive(Clone, Copy)]
 enum AtPlace {
-    /// Whether the run of `n` values from the place on is true throughout.
+    /// A test of the run of `n` values from the place on: whether it is all true.
     Run { n: usize },
     /// True values up to the place, then the values, and a false one.
     Appended,

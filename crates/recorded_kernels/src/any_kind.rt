@@ -1,10 +1,10 @@
 //! Kernels of two arrays of any kind.
 //!
-//! | Call | Answer |
+//! | Call | Result |
 //! |---|---|
 //! | `array_tot_eq_missing_kernel A B`, `array_tot_ne_missing_kernel A B` | the bits |
 //! | `array_tot_eq_missing_kernel_with_steps A B` | `BITS in N comparisons` |
-//! | `list_broadcast LISTS ITEMS`, `fixed_size_list_broadcast LISTS ITEMS` | the bits, masked rows among them |
+//! | `list_broadcast LISTS ITEMS`, `fixed_size_list_broadcast LISTS ITEMS` | the bits, including those of masked rows |
 //! | `law_tally`, `law_steps` | `holds` |
 
 ghost use Rattle.std.specs.Prelude.{◌≡◌, IfOk};
@@ -29,14 +29,14 @@ use recorded_text::store::Store;
 use recorded_text::words::Words;
 use std::alloc::Global;
 
-/// A law that holds as it is called.
+/// A law that holds by being called.
 #[derive(Clone, Copy)]
 pub enum Law {
     Tally,
     Steps,
 }
 
-/// Returns `holds` after the call of a law.
+/// Calls a law, and returns `holds`.
 pub fn call_law(alloc: Global, law: Law) -> Result<String, Fault> {
     match law {
         Law::Tally => law_tally(),
@@ -45,8 +45,8 @@ pub fn call_law(alloc: Global, law: Law) -> Result<String, Fault> {
     Ok("holds".to_string(alloc)?)
 }
 
-// Returns the two arrays that the next words name, which are of one type and length, as the kernels
-// ask. The error is `Case`, where they are not.
+// Returns the two arrays that the next words name. The error is `Case`, if their types or lengths
+// differ, since the kernels require equal ones.
 fn read_alike<'a>(
     store: &'a Store,
     words: &mut Words,
@@ -65,7 +65,8 @@ fn read_alike<'a>(
     }
 }
 
-/// Returns where rows are equal or not, null to null alone.
+/// Returns for each place whether the rows are equal, or whether they differ; null is equal to null
+/// alone.
 pub fn missing(
     alloc: Global,
     relation: Relation,
@@ -81,7 +82,8 @@ pub fn missing(
     }
 }
 
-/// Returns where rows are equal, and how many comparisons a counter that is lent has counted.
+/// Returns for each place whether the rows are equal, and the number of comparisons that a borrowed
+/// counter has counted.
 pub fn with_steps(alloc: Global, store: &Store, words: &mut Words) -> Result<String, Fault>
     requires { HasGoodArrays store.now }
 {
@@ -98,7 +100,7 @@ pub enum ListKind {
     FixedSize,
 }
 
-/// Returns which lists have for items all rows of an array, in order.
+/// Returns for each list whether its items are all rows of an array, in order.
 pub fn lists(
     alloc: Global,
     kind: ListKind,

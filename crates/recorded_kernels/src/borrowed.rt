@@ -1,10 +1,10 @@
-//! Kernels of an array and a byte string or a text that is borrowed, by their names behind `bytes_`
+//! Kernels of an array and a borrowed byte string or text. Their names have the prefixes `bytes_`
 //! and `text_`.
 //!
-//! | Call | Answer |
+//! | Call | Result |
 //! |---|---|
-//! | `bytes_tot_eq_kernel_broadcast ARRAY BYTES` and so on | the bits, with `x` where the row is masked |
-//! | `text_tot_eq_kernel_broadcast ARRAY BYTES` and so on | the same of a text, which is written by its bytes |
+//! | `bytes_tot_eq_kernel_broadcast ARRAY BYTES` and so on | the bits, with `x` for masked rows |
+//! | `text_tot_eq_kernel_broadcast ARRAY BYTES` and so on | the bits for a text, written as its bytes, with `x` for masked rows |
 
 ghost use Rattle.recorded_text.specs.Cases.{HasGoodArrays};
 
@@ -22,7 +22,7 @@ use recorded_text::words::Words;
 use std::alloc::Global;
 use std::str::from_utf8;
 
-/// Returns what the array of byte strings that words name answers beside the one that they write.
+/// Compares the array of byte strings that the next word names with the byte string after it.
 pub fn ask_bytes(
     alloc: Global,
     question: Question,
@@ -36,7 +36,7 @@ pub fn ask_bytes(
     ask_strings(alloc, question, array, &bytes)
 }
 
-// Returns what an array of byte strings answers beside one.
+// Compares an array of byte strings with one byte string.
 fn ask_strings(
     alloc: Global,
     question: Question,
@@ -56,7 +56,8 @@ fn ask_strings(
     }
 }
 
-// Returns where rows are equal to a byte string. A raw bit is shown where the row is present.
+// Returns for each row whether it is equal to a byte string. Raw bits are shown for present rows
+// only.
 fn equal_to_bytes<A: BytesEqKernel>(
     alloc: Global,
     kernel: Equality,
@@ -74,7 +75,7 @@ fn equal_to_bytes<A: BytesEqKernel>(
     kernel.write(alloc, bits, rows.validity())
 }
 
-// Returns how rows stand to a byte string. A bit is shown where the row is present.
+// Returns the order of each row and a byte string. Bits are shown for present rows only.
 fn beside_bytes<A: BytesOrdKernel>(
     alloc: Global,
     order: Order,
@@ -92,7 +93,7 @@ fn beside_bytes<A: BytesOrdKernel>(
     write_made_present(alloc, bits, rows.validity(), None)
 }
 
-/// Returns what the array of texts that words name answers beside the one that they write by its
+/// Compares the array of texts that the next word names with the text after it, which is written as
 /// bytes.
 pub fn ask_text(
     alloc: Global,
@@ -110,7 +111,7 @@ pub fn ask_text(
     }
 }
 
-// Returns what an array of texts answers beside one.
+// Compares an array of texts with one text.
 fn ask_texts(
     alloc: Global,
     question: Question,
@@ -120,7 +121,7 @@ fn ask_texts(
     of_kind!(array, rows => ask_text_rows(alloc, question, rows, text), Utf8 LargeUtf8 Utf8View)
 }
 
-// Returns what texts answer beside one.
+// Compares texts with one text.
 fn ask_text_rows<A: TextEqKernel + TextOrdKernel>(
     alloc: Global,
     question: Question,
@@ -136,7 +137,7 @@ fn ask_text_rows<A: TextEqKernel + TextOrdKernel>(
     }
 }
 
-// Returns where rows are equal to a text. A raw bit is shown where the row is present.
+// Returns for each row whether it is equal to a text. Raw bits are shown for present rows only.
 fn equal_to_text<A: TextEqKernel>(
     alloc: Global,
     kernel: Equality,
@@ -154,7 +155,7 @@ fn equal_to_text<A: TextEqKernel>(
     kernel.write(alloc, bits, rows.validity())
 }
 
-// Returns how rows stand to a text. A bit is shown where the row is present.
+// Returns the order of each row and a text. Bits are shown for present rows only.
 fn beside_text<A: TextOrdKernel>(
     alloc: Global,
     order: Order,

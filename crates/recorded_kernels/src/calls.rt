@@ -1,4 +1,4 @@
-//! The calls by their names, and what they ask.
+//! The calls by name.
 
 use crate::any_kind::{Law, ListKind};
 use crate::joining::Join;
@@ -14,11 +14,11 @@ use recorded_text::names::find;
 pub enum Call {
     /// The rows of two arrays of one kind.
     Rows(Question),
-    /// The rows of an array, and a scalar that is owned.
+    /// The rows of an array, and an owned scalar.
     Scalar(Question),
-    /// The rows of an array, and a byte string that is lent.
+    /// The rows of an array, and a borrowed byte string.
     Bytes(Question),
-    /// The rows of an array, and a text that is lent.
+    /// The rows of an array, and a borrowed text.
     Text(Question),
     /// The equal or the unequal rows of two arrays of any kind, null equal to null alone.
     Missing(Relation),
@@ -26,24 +26,24 @@ pub enum Call {
     WithSteps,
     /// The lists whose items are all rows of an array.
     Lists(ListKind),
-    /// A law that holds as it is called.
+    /// A law that holds by being called.
     Law(Law),
     /// The equal rows of two windows, and the number of comparisons that were counted.
     Counted(Counted),
-    /// The stored numbers that pass with one.
+    /// The stored numbers for which a comparison with a number holds.
     Numbers,
-    /// The stored numbers of two windows that pass.
+    /// The stored numbers of two windows for which a comparison holds.
     NumberWindows,
-    /// Operands that pass by a comparison, or do not.
+    /// Operands for which a comparison holds.
     Compared(Compared),
-    /// Rows that are kept by views.
+    /// Rows of arrays of views.
     Views(Asked),
-    /// The null combination.
+    /// The join of raw bits with two masks.
     Join(Join),
 }
 
 impl Call {
-    /// Returns the call of that name, or None where it is another subject's.
+    /// Returns the call of a name, or `None` for a call of another subject.
     pub fn named(name: &str) -> Option<Call> {
         match find(&CALLS, name) {
             Some(call) => Some(call),
@@ -51,8 +51,8 @@ impl Call {
         }
     }
 
-    // Returns the call of a kernel, whose name has `_broadcast` behind it where it is one of rows
-    // and a scalar, and then `bytes_` or `text_` before it where that is lent.
+    // Returns the call of a kernel. Its name has the suffix `_broadcast` if it compares rows with a
+    // scalar, and also the prefix `bytes_` or `text_` if the scalar is borrowed.
     fn of_kernel(name: &str) -> Option<Call> {
         let Some(name) = name.strip_suffix("_broadcast") else {
             return find(&KERNELS, name).map(Call::Rows);
@@ -67,7 +67,7 @@ impl Call {
     }
 }
 
-// The calls by their names, save those of kernels.
+// The calls by name, except those of kernels.
 const CALLS: [(&str, Call); 45] = [
     ("can_compare", Call::Rows(Question::Can)),
     ("can_broadcast", Call::Scalar(Question::Can)),

@@ -3,21 +3,21 @@
 use polars_arrays_numbers::steps::Steps;
 use recorded_text::fault::Fault;
 
-/// The count that a counter shows before it is lent.
+/// The count of a counter before it is lent.
 const BEFORE: usize = 1_000;
 
-/// The name of what kernels of leaves count.
+/// The text after the count of a kernel of leaves.
 pub const COMPARISONS: &str = " comparisons";
 
-/// Returns a counter that has counted before, so that it could be seen to fall.
+/// Returns a counter whose count is not 0, so that a decrease could be seen.
 pub fn lent_counter() -> Steps {
     let mut steps = Steps::new();
     steps.add(BEFORE);
     steps
 }
 
-/// Appends how many a counter has counted since it was lent, and of what, where there is a text.
-/// Whether or not there is one, the error is `Case` where the counter fell.
+/// Appends the increase of a counter since it was lent, and what it counts, unless there is an
+/// error. In any case the error is `Case`, if the count decreased.
 pub fn add_count(text: Result<String, Fault>, seen: u64, what: &str) -> Result<String, Fault> {
     let Some(counted) = seen.checked_sub(BEFORE as u64) else {
         return Err(Fault::Case);

@@ -1,9 +1,9 @@
-//! The null combination: raw bits, joined with two validities.
+//! The join of raw bits with two masks.
 //!
-//! | Call | Answer |
+//! | Call | Result |
 //! |---|---|
 //! | `join_nulls RELATION BITS VALIDITY VALIDITY` | the bits joined; RELATION is `equal` or `unequal` |
-//! | `join_masks RELATION BITS VALIDITY VALIDITY` | the same of windows of validities |
+//! | `join_masks RELATION BITS VALIDITY VALIDITY` | the bits joined with windows of validities |
 
 ghost use Rattle.std.specs.Prelude.{◌≡◌};
 
@@ -18,14 +18,14 @@ use recorded_text::parts::{Kept, read_bits, read_validity};
 use recorded_text::words::Words;
 use std::alloc::Global;
 
-/// The calls of the null combination.
+/// A call that joins raw bits with masks.
 #[derive(Clone, Copy)]
 pub enum Join {
     Nulls,
     Masks,
 }
 
-// Returns what the next word says that bits tell.
+// Reads what set bits mean.
 fn read_relation(words: &mut Words) -> Result<Relation, Fault> {
     match words.read()? {
         "equal" => Ok(Relation::Equal),
@@ -34,7 +34,7 @@ fn read_relation(words: &mut Words) -> Result<Relation, Fault> {
     }
 }
 
-/// Returns the raw bits that words write, joined with the two validities behind them.
+/// Reads raw bits and two validities, and returns the bits joined.
 pub fn ask(alloc: Global, join: Join, words: &mut Words) -> Result<String, Fault> {
     let relation = read_relation(words)?;
     let raw = read_bits(alloc, words.read()?)?;
@@ -42,7 +42,7 @@ pub fn ask(alloc: Global, join: Join, words: &mut Words) -> Result<String, Fault
     join_left(alloc, join, relation, raw, &left, words)
 }
 
-// Returns raw bits joined with a left validity and the right one that words write.
+// Joins raw bits with a left validity, and the right one of the next words.
 fn join_left(
     alloc: Global,
     join: Join,
@@ -55,7 +55,7 @@ fn join_left(
     join_read(alloc, join, relation, raw, left, &right)
 }
 
-// Returns raw bits joined with two validities of as many bits, by a call.
+// Joins raw bits with two validities of the same length, by a call.
 fn join_read(
     alloc: Global,
     join: Join,
@@ -77,7 +77,7 @@ fn join_read(
     write_made(alloc, joined)
 }
 
-// Returns a validity, lent.
+// Borrows a validity.
 fn lent(validity: &Option<Bitmap>) -> Option<BitMask<'_>>
     ensures { result ≡ validity.now }
 {

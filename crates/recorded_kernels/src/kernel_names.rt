@@ -1,4 +1,4 @@
-//! The kernels of rows, by their names.
+//! The kernels of rows by name.
 
 use polars_arrays_bits::bitmap::Bitmap;
 use polars_arrays_bits::error::ComputeError;
@@ -9,16 +9,15 @@ use std::alloc::Global;
 /// A question about rows.
 #[derive(Clone, Copy)]
 pub enum Question {
-    /// A truth value: kernels of equality can be asked about them, or can't.
+    /// Whether kernels of equality can be called, as a truth value.
     Can,
-    /// The bits of such a kernel.
+    /// The bits of a kernel of equality.
     Equality(Equality),
     /// The bits of a kernel of order.
     Order(Order),
 }
 
-/// A kernel that says where rows are equal, or where they are not; the missing ones decide nulls
-/// too.
+/// A kernel of equality or inequality. The missing ones define null rows too.
 #[derive(Clone, Copy)]
 pub enum Equality {
     Equal,
@@ -28,8 +27,8 @@ pub enum Equality {
 }
 
 impl Equality {
-    /// Returns the text of bits that a call made of rows beside a scalar. A raw bit is shown where
-    /// the row is present.
+    /// Returns the text of the bits that a call returned for rows and a scalar. Raw bits are shown
+    /// for present rows only.
     pub fn write(
         self,
         alloc: Global,
@@ -43,7 +42,7 @@ impl Equality {
     }
 }
 
-/// A kernel that says how rows are ordered.
+/// A kernel of order.
 #[derive(Clone, Copy)]
 pub enum Order {
     Less,
@@ -52,7 +51,7 @@ pub enum Order {
     GreaterOrEqual,
 }
 
-/// The kernels by their names.
+/// The kernels by name.
 pub const KERNELS: [(&str, Question); 8] = [
     ("tot_eq_kernel", Question::Equality(Equality::Equal)),
     ("tot_ne_kernel", Question::Equality(Equality::Unequal)),

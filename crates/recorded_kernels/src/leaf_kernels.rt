@@ -1,4 +1,4 @@
-//! Kernels of leaves, and what they counted.
+//! Kernels of leaves, and their counts.
 
 ghost use Rattle.std.specs.Prelude.{◌≡◌};
 
@@ -14,7 +14,7 @@ use std::alloc::Global;
 pub trait SeenKernel: LeafKernel {
     fn new() -> Self;
 
-    /// Returns what its counter shows.
+    /// Returns the count of its counter.
     fn seen(&self) -> u64;
 }
 
@@ -28,7 +28,7 @@ impl SeenKernel for Steps {
     }
 }
 
-/// A kernel that says of all leaves that they agree, or of none.
+/// A kernel in which all leaves agree, or none.
 #[derive(Drop)]
 pub struct Same<const AGREE: bool> {
     steps: Steps,

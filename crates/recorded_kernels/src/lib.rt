@@ -1,5 +1,5 @@
-//! The recorded cases of kernels: equality and order of named arrays, beside scalars, by windows,
-//! and of arrays of any kind with their counts.
+//! Recorded cases of kernels: equality and order of named arrays, with scalars, by windows, and of
+//! arrays of any kind with their counts.
 #![tactic(auto)]
 
 ghost use Rattle.recorded_text.specs.Cases.{HasGoodArrays};
@@ -28,7 +28,7 @@ use recorded_text::store::Store;
 use recorded_text::words::Words;
 use std::alloc::Global;
 
-/// Returns the answer to a call of one of these subjects, or None for another one's.
+/// Returns the result of a call of these subjects, or `None` for any other call.
 pub fn answer(
     alloc: Global,
     call: &str,
@@ -43,7 +43,7 @@ pub fn answer(
     }
 }
 
-// Returns the answer to a call.
+// Returns the result of a call.
 fn ask(alloc: Global, call: Call, store: &Store, words: &mut Words) -> Result<String, Fault>
     requires { HasGoodArrays store.now }
 {

@@ -1,13 +1,14 @@
-//! The six comparisons of two rows, by their names: `equal`, `unequal`, `less`, `less_or_equal`,
-//! `greater` and `greater_or_equal`.
+//! The six comparisons of two rows by name: `equal`, `unequal`, `less`, `less_or_equal`, `greater`
+//! and `greater_or_equal`.
 //!
-//! | Call | Answer |
+//! | Call | Result |
 //! |---|---|
-//! | `truth_comparison COMPARISON TRUTH TRUTH` | whether two truth values pass |
-//! | `truth_comparison_masks COMPARISON BITS BITS` | which bits of two windows of one length pass |
-//! | `byte_comparison COMPARISON BYTES BYTES`, `byte_comparison_constant COMPARISON BYTES BYTES` | whether two byte strings pass |
+//! | `truth_comparison COMPARISON TRUTH TRUTH` | whether the comparison of two truth values holds |
+//! | `truth_comparison_masks COMPARISON BITS BITS` | for two windows of equal length, whether it holds at each place |
+//! | `byte_comparison COMPARISON BYTES BYTES`, `byte_comparison_constant COMPARISON BYTES BYTES` | whether the comparison of two byte strings holds |
 //!
-//! The calls of `stored_rows`, of `stored_numbers`, and some of `view_rows` take a comparison too.
+//! The calls of `stored_rows` and of `stored_numbers`, and some of `view_rows`, take a comparison
+//! too.
 
 ghost use Rattle.std.specs.Prelude.{◌≡◌, length};
 ghost use Rattle.recorded_text.specs.Cases.{HasGoodArrays};
@@ -42,7 +43,7 @@ pub enum NamedComparison {
     GreaterOrEqual,
 }
 
-// The comparisons by their names.
+// The comparisons by name.
 const COMPARISONS: [(&str, NamedComparison); 6] = [
     ("equal", NamedComparison::Equal),
     ("unequal", NamedComparison::Unequal),
@@ -59,7 +60,7 @@ impl NamedComparison {
     }
 }
 
-/// Asks something with the comparison of that name.
+/// Calls a function with the comparison of a name.
 macro_rules! with_comparison {
     ($comparison:expr, $named:ident => $each:expr) => {
         match $comparison {
@@ -93,7 +94,7 @@ macro_rules! with_comparison {
 
 pub(crate) use with_comparison;
 
-/// Operands that pass by a comparison, or do not.
+/// Operands of a comparison.
 #[derive(Clone, Copy)]
 pub enum Compared {
     /// Two truth values.
@@ -102,13 +103,13 @@ pub enum Compared {
     Masks,
     /// Two byte strings.
     TwoStrings,
-    /// Two byte strings, by the form for a right one that stays.
+    /// Two byte strings, by the form for a constant right one.
     StringAndConstant,
-    /// Two rows that are kept by views.
+    /// Two rows of arrays of views.
     TwoViews,
-    /// A row that is kept by views, and a byte string.
+    /// A row of an array of views, and a byte string.
     ViewAndString,
-    /// The stored rows of an array and a constant: truth values, byte strings, and those by views.
+    /// The stored rows of an array and a constant: truth values, byte strings, and those in views.
     Truths,
     Strings,
     Views,
@@ -119,7 +120,7 @@ pub enum Compared {
     ViewWindows,
 }
 
-/// Returns what passes by the comparison that the next word names.
+/// Returns the results of the comparison that the next word names.
 pub fn ask(
     alloc: Global,
     compared: Compared,
@@ -132,7 +133,7 @@ pub fn ask(
     with_comparison!(comparison, comparison => ask_by(alloc, comparison, compared, store, words))
 }
 
-// Returns what passes by a comparison.
+// Returns the results of a comparison.
 fn ask_by<C: TruthComparison + ByteComparison + ViewComparison>(
     alloc: Global,
     comparison: &C,
@@ -157,7 +158,7 @@ fn ask_by<C: TruthComparison + ByteComparison + ViewComparison>(
     }
 }
 
-// Returns whether two truth values pass.
+// Compares two truth values.
 fn compare_truths<C: TruthComparison>(
     alloc: Global,
     comparison: &C,
@@ -168,7 +169,7 @@ fn compare_truths<C: TruthComparison>(
     write_truth(alloc, comparison.compare(left, right))
 }
 
-// Returns which bits of two windows pass.
+// Compares the bits of two windows.
 fn compare_masks<C: TruthComparison>(
     alloc: Global,
     comparison: &C,
@@ -179,7 +180,7 @@ fn compare_masks<C: TruthComparison>(
     write_passing(alloc, comparison, &left, &right)
 }
 
-// Returns which bits of two bitmaps of one length pass.
+// Compares the bits of two bitmaps of equal length.
 fn write_passing<C: TruthComparison>(
     alloc: Global,
     comparison: &C,
@@ -193,7 +194,7 @@ fn write_passing<C: TruthComparison>(
     write_made(alloc, comparison.compare_masks(alloc, &left, &right))
 }
 
-// Returns whether two byte strings pass, by a call of `ByteComparison`.
+// Compares two byte strings, by a call of `ByteComparison`.
 fn compare_strings<C: ByteComparison>(
     alloc: Global,
     comparison: &C,

@@ -1,7 +1,7 @@
-//! The arrays inside arrays of any kind, where the kind is one of several.
+//! The arrays inside arrays of any kind, for calls that exist for several kinds.
 
-/// Asks the array inside one of any kind. There is an answer for the kinds that are named
-/// alone.
+/// Calls a function with the array inside an array of any kind. For kinds that are not named it is
+/// an error.
 macro_rules! of_kind {
     ($any:expr, $array:ident => $each:expr, $($kind:ident)+) => {
         match $any {
@@ -13,8 +13,8 @@ macro_rules! of_kind {
 
 pub(crate) use of_kind;
 
-/// Asks the arrays inside two of one kind. There is an answer for the kinds that are
-/// named alone, and what follows them for others of the first array, where that is given.
+/// Calls a function with the arrays inside two arrays of one kind. For kinds that are not named it
+/// is an error, or the expression for others of the first array, if it is given.
 macro_rules! of_one_kind {
     ($these:expr, $those:expr, $left:ident, $right:ident => $each:expr, $($kind:ident)+) => {
         of_one_kind!($these, $those, $left, $right => $each, $($kind)+, _ => Err(Fault::Case))

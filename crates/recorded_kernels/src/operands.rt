@@ -1,4 +1,4 @@
-//! Operands that words name or write, and truth values as text.
+//! Operands of calls, and truth values as text.
 
 ghost use Rattle.std.specs.Prelude.{IfOk};
 ghost use Rattle.polars_arrays_nested.specs.GoodParts.{IsGood};
@@ -25,12 +25,12 @@ pub fn read_two<'a>(
     Ok((left, right))
 }
 
-/// Returns the bytes that the next word writes.
+/// Reads bytes from the next word.
 pub fn read_next_bytes(alloc: Global, words: &mut Words) -> Result<Vec<u8>, Fault> {
     read_bytes(alloc, words.read()?)
 }
 
-/// Returns the truth value that the next word writes.
+/// Reads a truth value from the next word.
 pub fn read_truth(words: &mut Words) -> Result<bool, Fault> {
     match words.read()? {
         "true" => Ok(true),

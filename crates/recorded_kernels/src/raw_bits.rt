@@ -1,4 +1,4 @@
-//! Raw bits of two arrays as text. They say something where both rows are present.
+//! Raw bits of two arrays as text. They are defined where both rows are present.
 
 use polars_arrays_bits::bitmap::Bitmap;
 use polars_arrays_bits::error::ComputeError;
@@ -7,7 +7,7 @@ use recorded_text::bits_text::write_unmasked;
 use recorded_text::fault::Fault;
 use std::alloc::Global;
 
-/// Returns the text of raw bits under the masks that calls made.
+/// Returns the text of raw bits under the masks that calls returned.
 pub fn write_raw(
     alloc: Global,
     bits: &Bitmap,

@@ -1,9 +1,9 @@
 //! Kernels of two arrays of one kind.
 //!
-//! | Call | Answer |
+//! | Call | Result |
 //! |---|---|
 //! | `can_compare A B` | a truth value |
-//! | `tot_eq_kernel A B`, and so of `ne`, `lt`, `le`, `gt` and `ge` | the bits, with `x` where a row is masked |
+//! | `tot_eq_kernel A B`, and so of `ne`, `lt`, `le`, `gt` and `ge` | the bits, with `x` for masked rows |
 //! | `tot_eq_missing_kernel A B`, `tot_ne_missing_kernel A B` | the bits |
 
 ghost use Rattle.polars_arrays_nested.specs.GoodParts.{IsGood};
@@ -24,7 +24,7 @@ use recorded_text::store::Store;
 use recorded_text::words::Words;
 use std::alloc::Global;
 
-/// Returns what the rows of the two arrays of one kind that words name answer.
+/// Compares the rows of the two arrays of one kind that the next words name.
 pub fn ask(
     alloc: Global,
     question: Question,
@@ -37,7 +37,7 @@ pub fn ask(
     ask_kinds(alloc, question, these, those)
 }
 
-// Returns what the rows of two arrays of one kind answer.
+// Compares the rows of two arrays of one kind.
 fn ask_kinds(
     alloc: Global,
     question: Question,
@@ -52,7 +52,7 @@ fn ask_kinds(
         _ => ask_ordered_kinds(alloc, question, these, those))
 }
 
-// Returns what the rows of two arrays of one kind that has an order answer.
+// Compares the rows of two arrays of one kind that has an order.
 fn ask_ordered_kinds(
     alloc: Global,
     question: Question,
@@ -64,7 +64,7 @@ fn ask_ordered_kinds(
         _ => ask_both(alloc, AskedBoth::Rows(question), these, those))
 }
 
-/// Returns what rows that have an order answer.
+/// Compares rows that have an order.
 pub fn ask_rows<A: TotalEqKernel + TotalOrdKernel>(
     alloc: Global,
     question: Question,
@@ -80,7 +80,7 @@ pub fn ask_rows<A: TotalEqKernel + TotalOrdKernel>(
     }
 }
 
-// Returns what rows that have an equality answer.
+// Compares rows that have an equality.
 fn equal_rows<A: TotalEqKernel>(
     alloc: Global,
     question: Question,
@@ -98,7 +98,8 @@ fn equal_rows<A: TotalEqKernel>(
     }
 }
 
-// Returns where rows are equal. A raw bit is shown where both rows are present.
+// Returns for each place whether the rows are equal. Raw bits are shown only where both rows are
+// present.
 fn where_equal<A: TotalEqKernel>(
     alloc: Global,
     kernel: Equality,
@@ -127,7 +128,7 @@ fn where_equal<A: TotalEqKernel>(
     )
 }
 
-// Returns how rows are ordered. A bit is shown where both rows are present.
+// Returns for each place the order of the rows. Bits are shown only where both rows are present.
 fn ordered_rows<A: TotalOrdKernel>(
     alloc: Global,
     order: Order,

@@ -1,13 +1,13 @@
-//! Kernels of an array and a scalar that is owned: a number, a truth value, the bytes of a string
-//! or of a text, or the name of an array whose rows are the items of a list.
+//! Kernels of an array and an owned scalar: a number, a truth value, the bytes of a string or of a
+//! text, or the name of an array whose rows are the items of a list.
 //!
-//! | Call | Answer |
+//! | Call | Result |
 //! |---|---|
 //! | `can_broadcast A SCALAR` | a truth value |
-//! | `tot_eq_kernel_broadcast A SCALAR`, and so of `ne`, `lt`, `le`, `gt` and `ge` | the bits, with `x` where the row is masked |
+//! | `tot_eq_kernel_broadcast A SCALAR`, and so of `ne`, `lt`, `le`, `gt` and `ge` | the bits, with `x` for masked rows |
 //! | `tot_eq_missing_kernel_broadcast A SCALAR`, and so of `ne` | the bits |
 //!
-//! A kind that has no broadcast answers `refused: not supported`.
+//! For a kind without broadcasts the result is `refused: not supported`.
 
 ghost use Rattle.polars_arrays_nested.specs.GoodParts.{IsGood};
 ghost use Rattle.recorded_text.specs.Cases.{HasGoodArrays};
@@ -28,8 +28,8 @@ use recorded_text::words::Words;
 use std::alloc::Global;
 use std::str::from_utf8;
 
-/// Returns what the array that words name answers beside the scalar that they write as its kind
-/// wants it, or name.
+/// Compares the array that the next word names with the scalar after it, which is written or named
+/// as its kind requires.
 pub fn ask(
     alloc: Global,
     question: Question,
@@ -57,7 +57,7 @@ pub fn ask(
     }
 }
 
-// Returns what byte strings answer beside the one that words write.
+// Compares byte strings with the one of the next word.
 fn ask_bytes(
     alloc: Global,
     question: Question,
@@ -74,7 +74,7 @@ fn ask_bytes(
     }
 }
 
-// Returns what texts answer beside the one that words write.
+// Compares texts with the one of the next word.
 fn ask_text(
     alloc: Global,
     question: Question,
@@ -85,7 +85,7 @@ fn ask_text(
     of_kind!(array, rows => ask_scalar(alloc, question, rows, &text), Utf8 LargeUtf8 Utf8View)
 }
 
-// Returns the text that the next word writes by its bytes.
+// Reads a text from the next word, where it is written as bytes.
 fn read_text(alloc: Global, words: &mut Words) -> Result<String, Fault> {
     let bytes = read_next_bytes(alloc, words)?;
     match from_utf8(&bytes) {
@@ -94,7 +94,7 @@ fn read_text(alloc: Global, words: &mut Words) -> Result<String, Fault> {
     }
 }
 
-// Returns what lists of each kind, structs, dictionaries and nulls answer beside an array.
+// Compares lists of each kind, structs, dictionaries and nulls with an array.
 fn ask_array(
     alloc: Global,
     question: Question,
@@ -108,7 +108,7 @@ fn ask_array(
         Null List FixedSizeList Struct Dictionary)
 }
 
-/// Returns what rows that have an order answer beside a scalar.
+/// Compares rows that have an order with a scalar.
 pub fn ask_scalar<S, A: TotalEqKernel<Scalar = S> + TotalOrdKernel<Scalar = S>>(
     alloc: Global,
     question: Question,
@@ -124,7 +124,7 @@ pub fn ask_scalar<S, A: TotalEqKernel<Scalar = S> + TotalOrdKernel<Scalar = S>>(
     }
 }
 
-// Returns what rows that have an equality answer beside a scalar.
+// Compares rows that have an equality with a scalar.
 fn ask_equality<A: TotalEqKernel>(
     alloc: Global,
     question: Question,
@@ -142,7 +142,7 @@ fn ask_equality<A: TotalEqKernel>(
     }
 }
 
-// Returns where rows are equal to a scalar.
+// Returns for each row whether it is equal to a scalar.
 fn where_equal<A: TotalEqKernel>(
     alloc: Global,
     kernel: Equality,
@@ -165,7 +165,7 @@ fn where_equal<A: TotalEqKernel>(
     }
 }
 
-// Returns why a call is refused, where it is not for memory.
+// Returns the error of a call, unless it is a failed allocation.
 fn why_refused(alloc: Global, refused: ComputeError) -> Result<String, Fault> {
     match refused {
         ComputeError::Memory(_) => Err(Fault::Memory),
@@ -173,7 +173,7 @@ fn why_refused(alloc: Global, refused: ComputeError) -> Result<String, Fault> {
     }
 }
 
-// Returns how rows stand to a scalar. A bit is shown where the row is present.
+// Returns the order of each row and a scalar. Bits are shown for present rows only.
 fn ordered<A: TotalOrdKernel>(
     alloc: Global,
     order: Order,

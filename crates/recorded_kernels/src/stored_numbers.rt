@@ -1,10 +1,10 @@
 //! Arrays of numbers of each type: kernels of rows, and comparisons of stored numbers, whatever the
-//! validity says. A COMPARISON is one of `named_comparisons`.
+//! validity. A COMPARISON is one of `named_comparisons`.
 //!
-//! | Call | Answer |
+//! | Call | Result |
 //! |---|---|
-//! | `compare_number_windows COMPARISON A a B b n` | which pairs of numbers pass: `n` from row `a` on of A, and as many from row `b` on of B |
-//! | `compare_number COMPARISON A NUMBER` | which numbers pass with a constant |
+//! | `compare_number_windows COMPARISON A a B b n` | for `n` rows from row `a` on of A and from row `b` on of B, whether the comparison holds at each place |
+//! | `compare_number COMPARISON A NUMBER` | for each number, whether the comparison with a constant holds |
 
 ghost use Rattle.std.specs.Prelude.{◌+◌, ◌≤◌, length};
 ghost use Rattle.recorded_text.specs.Cases.{HasGoodArrays};
@@ -35,22 +35,22 @@ use std::str::FromStr;
 /// A question about an array of numbers and a number.
 #[derive(Clone, Copy)]
 pub enum Asked {
-    /// The answer of the rows beside the number.
+    /// A kernel of the rows and the number.
     Scalar(Question),
-    /// The stored numbers that pass with it.
+    /// A comparison of the stored numbers with it.
     Passing(NamedComparison),
 }
 
 /// A question about two arrays of numbers of one type.
 #[derive(Clone, Copy)]
 pub enum AskedBoth<'a> {
-    /// The answer of the rows.
+    /// A kernel of the rows.
     Rows(Question),
-    /// The stored numbers of windows of the arrays that pass.
+    /// A comparison of the stored numbers of windows of the arrays.
     Passing(NamedComparison, Windows<'a>),
 }
 
-/// Returns which numbers of an array pass with the one that words write.
+/// Compares the numbers of an array with the number of a word.
 pub fn beside(alloc: Global, store: &Store, words: &mut Words) -> Result<String, Fault>
     requires { HasGoodArrays store.now }
 {
@@ -59,7 +59,7 @@ pub fn beside(alloc: Global, store: &Store, words: &mut Words) -> Result<String,
     ask_next(alloc, Asked::Passing(comparison), array, words)
 }
 
-/// Returns which numbers of two windows pass.
+/// Compares the numbers of two windows.
 pub fn windows(alloc: Global, store: &Store, words: &mut Words) -> Result<String, Fault>
     requires { HasGoodArrays store.now }
 {
@@ -73,7 +73,7 @@ pub fn windows(alloc: Global, store: &Store, words: &mut Words) -> Result<String
     )
 }
 
-/// Returns what an array of numbers answers beside the number that the next word writes.
+/// Returns the result of a call on an array of numbers and the number of the next word.
 pub fn ask_next(
     alloc: Global,
     asked: Asked,
@@ -84,7 +84,7 @@ pub fn ask_next(
         Int8 Int16 Int32 Int64 Int128 UInt8 UInt16 UInt32 UInt64 UInt128)
 }
 
-// Returns what numbers of one type answer beside the one that the next word writes.
+// Returns the result of a call on numbers of one type and the number of the next word.
 fn ask_numbers<T: NativeType + FromStr<Err: Drop>>(
     alloc: Global,
     asked: Asked,
@@ -100,7 +100,7 @@ fn ask_numbers<T: NativeType + FromStr<Err: Drop>>(
     }
 }
 
-// Returns which numbers of one type pass with one.
+// Compares numbers of one type with one number.
 fn passing<T: NativeType>(
     alloc: Global,
     comparison: NamedComparison,
@@ -110,7 +110,7 @@ fn passing<T: NativeType>(
     with_comparison!(comparison, comparison => compare_number(alloc, comparison, numbers, number))
 }
 
-/// Returns what two arrays of numbers of one type answer.
+/// Returns the result of a call on two arrays of numbers of one type.
 pub fn ask_both(
     alloc: Global,
     asked: AskedBoth<'_>,
@@ -121,7 +121,7 @@ pub fn ask_both(
         Int8 Int16 Int32 Int64 Int128 UInt8 UInt16 UInt32 UInt64 UInt128)
 }
 
-// Returns what numbers of one type on both sides answer.
+// Returns the result of a call on numbers of one type on both sides.
 fn ask_pair<T: NativeType>(
     alloc: Global,
     asked: AskedBoth<'_>,
@@ -143,7 +143,7 @@ fn ask_pair<T: NativeType>(
     }
 }
 
-// Returns which numbers of one type pass, in windows that lie within the arrays.
+// Compares numbers of one type, in windows that lie within the arrays.
 fn passing_pairs<T: NativeType>(
     alloc: Global,
     comparison: NamedComparison,

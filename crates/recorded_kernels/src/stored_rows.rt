@@ -1,14 +1,13 @@
-//! Comparisons of stored rows, whatever the validity says. A COMPARISON is one of
-//! `named_comparisons`.
+//! Comparisons of stored rows, whatever the validity. A COMPARISON is one of `named_comparisons`.
 //!
-//! | Call | Answer |
+//! | Call | Result |
 //! |---|---|
-//! | `compare_truth_windows COMPARISON A a B b n`, and so of `byte` and `sized` | which pairs of rows pass |
-//! | `compare_view_windows COMPARISON A a B b n` | `BITS in N`, of which N pairs are looked up in buffers |
-//! | `compare_truth COMPARISON A TRUTH` | which rows pass with a constant |
-//! | `compare_bytes COMPARISON A BYTES`, `compare_view_bytes COMPARISON A BYTES` | the same |
+//! | `compare_truth_windows COMPARISON A a B b n`, and so of `byte` and `sized` | whether the comparison holds at each place |
+//! | `compare_view_windows COMPARISON A a B b n` | `BITS in N`, where N is the number of pairs looked up in buffers |
+//! | `compare_truth COMPARISON A TRUTH` | whether the comparison of each row with a constant holds |
+//! | `compare_bytes COMPARISON A BYTES`, `compare_view_bytes COMPARISON A BYTES` | whether the comparison of each row with a constant holds |
 //!
-//! A window is `n` rows from row `a` on of A, and as many from row `b` on of B.
+//! A window is `n` rows from row `a` on of A, and from row `b` on of B.
 
 ghost use Rattle.recorded_text.specs.Cases.{HasGoodArrays};
 ghost use Rattle.recorded_kernels.specs.Windows.{AreWindows};
@@ -33,7 +32,7 @@ use recorded_text::store::Store;
 use recorded_text::words::Words;
 use std::alloc::Global;
 
-/// Returns which pairs of rows of two windows pass, by the call of their kind.
+/// Compares the rows of two windows, by the call for their kind.
 pub fn ask_windows<C: TruthComparison + ByteComparison + ViewComparison>(
     alloc: Global,
     comparison: &C,
@@ -52,7 +51,7 @@ pub fn ask_windows<C: TruthComparison + ByteComparison + ViewComparison>(
     }
 }
 
-// Returns which truth values of two windows pass.
+// Compares the truth values of two windows.
 fn truth_windows<C: TruthComparison>(
     alloc: Global,
     comparison: &C,
@@ -76,7 +75,7 @@ fn truth_windows<C: TruthComparison>(
     )
 }
 
-// Returns which byte strings of two windows pass. Those of a binary array may be set against text
+// Compares the byte strings of two windows. Those of a binary array may be compared with texts in
 // views too.
 fn string_windows<C: ByteComparison>(
     alloc: Global,
@@ -95,7 +94,7 @@ fn string_windows<C: ByteComparison>(
     }
 }
 
-// Returns which byte strings pass.
+// Compares byte strings.
 fn strings<L: ByteRows, R: ByteRows, C: ByteComparison>(
     alloc: Global,
     comparison: &C,
@@ -113,7 +112,7 @@ fn strings<L: ByteRows, R: ByteRows, C: ByteComparison>(
     )
 }
 
-// Returns which byte strings of one size each pass, in two windows.
+// Compares byte strings in two windows, of one size in each array.
 fn sized_windows<C: ByteComparison>(
     alloc: Global,
     comparison: &C,
@@ -138,8 +137,8 @@ fn sized_windows<C: ByteComparison>(
     )
 }
 
-// Returns which byte strings kept by views pass, in two windows, and how many pairs are looked up
-// in buffers.
+// Compares byte strings in views in two windows, and returns also the number of pairs looked up in
+// buffers.
 fn view_windows<C: ViewComparison>(
     alloc: Global,
     comparison: &C,
@@ -156,7 +155,7 @@ fn view_windows<C: ViewComparison>(
     write_followed(alloc, bits, &steps)
 }
 
-/// Returns which rows of an array pass with the constant that words write, by the call of its kind.
+/// Compares the rows of an array with the constant of a word, by the call for its kind.
 pub fn ask_constant<C: TruthComparison + ByteComparison + ViewComparison>(
     alloc: Global,
     comparison: &C,
@@ -180,7 +179,7 @@ pub fn ask_constant<C: TruthComparison + ByteComparison + ViewComparison>(
     }
 }
 
-// Returns which byte strings of an array pass with the one that words write.
+// Compares the byte strings of an array with the one of a word.
 fn strings_beside<C: ByteComparison>(
     alloc: Global,
     comparison: &C,
@@ -191,7 +190,7 @@ fn strings_beside<C: ByteComparison>(
     passing_strings(alloc, comparison, array, &bytes)
 }
 
-// Returns which byte strings of an array pass with one.
+// Compares the byte strings of an array with one.
 fn passing_strings<C: ByteComparison>(
     alloc: Global,
     comparison: &C,
@@ -202,7 +201,7 @@ fn passing_strings<C: ByteComparison>(
         Binary LargeBinary Utf8 LargeUtf8 BinaryView Utf8View FixedSizeBinary)
 }
 
-// Returns which byte strings kept by views pass with the one that words write.
+// Compares byte strings in views with the one of a word.
 fn views_beside<C: ViewComparison>(
     alloc: Global,
     comparison: &C,

@@ -1,14 +1,13 @@
-//! Single rows that are kept by views, and the kernels that say how many pairs they look up in
-//! buffers.
+//! Single rows of arrays of views, and the kernels that count the pairs they look up in buffers.
 //!
-//! | Call | Answer |
+//! | Call | Result |
 //! |---|---|
-//! | `rows_equal A i B j`, `row_less A i B j` | `TRUTH in N`, of which N pairs are looked up in buffers |
+//! | `rows_equal A i B j`, `row_less A i B j` | `TRUTH in N`, where N is the number of pairs looked up in buffers |
 //! | `row_equals_bytes A i BYTES`, `row_less_bytes A i BYTES`, `bytes_less_row BYTES A i` | a truth value |
-//! | `view_comparison COMPARISON A i B j`, `view_comparison_bytes COMPARISON A i BYTES` | the same by one of `named_comparisons` |
-//! | `tot_eq_kernel_followed A B`, `tot_lt_kernel_followed A B` | `BITS in N`, masked rows among them |
+//! | `view_comparison COMPARISON A i B j`, `view_comparison_bytes COMPARISON A i BYTES` | the result of one of `named_comparisons`, in the same form |
+//! | `tot_eq_kernel_followed A B`, `tot_lt_kernel_followed A B` | `BITS in N`, including masked rows |
 //! | `followed A B` | the two counts alone |
-//! | `scalar_row_len BYTES`, `scalar_row_bytes BYTES`, `scalar_row_prefix BYTES` | of the byte string made ready |
+//! | `scalar_row_len BYTES`, `scalar_row_bytes BYTES`, `scalar_row_prefix BYTES` | a part of the prepared byte string |
 
 ghost use Rattle.std.specs.Prelude.{◌≡◌, ◌<◌, length, IfOk};
 ghost use Rattle.recorded_text.specs.Cases.{HasGoodArrays};
@@ -34,7 +33,7 @@ use recorded_text::store::Store;
 use recorded_text::words::Words;
 use std::alloc::Global;
 
-/// A question about rows that are kept by views.
+/// A call on rows of arrays of views.
 #[derive(Clone, Copy)]
 pub enum Asked {
     /// Two rows.
@@ -48,13 +47,13 @@ pub enum Asked {
     EqualRows,
     LessRows,
     Followed,
-    /// A byte string made ready.
+    /// A prepared byte string.
     ScalarLen,
     ScalarBytes,
     ScalarPrefix,
 }
 
-/// Returns what the rows that words name answer.
+/// Returns the result of a call on the rows that words name.
 pub fn ask(alloc: Global, asked: Asked, store: &Store, words: &mut Words) -> Result<String, Fault>
     requires { HasGoodArrays store.now }
 {
@@ -69,7 +68,7 @@ pub fn ask(alloc: Global, asked: Asked, store: &Store, words: &mut Words) -> Res
     }
 }
 
-/// Returns the views of an array that keeps its rows so.
+/// Returns the array of views inside an array of any kind.
 pub fn as_views(array: &AnyArray) -> Result<&BinaryViewArray, Fault> {
     match array {
         AnyArray::BinaryView(views) => Ok(views),
@@ -78,7 +77,7 @@ pub fn as_views(array: &AnyArray) -> Result<&BinaryViewArray, Fault> {
     }
 }
 
-// Returns the views of the array that words name, and the place of the row that they name.
+// Reads an array of views, and the index of a row.
 fn read_row<'a>(store: &'a Store, words: &mut Words) -> Result<(&'a BinaryViewArray, usize), Fault>
     requires { HasGoodArrays store.now }
     ensures { IfOk result (λ row. row.1 < length row.0.now.views) }
@@ -92,12 +91,12 @@ fn read_row<'a>(store: &'a Store, words: &mut Words) -> Result<(&'a BinaryViewAr
     }
 }
 
-// Returns the text of a truth value, and how many pairs were looked up for it.
+// Returns the text of a truth value, and the number of pairs looked up for it.
 fn write_counted(alloc: Global, truth: bool, steps: &Steps) -> Result<String, Fault> {
     Ok(format!(in alloc; "{truth} in {}", steps.seen())?)
 }
 
-/// Returns the text of bits, and how many pairs were looked up for them.
+/// Returns the text of bits, and the number of pairs looked up for them.
 pub fn write_followed(
     alloc: Global,
     bits: Result<Bitmap, ComputeError>,
@@ -106,7 +105,7 @@ pub fn write_followed(
     add_count(write_made(alloc, bits), steps.seen(), "")
 }
 
-// Returns whether two rows are equal, or the first is less.
+// Returns whether two rows are equal, or whether the first is less.
 fn two_rows(alloc: Global, asked: Asked, store: &Store, words: &mut Words) -> Result<String, Fault>
     requires { HasGoodArrays store.now }
 {
@@ -120,7 +119,7 @@ fn two_rows(alloc: Global, asked: Asked, store: &Store, words: &mut Words) -> Re
     write_counted(alloc, truth, &steps)
 }
 
-/// Returns whether a comparison holds of two rows.
+/// Compares two rows.
 pub fn compare_two<C: ViewComparison>(
     alloc: Global,
     comparison: &C,
@@ -136,7 +135,7 @@ pub fn compare_two<C: ViewComparison>(
     write_counted(alloc, passes, &steps)
 }
 
-// Returns whether a row has these bytes, or is less than they are.
+// Returns whether a row is equal to bytes, or less than they are.
 fn row_and_bytes(
     alloc: Global,
     asked: Asked,
@@ -155,7 +154,7 @@ fn row_and_bytes(
     write_truth(alloc, truth)
 }
 
-// Returns whether these bytes are less than a row.
+// Returns whether bytes are less than a row.
 fn bytes_and_row(alloc: Global, store: &Store, words: &mut Words) -> Result<String, Fault>
     requires { HasGoodArrays store.now }
 {
@@ -165,7 +164,7 @@ fn bytes_and_row(alloc: Global, store: &Store, words: &mut Words) -> Result<Stri
     write_truth(alloc, less)
 }
 
-/// Returns whether a comparison holds of a row and these bytes.
+/// Compares a row with bytes.
 pub fn compare_with_bytes<C: ViewComparison>(
     alloc: Global,
     comparison: &C,
@@ -180,7 +179,7 @@ pub fn compare_with_bytes<C: ViewComparison>(
     write_truth(alloc, passes)
 }
 
-// Returns what the stored rows of the two arrays of one kind that words name answer.
+// Compares the stored rows of the two arrays of one kind that words name.
 fn all_rows(alloc: Global, asked: Asked, store: &Store, words: &mut Words) -> Result<String, Fault>
     requires { HasGoodArrays store.now }
 {
@@ -189,8 +188,8 @@ fn all_rows(alloc: Global, asked: Asked, store: &Store, words: &mut Words) -> Re
         BinaryView Utf8View)
 }
 
-// Returns where stored rows are equal or less, and how many pairs are looked up for it, or how many
-// are for both.
+// Returns for each place whether the stored rows are equal or less, and the number of pairs looked
+// up; or the numbers of pairs for both.
 fn rows_followed<A: FollowedKernel>(
     alloc: Global,
     asked: Asked,
@@ -209,7 +208,7 @@ fn rows_followed<A: FollowedKernel>(
     write_followed(alloc, bits, &steps)
 }
 
-// Returns how many pairs of rows equality and order look up.
+// Returns the numbers of pairs of rows that equality and order look up.
 fn pairs_followed<A: FollowedKernel>(alloc: Global, left: &A, right: &A) -> Result<String, Fault>
     requires { length (A.strings right.now) ≡ length (A.strings left.now) }
 {
@@ -220,14 +219,14 @@ fn pairs_followed<A: FollowedKernel>(alloc: Global, left: &A, right: &A) -> Resu
     Ok(format!(in alloc; "{} {}", equal.seen(), less.seen())?)
 }
 
-// Returns what the byte string that words write answers, made ready.
+// Prepares the byte string of a word, and returns a part of it.
 fn scalar(alloc: Global, asked: Asked, words: &mut Words) -> Result<String, Fault> {
     let bytes = read_next_bytes(alloc, words)?;
     write_scalar(alloc, asked, &ScalarRow::new(&bytes))
 }
 
-// Returns how many bytes a scalar has, these bytes, or the first four of them, as its view has
-// them, the first one being the greatest.
+// Returns the length of a scalar, its bytes, or its first four bytes as its view has them, as a
+// big-endian number.
 fn write_scalar(alloc: Global, asked: Asked, scalar: &ScalarRow<'_>) -> Result<String, Fault> {
     match asked {
         Asked::ScalarLen => Ok(scalar.len().to_string(alloc)?),

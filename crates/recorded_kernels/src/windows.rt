@@ -1,13 +1,13 @@
-//! Windows of two arrays of any kind: `n` rows from row `a` on of the left array, and as many from
-//! row `b` on of the right one.
+//! Windows of two arrays of any kind: `n` rows from row `a` on of the left array and from row `b`
+//! on of the right one.
 //!
-//! | Call | Answer |
+//! | Call | Result |
 //! |---|---|
 //! | `array_tot_eq_missing_kernel_counted A B [LEAVES]`, and so of `ne` | `BITS in N comparisons` |
-//! | `equal_windows A a B b n [LEAVES]` | the same |
-//! | `list_windows`, `fixed_size_list_windows`, `struct_windows`, `dictionary_windows`, `leaf_eq` | the same, with `x` where a row is masked |
+//! | `equal_windows A a B b n [LEAVES]` | `BITS in N comparisons` |
+//! | `list_windows`, `fixed_size_list_windows`, `struct_windows`, `dictionary_windows`, `leaf_eq` | `BITS in N comparisons`, with `x` for masked rows |
 //!
-//! LEAVES is `always` or `never`, for leaves that are said to agree all, or none of them.
+//! LEAVES is `always` or `never`, for a kernel in which all leaves agree, or none.
 
 ghost use Rattle.std.specs.Prelude.{◌≡◌, ◌+◌, ◌≤◌, IfOk, IsTrue};
 ghost use Rattle.polars_arrays_nested.specs.GoodParts.{IsGood};
@@ -38,7 +38,7 @@ use recorded_text::store::Store;
 use recorded_text::words::Words;
 use std::alloc::Global;
 
-/// `n` rows from row `a` on of the left array, and as many from row `b` on of the right one.
+/// `n` rows from row `a` on of the left array and from row `b` on of the right one.
 #[derive(Clone, Copy)]
 pub struct Windows<'a> {
     pub left: &'a AnyArray,
@@ -48,7 +48,7 @@ pub struct Windows<'a> {
     pub n: usize,
 }
 
-/// The calls that count the comparisons of leaves.
+/// A call that counts the comparisons of leaves.
 #[derive(Clone, Copy)]
 pub enum Counted {
     /// The equal or the unequal rows of two whole arrays, null equal to null alone.
@@ -63,8 +63,8 @@ pub enum Counted {
     Leaves,
 }
 
-/// Returns what a call says of the windows that words name, by the kernel of leaves that a last
-/// word may name.
+/// Returns the result of a call on the windows of the next words, by the kernel of leaves that a
+/// last word may name.
 pub fn ask(alloc: Global, call: Counted, store: &Store, words: &mut Words) -> Result<String, Fault>
     requires { HasGoodArrays store.now }
 {
@@ -84,7 +84,7 @@ pub fn ask(alloc: Global, call: Counted, store: &Store, words: &mut Words) -> Re
     }
 }
 
-// Returns the array that words name, and the place in it that they write.
+// Reads an array by name, and a place in it.
 fn read_place<'a>(store: &'a Store, words: &mut Words) -> Result<(&'a AnyArray, usize), Fault>
     requires { HasGoodArrays store.now }
     ensures { IfOk result (λ place. IsGood place.0.now) }
@@ -94,7 +94,7 @@ fn read_place<'a>(store: &'a Store, words: &mut Words) -> Result<(&'a AnyArray, 
     Ok((array, at))
 }
 
-/// Returns the windows that words write, which lie within the arrays that they name.
+/// Reads windows, which must lie within their arrays.
 pub fn read_windows<'a>(store: &'a Store, words: &mut Words) -> Result<Windows<'a>, Fault>
     requires { HasGoodArrays store.now }
     ensures { IfOk result (λ windows. AreWindows windows) }
@@ -115,7 +115,7 @@ pub fn read_windows<'a>(store: &'a Store, words: &mut Words) -> Result<Windows<'
     }
 }
 
-// Returns all rows of the two arrays of one length that words name.
+// Returns all rows of the two arrays of equal length that words name.
 fn read_all_rows<'a>(store: &'a Store, words: &mut Words) -> Result<Windows<'a>, Fault>
     requires { HasGoodArrays store.now }
     ensures { IfOk result (λ windows. AreWindows windows) }
@@ -141,8 +141,8 @@ pub fn is_within(at: usize, n: usize, len: usize) -> bool
     at <= len && n <= len - at
 }
 
-// Returns what a call says of two windows by one kernel of leaves, and how many comparisons were
-// counted for it.
+// Returns the result of a call on two windows by a kernel of leaves, and the number of comparisons
+// counted.
 fn compare<K: SeenKernel + Drop>(
     alloc: Global,
     call: Counted,
@@ -156,7 +156,7 @@ fn compare<K: SeenKernel + Drop>(
     add_count(text, kernel.seen(), COMPARISONS)
 }
 
-// Returns what a call says of two windows by a kernel of leaves.
+// Returns the result of a call on two windows by a kernel of leaves.
 fn compare_by<K: LeafKernel>(
     alloc: Global,
     call: Counted,
@@ -172,8 +172,8 @@ fn compare_by<K: LeafKernel>(
     }
 }
 
-// Returns the bits of two windows of one type by a call whose bits mean something for each row, or
-// None for another call.
+// Returns the bits of two windows of one type by a call that defines each bit, or `None` for
+// another call.
 fn equal_bits<K: LeafKernel>(
     alloc: Global,
     call: Counted,
@@ -203,8 +203,8 @@ fn equal_bits<K: LeafKernel>(
     }
 }
 
-// Returns the raw bits of two windows of one type, by the call for arrays of their kind, or None
-// where they are of another one.
+// Returns the raw bits of two windows of one type by the call for their kind, or `None` for another
+// kind.
 fn stored_bits<K: LeafKernel>(
     alloc: Global,
     call: Counted,
@@ -240,7 +240,7 @@ fn stored_bits<K: LeafKernel>(
     }
 }
 
-// Returns the text of the raw bits that a call made of two windows, where there is one for them.
+// Returns the text of the raw bits that a call returned for two windows, if there are any.
 fn write_stored(
     alloc: Global,
     bits: Option<Result<Bitmap, ComputeError>>,
@@ -266,7 +266,7 @@ fn write_stored(
     )
 }
 
-// Returns whether an array has leaves for rows.
+// Returns whether the rows of an array are leaves.
 fn has_leaves(array: &AnyArray) -> bool
     ensures { IsTrue result → IsTrue (is_leaf (type_of array.now)) }
 {

@@ -1,11 +1,11 @@
-//! Copies of arrays, appended to one new state in one call.
+//! Clones of arrays, appended to one new state in one call.
 //!
-//! | Call | Answer |
+//! | Call | Result |
 //! |---|---|
-//! | `append_all_numbers TYPE MIN MAX A..` | the state of the numbers from MIN to MAX, as `seen` says |
-//! | `append_all_truths A..` | that of truth values |
-//! | `append_all_keys V A..` | that of the keys of the entries V |
-//! | `stored_numbers TYPE MIN MAX A..`, and so of `truths` and `keys` | what the array that the state ends in stores, under its null too |
+//! | `append_all_numbers TYPE MIN MAX A..` | the state of the numbers from MIN to MAX, in the form of `seen` |
+//! | `append_all_truths A..` | the state of truth values |
+//! | `append_all_keys V A..` | the state of the keys of the entries V |
+//! | `stored_numbers TYPE MIN MAX A..`, and so of `truths` and `keys` | the stored values of the array that the state is finalised to, including that of its null |
 
 ghost use Rattle.std.specs.Prelude.{All, IsTrue};
 ghost use Rattle.polars_compute_slots.specs.State.{are_within, range_of};
@@ -23,7 +23,7 @@ use recorded_text::store::Store;
 use recorded_text::words::Words;
 use std::alloc::Global;
 
-/// The text of the state that words tell.
+/// Returns the text of the state given by words.
 pub fn write_all<N: NewStates>(
     alloc: Global,
     store: &Store,
@@ -34,7 +34,7 @@ pub fn write_all<N: NewStates>(
     write_seen(alloc, state_of_all::<N>(alloc, store, words))
 }
 
-/// What the array stores that the state ends in which words tell.
+/// Returns the stored values of the array that the state given by words is finalised to.
 pub fn write_stored<N: NewStates>(
     alloc: Global,
     store: &Store,
@@ -46,7 +46,7 @@ pub fn write_stored<N: NewStates>(
     write_end::<N::State>(alloc, state.finalize_unique(alloc))
 }
 
-// What the array stores that a state ended in.
+// Returns the stored values of the array that a state was finalised to.
 fn write_end<S: RecordedState>(
     alloc: Global,
     end: Result<S::Array, ComputeError>,
@@ -54,7 +54,7 @@ fn write_end<S: RecordedState>(
     write_rows::<S>(alloc, &end?)
 }
 
-// What an array stores for each row.
+// Returns the stored value of each row.
 fn write_rows<S: RecordedState>(alloc: Global, rows: &S::Array) -> Result<String, Fault> {
     let mut text = String::new(alloc);
     for i in 0..S::count_rows(rows) {
@@ -66,7 +66,8 @@ fn write_rows<S: RecordedState>(alloc: Global, rows: &S::Array) -> Result<String
     Ok(text)
 }
 
-// A new state of the range that words tell, to which copies of the arrays that further words name were appended.
+// Creates a state of the range given by words, and appends clones of the arrays that further words
+// name.
 fn state_of_all<N: NewStates>(
     alloc: Global,
     store: &Store,
@@ -79,7 +80,8 @@ fn state_of_all<N: NewStates>(
     if_done(state, appended)
 }
 
-// Appends copies of the arrays that words name. The error is `Case`, where the state does not accept one.
+// Appends clones of the arrays that words name. The error is `Case`, if the state does not accept
+// one.
 fn append_copies<S: RecordedState>(
     alloc: Global,
     state: &mut S,
@@ -96,7 +98,7 @@ fn append_copies<S: RecordedState>(
     Ok(())
 }
 
-// Copies of the arrays that words name.
+// Clones the arrays that words name.
 fn copy_all<S: RecordedState>(
     alloc: Global,
     store: &Store,
@@ -111,7 +113,7 @@ fn copy_all<S: RecordedState>(
     Ok(arrays)
 }
 
-// Whether a state accepts an array.
+// Returns whether a state accepts an array.
 fn is_accepted<S: RangedUniqueKernel>(state: &S, array: &S::Array) -> bool
     ensures taken { IsTrue result → IsTrue (S.is_taken array.now) }
     ensures within { IsTrue result → IsTrue (are_within (range_of (S.state state.now)) (S.fed array.now)) }
@@ -119,7 +121,7 @@ fn is_accepted<S: RangedUniqueKernel>(state: &S, array: &S::Array) -> bool
     state.accepts(array)
 }
 
-// Whether a state accepts each array.
+// Returns whether a state accepts each array.
 fn all_accepted<S: RangedUniqueKernel>(state: &S, arrays: &[S::Array]) -> bool
     ensures taken { IsTrue result → All (λ array. IsTrue (S.is_taken array)) arrays.now }
     ensures within { IsTrue result → All (λ array. IsTrue (are_within (range_of (S.state state.now)) (S.fed array))) arrays.now }

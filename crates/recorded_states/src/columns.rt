@@ -1,4 +1,4 @@
-//! Arrays in a row, and new states to which they are appended.
+//! Columns in chunks, and new states to which they are appended.
 
 ghost use Rattle.recorded_text.specs.Cases.{HasGoodArrays};
 
@@ -10,7 +10,7 @@ use recorded_text::store::Store;
 use recorded_text::words::Words;
 use std::alloc::Global;
 
-/// Appends an array. The error is `Case`, where the state does not accept it.
+/// Appends an array. The error is `Case`, if the state does not accept it.
 pub fn append<S: RangedUniqueKernel>(state: &mut S, array: &S::Array) -> Result<(), Fault> {
     if !state.accepts(array) {
         return Err(Fault::Case);
@@ -19,7 +19,7 @@ pub fn append<S: RangedUniqueKernel>(state: &mut S, array: &S::Array) -> Result<
     Ok(())
 }
 
-/// Merges a state into another one. The error is `Case`, where their ranges differ.
+/// Merges a state into another one. The error is `Case`, if their ranges differ.
 pub fn join<S: RangedUniqueKernel>(state: &mut S, other: &S) -> Result<(), Fault> {
     if !state.same_range(other) {
         return Err(Fault::Case);
@@ -28,7 +28,7 @@ pub fn join<S: RangedUniqueKernel>(state: &mut S, other: &S) -> Result<(), Fault
     Ok(())
 }
 
-/// The array of a state's kind that a word names.
+/// Returns the array that a word names, of the kind of the state.
 pub fn rows_named<'a, S: RecordedState>(store: &'a Store, name: &str) -> Result<&'a S::Array, Fault>
     requires { HasGoodArrays store.now }
 {
@@ -49,7 +49,7 @@ pub fn append_named<S: RecordedState>(
     Ok(())
 }
 
-/// A new state to which each array that words name was appended.
+/// Creates a state, and appends each array that words name.
 pub fn gathered<N: NewStates>(
     alloc: Global,
     range: &N,
@@ -63,7 +63,7 @@ pub fn gathered<N: NewStates>(
     if_done(state, appended)
 }
 
-/// A state, where what was done to it has no fault.
+/// Returns a state, unless there was an error in what was done to it.
 pub fn if_done<S: RecordedState>(state: S, done: Result<(), Fault>) -> Result<S, Fault> {
     match done {
         Ok(()) => Ok(state),
@@ -71,7 +71,8 @@ pub fn if_done<S: RecordedState>(state: S, done: Result<(), Fault>) -> Result<S,
     }
 }
 
-/// The state of a column: a new one of the range that words tell, to which each array was appended that further words name.
+/// Creates the state of a column: a state of the range given by words, to which each array is
+/// appended that further words name.
 pub fn read_state<N: NewStates>(
     alloc: Global,
     store: &Store,

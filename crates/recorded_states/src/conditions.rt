@@ -1,14 +1,14 @@
-//! The conditions of other calls. The answer is `true` or `false`.
+//! Conditions of other calls. The result is `true` or `false`.
 //!
-//! | Call | Whether |
+//! | Call | True if |
 //! |---|---|
 //! | `range_fits TYPE MIN MAX` | there is a state of these numbers |
 //! | `keys_fit V` | there is a state of the keys of these entries |
 //! | `accepts_numbers TYPE MIN MAX A` | a state of these numbers accepts the array |
-//! | `accepts_truths A` | a state of truth values does |
-//! | `accepts_keys V A` | a state of the keys of these entries does |
+//! | `accepts_truths A` | a state of truth values accepts the array |
+//! | `accepts_keys V A` | a state of the keys of these entries accepts the array |
 //! | `same_range_numbers TYPE MIN MAX MIN MAX` | two states of these numbers have one range |
-//! | `same_range_keys V W` | two states of the keys of these entries do |
+//! | `same_range_keys V W` | two states of the keys of these entries have one range |
 
 ghost use Rattle.recorded_text.specs.Cases.{HasGoodArrays};
 
@@ -20,14 +20,15 @@ use recorded_text::store::Store;
 use recorded_text::words::Words;
 use std::alloc::Global;
 
-/// Whether there are states of the range that words tell.
+/// Returns whether there are states of the range given by words.
 pub fn fit<N: NewStates>(alloc: Global, store: &Store, words: &mut Words) -> Result<bool, Fault>
     requires { HasGoodArrays store.now }
 {
     Ok(N::read(alloc, store, words)?.fit())
 }
 
-/// Whether a new state of the range that words tell accepts the array that another word names.
+/// Returns whether a new state of the range given by words accepts the array that another word
+/// names.
 pub fn accept<N: NewStates>(alloc: Global, store: &Store, words: &mut Words) -> Result<bool, Fault>
     requires { HasGoodArrays store.now }
 {
@@ -36,7 +37,7 @@ pub fn accept<N: NewStates>(alloc: Global, store: &Store, words: &mut Words) -> 
     Ok(state.accepts(array))
 }
 
-/// Whether new states of two ranges that words tell have one range.
+/// Returns whether new states of two ranges given by words have the same range.
 pub fn have_one_range<N: NewStates>(
     alloc: Global,
     store: &Store,

@@ -1,10 +1,10 @@
-//! The calls of states of the keys of a dictionary, which one word names.
+//! Calls on states of the keys of a dictionary.
 //!
-//! | Call | Answer |
+//! | Call | Result |
 //! |---|---|
-//! | `key_state V MIN MAX A..` | the state over the entries V, as `seen` says, in which one of the numbers from MIN to MAX was put in the place of that of its keys, and to which the arrays of type `u32` were then appended |
+//! | `key_state V MIN MAX A..` | the state over the entries V, in the form of `seen`, after its state of keys was replaced by one of the numbers from MIN to MAX, and the arrays of type `u32` were appended |
 //! | `key_state_accepts V MIN MAX A` | whether that state accepts the dictionary array A |
-//! | `ended_keys V A..` | the type of the array in which a state over V ends once the arrays were appended; behind ` \| ` another state over V, as `seen` says, to which that array was appended |
+//! | `ended_keys V A..` | the type of the array to which a state over V with the arrays appended is finalised; after ` \| `, another state over V, in the form of `seen`, to which that array was appended |
 
 ghost use Rattle.polars_arrays_nested.specs.GoodParts.{IsGood};
 ghost use Rattle.polars_arrays_nested.specs.declared.any_array.AnyArray.{Dictionary};
@@ -31,7 +31,7 @@ use recorded_text::type_text::write_type;
 use recorded_text::words::Words;
 use std::alloc::Global;
 
-// What a call asks that is asked of states of any range, or None for another call.
+// Returns the question of a call that exists for states of any range, or `None` for another call.
 fn question_of(call: &str) -> Option<Question> {
     match call {
         "keys_fit" => Some(Question::Fit),
@@ -44,7 +44,7 @@ fn question_of(call: &str) -> Option<Question> {
     }
 }
 
-/// The answer to a call of this subject, or None for another one's.
+/// Returns the result of a call of this subject, or `None` for any other call.
 pub fn answer(
     alloc: Global,
     call: &str,
@@ -68,7 +68,7 @@ pub fn answer(
     answer.map(Some)
 }
 
-// The text of a state whose state of keys is another one.
+// Returns the text of a state whose state of keys was replaced.
 fn write_state(alloc: Global, store: &Store, words: &mut Words) -> Result<String, Fault>
     requires { HasGoodArrays store.now }
 {
@@ -80,7 +80,7 @@ fn write_state(alloc: Global, store: &Store, words: &mut Words) -> Result<String
     )
 }
 
-// The state over entries in which a state of keys is put, and to which arrays are then appended.
+// Creates a state over entries, replaces its state of keys, and appends arrays.
 fn state_put(
     alloc: Global,
     entries: &AnyArray,
@@ -96,7 +96,7 @@ fn state_put(
     if_done(state, put)
 }
 
-// Whether a state whose state of keys is another one accepts a dictionary array.
+// Returns whether a state whose state of keys was replaced accepts a dictionary array.
 fn write_accepted(alloc: Global, store: &Store, words: &mut Words) -> Result<String, Fault>
     requires { HasGoodArrays store.now }
 {
@@ -106,7 +106,7 @@ fn write_accepted(alloc: Global, store: &Store, words: &mut Words) -> Result<Str
     write_truth(alloc, accepts_put(alloc, entries, &range, store, array))
 }
 
-// Whether the state over entries in which a state of keys is put accepts a dictionary array.
+// Returns whether a state over entries whose state of keys was replaced accepts a dictionary array.
 fn accepts_put(
     alloc: Global,
     entries: &AnyArray,
@@ -123,7 +123,7 @@ fn accepts_put(
     Ok(accepts)
 }
 
-// Puts another state of keys in the place of the present one, and appends the arrays that words name to it.
+// Replaces the state of keys, and appends the arrays that words name to it.
 fn put_keys(
     state: &mut DictionaryRangedUniqueState,
     keys: Result<PrimitiveRangedUniqueState<u32>, Fault>,
@@ -137,7 +137,7 @@ fn put_keys(
     append_named(key_state, store, names)
 }
 
-// The entries that two merged states name.
+// Returns the entries that two merged states name.
 fn write_joined(alloc: Global, store: &Store, words: &mut Words) -> Result<String, Fault>
     requires { HasGoodArrays store.now }
 {
@@ -145,14 +145,15 @@ fn write_joined(alloc: Global, store: &Store, words: &mut Words) -> Result<Strin
     write_entries(alloc, state.finalize_unique(alloc)?)
 }
 
-// The entries that keys name.
+// Returns the entries that keys name.
 fn write_entries(alloc: Global, array: DictionaryArray) -> Result<String, Fault>
     requires { IsGood (Dictionary array) }
 {
     write_made(alloc, AnyArray::Dictionary(array))
 }
 
-// Writes the type of the array that a state ends in, and another state to which it was appended.
+// Returns the type of the array to which a state is finalised, and another state to which it was
+// appended.
 fn write_ended(alloc: Global, store: &Store, words: &mut Words) -> Result<String, Fault>
     requires { HasGoodArrays store.now }
 {
@@ -162,7 +163,7 @@ fn write_ended(alloc: Global, store: &Store, words: &mut Words) -> Result<String
     add_seen(alloc, text, state_of(alloc, &range, &array))
 }
 
-// Returns the array that a state ends in to which arrays were appended.
+// Returns the array to which a state with arrays appended is finalised.
 fn end(
     alloc: Global,
     range: &Entries,
@@ -175,7 +176,7 @@ fn end(
     Ok(array)
 }
 
-// Returns a new state to which one array was appended.
+// Creates a state, and appends one array.
 fn state_of(
     alloc: Global,
     range: &Entries,
@@ -186,7 +187,7 @@ fn state_of(
     if_done(state, appended)
 }
 
-// Returns the text of a type that was made to be written.
+// Returns the text of a type, and drops it.
 fn write_made_type(
     alloc: Global,
     made: Result<ArrowDataType, ComputeError>,

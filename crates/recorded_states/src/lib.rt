@@ -1,8 +1,10 @@
-//! The recorded cases of states of distinct values: of numbers in a range, of truth values, and of the keys of dictionaries.
+//! Recorded cases of states of distinct values: of numbers in a range, of truth values, and of the
+//! keys of dictionaries.
 //!
-//! An array is an operand by its name. A TYPE is one of `i8`, `i16`, `i32`, `i64`, `u8`, `u16`, `u32` and `u64`, and MIN and MAX are the
-//! first and the last number of a range. What is read from a state is text as `seen` says. A condition of a call is tested before, and
-//! where it does not hold, the line can't be answered.
+//! An array is an operand by its name. A TYPE is one of `i8`, `i16`, `i32`, `i64`, `u8`, `u16`,
+//! `u32` and `u64`, and MIN and MAX are the first and the last number of a range. `seen` describes
+//! the text of a state. The condition of a call is tested first; if it does not hold, the line has
+//! no result.
 #![tactic(auto)]
 
 ghost use Rattle.recorded_text.specs.Cases.{HasGoodArrays};
@@ -27,7 +29,7 @@ use recorded_text::store::Store;
 use recorded_text::words::Words;
 use std::alloc::Global;
 
-// Returns the first answer that there is.
+// Returns the first result that there is.
 macro_rules! first_answer {
     ($($answer:expr),+ $(,)?) => {
         $(if let Some(answer) = $answer? {
@@ -36,7 +38,7 @@ macro_rules! first_answer {
     };
 }
 
-/// The answer to a call of one of these subjects, or None for another one's.
+/// Returns the result of a call of these subjects, or `None` for any other call.
 pub fn answer(
     alloc: Global,
     call: &str,

@@ -1,4 +1,4 @@
-//! New states, as often as one is asked for.
+//! Sources of new states.
 
 ghost use Rattle.std.specs.Prelude.{IfOk};
 ghost use Rattle.polars_arrays_nested.specs.GoodParts.{IsGood};
@@ -16,22 +16,23 @@ use recorded_text::words::Words;
 use std::alloc::Global;
 use std::marker::Model;
 
-/// New states of one range.
+/// A source of new states of one range.
 pub trait NewStates: Sized + Drop {
     type State: RecordedState;
 
-    /// Those of the range that words tell.
+    /// Reads the range given by words.
     fn read(alloc: Global, store: &Store, words: &mut Words) -> Result<Self, Fault>
         requires { HasGoodArrays store.now };
 
-    /// Whether there are such states.
+    /// Returns whether there are such states.
     fn fit(&self) -> bool;
 
-    /// A state that has seen nothing. The error is `Case`, where there is none, or else `Memory`.
+    /// Creates a state that has seen no row. The error is `Case`, if there can be none, or else
+    /// `Memory`.
     fn new_state(&self, alloc: Global) -> Result<Self::State, Fault>;
 }
 
-/// A state of the range that words tell, which has seen nothing.
+/// Creates a state of the range given by words.
 pub fn read_new<N: NewStates>(
     alloc: Global,
     store: &Store,
@@ -42,10 +43,10 @@ pub fn read_new<N: NewStates>(
     N::read(alloc, store, words)?.new_state(alloc)
 }
 
-/// A range of numbers, the first and the last of which are two words.
+/// A range of numbers, given by two words: the first and the last number.
 #[derive(Drop)]
 pub enum NumberRange<T: RecordedNumber> {
-    /// Those from a first to a last one.
+    /// The numbers from a first to a last one.
     Between(T, T),
     /// None.
     Empty,
@@ -75,7 +76,7 @@ impl<T: RecordedNumber> NewStates for NumberRange<T> {
     }
 }
 
-// A state of the numbers from one to another.
+// Creates a state of the numbers from `least` to `greatest`.
 fn state_between<T: RecordedNumber>(
     alloc: Global,
     least: T,
@@ -87,7 +88,7 @@ fn state_between<T: RecordedNumber>(
     PrimitiveRangedUniqueState::new(alloc, least, greatest).map_err(Fault::from)
 }
 
-/// Both truth values, for which no word stands.
+/// Both truth values, given by no words.
 #[derive(Drop)]
 pub struct Truths;
 
@@ -107,7 +108,7 @@ impl NewStates for Truths {
     }
 }
 
-/// The keys of a dictionary whose entries one word names.
+/// The keys of a dictionary, given by one word: the name of the entries.
 #[derive(Drop)]
 pub struct Entries {
     entries: AnyArray,
@@ -144,7 +145,7 @@ impl NewStates for Entries {
     }
 }
 
-// A copy of an array.
+// Clones an array.
 fn copy_array(alloc: Global, array: &AnyArray) -> Result<AnyArray, Fault>
     requires { IsGood array.now }
     ensures { IfOk result (λ copy. IsGood copy) }
@@ -153,7 +154,8 @@ fn copy_array(alloc: Global, array: &AnyArray) -> Result<AnyArray, Fault>
     Ok(copy)
 }
 
-/// A new state of the keys of a copy of these entries. The error is `Case`, where there is none, or else `Memory`.
+/// Creates a state of the keys of a clone of these entries. The error is `Case`, if there can be
+/// none, or else `Memory`.
 pub fn new_state_over(
     alloc: Global,
     entries: &AnyArray,
@@ -163,7 +165,7 @@ pub fn new_state_over(
     state_over(alloc, copy_array(alloc, entries)?)
 }
 
-// A state of the keys of these entries.
+// Creates a state of the keys of these entries.
 fn state_over(alloc: Global, entries: AnyArray) -> Result<DictionaryRangedUniqueState, Fault>
     requires { IsGood entries }
 {

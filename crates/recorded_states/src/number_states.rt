@@ -1,4 +1,4 @@
-//! The calls of states of numbers. The word behind a call is the type of the numbers.
+//! Calls on states of numbers. The word after a call is the type of the numbers.
 
 ghost use Rattle.recorded_text.specs.Cases.{HasGoodArrays};
 
@@ -11,18 +11,18 @@ use recorded_text::store::Store;
 use recorded_text::words::Words;
 use std::alloc::Global;
 
-// What is asked of states of numbers.
+// A question about states of numbers.
 #[derive(Clone, Copy)]
 enum NumberQuestion {
-    // What is asked of states of any range.
+    // A question about states of any range.
     OfRange(Question),
-    // What two states have seen, and how many rows were read.
+    // Two states with arrays appended, and the numbers of rows read.
     Counted,
-    // The same of two states of no numbers.
+    // Two states of no numbers with arrays appended, and the numbers of rows read.
     CountedInNone,
 }
 
-// What a call asks, or None for a call of another subject.
+// Returns the question of a call, or `None` for a call of another subject.
 fn question_of(call: &str) -> Option<NumberQuestion> {
     match call {
         "range_fits" => Some(NumberQuestion::OfRange(Question::Fit)),
@@ -38,7 +38,7 @@ fn question_of(call: &str) -> Option<NumberQuestion> {
     }
 }
 
-/// The answer to a call of this subject, or None for another one's.
+/// Returns the result of a call of this subject, or `None` for any other call.
 pub fn answer(
     alloc: Global,
     call: &str,
@@ -53,7 +53,7 @@ pub fn answer(
     }
 }
 
-// The answer at the type that the next word names.
+// Returns the result for the type that the next word names.
 fn answer_typed(
     alloc: Global,
     question: NumberQuestion,
@@ -75,7 +75,7 @@ fn answer_typed(
     }
 }
 
-// The answer at one type.
+// Returns the result for one type.
 fn answer_numbers<T: RecordedNumber>(
     alloc: Global,
     question: NumberQuestion,

@@ -1,4 +1,4 @@
-//! The numbers that there are states of, and their arrays among those of any kind.
+//! Number types that have states, and their arrays among those of any kind.
 
 use polars_arrays_flat::primitive::PrimitiveArray;
 use polars_arrays_nested::any_array::AnyArray;
@@ -7,7 +7,7 @@ use recorded_text::fault::Fault;
 use std::fmt::Display;
 use std::str::FromStr;
 
-/// The rows inside an array of one kind. The error is `Case`, where it is of another one.
+/// Returns the array inside an array of any kind. The error is `Case`, if it is of another kind.
 macro_rules! rows_in {
     ($any:expr, $kind:ident) => {
         match $any {
@@ -19,9 +19,10 @@ macro_rules! rows_in {
 
 pub(crate) use rows_in;
 
-/// Numbers that lines write, and that arrays of one kind hold.
+/// A number type that lines write, and that arrays of one kind hold.
 pub trait RecordedNumber: UniqueNumber + Display + FromStr<Err: Drop> {
-    /// The rows inside an array of such numbers. The error is `Case`, where it has others.
+    /// Returns the array of such numbers inside an array of any kind. The error is `Case`, if it
+    /// holds others.
     fn rows_in(any: &AnyArray) -> Result<&PrimitiveArray<Self>, Fault>;
 }
 

@@ -1,12 +1,13 @@
-//! Two states, to which arrays were appended, by themselves and merged. The text of each is as `seen` says. Parts are parted by ` | `.
+//! Two states with arrays appended, separate and merged. Each has the text of `seen`. Parts are
+//! separated by ` | `.
 //!
-//! | Call | Answer |
+//! | Call | Result |
 //! |---|---|
-//! | `state_numbers TYPE MIN MAX A.. \| B..` | how many rows were read of each array before the bar; the same of those behind it; the state of those before; the state of those behind; the first after the second was merged into it |
-//! | `state_empty TYPE A.. \| B..` | the same of states of no numbers |
+//! | `state_numbers TYPE MIN MAX A.. \| B..` | the number of rows read of each array before the bar; those of the arrays after it; the state of the arrays before the bar; that of the arrays after it; and the first state with the second merged into it |
+//! | `state_empty TYPE A.. \| B..` | the numbers of rows and the three states, for states of no numbers |
 //! | `state_truths A.. \| B..` | the three states, of truth values |
-//! | `state_keys V A.. \| W B..` | the three states, of keys of the entries V and W, and the second after the first was merged into it |
-//! | `state_keys_rows V A.. \| W B..` | the entries that the first names after the second was merged into it |
+//! | `state_keys V A.. \| W B..` | the three states, of keys of the entries V and W, and the second with the first merged into it |
+//! | `state_keys_rows V A.. \| W B..` | the entries that the first state names with the second merged into it |
 
 ghost use Rattle.recorded_text.specs.Cases.{HasGoodArrays};
 
@@ -20,7 +21,7 @@ use recorded_text::store::Store;
 use recorded_text::words::Words;
 use std::alloc::Global;
 
-// The words before a bar and those behind it.
+// Splits words at a bar.
 fn part_at_bar<'a>(words: &'a [&'a str]) -> Result<(&'a [&'a str], &'a [&'a str]), Fault> {
     match words.iter().position(|word| *word == "|") {
         Some(at) => Ok((&words[..at], &words[at + 1..])),
@@ -28,7 +29,7 @@ fn part_at_bar<'a>(words: &'a [&'a str]) -> Result<(&'a [&'a str], &'a [&'a str]
     }
 }
 
-/// Two states of one range that was read, and how many rows were read.
+/// Returns two states of one range, and the numbers of rows read.
 pub fn of_range<N: NewStates<State: CountedState>>(
     alloc: Global,
     range: Result<N, Fault>,
@@ -42,7 +43,7 @@ pub fn of_range<N: NewStates<State: CountedState>>(
     write_counted(alloc, &range, store, left, right)
 }
 
-// How many rows were read of the arrays before the bar and of those behind it, and the states.
+// Returns the numbers of rows read of the arrays before and after the bar, and the states.
 fn write_counted<N: NewStates<State: CountedState>>(
     alloc: Global,
     range: &N,
@@ -65,7 +66,7 @@ fn write_counted<N: NewStates<State: CountedState>>(
     )
 }
 
-// A new state to which each array was appended. How many rows were read of each is added to a text.
+// Creates a state, appends arrays, and appends the number of rows read of each to a text.
 fn counted<N: NewStates<State: CountedState>>(
     alloc: Global,
     text: &mut String,
@@ -80,7 +81,7 @@ fn counted<N: NewStates<State: CountedState>>(
     if_done(state, pushed)
 }
 
-// Appends each array. How many rows were read of each is added to a text.
+// Appends arrays to a state, and the number of rows read of each to a text.
 fn push_steps<S: CountedState>(
     text: &mut String,
     state: &mut S,
@@ -97,7 +98,8 @@ fn push_steps<S: CountedState>(
     Ok(())
 }
 
-// A text, and behind it two states, and the second merged into another one that has seen what the first has.
+// Appends to a text two states, and `again`, a state equal to the first, with the second merged
+// into it.
 fn add_states<S: RecordedState>(
     alloc: Global,
     text: String,
@@ -111,19 +113,19 @@ fn add_states<S: RecordedState>(
     add_seen(alloc, text, both)
 }
 
-// A state that was made, into which another one was merged.
+// Returns a state with another one merged into it, unless there is an error.
 fn with_joined<S: RecordedState>(made: Result<S, Fault>, other: &S) -> Result<S, Fault> {
     let mut state = made?;
     let joined = join(&mut state, other);
     if_done(state, joined)
 }
 
-// Merges a state that was made into another one.
+// Merges a state into another one, unless there is an error.
 fn join_made<S: RecordedState>(state: &mut S, made: Result<S, Fault>) -> Result<(), Fault> {
     join(state, &made?)
 }
 
-// The states of two columns, and the second merged into the first.
+// Returns the states of two columns, and the first with the second merged into it.
 fn write_columns<N: NewStates>(
     alloc: Global,
     store: &Store,
@@ -137,7 +139,7 @@ fn write_columns<N: NewStates>(
     add_seen(alloc, text, joined::<N>(alloc, store, left, right))
 }
 
-// The state of a column, into which that of another one was merged.
+// Returns the state of a column with that of another one merged into it.
 fn joined<N: NewStates>(
     alloc: Global,
     store: &Store,
@@ -151,7 +153,7 @@ fn joined<N: NewStates>(
     if_done(state, joined)
 }
 
-/// The states of two columns, and the second merged into the first.
+/// Returns the states of two columns, and the first with the second merged into it.
 pub fn of_columns<N: NewStates>(
     alloc: Global,
     store: &Store,
@@ -163,7 +165,8 @@ pub fn of_columns<N: NewStates>(
     write_columns::<N>(alloc, store, left, right)
 }
 
-/// The states of two columns, the second merged into the first, and the first into the second.
+/// Returns the states of two columns, the first with the second merged into it, and the second with
+/// the first.
 pub fn either_way<N: NewStates>(
     alloc: Global,
     store: &Store,
@@ -176,7 +179,7 @@ pub fn either_way<N: NewStates>(
     add_seen(alloc, text, joined::<N>(alloc, store, right, left))
 }
 
-/// The state of one column, into which that of another one was merged.
+/// Reads two columns, and returns the state of the first with that of the second merged into it.
 pub fn read_joined<N: NewStates>(
     alloc: Global,
     store: &Store,

@@ -1,4 +1,4 @@
-//! What is asked of states of any range.
+//! Calls on states of any range.
 
 ghost use Rattle.recorded_text.specs.Cases.{HasGoodArrays};
 
@@ -9,7 +9,7 @@ use recorded_text::store::Store;
 use recorded_text::words::Words;
 use std::alloc::Global;
 
-/// A question that lines ask in the same words of each kind of range.
+/// A call that exists for each kind of range.
 #[derive(Clone, Copy)]
 pub enum Question {
     /// Whether there are states of a range.
@@ -18,19 +18,19 @@ pub enum Question {
     Accept,
     /// Whether two states have one range.
     SameRange,
-    /// What a state has seen to which all arrays were appended.
+    /// A state to which all arrays were appended.
     AppendAll,
-    /// What the array stores that such a state ends in.
+    /// The stored values of the array to which such a state is finalised.
     Stored,
-    /// What two states have seen, by themselves and merged.
+    /// Two states, separate and merged.
     Pair,
-    /// What the leaves of a tree have seen, merged; they are of one range.
+    /// The merged leaves of a tree, which have one range.
     MergeTree,
     /// Whether all leaves of a tree have one range.
     OneRange,
 }
 
-/// The answer to a question, at the range or ranges that words tell.
+/// Returns the result of a call, for the range or ranges given by words.
 pub fn answer_question<N: NewStates>(
     alloc: Global,
     question: Question,
@@ -53,7 +53,7 @@ pub fn answer_question<N: NewStates>(
     }
 }
 
-/// The text of a truth value that was found.
+/// Returns the text of a truth value, unless there is an error.
 pub fn write_truth(alloc: Global, truth: Result<bool, Fault>) -> Result<String, Fault> {
     truth?.to_string(alloc).map_err(Fault::from)
 }

@@ -1,5 +1,6 @@
-//! What a state has seen, as text: whether all values and a null, how many rows it ends in, how many of them are present, and the
-//! rows, for dictionaries their keys; or `refused:` and why there are no rows.
+//! The contents of a state as text: whether it has seen all values and a null, the number of rows
+//! it is finalised to, the number of present ones, and the rows, for dictionaries their keys; or
+//! `refused:` and the error in place of the rows.
 
 use crate::state_kinds::{RecordedState, Shown};
 use polars_arrays_bits::error::ComputeError;
@@ -7,10 +8,10 @@ use polars_compute_unique::kernel::RangedUniqueKernel;
 use recorded_text::fault::Fault;
 use std::alloc::Global;
 
-/// What stands between the parts of an answer.
+/// The text between the parts of a result.
 pub const BAR: &str = " | ";
 
-/// The text of a state that was made.
+/// Returns the text of a state, unless there is an error.
 pub fn write_seen<S: RecordedState>(
     alloc: Global,
     state: Result<S, Fault>,
@@ -20,7 +21,7 @@ pub fn write_seen<S: RecordedState>(
     Ok(text)
 }
 
-/// A text, and behind it and a bar a state that was made.
+/// Appends a bar and a state to a text, unless there is an error.
 pub fn add_seen<S: RecordedState>(
     alloc: Global,
     text: Result<String, Fault>,
@@ -31,7 +32,7 @@ pub fn add_seen<S: RecordedState>(
     Ok(text)
 }
 
-// Adds a state that was made to a text, and what parts it from what stands there.
+// Appends a separator and a state, unless there is an error.
 fn push_seen<S: RecordedState>(
     alloc: Global,
     text: &mut String,
@@ -43,7 +44,7 @@ fn push_seen<S: RecordedState>(
     push_end::<S>(text, state.finalize_unique(alloc))
 }
 
-// Adds what a state answers before it ends.
+// Appends what is known of a state before it is finalised.
 fn push_counts<S: RangedUniqueKernel>(
     text: &mut String,
     before: &str,
@@ -55,7 +56,7 @@ fn push_counts<S: RangedUniqueKernel>(
     write!(text, "{before}{all} {rows} {present}").map_err(Fault::from)
 }
 
-// Adds the rows of the array that a state ended in, or why there is none.
+// Appends the rows of the array that a state was finalised to, or the error.
 fn push_end<S: RecordedState>(
     text: &mut String,
     end: Result<S::Array, ComputeError>,
@@ -66,7 +67,7 @@ fn push_end<S: RecordedState>(
     }
 }
 
-// Adds each row, behind a space.
+// Appends each row, after a space.
 fn push_rows<S: RecordedState>(text: &mut String, rows: &S::Array) -> Result<(), Fault> {
     for i in 0..S::count_rows(rows) {
         text.push(' ')?;
@@ -75,7 +76,7 @@ fn push_rows<S: RecordedState>(text: &mut String, rows: &S::Array) -> Result<(),
     Ok(())
 }
 
-// Adds why there are no rows, where it is not for memory.
+// Appends the error of a state, unless it is a failed allocation.
 fn push_refusal(text: &mut String, refused: ComputeError) -> Result<(), Fault> {
     match refused {
         ComputeError::Memory(_) => Err(Fault::Memory),

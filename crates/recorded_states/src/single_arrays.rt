@@ -1,10 +1,10 @@
 //! The distinct rows of one array of truth values.
 //!
-//! | Call | Answer |
+//! | Call | Result |
 //! |---|---|
 //! | `unique A` | the rows |
-//! | `n_unique A` | how many there are |
-//! | `n_unique_non_null A` | how many of them are present |
+//! | `n_unique A` | the number of them |
+//! | `n_unique_non_null A` | the number of present ones |
 
 ghost use Rattle.recorded_text.specs.Cases.{HasGoodArrays};
 
@@ -20,7 +20,7 @@ use recorded_text::store::Store;
 use recorded_text::words::Words;
 use std::alloc::Global;
 
-/// The answer to a call of this subject, or None for another one's.
+/// Returns the result of a call of this subject, or `None` for any other call.
 pub fn answer(
     alloc: Global,
     call: &str,
@@ -37,7 +37,7 @@ pub fn answer(
     }
 }
 
-// The answer to a call of this subject.
+// Returns the result of a call of this subject.
 fn answer_distinct(
     alloc: Global,
     call: &str,
@@ -55,12 +55,12 @@ fn answer_distinct(
     }
 }
 
-// The rows of the array that a call made.
+// Returns the rows of the array that a call returned.
 fn write_unique(alloc: Global, made: Result<BooleanArray, ComputeError>) -> Result<String, Fault> {
     write_made(alloc, AnyArray::Boolean(made?))
 }
 
-// The text of a number of rows.
+// Returns the text of a number of rows.
 fn write_count(alloc: Global, count: usize) -> Result<String, Fault> {
     count.to_string(alloc).map_err(Fault::from)
 }

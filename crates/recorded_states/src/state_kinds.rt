@@ -1,4 +1,4 @@
-//! The kinds of states, and what lines need of each.
+//! The kinds of states, with all that lines require of each.
 
 use crate::numbers::{RecordedNumber, rows_in};
 use polars_arrays_bits::bitmap::Bitmap;
@@ -18,33 +18,35 @@ use recorded_text::fault::Fault;
 use std::alloc::Global;
 use std::fmt::Display;
 
-/// A state, the arrays of which lines name.
+/// A state whose arrays lines name.
 pub trait RecordedState: RangedUniqueKernel<Array: Drop> + Drop {
-    /// The rows inside an array of the state's kind. The error is `Case`, where it is of another one.
+    /// Returns the array inside an array of any kind. The error is `Case`, if it is not of the
+    /// state's kind.
     fn rows_in(any: &AnyArray) -> Result<&Self::Array, Fault>;
 
-    /// A copy of an array.
+    /// Clones an array.
     fn copy_rows(alloc: Global, rows: &Self::Array) -> Result<Self::Array, Fault>;
 
-    /// How many rows an array has.
+    /// Returns the number of rows of an array.
     fn count_rows(rows: &Self::Array) -> usize;
 
-    /// Adds row `i` of an array to a text, which of a dictionary is the key.
+    /// Appends row `i` of an array; for a dictionary this is the key.
     fn push_row(text: &mut String, rows: &Self::Array, shown: Shown, i: usize) -> Result<(), Fault>;
 }
 
-/// What is written of a row.
+/// The form of a row in a text.
 #[derive(Clone, Copy)]
 pub enum Shown {
     /// The row, which may be null.
     Row,
-    /// What is stored for it, under a null too.
+    /// The stored value, even if the row is null.
     Stored,
 }
 
-/// A state that says how many rows it reads.
+/// A state that counts the rows it reads.
 pub trait CountedState: RecordedState {
-    /// Appends an array, and answers how many rows were read. The error is `Case`, where the state does not accept it.
+    /// Appends an array, and returns the number of rows read. The error is `Case`, if the state
+    /// does not accept it.
     fn append_and_count(&mut self, array: &Self::Array) -> Result<u64, Fault>;
 }
 
@@ -133,7 +135,7 @@ impl RecordedState for DictionaryRangedUniqueState {
     }
 }
 
-// Adds row `i` of an array of numbers.
+// Appends row `i` of an array of numbers.
 fn push_number<T: RecordedNumber>(
     text: &mut String,
     rows: &PrimitiveArray<T>,
@@ -144,7 +146,7 @@ fn push_number<T: RecordedNumber>(
     push_value(text, null, rows.values().get(i).copied())
 }
 
-// Whether null is written of row `i`.
+// Returns whether row `i` is written as null.
 fn is_shown_null(shown: Shown, validity: Option<&Bitmap>, i: usize) -> bool {
     match shown {
         Shown::Row => is_null(validity, i),
@@ -152,7 +154,7 @@ fn is_shown_null(shown: Shown, validity: Option<&Bitmap>, i: usize) -> bool {
     }
 }
 
-// Adds that a row is null, or the value that is stored for it.
+// Appends `null`, or the value of a row.
 fn push_value<V: Copy + Display>(
     text: &mut String,
     null: bool,

@@ -1,12 +1,13 @@
-//! Trees of states, in postfix: leaves of some words each, and `+`, which joins the two trees before it.
+//! Trees of states, in postfix notation: leaves of some words each, and `+`, which joins the two
+//! trees before it.
 //!
-//! | Call | A leaf | Answer |
+//! | Call | A leaf | Result |
 //! |---|---|---|
-//! | `merge_tree_numbers TYPE MIN MAX TREE` | A: a state of the numbers from MIN to MAX, to which A was appended | the states merged, as `seen` says |
-//! | `merge_tree_truths TREE` | A: the same of truth values | the same |
-//! | `merge_tree_keys TREE` | V A: the same of the keys of the entries V | the same |
+//! | `merge_tree_numbers TYPE MIN MAX TREE` | A: a state of the numbers from MIN to MAX, to which A is appended | the states merged, in the form of `seen` |
+//! | `merge_tree_truths TREE` | A: a state of truth values, to which A is appended | the states merged |
+//! | `merge_tree_keys TREE` | V A: a state of the keys of the entries V, to which A is appended | the states merged |
 //! | `one_range_numbers TYPE TREE` | MIN MAX: a new state of these numbers | whether all leaves have one range |
-//! | `one_range_keys TREE` | V: a new state of the keys of these entries | the same |
+//! | `one_range_keys TREE` | V: a new state of the keys of these entries | whether all leaves have one range |
 
 ghost use Rattle.recorded_text.specs.Cases.{HasGoodArrays};
 
@@ -20,18 +21,18 @@ use recorded_text::store::Store;
 use recorded_text::words::Words;
 use std::alloc::Global;
 
-// What the words of a leaf tell.
+// The meaning of the words of a leaf.
 #[derive(Drop)]
 enum Leaves<N: NewStates> {
     // An array that is appended to a new state of this range.
     Within(N),
-    // A range, and such an array.
+    // A range, and an array to append to a new state of it.
     Gathered,
     // The range of a new state.
     New,
 }
 
-/// The states of leaves of the range that words tell, merged.
+/// Returns the merged states of leaves of one range, given by words.
 pub fn merge_in_range<N: NewStates>(
     alloc: Global,
     store: &Store,
@@ -43,7 +44,7 @@ pub fn merge_in_range<N: NewStates>(
     merge(alloc, &leaves, store, words)
 }
 
-/// The states of leaves, each of the range that its own words tell, merged.
+/// Returns the merged states of leaves, each of a range given by its own words.
 pub fn merge_leaves<N: NewStates>(
     alloc: Global,
     store: &Store,
@@ -54,7 +55,7 @@ pub fn merge_leaves<N: NewStates>(
     merge::<N>(alloc, &Leaves::Gathered, store, words)
 }
 
-// The states of a tree, merged.
+// Returns the merged states of a tree.
 fn merge<N: NewStates>(
     alloc: Global,
     leaves: &Leaves<N>,
@@ -67,7 +68,7 @@ fn merge<N: NewStates>(
     write_merged(alloc, tree)
 }
 
-// The text of the states of a tree, merged. The error is `Case`, where their ranges differ.
+// Returns the text of the merged states of a tree. The error is `Case`, if their ranges differ.
 fn write_merged<S: RecordedState>(alloc: Global, tree: MergeTree<S>) -> Result<String, Fault> {
     if !tree.one_range() {
         return Err(Fault::Case);
@@ -75,7 +76,7 @@ fn write_merged<S: RecordedState>(alloc: Global, tree: MergeTree<S>) -> Result<S
     write_seen(alloc, Ok(merge_tree(tree)))
 }
 
-/// Whether the new states of a tree have one range.
+/// Returns whether the new states of a tree have one range.
 pub fn have_one_range<N: NewStates>(
     alloc: Global,
     store: &Store,
@@ -87,7 +88,7 @@ pub fn have_one_range<N: NewStates>(
     Ok(tree.one_range())
 }
 
-// The tree that words write.
+// Reads a tree.
 fn read_tree<N: NewStates>(
     alloc: Global,
     leaves: &Leaves<N>,
@@ -101,7 +102,7 @@ fn read_tree<N: NewStates>(
     take_only(&mut trees)
 }
 
-// The only tree.
+// Returns the only tree.
 fn take_only<S: RecordedState>(trees: &mut Vec<MergeTree<S>>) -> Result<MergeTree<S>, Fault> {
     if trees.len() > 1 {
         return Err(Fault::Word);
@@ -112,7 +113,7 @@ fn take_only<S: RecordedState>(trees: &mut Vec<MergeTree<S>>) -> Result<MergeTre
     }
 }
 
-// The trees that words write, of which the last ones may be joined.
+// Reads a sequence of trees.
 fn read_trees<N: NewStates>(
     alloc: Global,
     trees: &mut Vec<MergeTree<N::State>>,
@@ -131,7 +132,7 @@ fn read_trees<N: NewStates>(
     Ok(())
 }
 
-// Joins the last two trees, or adds the leaf that words write.
+// Joins the last two trees, or reads a leaf.
 fn read_part<N: NewStates>(
     alloc: Global,
     trees: &mut Vec<MergeTree<N::State>>,
@@ -148,7 +149,7 @@ fn read_part<N: NewStates>(
     push_tree(trees, MergeTree::Leaf(state))
 }
 
-// Adds a tree.
+// Appends a tree.
 fn push_tree<S: RecordedState>(
     trees: &mut Vec<MergeTree<S>>,
     tree: MergeTree<S>,
@@ -164,7 +165,7 @@ fn join_last<S: RecordedState>(alloc: Global, trees: &mut Vec<MergeTree<S>>) -> 
     push_tree(trees, MergeTree::Node(left, right))
 }
 
-// The last tree, in a box.
+// Removes the last tree, and puts it in a box.
 fn box_last<S: RecordedState>(
     alloc: Global,
     trees: &mut Vec<MergeTree<S>>,
@@ -175,7 +176,7 @@ fn box_last<S: RecordedState>(
     }
 }
 
-// The state of the leaf that words write.
+// Reads the state of a leaf.
 fn read_leaf<N: NewStates>(
     alloc: Global,
     leaves: &Leaves<N>,
@@ -191,7 +192,7 @@ fn read_leaf<N: NewStates>(
     }
 }
 
-// A new state to which the array that a word names was appended.
+// Creates a state, and appends the array that a word names.
 fn read_gathered<N: NewStates>(
     alloc: Global,
     range: &N,

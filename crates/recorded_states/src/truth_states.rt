@@ -1,4 +1,4 @@
-//! The calls of states of truth values.
+//! Calls on states of truth values.
 
 ghost use Rattle.recorded_text.specs.Cases.{HasGoodArrays};
 
@@ -9,7 +9,7 @@ use recorded_text::store::Store;
 use recorded_text::words::Words;
 use std::alloc::Global;
 
-// What a call asks, or None for a call of another subject.
+// Returns the question of a call, or `None` for a call of another subject.
 fn question_of(call: &str) -> Option<Question> {
     match call {
         "accepts_truths" => Some(Question::Accept),
@@ -21,7 +21,7 @@ fn question_of(call: &str) -> Option<Question> {
     }
 }
 
-/// The answer to a call of this subject, or None for another one's.
+/// Returns the result of a call of this subject, or `None` for any other call.
 pub fn answer(
     alloc: Global,
     call: &str,
