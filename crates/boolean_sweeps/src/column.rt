@@ -16,7 +16,7 @@ const ROOM: usize = 264;
 /// The distribution of rows.
 #[derive(Clone, Copy)]
 pub struct Sort {
-    /// Whether there is a validity.
+    /// A flag for arrays with a validity.
     pub has_validity: bool,
     /// Chances in 32 that a row is null.
     pub nulls: u64,

@@ -22,21 +22,21 @@ pub const ALL_TRUE: Sort = Sort {
     trues: 32,
 };
 
-/// Rows about half of which are null.
+/// Rows, about half of them null.
 pub const HALF_NULL: Sort = Sort {
     has_validity: true,
     nulls: 16,
     trues: 16,
 };
 
-/// Rows about half of which are null, and the others true.
+/// Rows, about half of them null, and the others true.
 pub const NULL_OR_TRUE: Sort = Sort {
     has_validity: true,
     nulls: 16,
     trues: 32,
 };
 
-/// Rows most of which are null, and the others false.
+/// Rows, most of them null, and the others false.
 pub const FEW_FALSE: Sort = Sort {
     has_validity: true,
     nulls: 29,

@@ -36,7 +36,7 @@ struct Parts<'a> {
     /// Order `i` has the items from offset `i` up to offset `i + 1`.
     offsets: &'a [i32],
     items: &'a [i32],
-    /// Whether an order has a list of items; otherwise the list is null.
+    /// Orders with a list of items; the list of any other order is null.
     present: &'a [bool],
     /// For each order the index of its city.
     keys: &'a [u8],
@@ -186,7 +186,7 @@ const FIRST: Parts<'static> = Parts {
     cities: "OsloBergen",
 };
 
-/// The same orders except for the last item, stored differently.
+/// Orders that equal the first ones except for the last item, stored differently.
 const SECOND: Parts<'static> = Parts {
     offsets: &[0, 2, 4, 5],
     items: &[1, 2, 9, 9, 8],

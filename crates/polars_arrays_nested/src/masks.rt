@@ -135,8 +135,8 @@ fn followed_window(
     Ok(bits.freeze())
 }
 
-// Computes the mask of the `n` keys from key `at` on from the mask of all entries. The error is
-// `Memory`.
+// Computes the mask of the `n` keys from key `at` on. Reads the entries' validity directly, unless
+// the entries are nulls or keys themselves. The error is `Memory`.
 #[tactic(auto, using(crate::proofs::Presence::windows, crate::proofs::Presence::entries))]
 fn named_window(
     alloc: Global,

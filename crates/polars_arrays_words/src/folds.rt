@@ -197,7 +197,7 @@ impl TruthValues for Blocks<'_> {
         all_set(self.words, self.by, self.width * i, self.width)
     }
 
-    // A value reads bits of two words, so packing bit by bit is faster.
+    // Packs bit by bit, since each value reads bits of two words.
     #[inline(always)]
     fn packs_by_bit(&self) -> bool {
         true

@@ -1,4 +1,4 @@
--- There are as many stored rows as stored values.
+-- The number of stored rows is that of stored values.
 use Rattle.std.specs.Prelude.{◌≡◌, ℕ, ℤ, Bool, List, length, replicate}
 use Rattle.std.proofs.Common.{ap, sym, ◌∙◌}
 use Rattle.std.proofs.lemmas.List.{length-map}

@@ -44,7 +44,7 @@ impl<T: NativeType + 'static> TotalEqKernel for PrimitiveArray<T> {
         compare_number_windows(alloc, &Unequal, self, 0, other, 0, self.len())
     }
 
-    // The masks are joined with each word of truth values as it is packed.
+    // Joins the masks with each word of truth values as it is packed.
     fn tot_eq_missing_kernel(&self, alloc: Global, other: &Self) -> Result<Bitmap, ComputeError> {
         let left_mask = self.missing_mask(alloc)?;
         let right_mask = other.missing_mask(alloc)?;

@@ -60,7 +60,7 @@ module _ (better : Row → Row → Bool) (law : Prefers Int better) (same : (m n
     any_times = cond-same (better (Int first) (Int first)) first;
   }
 
--- two whole numbers neither of which is less are equal
+-- two whole numbers are equal if neither is less
 neither_less : (m n : ℤ) → int_lt m n ≡ false → int_lt n m ≡ false → m ≡ n
 neither_less m n e f =
     int_ranked m n Equal (sym (ap (λ b. cond b Less (cond (int_lt n m) Greater Equal)) e ∙ ap (λ b. cond b Greater Equal) f))

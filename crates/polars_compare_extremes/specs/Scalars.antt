@@ -11,7 +11,7 @@ use Rattle.polars_compare_extremes.specs.declared.extreme.Extreme.TheVariants.{L
 use Rattle.polars_compare_extremes.specs.declared.scalar.AnyScalar.{AnyScalar}
 use Rattle.polars_compare_extremes.specs.declared.scalar.AnyScalar.TheVariants.{Boolean, Int8, Int16, Int32, Int64, Int128, UInt8, UInt16, UInt32, UInt64, UInt128, Binary, LargeBinary, Utf8, LargeUtf8, BinaryView, Utf8View}
 
--- the test of which of two rows is the better extreme
+-- the test of whether a row is a better extreme than another
 abbrev pub better_of : Extreme → Row → Row → Bool
 better_of Least = row_less
 better_of Greatest = row_greater

@@ -1,4 +1,5 @@
-//! Raw equality of windows of at most 64 leaves of one type, as the bits of a word, the first row lowest.
+//! Raw equality of windows of at most 64 leaves of one type, as the bits of a word, the first row
+//! lowest.
 
 ghost use Rattle.std.specs.Prelude.{◌≡◌, ◌+◌, ◌≤◌, IsTrue, length, MatchResult};
 ghost use Rattle.polars_arrays_words.specs.Bits.{first_of, is_bit};

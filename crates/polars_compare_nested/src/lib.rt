@@ -1,4 +1,5 @@
-//! Missing equality of any two arrays of one type, nested to any depth, with the exact count of comparisons.
+//! Missing equality of any two arrays of one type, nested to any depth, with the exact count of
+//! comparisons.
 #![tactic(auto)]
 
 pub mod broadcasts;

@@ -259,7 +259,8 @@ impl<O: Offset> TruthValues for ListBits<'_, '_, O> {
         self.items.all_set(place.saturating_sub(self.first), count)
     }
 
-    // A value is computed from two offsets and the bits between them, more than 64 bits in all.
+    // Packs bit by bit, since each value is computed from two offsets and the bits between them,
+    // more than 64 bits in all.
     #[inline(always)]
     fn packs_by_bit(&self) -> bool {
         true
@@ -375,7 +376,8 @@ impl<O: Offset> TruthValues for WordLists<'_, O> {
         word_set(self.word, place.saturating_sub(self.first), count)
     }
 
-    // A value is computed by a shift of the word, which has no vector form.
+    // Packs bit by bit, since each value is computed by a shift of the word, which has no vector
+    // form.
     #[inline(always)]
     fn packs_by_bit(&self) -> bool {
         true

@@ -45,7 +45,7 @@ fn none_set(alloc: Global, len: usize) -> Result<Seen, ComputeError>
     Ok(Seen::Many(slots))
 }
 
-// Sets the slots that are set in `other`, which must have as many, stored in the same form.
+// Sets the slots that are set in `other`, which must have equally many, stored in the same form.
 fn join_seen(seen: &mut Seen, other: &Seen)
     requires size { length (seen_slots other.now) ≡ length (seen_slots seen.old) }
     requires word { in_word other.now ≡ in_word seen.old }

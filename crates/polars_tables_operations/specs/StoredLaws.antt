@@ -44,6 +44,6 @@ truths_are_values = record {
   same = same_truth;
 }
 
--- there are as many stored rows as stored values
+-- the number of stored rows is that of stored values
 pub as_long : {A : Type 0} (f : A → Row) (xs ys : List A) → length (map f xs) ≡ length (map f ys) → length xs ≡ length ys
 as_long f xs ys e = sym (length-map xs f) ∙ e ∙ length-map ys f

@@ -117,7 +117,7 @@ pub enum NumericOperation {
     Sum,
     /// The distinct rows of a list whose numbers lie between two ends.
     DistinctInRange(Distinct),
-    /// Whether such a list has all numbers from one end to the other, and a null.
+    /// A test of whether such a list has all numbers from one end to the other, and a null.
     HasAllOfRange,
 }
 

@@ -29,7 +29,7 @@ masked-at (b ∷ bits) [] i e h = absurd (omega arith)
 masked-at (b ∷ bits) (x ∷ rows) zero e h = refl
 masked-at (b ∷ bits) (x ∷ rows) (suc i) e h = masked-at bits rows i (omega arith) (omega arith)
 
--- there are as many rows under a validity as stored rows
+-- the number of rows under a validity is that of stored rows
 pub length-rows : (v : Option (List Bool)) (slots : List Row) → HasBits (length slots) v → length (rows_under v slots) ≡ length slots
 length-rows None slots h = refl
 length-rows (Some bits) slots h = length-masked bits slots h
@@ -58,6 +58,6 @@ module _ {A : Type 0} (f : A → Row) (v : Option (List Bool)) (xs : List A) (i 
   pub value-read : (x : A) → is_present v i ≡ true → slice_get xs i ≡ Some x → f x ≡ row (rows_under v (map f xs)) i
   value-read x p e = value-present x p (sym (get_or_from_slice_get xs i x x e))
 
--- there are as many stored values as rows
+-- the number of stored values is that of rows
 pub length-values : {A : Type 0} (f : A → Row) (v : Option (List Bool)) (xs : List A) → HasBits (length (map f xs)) v → length (map f xs) ≡ length (rows_under v (map f xs))
 length-values f v xs h = sym (length-rows v (map f xs) h)

@@ -9,7 +9,7 @@ use std::alloc::Global;
 /// A question about rows.
 #[derive(Clone, Copy)]
 pub enum Question {
-    /// Whether kernels of equality can be called, as a truth value.
+    /// A truth value: whether kernels of equality can be called.
     Can,
     /// The bits of a kernel of equality.
     Equality(Equality),

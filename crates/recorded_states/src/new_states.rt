@@ -46,7 +46,7 @@ pub fn read_new<N: NewStates>(
 /// A range of numbers, given by two words: the first and the last number.
 #[derive(Drop)]
 pub enum NumberRange<T: RecordedNumber> {
-    /// The numbers from a first to a last one.
+    /// No numbers.
     Between(T, T),
     /// None.
     Empty,

@@ -12,11 +12,11 @@ use std::alloc::Global;
 /// A call that exists for each kind of range.
 #[derive(Clone, Copy)]
 pub enum Question {
-    /// Whether there are states of a range.
+    /// A test of whether there are states of a range.
     Fit,
-    /// Whether a state accepts an array.
+    /// A test of whether a state accepts an array.
     Accept,
-    /// Whether two states have one range.
+    /// A test of whether two states have one range.
     SameRange,
     /// A state to which all arrays were appended.
     AppendAll,
@@ -26,7 +26,7 @@ pub enum Question {
     Pair,
     /// The merged leaves of a tree, which have one range.
     MergeTree,
-    /// Whether all leaves of a tree have one range.
+    /// A test of whether all leaves of a tree have one range.
     OneRange,
 }
 

@@ -24,7 +24,7 @@ use std::alloc::Global;
 // The meaning of the words of a leaf.
 #[derive(Drop)]
 enum Leaves<N: NewStates> {
-    // An array that is appended to a new state of this range.
+    // An array, to append to a new state of this range.
     Within(N),
     // A range, and an array to append to a new state of it.
     Gathered,

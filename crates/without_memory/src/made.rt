@@ -102,7 +102,7 @@ fn make_bytes(alloc: Global, told: &mut Told) -> Result<(), Fault> {
     Ok(())
 }
 
-// Creates texts, the second of which is not UTF-8.
+// Creates texts. The second one is not UTF-8.
 fn make_texts(alloc: Global, told: &mut Told) -> Result<(), Fault> {
     let offsets = buffer(alloc, &[0i64, 1, 2])?;
     let values = buffer(alloc, &[b'a', 255])?;

@@ -92,7 +92,7 @@ fn columns(alloc: Global) -> Result<Vec<AnyArray>, Fault>
     Ok(columns)
 }
 
-// Creates a dictionary array of two entries, neither of which the second key names.
+// Creates a dictionary array of two entries. The second key names neither.
 fn make_entries(alloc: Global, told: &mut Told) -> Result<(), Fault> {
     let keys = Vec::from_slice(alloc, &[1u32, 2])?;
     let entries = boxed(alloc, ITEMS)?;

@@ -89,7 +89,7 @@ pub fn append<S: RangedUniqueKernel>(told: &mut Told, name: &str, state: &mut S,
     }
 }
 
-// Records states of no numbers, of as many as a word has slots for, and of truth values.
+// Records states of no numbers, of the numbers that one word has slots for, and of truth values.
 fn tell_states(alloc: Global, told: &mut Told, store: &Store) -> Result<(), Fault>
     requires { HasGoodArrays store.now }
 {

@@ -24,9 +24,6 @@ use std::alloc::Global;
 /// null or the divisor is 0. A scalar acts as a column that repeats it. Values that an array owns
 /// are written in place. The error is `Memory`. Results own their values, except for a division by
 /// the scalar 0: it keeps the values of the array, owned or shared.
-/// 0. A scalar stands for as many present rows. What the array owns is written in place. The error is `Memory`.
-/// Answers own their values, but for a division by the number 0: it keeps the values of the array
-/// as they are, owned or shared.
 pub trait PrimitiveArithmeticKernelImpl: PlNumArithmetic {
     /// Returns the absolute values.
     final fn prim_wrapping_abs(
