@@ -2,7 +2,7 @@
 use Rattle.std.specs.Prelude.{ℕ, ℤ, Bool, List, [], ◌∷◌}
 
 mutual
-  -- null, a number, a truth value, bytes, a list's items, a struct's fields, or a dictionary's row
+  -- null, a number, a truth value, bytes (a text is its UTF-8), a list, a struct, or an entry
   pub data Row : Type 0 where
     Null : Row
     Int : ℤ → Row

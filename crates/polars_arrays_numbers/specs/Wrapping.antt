@@ -2,7 +2,7 @@
 use Rattle.std.specs.Prelude.{◌≡◌, ◌≤ℤ◌, ◌+ℤ◌, ◌-ℤ◌, ◌^◌, ℕ, ℤ, pos}
 use Rattle.std.specs.Int.{int_rem_euclid}
 
--- x and y are congruent modulo m: dividing them by m leaves the same remainder
+-- x and y are congruent modulo m: dividing them by m leaves the same remainder, which is at least 0
 abbrev pub Congruent : ℕ → ℤ → ℤ → Type 0
 Congruent m x y = int_rem_euclid x (pos m) ≡ int_rem_euclid y (pos m)
 

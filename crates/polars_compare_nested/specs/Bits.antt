@@ -1,4 +1,5 @@
--- Bits of a comparison of two windows: n rows from row a of the left and row b of the right array.
+-- Bits of a comparison of n rows from row a of the left array with those from row b of the right
+-- one.
 use Rattle.std.specs.Prelude.{◌≡◌, ◌+◌, ◌<◌, ◌&&◌, ℕ, Bool, false, IsTrue, List, Option, length, slice_index_or}
 use Rattle.std.specs.Simd.Lanes.{zip2}
 use Rattle.polars_arrays_words.specs.Bits.{first_of, is_bit}
@@ -25,8 +26,7 @@ pub record RawBits (agree : Row → Row → Bool) (left : AnyArray) (a : ℕ) (r
   pub at_present : (i : ℕ) → i < n → BothPresent left a right b i
       → slice_index_or bits i false ≡ same agree (row left (a + i)) (row right (b + i))
 
--- Each bit of two present rows says whether they agree; other bits are arbitrary. `left` and
--- `right` give a row by its place.
+-- each bit of two present rows says whether they agree; `left` and `right` give rows by place
 pub record PresentBits (agree : Row → Row → Bool) (left : ℕ → Row) (left_mask : Option (List Bool)) (a : ℕ) (right : ℕ → Row) (right_mask : Option (List Bool)) (b n : ℕ) (bits : List Bool) : Type 0 where
   pub size : length bits ≡ n
   pub at_present : (i : ℕ) → i < n → IsTrue (is_present left_mask (a + i)) × IsTrue (is_present right_mask (b + i))
@@ -50,8 +50,7 @@ pub record JoinsBits (Bits : List Bool → Type 0) (old new : List Bool) : Type 
 abbrev pub JoinsLeafBits : (Row → Row → Bool) → AnyArray → ℕ → AnyArray → ℕ → List Bool → List Bool → Type 0
 JoinsLeafBits agree left a right b old = JoinsBits (LeafBits agree left a right b (length old)) old
 
--- If both rows are present, the bit says whether they agree; otherwise it is arbitrary. `left` and
--- `right` give a row by its place.
+-- if both rows are present, the bit says whether they agree; `left` and `right` give rows by place
 pub record PresentBit (agree : Row → Row → Bool) (left : ℕ → Row) (left_mask : Option (List Bool)) (a : ℕ) (right : ℕ → Row) (right_mask : Option (List Bool)) (b : ℕ) (bit : Bool) : Type 0 where
   pub at_present : IsTrue (is_present left_mask a) × IsTrue (is_present right_mask b) → bit ≡ agree (left a) (right b)
 

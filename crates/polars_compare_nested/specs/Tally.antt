@@ -12,14 +12,14 @@ abbrev pub total_pairs : (ℕ → ℕ → ℕ) → ℕ → ℕ → ℕ → ℕ
 total_pairs f a b zero = 0
 total_pairs f a b (suc count) = total_pairs f a b count + f (a + count) (b + count)
 
--- the cost of lists i and j: that of their items if both are present and equally long, else 0
+-- the cost of lists i and j: `items` of their windows if both are present and equally long, else 0
 abbrev pub pair_tally : (ℕ → ℕ → ℕ → ℕ) → ListOffsets → Option (List Bool) → ListOffsets → Option (List Bool) → ℕ → ℕ → ℕ
 pair_tally items offsets validity offsets' validity' i j =
     cond (is_present validity i && is_present validity' j && eqb (span offsets i) (span offsets' j))
     (items (offset_at offsets i) (offset_at offsets' j) (span offsets i))
     0
 
--- the cost of rows i and j of two dictionaries: that of their entries if both are present, else 0
+-- the cost of rows i and j of two dictionaries: `entries` of their entries if present, else 0
 abbrev pub entry_tally : (ℕ → ℕ → ℕ → ℕ) → DictKeys → DictKeys → ℕ → ℕ → ℕ
 entry_tally entries keys keys' i j =
     cond (is_present (key_validity keys) i && is_present (key_validity keys') j) (entries (key_at keys i) (key_at keys' j) 1) 0

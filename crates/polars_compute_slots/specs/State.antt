@@ -6,7 +6,7 @@ use Rattle.std.specs.Simd.Lanes.{zip2}
 use Rattle.polars_arrays_flat.specs.ArrayRows.{is_null}
 use Rattle.polars_arrays_flat.specs.Row.{Row, Null, Int, Truth}
 
--- the values of a range, ascending, each with whether it was seen; and whether a null was seen
+-- each value of a range, ascending (false as 0, true as 1), with whether it was seen; and null
 pub record State : Type 0 where
   pub values : List (ℤ × Bool)
   pub has_null : Bool

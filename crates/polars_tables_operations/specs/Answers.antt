@@ -57,7 +57,7 @@ abbrev pub comparison_answer : Comparison → Operand → List Row → List Row 
 comparison_answer comparison Rows left right = row_by_row (compared_rows comparison) left right
 comparison_answer comparison Scalar rows scalars = of_scalar scalars (λ x. told (compared_rows comparison rows (replicate (length rows) x)))
 
--- an operation on rows of every type
+-- an operation on rows of any type
 abbrev pub general_answer : GeneralOperation → RowType → List (List Row) → Answer
 general_answer (Compare comparison operand) type lists = of_two lists (comparison_answer comparison operand)
 general_answer (CountBits count) type lists = of_one lists (λ rows. told (map (counted (count_of count) (width_of type)) rows))

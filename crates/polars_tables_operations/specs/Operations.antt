@@ -1,4 +1,4 @@
--- The operations: their names, and the types of rows that they take.
+-- The operations: their names, and the types of rows that they accept.
 use Rattle.std.specs.Prelude.{ℕ, Bool, true, not, List, [], ◌∷◌, codes, Option}
 use Rattle.polars_tables_operations.specs.declared.operation.BitCount.TheVariants.{Ones, Zeros, LeadingOnes, LeadingZeros, TrailingOnes, TrailingZeros}
 use Rattle.polars_tables_operations.specs.declared.operation.Calculation.TheVariants.{Add, Multiply, Ordered}

@@ -5,7 +5,7 @@ use Rattle.polars_tables_rows.specs.declared.row_type.RowType.{RowType}
 use Rattle.polars_tables_rows.specs.declared.row_type.RowType.TheVariants.{I8, I16, I32, I64, U8, U16, U32, U64, Boolean}
 use Rattle.polars_tables_rows.specs.Tables.{find}
 
--- the types by their names
+-- the types by name
 abbrev pub row_types : List (List ℕ × RowType)
 row_types = (codes "i8", I8)
     ∷ (codes "i16", I16)

@@ -184,7 +184,7 @@ pub fn count_both(x: &Bitmap, y: &Bitmap) -> Result<usize, Fault> {
     Ok(x.num_intersections_with(y))
 }
 
-/// Keeps a window of a bitmap. The error is `Word`, if it is out of range.
+/// Keeps a window of a bitmap. The error is `Case`, if it is out of range.
 pub fn keep(bits: &mut Bitmap, at: usize, n: usize) -> Result<(), Fault> {
     if !is_within(at, n, bits.len()) {
         return Err(Fault::Case);
@@ -193,7 +193,7 @@ pub fn keep(bits: &mut Bitmap, at: usize, n: usize) -> Result<(), Fault> {
     Ok(())
 }
 
-/// Returns a window of a bitmap as a clone. The error is `Word`, if it is out of range.
+/// Returns a window of a bitmap as a clone. The error is `Case`, if it is out of range.
 pub fn cut(alloc: Global, bits: &Bitmap, at: usize, n: usize) -> Result<Bitmap, Fault> {
     let mut window = bits.clone_bitmap(alloc)?;
     keep(&mut window, at, n)?;
