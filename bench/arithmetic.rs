@@ -70,7 +70,7 @@ fn keep_freed_memory() {
     mallopt(MMAP_MAX, 0);
 }
 
-/// What a side answers for a row that is null or behind the last one.
+/// The value that a side returns for a row that is null or past the end.
 const NO_NUMBER: u64 = 0x5555_5555_5555_5555;
 
 /// The scalar that is timed.
@@ -90,7 +90,7 @@ const SCALARS: [i64; 10] = [
     i64::MIN,
 ];
 
-/// What the library makes the arrays of.
+/// The parts from which the library makes the arrays.
 struct Columns {
     left: Vec<i64>,
     /// Numbers of all magnitudes, of which every sixty-fourth or so is 0.
@@ -114,7 +114,7 @@ impl Columns {
     }
 }
 
-/// Which of the forms of an operation runs.
+/// The form of an operation that runs.
 #[derive(Clone, Copy)]
 struct Form {
     in_place: bool,
@@ -180,7 +180,7 @@ impl<'a, T: Number> Arrays<'a, T> {
         rows(if form.nulls { &self.columns.words } else { &[] })
     }
 
-    /// Which rows the right array leaves present.
+    /// The rows that the right array leaves present.
     fn right_words<O: Operation>(&self, right: &[T], form: Form) -> Option<Vec<u64>> {
         let words = self.words(form, 1);
         if O::DIVIDES {
@@ -212,7 +212,7 @@ impl<'a, T: Number> Arrays<'a, T> {
         })
     }
 
-    /// The same, written over the numbers of the left one.
+    /// Runs the operation in place, over the numbers of the left array.
     fn pairs_in_place<O: Operation>(&self, form: Form, repeats: usize) -> u64 {
         let (left, right) = (
             self.made(&self.columns.left),
@@ -323,7 +323,7 @@ impl<'a, T: Number> Arrays<'a, T> {
         });
     }
 
-    /// What is asked of a division by a number that stays.
+    /// The ratio asked of a division by a number that stays.
     fn asked_of_divisor(&self, operation: LoneOperation, form: Form) -> Asked {
         let narrow = matches!(
             self.number_type,
@@ -372,7 +372,7 @@ impl<'a, T: Number> Arrays<'a, T> {
     }
 }
 
-/// What is asked of all but the divisions by a number that stays.
+/// The ratio asked of all operations except divisions by a number that stays.
 fn asked(divides: bool, form: Form) -> Asked {
     if divides || form.in_place {
         Asked::Ratio([1.0, 1.0])
@@ -447,7 +447,7 @@ pub fn agree() {
     }
 }
 
-/// Whether a line of the operation is timed. Of the types that are not among the four first ones only
+/// Returns whether a line of the operation is timed. Of the types that are not among the four first ones only
 /// divisions by a scalar are, and with nulls only the pairs of one type. The numbers without a sign are their own
 /// distances from 0.
 fn is_timed(name: &str) -> bool {

@@ -29,7 +29,7 @@ unsafe extern "C" {
     ) -> u64;
 }
 
-/// How far behind the left validity the right one begins, in bits.
+/// The bit offset of the right validity behind the left one.
 const STRIDE: usize = 64;
 
 /// Windows at differing places in words.

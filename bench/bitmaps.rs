@@ -54,14 +54,14 @@ unsafe extern "C" {
     ) -> u64;
 }
 
-/// What the library runs: on three bitmaps, or on two arrays of truth values in the first two.
+/// The call that the library runs: on three bitmaps, or on two arrays of truth values in the first two.
 #[derive(Clone, Copy)]
 enum Ours {
     Bitmaps(BitmapKernel),
     Truths(TruthKernel),
 }
 
-/// How far apart the two windows of one operand begin, in bits.
+/// The distance in bits between the two windows of one operand.
 const STRIDE: usize = 64;
 
 /// A kernel of the bitmaps, and its peer on three windows, which answers bit `i` or

@@ -14,7 +14,7 @@ enum NestedKernel {
     TotEqMissing,
 }
 
-/// What an array holds, as the library numbers it.
+/// The content of an array, as the library numbers it.
 #[derive(Clone, Copy)]
 #[repr(u32)]
 enum NestedType {
@@ -58,7 +58,7 @@ unsafe extern "C" {
     ) -> u64;
 }
 
-/// What the library makes an array of. Each type reads some of it.
+/// The parts from which the library makes an array. Each type reads some of them.
 #[derive(Clone, Copy, Default)]
 struct Parts<'a> {
     offsets: &'a [i32],
@@ -304,7 +304,7 @@ pub fn for_structs(count: usize, each: &mut dyn FnMut(&Kernel)) {
     });
 }
 
-/// How many levels of lists there are around a number.
+/// The number of levels of lists around a number.
 const LEVELS: usize = 200;
 
 /// Hands the kernel on one row of many levels of lists to `each`.

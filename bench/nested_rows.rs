@@ -3,16 +3,16 @@
 use crate::operands::Numbers;
 use crate::string_rows::{Pair, Texts, entries, texts};
 
-/// How many items a list has.
+/// The number of items of a list.
 pub const WIDTH: usize = 4;
 
-/// How many columns a struct has.
+/// The number of columns of a struct.
 pub const COLUMNS: usize = 8;
 
-/// How many entries a dictionary has.
+/// The number of entries of a dictionary.
 const ENTRIES: usize = 1_000;
 
-/// What is the matter with every seventh list.
+/// The way in which every seventh list is special.
 #[derive(Clone, Copy)]
 pub enum Seventh {
     /// Nothing.
@@ -27,7 +27,7 @@ pub enum Seventh {
 
 /// Lists of numbers between offsets.
 pub struct Lists {
-    /// Where each list begins, and behind them where the last one ends.
+    /// The offset at which each list begins, and last the end of the last list.
     pub offsets: Vec<i32>,
     pub items: Vec<i32>,
     /// Words of the validity, or none where no list is null.
@@ -94,7 +94,7 @@ impl Lists {
 /// Rows that keys name among texts.
 pub struct Keyed {
     pub keys: Vec<u32>,
-    /// The same keys as they cross to the library.
+    /// The keys as they cross to the library.
     pub crossing: Vec<i32>,
     pub entries: Texts,
     /// Words of the validity of the entries, or none where no entry is null.
@@ -120,13 +120,13 @@ impl Keyed {
         self
     }
 
-    /// Whether the entry of a key is present.
+    /// Returns whether the entry of a key is present.
     #[inline]
     pub fn has_entry(&self, key: u32) -> bool {
         self.present[key as usize / 64] >> (key % 64) & 1 == 1
     }
 
-    /// The same columns, in which every seventh text is null.
+    /// Columns in which every seventh text is null.
     fn masked_pair(numbers: &mut Numbers, count: usize) -> Pair<Keyed> {
         let Pair { left, right } = Keyed::pair(numbers, count);
         Pair {
@@ -171,7 +171,7 @@ pub fn structs(count: usize) -> Pair<Vec<i32>> {
     Pair { left, right }
 }
 
-/// How many columns of numbers a struct has beside one of texts.
+/// The number of columns of numbers of a struct, beside one of texts.
 pub const NUMBER_COLUMNS: usize = 2;
 
 /// Structs of numbers and of a text, of which about half are equal.
@@ -197,7 +197,7 @@ impl Mixed {
     }
 }
 
-/// Where lists of `WIDTH` items begin, and behind them where the last one ends.
+/// The offsets at which lists of `WIDTH` items begin, and last where the last one ends.
 pub fn regular_offsets(items: usize) -> Vec<i32> {
     (0..=items / WIDTH).map(|i| (WIDTH * i) as i32).collect()
 }

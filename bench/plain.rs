@@ -11,7 +11,7 @@ pub fn word_of(answers: impl Iterator<Item = bool>) -> u64 {
         .fold(0, |word, (i, answer)| word | (u64::from(answer) << i))
 }
 
-/// Where the elements of two slices of one length pass a test.
+/// Returns a bit for each place at which two slices of one length pass a test.
 #[inline]
 pub fn compare_pairs<T: Copy>(left: &[T], right: &[T], test: impl Fn(T, T) -> bool) -> Vec<u64> {
     let (left_words, left_rest) = left.as_chunks::<64>();
@@ -31,7 +31,7 @@ pub fn compare_pairs<T: Copy>(left: &[T], right: &[T], test: impl Fn(T, T) -> bo
     words
 }
 
-/// Where the elements of a slice pass a test.
+/// Returns a bit for each element of a slice that passes a test.
 #[inline]
 pub fn test_each<T: Copy>(values: &[T], test: impl Fn(T) -> bool) -> Vec<u64> {
     let (full, rest) = values.as_chunks::<64>();
@@ -66,7 +66,7 @@ pub fn less_constant<T: Copy + PartialOrd>(left: &[T], right: T) -> Vec<u64> {
     test_each(left, |l| l < right)
 }
 
-/// Where rows of two arrays are equal, null to null alone, by the windows of their validities.
+/// Returns where rows of two arrays are equal, null to null alone, by the windows of their validities.
 pub fn equal_missing<T: Copy + PartialEq>(
     left: &[T],
     right: &[T],
@@ -134,7 +134,7 @@ fn join(low: u64, high: u64, by: u32) -> u64 {
     (low >> by) | ((high << 1) << (63 - by))
 }
 
-/// How many of the first `count` words have a word behind them.
+/// Returns how many of the first `count` words have a word behind them.
 #[inline]
 fn whole_of(words: &[u64], count: usize) -> usize {
     words.len().saturating_sub(1).min(count)
@@ -250,7 +250,7 @@ pub fn xnor(left: Window, right: Window) -> Vec<u64> {
     shifted2(left, right, |l, r| !(l ^ r))
 }
 
-/// Where the left bit is 0 and the right one is 1.
+/// Returns the bits that are 0 on the left and 1 on the right.
 #[inline(never)]
 pub fn not_and(left: Window, right: Window) -> Vec<u64> {
     shifted2(left, right, |l, r| !l & r)
@@ -318,7 +318,7 @@ pub fn merge_ne_aligned(told: Window, left: Window, right: Window) -> Vec<u64> {
     aligned3(told, left, right, |q, l, r| (q & l & r) | (l ^ r))
 }
 
-/// How many bits of a window that begins where a word does are 1.
+/// Counts the ones of a window that begins at a word.
 #[inline(never)]
 pub fn set_bits_aligned(bits: Window) -> usize {
     let words = bits.aligned();
@@ -335,7 +335,7 @@ pub fn set_bits_aligned(bits: Window) -> usize {
     (whole + last) as usize
 }
 
-/// How many bits are 1 in both of two windows that begin where a word does.
+/// Counts the bits that are 1 in both of two windows that begin where a word does.
 #[inline(never)]
 pub fn num_intersections_with_aligned(left: Window, right: Window) -> usize {
     let (l, r) = (left.aligned(), right.aligned());
@@ -354,7 +354,7 @@ pub fn num_intersections_with_aligned(left: Window, right: Window) -> usize {
     (whole + last) as usize
 }
 
-/// How many of the `len` bits are 1 whose words from the first on are asked of `inner`, as far as
+/// Counts the ones of the `len` bits whose words from the first on are asked of `inner`, as far as
 /// `whole`, and from there of `outer`.
 #[inline]
 fn count_of(
@@ -370,19 +370,19 @@ fn count_of(
     (counted + rest + last.count_ones()) as usize
 }
 
-/// Whether all bits are true, if there is one.
+/// Returns whether all bits are true, if there is one.
 #[inline(never)]
 pub fn all_true(bits: Window) -> Option<bool> {
     (bits.len > 0).then(|| set_bits(bits) == bits.len)
 }
 
-/// Whether an odd number of bits is true, if there is one.
+/// Returns whether an odd number of bits is true, if there is one.
 #[inline(never)]
 pub fn odd_trues(bits: Window) -> Option<bool> {
     (bits.len > 0).then(|| set_bits(bits) % 2 == 1)
 }
 
-/// How many bits of a window are 1.
+/// Counts the ones of a window.
 #[inline(never)]
 pub fn set_bits(bits: Window) -> usize {
     let (words, by) = bits.parts();
@@ -396,7 +396,7 @@ pub fn set_bits(bits: Window) -> usize {
     )
 }
 
-/// How many bits are 1 in both of two windows.
+/// Counts the bits that are 1 in both of two windows.
 #[inline(never)]
 pub fn num_intersections_with(left: Window, right: Window) -> usize {
     let ((l, l_by), (r, r_by)) = (left.parts(), right.parts());

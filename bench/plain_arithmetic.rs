@@ -3,7 +3,7 @@
 
 use crate::plain::test_each;
 
-/// What numbers of all widths have in common.
+/// The operations that numbers of all widths share.
 pub trait Number: Copy + PartialEq {
     const ZERO: Self;
 
@@ -26,10 +26,10 @@ pub trait Number: Copy + PartialEq {
     /// The quotient by a number that is not 0, rounded toward 0.
     fn trunc_div(self, other: Self) -> Self;
 
-    /// What the quotient that is rounded toward 0 leaves.
+    /// Returns the remainder of the quotient rounded toward 0.
     fn rest(self, other: Self) -> Self;
 
-    /// Whether a rest and its divisor lie on different sides of 0.
+    /// Returns whether a remainder and its divisor lie on different sides of 0.
     fn is_across(self, divisor: Self) -> bool;
 
     /// The quotient by a number that is not 0, rounded down. The rest is what its product leaves: not all types get both
@@ -41,7 +41,7 @@ pub trait Number: Copy + PartialEq {
         quotient.sub(Self::of(i64::from(across)))
     }
 
-    /// What the quotient that is rounded down leaves.
+    /// Returns the remainder of the quotient rounded down.
     #[inline(always)]
     fn modulo(self, other: Self) -> Self {
         let rest = self.rest(other);
@@ -137,7 +137,7 @@ unsigned! { u8 as u32; u16 as u32; u32 as u32; u64 as u64; }
 
 /// An operation on each two numbers at one place, or on each number and one that stays.
 pub trait Operation {
-    /// Whether it divides: a row is null where the right number is 0.
+    /// Returns whether the operation divides: a row is null where the right number is 0.
     const DIVIDES: bool;
 
     fn answer<T: Number>(left: T, right: T) -> T;
@@ -171,7 +171,7 @@ operations! {
     Mod, true, |x, y| x.modulo(y);
 }
 
-/// What the operation answers. Where it divides by 0 the row is null, and the number of no account.
+/// Returns the result of the operation. Where it divides by 0 the row is null, and the number of no account.
 #[inline(always)]
 fn answer<T: Number, O: Operation>(left: T, right: T) -> T {
     if O::DIVIDES && right == T::ZERO {
@@ -216,19 +216,19 @@ pub fn lone_in_place<T: Number, O: Operation>(values: &mut [T], scalar: T) {
     }
 }
 
-/// Which numbers are not 0.
+/// Returns a bit for each number that is not 0.
 #[inline(never)]
 pub fn nonzero<T: Number>(values: &[T]) -> Vec<u64> {
     test_each(values, |value| value != T::ZERO)
 }
 
-/// Where the words have a bit, and the other ones too, if there are some.
+/// Returns the bits that the words have, and the other ones too, if there are some.
 #[inline(never)]
 pub fn joined(words: &[u64], others: &[u64]) -> Vec<u64> {
     words.iter().zip(others).map(|(x, y)| x & y).collect()
 }
 
-/// The same, written over the first words.
+/// Joins words in place, over the first ones.
 #[inline(never)]
 pub fn join(words: &mut [u64], others: &[u64]) {
     for (x, y) in words.iter_mut().zip(others) {

@@ -30,7 +30,7 @@ impl Fault {
 type Answer = Result<(), Fault>;
 type Rows<T> = Vec<Option<T>>;
 
-/// What a line can have as a row.
+/// The value of a row of a line.
 trait Value: Copy + Ord + FromStr + Display {
     const BITS: u32;
 

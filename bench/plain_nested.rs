@@ -38,7 +38,7 @@ fn list_row<'a>((offsets, items, _): Parts<'a>, i: usize) -> &'a [i32] {
     &items[offsets[i] as usize..offsets[i + 1] as usize]
 }
 
-/// Whether two short lists have the same items. It takes less time than the comparison of the slices, which
+/// Returns whether two short lists have the same items. It takes less time than the comparison of the slices, which
 /// calls `memcmp`.
 #[inline]
 fn same_items(left: &[i32], right: &[i32]) -> bool {
@@ -127,7 +127,7 @@ fn present_entry(keyed: &Keyed, key: u32) -> Option<&[u8]> {
     keyed.has_entry(key).then(|| entry(&keyed.entries, key))
 }
 
-/// The same where some texts are null, which are equal to one another alone.
+/// Compares columns in which some texts are null, which are equal to one another alone.
 #[inline(never)]
 pub fn equal_dictionaries_with_nulls(left: &Keyed, right: &Keyed) -> Vec<u64> {
     compare_pairs(&left.keys, &right.keys, move |a, b| {

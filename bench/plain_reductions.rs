@@ -41,7 +41,7 @@ macro_rules! reduced {
 
 reduced! { i8 i16 i32 i64 u8 u16 u32 u64 }
 
-/// What two numbers are joined to.
+/// Returns the number to which two numbers are joined.
 pub trait Join {
     fn join<T: Reduced>(left: T, right: T) -> T;
 }

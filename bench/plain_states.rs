@@ -95,7 +95,7 @@ pub fn set_of(values: &[i32], range: usize) -> Vec<u64> {
     seen
 }
 
-/// How many of false, true and null a column of bits has.
+/// Returns how many of false, true and null a column of bits has.
 #[inline(never)]
 pub fn distinct_truths(values: Window) -> u64 {
     let (mut ones, mut zeros) = (0u64, 0u64);

@@ -15,7 +15,7 @@ pub fn test_rows(count: usize, test: impl Fn(usize) -> bool + Copy) -> Vec<u64> 
     words
 }
 
-/// How many bytes the string of a view has.
+/// Returns the length of a view's string in bytes.
 #[inline]
 fn len_of(view: u128) -> usize {
     view as u32 as usize
@@ -27,7 +27,7 @@ fn prefix_of(view: u128) -> u32 {
     ((view >> 32) as u32).swap_bytes()
 }
 
-/// Whether the string that one view holds is less than that of another.
+/// Returns whether the string that one view holds is less than that of another.
 #[inline]
 fn short_less(l: u128, r: u128) -> bool {
     if prefix_of(l) != prefix_of(r) {
@@ -105,7 +105,7 @@ pub fn less_texts(left: &Texts, right: &Texts) -> Vec<u64> {
     test_rows(left.count(), move |i| text_row(l, i) < text_row(r, i))
 }
 
-/// How many bytes a block has.
+/// The number of bytes of a block.
 const BLOCK: usize = 16;
 
 /// The sixteen bytes from a place on as a number, of which those of a string of so many bytes are kept, if it is no longer and the
@@ -130,7 +130,7 @@ const MASKS: [u128; BLOCK + 1] = {
     masks
 };
 
-/// Whether two texts are equal, as blocks where both are one.
+/// Returns whether two texts are equal, as blocks where both are one.
 #[inline(never)]
 pub fn equal_texts_by_blocks(left: &Texts, right: &Texts) -> Vec<u64> {
     let (l, r) = (parts(left), parts(right));
@@ -142,7 +142,7 @@ pub fn equal_texts_by_blocks(left: &Texts, right: &Texts) -> Vec<u64> {
     })
 }
 
-/// The same of order.
+/// Returns whether one text is less than another, as blocks where both are one.
 #[inline(never)]
 pub fn less_texts_by_blocks(left: &Texts, right: &Texts) -> Vec<u64> {
     let (l, r) = (parts(left), parts(right));
@@ -166,7 +166,7 @@ pub fn less_texts_constant(left: &Texts, right: &[u8]) -> Vec<u64> {
     test_rows(left.count(), move |i| text_row(l, i) < right)
 }
 
-/// How many bytes a string of one size has.
+/// The number of bytes of a string of one size.
 const SIZE: usize = 16;
 
 #[inline(never)]
@@ -176,7 +176,7 @@ pub fn equal_sized(left: &[u8], right: &[u8]) -> Vec<u64> {
     compare_pairs(left, right, |l, r| l[..] == r[..])
 }
 
-/// How many bytes the least text has.
+/// Returns the length of the least text in bytes.
 #[inline(never)]
 pub fn least_text(texts: &Texts) -> Option<usize> {
     (0..texts.count())
@@ -185,7 +185,7 @@ pub fn least_text(texts: &Texts) -> Option<usize> {
         .map(<[u8]>::len)
 }
 
-/// How many bytes the greatest text has.
+/// Returns the length of the greatest text in bytes.
 #[inline(never)]
 pub fn greatest_text(texts: &Texts) -> Option<usize> {
     (0..texts.count())
@@ -194,14 +194,14 @@ pub fn greatest_text(texts: &Texts) -> Option<usize> {
         .map(<[u8]>::len)
 }
 
-/// How many bytes the least of strings that their views hold has.
+/// Returns the length of the least string that lies in its view.
 #[inline(never)]
 pub fn least_short(strings: &Views) -> Option<usize> {
     let least = |best: u128, view: u128| if short_less(view, best) { view } else { best };
     strings.views.iter().copied().reduce(least).map(len_of)
 }
 
-/// How many bytes the greatest of strings that their views hold has.
+/// Returns the length of the greatest string that lies in its view.
 #[inline(never)]
 pub fn greatest_short(strings: &Views) -> Option<usize> {
     let greatest = |best: u128, view: u128| if short_less(best, view) { view } else { best };

@@ -37,13 +37,13 @@ unsafe extern "C" {
     ) -> u64;
 }
 
-/// What a side answers where there is no number.
+/// The value that a side returns where there is no number.
 const NO_NUMBER: u64 = 0x5555_5555_5555_5555;
 
-/// Where a validity begins in its words.
+/// The bit at which a validity begins in its words.
 const SHIFT: usize = 13;
 
-/// Which rows have a validity bit of 1.
+/// The rows that have a validity bit of 1.
 #[derive(Clone, Copy)]
 enum Nulls {
     NoValidity,
@@ -59,7 +59,7 @@ struct Columns<'a, T> {
     data: &'a Data,
     half: &'a [u64],
     ones: &'a [u64],
-    /// What is asked of a sum with half of the rows null, beside the sum of all rows.
+    /// The ratio asked of a sum with half of the rows null, beside the sum of all rows.
     asked_of_nulls: [f64; 2],
 }
 

@@ -28,16 +28,16 @@ unsafe extern "C" {
     ) -> u64;
 }
 
-/// Where a validity begins in its words.
+/// The bit at which a validity begins in its words.
 const SHIFT: usize = 13;
 
-/// How many values a state has a bit for each of in one number.
+/// The number of values for which a state has a bit in one number.
 const FEW: usize = 100;
 
-/// How many values a state keeps in a bitmap.
+/// The number of values that a state keeps in a bitmap.
 const MANY: usize = 10_000;
 
-/// How many rows a short chunk has.
+/// The number of rows of a short chunk.
 const CHUNK: usize = 1_000;
 
 /// A column whose numbers are from 0 to below a bound, which none of them is one less than: so no state of
@@ -104,7 +104,7 @@ impl Drawn {
         )
     }
 
-    /// How many distinct values a column has, by the bits of a number or of words.
+    /// Counts the distinct values of a column, by the bits of a number or of words.
     fn plain(&self, column: Column) -> u64 {
         if self.range == FEW {
             distinct_in_number(black_box(column))

@@ -4,7 +4,7 @@ use crate::operands::Numbers;
 
 /// Strings one behind the other.
 pub struct Texts {
-    /// Where each string begins, and behind them where the last one ends.
+    /// The offset at which each string begins, and last the end of the last one.
     pub offsets: Vec<i32>,
     pub bytes: Vec<u8>,
 }
@@ -138,7 +138,7 @@ pub fn texts(numbers: &mut Numbers, count: usize) -> Pair<Texts> {
     shape.pair(numbers, count)
 }
 
-/// So many texts of about 6 bytes.
+/// Returns `count` texts of about 6 bytes.
 pub fn entries(numbers: &mut Numbers, count: usize) -> Texts {
     texts(numbers, count).left
 }

@@ -18,7 +18,7 @@ enum StringKernel {
     Max,
 }
 
-/// How strings lie in an array, as the library numbers it.
+/// The layout of strings in an array, as the library numbers it.
 #[derive(Clone, Copy)]
 #[repr(u32)]
 enum StringType {

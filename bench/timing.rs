@@ -4,14 +4,14 @@ use std::collections::HashMap;
 use std::hint::black_box;
 use std::time::{Duration, Instant};
 
-/// How often the kernels are timed, one after the other. The best times of all rounds count: other work on the
+/// The number of rounds in which the kernels are timed, one after the other. The best times of all rounds count: other work on the
 /// machine lasts for seconds, and then all measurements of a kernel in one round are slow.
 pub fn rounds() -> usize {
     let told = std::env::var("ROUNDS").ok().and_then(|rounds| rounds.parse().ok());
     told.filter(|rounds| *rounds > 0).unwrap_or(4)
 }
 
-/// What a side answers for a bit past the end.
+/// The value that a side returns for a bit past the end.
 pub const NO_BIT: u64 = 2;
 
 /// Bit `i` of the `len` bits that were made.
@@ -58,7 +58,7 @@ pub const RUNS: [Run; 2] = [
     },
 ];
 
-/// The same for kernels of which there are many.
+/// The runs of kernels that come in many forms.
 pub const SHORT_RUNS: [Run; 2] = [
     Run {
         count: RUNS[0].count,
@@ -87,9 +87,9 @@ impl Run {
 #[derive(Clone, Copy)]
 pub enum Asked {
     Nothing,
-    /// So many times what the other side takes.
+    /// A multiple of the time that the other side takes.
     Ratio([f64; 2]),
-    /// So many nanoseconds a row.
+    /// A number of nanoseconds a row.
     Nanoseconds([f64; 2]),
 }
 
@@ -103,11 +103,11 @@ pub struct Kernel<'a> {
     pub ours: Side<'a>,
     /// Plain Rust that answers the same.
     pub plain: Side<'a>,
-    /// What is timed in place of the plain Rust.
+    /// The call that is timed in place of the plain Rust.
     pub beside: Option<Side<'a>>,
 }
 
-/// How many runs of a kernel a measurement takes to last long enough.
+/// Returns how many runs of a kernel a measurement needs to last long enough.
 fn repeats_for(least: Duration, work: Side) -> usize {
     let least = least + measured(0, work);
     let mut repeats = 1;
@@ -175,12 +175,12 @@ impl Bench {
         }
     }
 
-    /// Whether a kernel of that name is one of those to run.
+    /// Returns whether a kernel of that name is one of those to run.
     pub fn runs(&self, name: &str) -> bool {
         self.words.is_empty() || self.words.iter().any(|word| name.contains(word.as_str()))
     }
 
-    /// How many kernels are over what is asked for.
+    /// Returns how many kernels miss what is asked for.
     pub fn over(&self) -> usize {
         self.over
     }
@@ -190,7 +190,7 @@ impl Bench {
         self.time(&RUNS[run], run, kernel);
     }
 
-    /// The same at any number of rows, where `run` says which of the numbers that are asked counts. Answers
+    /// Times a kernel at any number of rows, where `run` says which of the numbers that are asked counts. Answers
     /// the nanoseconds a row of the library, if the kernel is one of those to run.
     pub fn time(&mut self, rows: &Run, run: usize, kernel: &Kernel) -> Option<f64> {
         let name = kernel.name;
