@@ -4,8 +4,9 @@ use std::collections::HashMap;
 use std::hint::black_box;
 use std::time::{Duration, Instant};
 
-/// The number of rounds in which the kernels are timed, one after the other. The best times of all rounds count: other work on the
-/// machine lasts for seconds, and then all measurements of a kernel in one round are slow.
+/// Returns the number of rounds in which the kernels are timed, one after the other. The best times
+/// of all rounds count: other work on the machine lasts for seconds, and then all measurements of a
+/// kernel in one round are slow.
 pub fn rounds() -> usize {
     let told = std::env::var("ROUNDS").ok().and_then(|rounds| rounds.parse().ok());
     told.filter(|rounds| *rounds > 0).unwrap_or(4)
