@@ -36,9 +36,10 @@ struct Parts<'a> {
     /// Order `i` has the items from offset `i` up to offset `i + 1`.
     offsets: &'a [i32],
     items: &'a [i32],
-    /// Orders with a list of items; the list of any other order is null.
+    /// Flags of the orders: true for an order with a list of items; the list of any other order is
+    /// null.
     present: &'a [bool],
-    /// For each order the index of its city.
+    /// Index of each order's city.
     keys: &'a [u8],
     /// City `k` has the bytes from end `k` up to end `k + 1`.
     ends: &'a [i32],

@@ -21,13 +21,13 @@ use std::simd::prelude::*;
 // Number of rows folded at once: those of one word.
 const BLOCK: usize = 64;
 
-// For each row of a word, the byte that has its bit.
+// Index of the byte of a word that has a row's bit.
 const BYTES: [usize; BLOCK] = [
     0, 0, 0, 0, 0, 0, 0, 0, 1, 1, 1, 1, 1, 1, 1, 1, 2, 2, 2, 2, 2, 2, 2, 2, 3, 3, 3, 3, 3, 3, 3, 3,
     4, 4, 4, 4, 4, 4, 4, 4, 5, 5, 5, 5, 5, 5, 5, 5, 6, 6, 6, 6, 6, 6, 6, 6, 7, 7, 7, 7, 7, 7, 7, 7,
 ];
 
-// For each row of a word, the mask of its bit in that byte.
+// Mask of a row's bit in that byte.
 const PLACES: [u8; BLOCK] = [
     1, 2, 4, 8, 16, 32, 64, 128, 1, 2, 4, 8, 16, 32, 64, 128, 1, 2, 4, 8, 16, 32, 64, 128, 1, 2, 4,
     8, 16, 32, 64, 128, 1, 2, 4, 8, 16, 32, 64, 128, 1, 2, 4, 8, 16, 32, 64, 128, 1, 2, 4, 8, 16,

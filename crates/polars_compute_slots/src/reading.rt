@@ -19,10 +19,10 @@ use std::alloc::{AllocError, Global};
 
 /// The values of a range that mean null.
 pub trait NullValues {
-    // A requirement for asking it.
+    // Requirement of the calls below.
     ghost good: { Self → Type 0 };
 
-    // Whether a value means null.
+    // Values that mean null.
     ghost is_null: { Self → ℤ → Bool };
 
     /// Returns `false` only if no value means null.

@@ -11,7 +11,7 @@ pub const WORD_SLOTS: usize = 128;
 
 /// Slots, each set or not.
 pub trait Slots {
-    // For each slot whether it is set.
+    // Flags of the slots: true if the slot is set.
     ghost set_slots: { Self → List Bool };
 
     /// Sets slot `i`.

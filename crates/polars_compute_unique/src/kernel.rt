@@ -33,7 +33,7 @@ pub trait RangedUniqueKernel {
     // The rows that an array adds to a state: its own, or the keys of a dictionary.
     ghost fed: { Self.Array → List Row };
 
-    // Whether an array is of a type that states accept.
+    // Arrays of a type that states accept.
     ghost is_taken: { Self.Array → Bool };
 
     // The dictionary of an array, if it has one.

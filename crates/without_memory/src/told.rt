@@ -27,7 +27,7 @@ pub struct Told {
     text: String,
     // The block that was allocated last.
     block: Vec<u8>,
-    // Whether a result was not written, or the allocation of a block failed.
+    // Set if a result was not written, or if the allocation of a block failed.
     is_short: bool,
 }
 
