@@ -31,8 +31,8 @@ use Rattle.diff_tables.specs.Keys.{cells_at}
 -- the sides that a frame and the rows of both inputs make
 abbrev pub made_of : Options → Frame → Both → Option Comparables → Sides
 made_of options f b by = record {
-  left = record { name = f.left; table = b.left.table; lines = b.left.lines };
-  right = record { name = f.right; table = b.right.table; lines = b.right.lines };
+  left = record { name = f.left; table = b.left.table; lines = b.left.lines; numbers = b.left.numbers };
+  right = record { name = f.right; table = b.right.table; lines = b.right.lines; numbers = b.right.numbers };
   comparables = by;
   names = f.names;
   keys = f.keys;
@@ -50,8 +50,8 @@ pub sides_fit : (options : Options) (h : Heads) (left right : List ℕ) (f : Fra
     → HasShape h.layout.left.items b.left → HasShape h.layout.right.items b.right → IfSome by (AreAsLarge b.left.table b.right.table) → AreSides (made_of options f b by)
 sides_fit options h left right f b by laid frame l r large = record {
   comparables = large;
-  left = record { width = l.width ∙ sym count; lines = l.lines };
-  right = record { width = r.width ∙ (sym laid.same_names.one_length ∙ sym count); lines = r.lines };
+  left = record { width = l.width ∙ sym count; lines = l.lines; numbers = l.numbers };
+  right = record { width = r.width ∙ (sym laid.same_names.one_length ∙ sym count); lines = r.lines; numbers = r.numbers };
   keys = subst (λ ks. All (λ column. column < length (offset_strings (λ x. x) f.names)) ks) (sym frame.keys)
       (subst (λ n. All (λ column. column < n) h.layout.keys.items) (sym count) (keys_within (offset_strings (λ x. x) h.left_names) (offset_strings (λ x. x) h.right_names) options.choice h.layout laid));
 }
@@ -80,8 +80,8 @@ sides_are options left_text right_text left right h f b by heads laid frame both
       right_closed = r.closed;
       matchable = rw (el, er) at heads.matchable;
       laid_out = rw (el, er) at laid;
-      left = record { named = frame.left_named; width = l.table.width; rows = l.table.rows; lines = l.table.lines };
-      right = record { named = frame.right_named; width = r.table.width; rows = r.table.rows; lines = r.table.lines };
+      left = record { named = frame.left_named; width = l.table.width; rows = l.table.rows; lines = l.table.lines; numbers = l.table.numbers };
+      right = record { named = frame.right_named; width = r.table.width; rows = r.table.rows; lines = r.table.lines; numbers = r.table.numbers };
       left_compared = compared.left;
       right_compared = compared.right;
       column_names = rw el at frame.column_names;
@@ -153,7 +153,7 @@ named_right options h left right f t laid frame shape = record {
 
 -- the rows on a side are those that were read
 rows_read : (options : Options) (left_text right_text : List ℕ) (layout : Layout) (b : Both) (both : AreBothOf options left_text right_text layout b) (side : Side)
-    → (table_on side b).table.rows ≡ rows_on side options.csv.has_header layout both.left.records both.right.records
+    → (table_on side b).table.rows ≡ rows_on side options layout both.left.records both.right.records
 rows_read options left_text right_text layout b both Left = both.left.table.rows
 rows_read options left_text right_text layout b both Right = both.right.table.rows
 
