@@ -6,9 +6,14 @@ use Rattle.polars_arrays_bytes.specs.OffsetStrings.{offset_strings}
 use Rattle.diff_columns.specs.Layout.{IsLayout}
 use Rattle.diff_columns.specs.LayoutLaws.{keys_within}
 use Rattle.diff_columns.specs.Names.{Names, names_of}
+use Rattle.diff_columns.specs.Errors.{IsColumnFault}
+use Rattle.diff_columns.specs.declared.error.ColumnError.{ColumnError}
+use Rattle.diff_columns.specs.declared.error.ColumnError.TheVariants as column
 use Rattle.diff_columns.specs.declared.error.Side.{Side}
 use Rattle.diff_columns.specs.declared.error.Side.TheVariants.{Left, Right}
 use Rattle.diff_columns.specs.declared.layout.Layout.{Layout}
+use Rattle.diff_csv.specs.Records.{AreRecordsOf}
+use Rattle.diff_csv.specs.Records as csv
 use Rattle.diff_csv.specs.Tables.{HasShape}
 use Rattle.diff_csv.specs.declared.source.CsvTable.{CsvTable}
 use Rattle.diff_numbers.specs.Columns.{number_columns}
@@ -17,7 +22,7 @@ use Rattle.diff_report.specs.declared.sides.Comparables.{Comparables}
 use Rattle.diff_report.specs.declared.sides.Sides.{Sides}
 use Rattle.diff_run.specs.Comparables.{AreComparables, HasNamedColumns, HasWideNumber, IsComparedFault, table_on}
 use Rattle.diff_run.specs.Faults.{IsRowsFault, IsRunFault, IsSideFault, rows_on}
-use Rattle.diff_run.specs.Heads.{AreHeadsOf, IsFrameOf}
+use Rattle.diff_run.specs.Heads.{AreHeadsOf, IsFrameOf, fault_of}
 use Rattle.diff_run.specs.Inputs.{AreBothOf}
 use Rattle.diff_run.specs.Run.{AreSidesOf}
 use Rattle.diff_run.specs.declared.error.RunError.{RunError}
@@ -184,3 +189,12 @@ number_fault options left_text right_text left right h f b (error.KeyTwice side 
 number_fault options left_text right_text left right h f b (error.Csv side cause) heads laid frame both fault = absurd fault.fault
 number_fault options left_text right_text left right h f b (error.Columns cause) heads laid frame both fault = absurd fault.fault
 number_fault options left_text right_text left right h f b (error.Write cause) heads laid frame both fault = absurd fault.fault
+
+-- why the columns of two texts are not matched is why the texts are not compared
+pub columns_fault : (options : Options) (left_text right_text : List ℕ) (left right : Names) (e : ColumnError)
+    → ((records : List (List (List ℕ))) → AreRecordsOf options.csv left_text records → left ≡ csv.names_of options.csv.has_header records)
+    → ((records : List (List (List ℕ))) → AreRecordsOf options.csv right_text records → right ≡ csv.names_of options.csv.has_header records)
+    → IsColumnFault left right (names_of options.choice.keys.now) e → IsRunFault options left_text right_text (fault_of e)
+columns_fault options left_text right_text left right column.Memory l r h = tt
+columns_fault options left_text right_text left right (column.NameTwice side at) l r h = λ all_left all_right are_left are_right. rw (l all_left are_left, r all_right are_right) at h
+columns_fault options left_text right_text left right (column.NoKey side key) l r h = λ all_left all_right are_left are_right. rw (l all_left are_left, r all_right are_right) at h
