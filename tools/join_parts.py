@@ -73,7 +73,7 @@ def counts_of(lines, names):
 
 
 def without_columns(report, number):
-    """Makes the lines of a report. Those of columns that one file has alone stand in each, and the first one's are told."""
+    """Makes the lines of a report, but of the first one alone those of columns that one file has alone."""
     return (line for line in report if number == 0 or KIND.match(line)[1] != b"column")
 
 

@@ -37,7 +37,8 @@ pub struct CsvTable {
     /// the first of them, and empty lines before the first record may put the later lines of a
     /// CR LF text one too low.
     pub lines: Vec<u64>,
-    /// Where the rows of a part were read, the number of each among all rows of the text, from 1 on.
+    /// Where the rows of a part were read, the number of each among all rows of the text, from 1
+    /// on.
     pub numbers: Option<Vec<u64>>,
 }
 
@@ -194,10 +195,10 @@ impl<R: Read + Drop> Source<R> {
         Ok(numbers)
     }
 
-    /// Reads the rows, or those of a part, each with its cells in some columns: an empty one where a
-    /// record has no such column. Fails with `Length` only at a record of another length than the
-    /// first one's, with `OpenQuote` only where the text ends within quotes, and never with
-    /// `Delimiter`, whether or not the rows are wanted.
+    /// Reads the rows, or those of a part, each with its cells in some columns: an empty one where
+    /// a record has no such column. Fails with `Length` only at a record of another length than the
+    /// first one's, whether or not its row is wanted, with `OpenQuote` only where the text ends
+    /// within quotes, and never with `Delimiter`.
     pub fn read(self, alloc: Global, wanted: &Wanted<'_>) -> Result<CsvTable, CsvError>
         ensures shape { IfOk result (HasShape wanted.now.columns.now) }
         ensures table { MatchResult result
