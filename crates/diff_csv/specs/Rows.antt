@@ -1,8 +1,11 @@
 -- Rows of cells, as they are read.
 --
 -- Of the records "7" "1" "x" and "8" "2" "y" the columns 2 and 0 are kept as the cells "x" "7" "y" "8", and two lines.
-use Rattle.std.specs.List.{flat_map}
-use Rattle.std.specs.Prelude.{◌≡◌, ℕ, Bool, false, List, [], ◌∷◌, Option, length}
+-- Of the rows of a part the numbers are kept too.
+use Rattle.std.specs.List.{filter, flat_map}
+use Rattle.std.specs.Prelude.{◌≡◌, ℕ, Bool, true, false, List, [], ◌∷◌, Option, None, Some, IfSome, length, map}
+use Rattle.diff_parts.specs.Parts.{PartNumber}
+use Rattle.diff_parts.specs.Rows.{has_row, numbers_in}
 use Rattle.diff_tables.specs.Keys.{cells_at}
 use Rattle.diff_tables.specs.Strings.{AreStrings}
 use Rattle.diff_csv.specs.Quotes.{ends_open}
@@ -12,14 +15,25 @@ use Rattle.diff_csv.specs.declared.options.CsvOptions.{CsvOptions}
 use Rattle.diff_csv.specs.declared.reading.Records.{Records}
 use Rattle.diff_csv.specs.declared.rows.Rows.{Rows}
 
--- these records are kept, each as its cells in the columns, and a line for each
-pub record HoldsRows (columns : List ℕ) (r : Rows) (records : List (List (List ℕ))) : Type 0 where
-  pub cells : AreStrings r.cells (flat_map (cells_at columns) records)
-  pub lines : length r.lines.items ≡ length records
+-- whether a row is read: where it is in the part, if there is one
+abbrev pub is_read : Option PartNumber → List ℕ → List (List ℕ) → Bool
+is_read None keys row = true
+is_read (Some part) keys row = has_row part keys row
+
+-- the records whose rows are read
+abbrev pub records_read : List ℕ → List ℕ → Option PartNumber → List (List (List ℕ)) → List (List (List ℕ))
+records_read columns keys part records = filter (λ r. is_read part keys (cells_at columns r)) records
+
+-- these records are kept, or those whose rows are in a part, each as its cells in the columns, and a line for each; of
+-- the rows of a part their numbers are kept too
+pub record HoldsRows (columns keys : List ℕ) (part : Option PartNumber) (r : Rows) (records : List (List (List ℕ))) : Type 0 where
+  pub cells : AreStrings r.cells (flat_map (cells_at columns) (records_read columns keys part records))
+  pub lines : length r.lines.items ≡ length (records_read columns keys part records)
+  pub numbers : IfSome (numbers_in part keys (map (cells_at columns) records)) (λ ns. r.numbers.items ≡ ns)
 
 -- the records of a text are read to the end, from a first one on, and those that are rows are kept
-pub record ReadsAll {R : Type 0} (remaining : R → Option (List ℕ)) (has_header : Bool) (columns : List ℕ) (records : Records R) (first : List (List ℕ)) (r : Rows) : Type 0 where
+pub record ReadsAll {R : Type 0} (remaining : R → Option (List ℕ)) (has_header : Bool) (columns keys : List ℕ) (part : Option PartNumber) (records : Records R) (first : List (List ℕ)) (r : Rows) : Type 0 where
   pub more : List (List (List ℕ))
-  pub held : HoldsRows columns r (data_rows has_header (first ∷ more))
+  pub held : HoldsRows columns keys part r (data_rows has_header (first ∷ more))
   pub one_length : HaveOneLength (first ∷ more)
   pub all : (options : CsvOptions) (text : List ℕ) → IsReading remaining options text records (first ∷ []) → AreRecordsOf options text (first ∷ more) × (ends_open options text ≡ false)

@@ -1,12 +1,15 @@
 //! Rows of cells that are appended one after another.
 
-ghost use Rattle.std.specs.Prelude.{◌≡◌, ◌++◌, ◌∷◌, [], ℕ, List, get_or, IfOk, OnOk};
+ghost use Rattle.std.specs.Prelude.{◌≡◌, ◌++◌, ◌∷◌, [], ℕ, suc, List, Option, get_or, length, IfOk, IfSome, OnOk};
 ghost use Rattle.csv.specs.Records.{fields_of};
 ghost use Rattle.diff_tables.specs.Keys.{cells_at};
 ghost use Rattle.diff_tables.specs.Strings.{AreStrings};
-ghost use Rattle.diff_csv.specs.Rows.{HoldsRows};
+ghost use Rattle.diff_parts.specs.Parts.{PartNumber};
+ghost use Rattle.diff_csv.specs.Rows.{HoldsRows, is_read};
 
+use crate::wanted::Wanted;
 use csv::ByteRecord;
+use diff_parts::part::Part;
 use diff_tables::string_list::StringList;
 use diff_tables::strings::Strings;
 use std::alloc::{AllocError, Global};
@@ -16,6 +19,8 @@ use std::alloc::{AllocError, Global};
 pub(crate) struct Rows {
     pub(crate) cells: Strings,
     pub(crate) lines: Vec<u64>,
+    // Of the rows of a part the numbers that they have in the text, from 1 on.
+    pub(crate) numbers: Vec<u64>,
 }
 
 /// Returns the field in a column, or an empty one where the record is shorter.
@@ -48,36 +53,72 @@ impl<'a> StringList for Cells<'a> {
     }
 }
 
-/// Appends a record's cells in these columns.
-fn push_cells(cells: &mut Strings, row: &ByteRecord, columns: &[usize]) -> Result<(), AllocError>
-    ensures { OnOk result ((all : List (List ℕ)) → AreStrings cells.old all → AreStrings cells.new (all ++ cells_at columns.now (fields_of row.now))) }
+/// Returns whether a row of these cells is read: where it is in the part, if there is one.
+#[inline(always)]
+fn is_read(cells: &Cells<'_>, keys: &[usize], part: Option<Part>) -> bool
+    ensures { result ≡ is_read part keys.now (cells_at cells.now.columns.now (fields_of cells.now.row.now)) }
 {
-    let row_cells = Cells { row, columns };
-    cells.push_all(&row_cells)?;
+    match part {
+        Some(part) => part.has_row(cells, keys),
+        None => true,
+    }
+}
+
+/// Appends a record's cells.
+#[inline(always)]
+fn push_cells(strings: &mut Strings, cells: &Cells<'_>) -> Result<(), AllocError>
+    ensures { OnOk result ((all : List (List ℕ)) → AreStrings strings.old all → AreStrings strings.new (all ++ cells_at cells.now.columns.now (fields_of cells.now.row.now))) }
+{
+    strings.push_all(cells)?;
+    Ok(())
+}
+
+/// Appends the number of a row, where those of a part are read.
+#[inline(always)]
+fn push_number(numbers: &mut Vec<u64>, part: Option<Part>, number: u64) -> Result<(), AllocError>
+    ensures { OnOk result (IfSome part (λ _. numbers.new.items ≡ numbers.old.items ++ number ∷ [])) }
+{
+    if let Some(_) = part {
+        numbers.push(number)?;
+    }
     Ok(())
 }
 
 impl Rows {
     /// Returns no rows.
     pub(crate) fn new(alloc: Global) -> Result<Rows, AllocError>
-        ensures { IfOk result (λ rows. (columns : List ℕ) → HoldsRows columns rows []) }
+        ensures { IfOk result (λ rows. (columns keys : List ℕ) (part : Option PartNumber) → HoldsRows columns keys part rows []) }
     {
         let cells = Strings::new(alloc)?;
         let lines = Vec::new(alloc);
-        Ok(Rows { cells, lines })
+        let numbers = Vec::new(alloc);
+        Ok(Rows {
+            cells,
+            lines,
+            numbers,
+        })
     }
 
-    /// Appends the row of a record: its cells in these columns, and the line at which it begins.
+    /// Appends the row of a record, where it is wanted: its cells, and the line at which it begins.
+    /// Its number is that of the record among those that are rows, from 1 on.
     pub(crate) fn push(
         &mut self,
         row: &ByteRecord,
-        columns: &[usize],
+        wanted: &Wanted<'_>,
         line: u64,
+        number: u64,
     ) -> Result<(), AllocError>
-        ensures { OnOk result ((rows : List (List (List ℕ))) → HoldsRows columns.now self.old rows → HoldsRows columns.now self.new (rows ++ fields_of row.now ∷ [])) }
+        ensures { OnOk result ((rows : List (List (List ℕ))) → number ≡ suc (length rows) → HoldsRows wanted.now.columns.now wanted.now.keys.now wanted.now.part self.old rows
+            → HoldsRows wanted.now.columns.now wanted.now.keys.now wanted.now.part self.new (rows ++ fields_of row.now ∷ [])) }
     {
-        push_cells(&mut self.cells, row, columns)?;
+        let columns = wanted.columns;
+        let cells = Cells { row, columns };
+        if !is_read(&cells, wanted.keys, wanted.part) {
+            return Ok(());
+        }
+        push_cells(&mut self.cells, &cells)?;
         self.lines.push(line)?;
+        push_number(&mut self.numbers, wanted.part, number)?;
         Ok(())
     }
 }

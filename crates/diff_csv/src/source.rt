@@ -1,6 +1,6 @@
 //! A CSV text from its first record on.
 
-ghost use Rattle.std.specs.Prelude.{◌≡◌, [], ◌∷◌, ℕ, List, Some, true, length, IfErr, IfOk, MatchResult};
+ghost use Rattle.std.specs.Prelude.{◌≡◌, [], ◌∷◌, if◌then◌else◌, ℕ, List, Some, true, length, option_map, IfErr, IfOk, MatchResult};
 ghost use Rattle.csv.specs.Records.{fields_of};
 ghost use Rattle.polars_arrays_bits.specs.Errors.{IsMemory};
 ghost use Rattle.polars_arrays_bytes.specs.OffsetStrings.{offset_strings};
@@ -18,7 +18,9 @@ use crate::names::{field_names, number_names};
 use crate::options::{CsvOptions, is_delimiter};
 use crate::reading::Records;
 use crate::rows::Rows;
+use crate::wanted::Wanted;
 use csv::ByteRecord;
+use diff_parts::part::Part;
 use diff_tables::table::Table;
 use polars_arrays_bits::error::ComputeError;
 use polars_arrays_bytes::binary::BinaryArray;
@@ -28,23 +30,46 @@ use std::io::Read;
 /// A table, and the line of the text at which each of its rows begins.
 #[derive(Drop)]
 pub struct CsvTable {
-    /// The rows, each with its cells in the columns that were chosen.
+    /// The rows that were wanted, each with its cells in the columns that were.
     pub table: Table,
     /// For each row the line at which it begins, from 1 on: right where all records end by LF, or
     /// all by CR LF. Line feeds in quoted fields count. A row behind empty lines has the line of
     /// the first of them, and empty lines before the first record may put the later lines of a
     /// CR LF text one too low.
     pub lines: Vec<u64>,
+    /// Where the rows of a part were read, the number of each among all rows of the text, from 1
+    /// on.
+    pub numbers: Option<Vec<u64>>,
+}
+
+/// Returns the numbers of rows, where those of a part were read.
+fn numbers_of(numbers: Vec<u64>, part: Option<Part>) -> Option<Vec<u64>>
+    ensures { result ≡ option_map (λ _. numbers) part }
+{
+    match part {
+        Some(_) => Some(numbers),
+        None => None,
+    }
 }
 
 /// Returns the table of rows, with as many cells each as there are columns.
-fn table_of(alloc: Global, rows: Rows, columns: &[usize]) -> Result<CsvTable, CsvError>
-    requires { (held : List (List (List ℕ))) × HoldsRows columns.now rows held }
-    ensures { MatchResult result (λ table. (held : List (List (List ℕ))) → HoldsRows columns.now rows held → IsTableWith columns.now held table) IsOutOfMemory }
+fn table_of(alloc: Global, rows: Rows, wanted: &Wanted<'_>) -> Result<CsvTable, CsvError>
+    requires { (held : List (List (List ℕ))) × HoldsRows wanted.now.columns.now wanted.now.keys.now wanted.now.part rows held }
+    ensures { MatchResult result (λ table. (held : List (List (List ℕ))) → HoldsRows wanted.now.columns.now wanted.now.keys.now wanted.now.part rows held
+        → IsTableWith wanted.now.columns.now wanted.now.keys.now wanted.now.part held table) IsOutOfMemory }
 {
-    let Rows { cells, lines } = rows;
-    match Table::new(alloc, columns.len(), lines.len(), cells) {
-        Ok(table) => Ok(CsvTable { table, lines }),
+    let Rows {
+        cells,
+        lines,
+        numbers,
+    } = rows;
+    let numbers = numbers_of(numbers, wanted.part);
+    match Table::new(alloc, wanted.columns.len(), lines.len(), cells) {
+        Ok(table) => Ok(CsvTable {
+            table,
+            lines,
+            numbers,
+        }),
         Err(_) => Err(CsvError::Memory),
     }
 }
@@ -54,16 +79,23 @@ fn first_rows(
     alloc: Global,
     first: &ByteRecord,
     has_header: bool,
-    columns: &[usize],
+    wanted: &Wanted<'_>,
 ) -> Result<Rows, AllocError>
-    ensures { IfOk result (λ rows. HoldsRows columns.now rows (data_rows has_header (fields_of first.now ∷ []))) }
+    ensures { IfOk result (λ rows. HoldsRows wanted.now.columns.now wanted.now.keys.now wanted.now.part rows (data_rows has_header (fields_of first.now ∷ []))) }
 {
     let mut rows = Rows::new(alloc)?;
     if has_header {
         return Ok(rows);
     }
-    rows.push(first, columns, line_at(first.position(), 0))?;
+    rows.push(first, wanted, line_at(first.position(), 0), 1)?;
     Ok(rows)
+}
+
+/// Returns the number of the row behind a first record.
+fn second_number(has_header: bool) -> u64
+    ensures { result ≡ (if has_header then 1 else 2) }
+{
+    if has_header { 1 } else { 2 }
 }
 
 /// Checks that a record has `width` fields. `line` is where it begins.
@@ -87,20 +119,20 @@ fn read_rows<R: Read + Drop>(
     mut records: Records<R>,
     first: ByteRecord,
     has_header: bool,
-    columns: &[usize],
+    wanted: &Wanted<'_>,
 ) -> Result<Rows, CsvError>
-    ensures { MatchResult result (ReadsAll R.remaining has_header columns.now records (fields_of first))
+    ensures { MatchResult result (ReadsAll R.remaining has_header wanted.now.columns.now wanted.now.keys.now wanted.now.part records (fields_of first))
         (λ error. (options : CsvOptions) (text : List ℕ) → IsReading R.remaining options text records (fields_of first ∷ []) → IsReadFault options text error) }
 {
     let width = first.len();
-    let mut rows = first_rows(alloc, &first, has_header, columns)?;
+    let mut rows = first_rows(alloc, &first, has_header, wanted)?;
     let mut row = Box::new(alloc, first)?;
-    for _ in 0..u64::MAX {
+    for number in second_number(has_header)..u64::MAX {
         let Some(line) = records.read(&mut row)? else {
             return Ok(rows);
         };
         check_length(&row, width, line)?;
-        rows.push(&row, columns, line)?;
+        rows.push(&row, wanted, line, number)?;
     }
     // No memory holds so many rows.
     Err(CsvError::Memory)
@@ -163,13 +195,14 @@ impl<R: Read + Drop> Source<R> {
         Ok(numbers)
     }
 
-    /// Reads the rows, each with its cells in these columns: an empty one where a record has no
-    /// such column. Fails with `Length` only at a record of another length than the first one's,
-    /// with `OpenQuote` only where the text ends within quotes, and never with `Delimiter`.
-    pub fn read(self, alloc: Global, columns: &[usize]) -> Result<CsvTable, CsvError>
-        ensures shape { IfOk result (HasShape columns.now) }
+    /// Reads the rows, or those of a part, each with its cells in some columns: an empty one where
+    /// a record has no such column. Fails with `Length` only at a record of another length than the
+    /// first one's, whether or not its row is wanted, with `OpenQuote` only where the text ends
+    /// within quotes, and never with `Delimiter`.
+    pub fn read(self, alloc: Global, wanted: &Wanted<'_>) -> Result<CsvTable, CsvError>
+        ensures shape { IfOk result (HasShape wanted.now.columns.now) }
         ensures table { MatchResult result
-            (λ table. (options : CsvOptions) (text : List ℕ) → IsOpen R.remaining options text self → IsTableOf options text columns.now table)
+            (λ table. (options : CsvOptions) (text : List ℕ) → IsOpen R.remaining options text self → IsTableOf options text wanted.now.columns.now wanted.now.keys.now wanted.now.part table)
             (λ error. (options : CsvOptions) (text : List ℕ) → IsOpen R.remaining options text self → IsReadFault options text error) }
     {
         let Source {
@@ -179,11 +212,11 @@ impl<R: Read + Drop> Source<R> {
         } = self;
         let Some(row) = first else {
             let none = Rows::new(alloc)?;
-            let table = table_of(alloc, none, columns)?;
+            let table = table_of(alloc, none, wanted)?;
             return Ok(table);
         };
-        let rows = read_rows(alloc, records, row, has_header, columns)?;
-        let table = table_of(alloc, rows, columns)?;
+        let rows = read_rows(alloc, records, row, has_header, wanted)?;
+        let table = table_of(alloc, rows, wanted)?;
         Ok(table)
     }
 }

@@ -47,12 +47,12 @@ one-change : change_members by_id (1 ∷ []) (codes "7" ∷ codes "NA" ∷ []) (
 unfolding listed json_cell json_string char_text encode_utf8 computing
 one-change = refl
 
-line-of-a-pair : pair_object by_id (1 ∷ []) 4 6 (codes "4411" ∷ codes "Oslo" ∷ []) 6 8 (codes "4411" ∷ codes "Bergen" ∷ [])
+line-of-a-pair : pair_object by_id (1 ∷ []) 5 6 (codes "4411" ∷ codes "Oslo" ∷ []) 7 8 (codes "4411" ∷ codes "Bergen" ∷ [])
     ≡ codes "{\"kind\":\"changed\",\"key\":{\"id\":\"4411\"},\"left_row\":5,\"right_row\":7,\"left_line\":6,\"right_line\":8,\"changes\":{\"city\":{\"left\":\"Oslo\",\"right\":\"Bergen\"}}}\n"
 unfolding pair_object listed json_cell json_string char_text encode_utf8 computing digits
 line-of-a-pair = refl
 
-line-of-a-row : row_object (codes "removed") by_id 76 78 (codes "77" ∷ codes "Oslo" ∷ []) ≡ codes "{\"kind\":\"removed\",\"key\":{\"id\":\"77\"},\"row\":77,\"line\":78}\n"
+line-of-a-row : row_object (codes "removed") by_id 77 78 (codes "77" ∷ codes "Oslo" ∷ []) ≡ codes "{\"kind\":\"removed\",\"key\":{\"id\":\"77\"},\"row\":77,\"line\":78}\n"
 unfolding row_object listed json_string char_text encode_utf8 computing digits
 line-of-a-row = refl
 

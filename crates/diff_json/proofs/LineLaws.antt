@@ -1,5 +1,5 @@
 -- Lines are read back.
-use Rattle.std.proofs.Common.{◌≡◌, ℕ, ◌+◌, ◌<◌, ◌≤◌, ◌^◌, Bool, true, false, cond, List, [], ◌∷◌, ◌++◌, Option, Some, length, get_or, map, refl, sym, ap, ap₂, subst, ◌∙◌, arith, append_assoc}
+use Rattle.std.proofs.Common.{◌≡◌, ℕ, ◌<◌, ◌≤◌, ◌^◌, Bool, true, false, cond, List, [], ◌∷◌, ◌++◌, Option, Some, length, get_or, map, refl, sym, ap, ap₂, subst, ◌∙◌, arith, append_assoc}
 use Rattle.std.specs.Fmt.{decimal}
 use Rattle.std.specs.List.{flat_map}
 use Rattle.std.specs.Prelude.{◌-◌, codes, slice_index}
@@ -262,22 +262,22 @@ counts_read a b c d e M columns low_a low_b low_c low_d low_e read_columns shall
 
 -- ---- the lines of a report
 
-pub pair_law : (n : Naming) (columns : List ℕ) (i left_line : ℕ) (left : List (List ℕ)) (j right_line : ℕ) (right : List (List ℕ)) → i + 1 < 2 ^ 64 → left_line < 2 ^ 64 → j + 1 < 2 ^ 64 → right_line < 2 ^ 64
+pub pair_law : (n : Naming) (columns : List ℕ) (i left_line : ℕ) (left : List (List ℕ)) (j right_line : ℕ) (right : List (List ℕ)) → i < 2 ^ 64 → left_line < 2 ^ 64 → j < 2 ^ 64 → right_line < 2 ^ 64
     → document (pair_object n columns i left_line left j right_line right) ≡ Some (pair_value n columns i left_line left j right_line right)
 unfolding pair_object
 pair_law n columns i left_line left j right_line right low_i low_left low_j low_right =
-    pair_reads (key_members n left) (change_members n columns left right) (key_value n left) (changes_value n columns left right) (i + 1) (j + 1) left_line right_line
+    pair_reads (key_members n left) (change_members n columns left right) (key_value n left) (changes_value n columns left right) i j left_line right_line
     (key_reads n left) (changes_read n columns left right) (key_shallow n left) (changes_shallow n columns left right) low_i low_j low_left low_right
 
-row_law : (kind : List ℕ) → Reads (34 ∷ kind ++ 34 ∷ []) (string kind) → (n : Naming) (i line : ℕ) (cells : List (List ℕ)) → i + 1 < 2 ^ 64 → line < 2 ^ 64
+row_law : (kind : List ℕ) → Reads (34 ∷ kind ++ 34 ∷ []) (string kind) → (n : Naming) (i line : ℕ) (cells : List (List ℕ)) → i < 2 ^ 64 → line < 2 ^ 64
     → document (row_object kind n i line cells) ≡ Some (row_value kind n i line cells)
 unfolding row_object
-row_law kind read_kind n i line cells low_i low_line = row_reads kind (key_members n cells) (key_value n cells) (i + 1) line read_kind (key_reads n cells) (key_shallow n cells) low_i low_line
+row_law kind read_kind n i line cells low_i low_line = row_reads kind (key_members n cells) (key_value n cells) i line read_kind (key_reads n cells) (key_shallow n cells) low_i low_line
 
-pub removed_law : (n : Naming) (i line : ℕ) (cells : List (List ℕ)) → i + 1 < 2 ^ 64 → line < 2 ^ 64 → document (row_object (codes "removed") n i line cells) ≡ Some (row_value (codes "removed") n i line cells)
+pub removed_law : (n : Naming) (i line : ℕ) (cells : List (List ℕ)) → i < 2 ^ 64 → line < 2 ^ 64 → document (row_object (codes "removed") n i line cells) ≡ Some (row_value (codes "removed") n i line cells)
 removed_law = row_law (codes "removed") removed_word
 
-pub added_law : (n : Naming) (i line : ℕ) (cells : List (List ℕ)) → i + 1 < 2 ^ 64 → line < 2 ^ 64 → document (row_object (codes "added") n i line cells) ≡ Some (row_value (codes "added") n i line cells)
+pub added_law : (n : Naming) (i line : ℕ) (cells : List (List ℕ)) → i < 2 ^ 64 → line < 2 ^ 64 → document (row_object (codes "added") n i line cells) ≡ Some (row_value (codes "added") n i line cells)
 added_law = row_law (codes "added") added_word
 
 pub column_law : (side : Side) (name : List ℕ) → document (column_object side name) ≡ Some (column_value side name)

@@ -176,27 +176,27 @@ columns_part n counts low = record {
       (one_plain 58 (decimal (slice_index counts column)) refl (decimal_plain (slice_index counts column) (low column)))) (columns_counted counts);
 }
 
-pub pair_line : (n : Naming) (columns : List ℕ) (i left_line : ℕ) (left : List (List ℕ)) (j right_line : ℕ) (right : List (List ℕ)) → i + 1 < 2 ^ 64 → left_line < 2 ^ 64 → j + 1 < 2 ^ 64 → right_line < 2 ^ 64
+pub pair_line : (n : Naming) (columns : List ℕ) (i left_line : ℕ) (left : List (List ℕ)) (j right_line : ℕ) (right : List (List ℕ)) → i < 2 ^ 64 → left_line < 2 ^ 64 → j < 2 ^ 64 → right_line < 2 ^ 64
     → IsLine (pair_object n columns i left_line left j right_line right)
 unfolding pair_object
 pair_line n columns i left_line left j right_line right low_i low_left low_j low_right =
     let key = both (tested (codes "{\"kind\":\"changed\",\"key\":{") refl) (key_part n left) in
-    let rows = numbered (codes ",\"right_row\":") (j + 1) (numbered (codes "},\"left_row\":") (i + 1) key refl low_i) refl low_j in
+    let rows = numbered (codes ",\"right_row\":") j (numbered (codes "},\"left_row\":") i key refl low_i) refl low_j in
     let lines = numbered (codes ",\"right_line\":") right_line (numbered (codes ",\"left_line\":") left_line rows refl low_left) refl low_right in
     let changes = both (both lines (tested (codes ",\"changes\":{") refl)) (changes_part n columns left right) in
     ended (codes "}}") changes refl
 
-row_line : (kind : List ℕ) → Plain kind → (n : Naming) (i line : ℕ) (cells : List (List ℕ)) → i + 1 < 2 ^ 64 → line < 2 ^ 64 → IsLine (row_object kind n i line cells)
+row_line : (kind : List ℕ) → Plain kind → (n : Naming) (i line : ℕ) (cells : List (List ℕ)) → i < 2 ^ 64 → line < 2 ^ 64 → IsLine (row_object kind n i line cells)
 unfolding row_object
 row_line kind h n i line cells low_i low_line =
     let word = both (both (tested (codes "{\"kind\":\"") refl) h) (tested (codes "\",\"key\":{") refl) in
-    let row = numbered (codes "},\"row\":") (i + 1) (both word (key_part n cells)) refl low_i in
+    let row = numbered (codes "},\"row\":") i (both word (key_part n cells)) refl low_i in
     ended (codes "}") (numbered (codes ",\"line\":") line row refl low_line) refl
 
-pub removed_line : (n : Naming) (i line : ℕ) (cells : List (List ℕ)) → i + 1 < 2 ^ 64 → line < 2 ^ 64 → IsLine (row_object (codes "removed") n i line cells)
+pub removed_line : (n : Naming) (i line : ℕ) (cells : List (List ℕ)) → i < 2 ^ 64 → line < 2 ^ 64 → IsLine (row_object (codes "removed") n i line cells)
 removed_line = row_line (codes "removed") (tested (codes "removed") refl)
 
-pub added_line : (n : Naming) (i line : ℕ) (cells : List (List ℕ)) → i + 1 < 2 ^ 64 → line < 2 ^ 64 → IsLine (row_object (codes "added") n i line cells)
+pub added_line : (n : Naming) (i line : ℕ) (cells : List (List ℕ)) → i < 2 ^ 64 → line < 2 ^ 64 → IsLine (row_object (codes "added") n i line cells)
 added_line = row_line (codes "added") (tested (codes "added") refl)
 
 side_part : (side : Side) → Plain (word_of side)

@@ -3,13 +3,13 @@ use Rattle.std.proofs.Common.{◌≡◌, ◌∙◌, ◌+◌, ◌-◌, ℕ, List,
 use Rattle.std.specs.Char.{encode_utf8}
 use Rattle.std.specs.Fmt.{digits}
 use Rattle.std.specs.List.{concat}
-use Rattle.std.specs.Prelude.{None, false, codes, slice_index}
+use Rattle.std.specs.Prelude.{Option, None, false, codes, option_map, slice_index}
 use Rattle.bstr.proofs.Computing.{computing}
 use Rattle.diff_tables.specs.declared.compare.Comparison.{Comparison}
 use Rattle.diff_words.specs.Lists.{listed}
 use Rattle.diff_report.specs.Naming.{Naming}
 use Rattle.diff_report.specs.Pairs.{columns_apart}
-use Rattle.diff_report.specs.Sides.{compared_left, compared_right, naming_of}
+use Rattle.diff_report.specs.Sides.{compared_left, compared_right, naming_of, number_in}
 use Rattle.diff_report.specs.declared.sides.Sides.{Sides}
 use Rattle.diff_json.specs.Cells.{json_cell}
 use Rattle.diff_json.specs.Counts.{column_members, counts_object, totals_members}
@@ -26,6 +26,8 @@ record Parts : Type 0 where
   right_compared : List (List (List ℕ))
   left_lines : List ℕ
   right_lines : List ℕ
+  left_numbers : Option (List ℕ)
+  right_numbers : Option (List ℕ)
   left_partners : List ℕ
   right_partners : List ℕ
   changed : List ℕ
@@ -41,6 +43,8 @@ parts_of s c = record {
   right_compared = compared_right s;
   left_lines = s.left.lines.items;
   right_lines = s.right.lines.items;
+  left_numbers = option_map (λ v. v.items) s.left.numbers;
+  right_numbers = option_map (λ v. v.items) s.right.numbers;
   left_partners = c.matching.left_rows.items;
   right_partners = c.matching.right_rows.items;
   changed = c.changed.items;
@@ -65,6 +69,8 @@ parts = record {
   right_compared = new_rows;
   left_lines = 2 ∷ 3 ∷ 4 ∷ [];
   right_lines = 2 ∷ 3 ∷ 4 ∷ [];
+  left_numbers = None;
+  right_numbers = None;
   left_partners = 0 ∷ 2 ∷ [];
   right_partners = 0 ∷ 1 ∷ [];
   changed = 0 ∷ [];
@@ -77,12 +83,12 @@ abbrev pair_of : Parts → ℕ → List ℕ
 pair_of p k =
     let i : ℕ = slice_index p.left_partners k in
     let j : ℕ = slice_index p.right_partners k in
-    pair_object p.naming (columns_apart (length p.naming.names) (get_or p.left_compared i []) (get_or p.right_compared j [])) i (slice_index p.left_lines i) (get_or p.left_rows i []) j (slice_index p.right_lines j) (get_or p.right_rows j [])
+    pair_object p.naming (columns_apart (length p.naming.names) (get_or p.left_compared i []) (get_or p.right_compared j [])) (number_in p.left_numbers i) (slice_index p.left_lines i) (get_or p.left_rows i []) (number_in p.right_numbers j) (slice_index p.right_lines j) (get_or p.right_rows j [])
 
 -- the lines of all differences
 abbrev lines_of : Parts → List (List ℕ)
-lines_of p = map (pair_of p) p.changed ++ map (λ i. row_object (codes "removed") p.naming i (slice_index p.left_lines i) (get_or p.left_rows i [])) p.removed
-    ++ map (λ i. row_object (codes "added") p.naming i (slice_index p.right_lines i) (get_or p.right_rows i [])) p.added
+lines_of p = map (pair_of p) p.changed ++ map (λ i. row_object (codes "removed") p.naming (number_in p.left_numbers i) (slice_index p.left_lines i) (get_or p.left_rows i [])) p.removed
+    ++ map (λ i. row_object (codes "added") p.naming (number_in p.right_numbers i) (slice_index p.right_lines i) (get_or p.right_rows i [])) p.added
 
 -- the line with the counts
 abbrev last_of : Parts → List ℕ → ℕ → List ℕ

@@ -2,7 +2,7 @@
 --
 -- The line {"kind":"column","column":"note","only_in":"left"} is read as an object of three strings.
 use Rattle.std.specs.Fmt.{decimal}
-use Rattle.std.specs.Prelude.{ℕ, ◌+◌, ◌-◌, if◌then◌else◌, List, [], ◌∷◌, Option, length, get_or, slice_index, codes}
+use Rattle.std.specs.Prelude.{ℕ, ◌-◌, if◌then◌else◌, List, [], ◌∷◌, Option, length, get_or, slice_index, codes}
 use Rattle.std.specs.Str.Lossy.{utf8_lossy}
 use Rattle.json.specs.Json.{Json, null, number, string, object, Members, no_members, member}
 use Rattle.diff_columns.specs.Errors.{word_of}
@@ -38,17 +38,17 @@ change_value n left right column = object (member (codes "left") (cell_value n.n
 abbrev pub changes_value : Naming → List ℕ → List (List ℕ) → List (List ℕ) → Json
 changes_value n columns left right = object (members_of (λ column. get_or n.names column []) (change_value n left right) columns)
 
--- two rows that differ in some columns
+-- two rows of these numbers that differ in some columns
 abbrev pub pair_value : Naming → List ℕ → ℕ → ℕ → List (List ℕ) → ℕ → ℕ → List (List ℕ) → Json
 pair_value n columns i left_line left j right_line right = object (member (codes "kind") (string (codes "changed")) (member (codes "key") (key_value n left)
-    (member (codes "left_row") (number_value (i + 1)) (member (codes "right_row") (number_value (j + 1))
+    (member (codes "left_row") (number_value i) (member (codes "right_row") (number_value j)
     (member (codes "left_line") (number_value left_line) (member (codes "right_line") (number_value right_line)
     (member (codes "changes") (changes_value n columns left right) no_members)))))))
 
--- a row that only one side has
+-- a row of this number that only one side has
 abbrev pub row_value : List ℕ → Naming → ℕ → ℕ → List (List ℕ) → Json
 row_value kind n i line cells = object (member (codes "kind") (string kind) (member (codes "key") (key_value n cells)
-    (member (codes "row") (number_value (i + 1)) (member (codes "line") (number_value line) no_members))))
+    (member (codes "row") (number_value i) (member (codes "line") (number_value line) no_members))))
 
 -- a column that only one input has
 abbrev pub column_value : Side → List ℕ → Json

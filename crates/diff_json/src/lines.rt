@@ -21,8 +21,8 @@ fn push_pair(out: &mut Vec<u8>, sides: &Sides, i: usize, j: usize) -> Result<(),
 {
     out.extend_from_slice(br#"{"kind":"changed","key":{"#)?;
     push_keys(out, sides, &sides.left, i)?;
-    push_number(out, br#"},"left_row":"#, i + 1)?;
-    push_number(out, br#","right_row":"#, j + 1)?;
+    push_number(out, br#"},"left_row":"#, sides.left.number(i))?;
+    push_number(out, br#","right_row":"#, sides.right.number(j))?;
     push_number(out, br#","left_line":"#, sides.left.lines[i])?;
     push_number(out, br#","right_line":"#, sides.right.lines[j])?;
     out.extend_from_slice(br#","changes":{"#)?;
@@ -48,7 +48,7 @@ fn push_alone(
     out.extend_from_slice(kind)?;
     out.extend_from_slice(br#"","key":{"#)?;
     push_keys(out, sides, side, i)?;
-    push_number(out, br#"},"row":"#, i + 1)?;
+    push_number(out, br#"},"row":"#, side.number(i))?;
     push_number(out, br#","line":"#, side.lines[i])?;
     out.extend_from_slice(b"}\n")?;
     Ok(())

@@ -1,6 +1,6 @@
 -- Two tables of the same columns, and row numbers that name their rows.
 use Rattle.std.specs.Option.{option_map}
-use Rattle.std.specs.Prelude.{◌≡◌, ◌<◌, ◌≤◌, ℕ, List, [], Option, None, Some, All, IfSome, length, get_or, slice_index}
+use Rattle.std.specs.Prelude.{◌≡◌, ◌<◌, ◌≤◌, ◌+◌, ℕ, List, [], Option, None, Some, All, IfSome, length, get_or, slice_index}
 use Rattle.diff_keys.specs.declared.matching.Matching.{Matching}
 use Rattle.diff_tables.specs.Comparison.{ArePairs}
 use Rattle.diff_tables.specs.Tables.{TableRows}
@@ -18,6 +18,14 @@ naming_of s = record { names = offset_strings (λ x. x) s.names; keys = s.keys.i
 -- row i of a table
 abbrev pub row_of : Side → ℕ → List (List ℕ)
 row_of side i = get_or side.table.rows i []
+
+-- the number of row i among all rows of a file, from 1 on: where some rows are left out the others' numbers are listed
+abbrev pub number_in : Option (List ℕ) → ℕ → ℕ
+number_in None i = i + 1
+number_in (Some numbers) i = slice_index numbers i
+
+abbrev pub number_of : Side → ℕ → ℕ
+number_of side i = number_in (option_map (λ v. v.items) side.numbers) i
 
 -- the rows of a table, or of one that it is compared by, where there is one
 abbrev pub left_rows_by : List (List (List ℕ)) → Option Comparables → List (List (List ℕ))
@@ -44,10 +52,11 @@ left_at s m k = row_of s.left (slice_index m.left_rows.items k)
 abbrev pub right_at : Sides → Matching → ℕ → List (List ℕ)
 right_at s m k = row_of s.right (slice_index m.right_rows.items k)
 
--- a table has the named columns, and a line for each row
+-- a table has the named columns, and a line for each row, and a number where there are numbers
 pub record IsSide (n : Naming) (side : Side) : Type 0 where
   pub width : side.table.width ≡ length n.names
   pub lines : length side.lines.items ≡ length side.table.rows
+  pub numbers : IfSome side.numbers (λ v. length v.items ≡ length side.table.rows)
 
 -- a table can stand for another: it has as many columns and rows
 pub record IsAsLarge (table by : TableRows) : Type 0 where

@@ -1,7 +1,8 @@
 //! Two tables, with what a report of them names.
 
-ghost use Rattle.std.specs.Prelude.{◌≡◌, length};
-ghost use Rattle.diff_report.specs.Sides.{AreSides, compared_left, compared_right, naming_of};
+ghost use Rattle.std.specs.Prelude.{◌≡◌, ◌<◌, length};
+ghost use Rattle.diff_report.specs.Naming.{Naming};
+ghost use Rattle.diff_report.specs.Sides.{AreSides, IsSide, compared_left, compared_right, naming_of, number_of};
 
 use diff_tables::table::Table;
 use polars_arrays_bytes::binary::BinaryArray;
@@ -15,6 +16,22 @@ pub struct Side {
     pub table: Table,
     /// The line of the file at which each row begins.
     pub lines: Vec<u64>,
+    /// Where these are not all rows of the file, the number of each among all, from 1 on.
+    pub numbers: Option<Vec<u64>>,
+}
+
+impl Side {
+    /// Returns the number of row `i` among the rows of the file, from 1 on.
+    pub fn number(&self, i: usize) -> u64
+        requires row { i < length self.now.table.rows }
+        requires side { (n : Naming) × IsSide n self.now }
+        ensures { result ≡ number_of self.now i }
+    {
+        match &self.numbers {
+            Some(numbers) => numbers[i],
+            None => i as u64 + 1,
+        }
+    }
 }
 
 /// Two tables of cells that stand for those of two others, place by place, where rows are compared.

@@ -6,9 +6,14 @@ use Rattle.polars_arrays_bytes.specs.OffsetStrings.{offset_strings}
 use Rattle.diff_columns.specs.Layout.{IsLayout}
 use Rattle.diff_columns.specs.LayoutLaws.{keys_within}
 use Rattle.diff_columns.specs.Names.{Names, names_of}
+use Rattle.diff_columns.specs.Errors.{IsColumnFault}
+use Rattle.diff_columns.specs.declared.error.ColumnError.{ColumnError}
+use Rattle.diff_columns.specs.declared.error.ColumnError.TheVariants as column
 use Rattle.diff_columns.specs.declared.error.Side.{Side}
 use Rattle.diff_columns.specs.declared.error.Side.TheVariants.{Left, Right}
 use Rattle.diff_columns.specs.declared.layout.Layout.{Layout}
+use Rattle.diff_csv.specs.Records.{AreRecordsOf}
+use Rattle.diff_csv.specs.Records as csv
 use Rattle.diff_csv.specs.Tables.{HasShape}
 use Rattle.diff_csv.specs.declared.source.CsvTable.{CsvTable}
 use Rattle.diff_numbers.specs.Columns.{number_columns}
@@ -17,7 +22,7 @@ use Rattle.diff_report.specs.declared.sides.Comparables.{Comparables}
 use Rattle.diff_report.specs.declared.sides.Sides.{Sides}
 use Rattle.diff_run.specs.Comparables.{AreComparables, HasNamedColumns, HasWideNumber, IsComparedFault, table_on}
 use Rattle.diff_run.specs.Faults.{IsRowsFault, IsRunFault, IsSideFault, rows_on}
-use Rattle.diff_run.specs.Heads.{AreHeadsOf, IsFrameOf}
+use Rattle.diff_run.specs.Heads.{AreHeadsOf, IsFrameOf, fault_of}
 use Rattle.diff_run.specs.Inputs.{AreBothOf}
 use Rattle.diff_run.specs.Run.{AreSidesOf}
 use Rattle.diff_run.specs.declared.error.RunError.{RunError}
@@ -31,8 +36,8 @@ use Rattle.diff_tables.specs.Keys.{cells_at}
 -- the sides that a frame and the rows of both inputs make
 abbrev pub made_of : Options → Frame → Both → Option Comparables → Sides
 made_of options f b by = record {
-  left = record { name = f.left; table = b.left.table; lines = b.left.lines };
-  right = record { name = f.right; table = b.right.table; lines = b.right.lines };
+  left = record { name = f.left; table = b.left.table; lines = b.left.lines; numbers = b.left.numbers };
+  right = record { name = f.right; table = b.right.table; lines = b.right.lines; numbers = b.right.numbers };
   comparables = by;
   names = f.names;
   keys = f.keys;
@@ -50,8 +55,8 @@ pub sides_fit : (options : Options) (h : Heads) (left right : List ℕ) (f : Fra
     → HasShape h.layout.left.items b.left → HasShape h.layout.right.items b.right → IfSome by (AreAsLarge b.left.table b.right.table) → AreSides (made_of options f b by)
 sides_fit options h left right f b by laid frame l r large = record {
   comparables = large;
-  left = record { width = l.width ∙ sym count; lines = l.lines };
-  right = record { width = r.width ∙ (sym laid.same_names.one_length ∙ sym count); lines = r.lines };
+  left = record { width = l.width ∙ sym count; lines = l.lines; numbers = l.numbers };
+  right = record { width = r.width ∙ (sym laid.same_names.one_length ∙ sym count); lines = r.lines; numbers = r.numbers };
   keys = subst (λ ks. All (λ column. column < length (offset_strings (λ x. x) f.names)) ks) (sym frame.keys)
       (subst (λ n. All (λ column. column < n) h.layout.keys.items) (sym count) (keys_within (offset_strings (λ x. x) h.left_names) (offset_strings (λ x. x) h.right_names) options.choice h.layout laid));
 }
@@ -80,8 +85,8 @@ sides_are options left_text right_text left right h f b by heads laid frame both
       right_closed = r.closed;
       matchable = rw (el, er) at heads.matchable;
       laid_out = rw (el, er) at laid;
-      left = record { named = frame.left_named; width = l.table.width; rows = l.table.rows; lines = l.table.lines };
-      right = record { named = frame.right_named; width = r.table.width; rows = r.table.rows; lines = r.table.lines };
+      left = record { named = frame.left_named; width = l.table.width; rows = l.table.rows; lines = l.table.lines; numbers = l.table.numbers };
+      right = record { named = frame.right_named; width = r.table.width; rows = r.table.rows; lines = r.table.lines; numbers = r.table.numbers };
       left_compared = compared.left;
       right_compared = compared.right;
       column_names = rw el at frame.column_names;
@@ -153,7 +158,7 @@ named_right options h left right f t laid frame shape = record {
 
 -- the rows on a side are those that were read
 rows_read : (options : Options) (left_text right_text : List ℕ) (layout : Layout) (b : Both) (both : AreBothOf options left_text right_text layout b) (side : Side)
-    → (table_on side b).table.rows ≡ rows_on side options.csv.has_header layout both.left.records both.right.records
+    → (table_on side b).table.rows ≡ rows_on side options layout both.left.records both.right.records
 rows_read options left_text right_text layout b both Left = both.left.table.rows
 rows_read options left_text right_text layout b both Right = both.right.table.rows
 
@@ -184,3 +189,12 @@ number_fault options left_text right_text left right h f b (error.KeyTwice side 
 number_fault options left_text right_text left right h f b (error.Csv side cause) heads laid frame both fault = absurd fault.fault
 number_fault options left_text right_text left right h f b (error.Columns cause) heads laid frame both fault = absurd fault.fault
 number_fault options left_text right_text left right h f b (error.Write cause) heads laid frame both fault = absurd fault.fault
+
+-- why the columns of two texts are not matched is why the texts are not compared
+pub columns_fault : (options : Options) (left_text right_text : List ℕ) (left right : Names) (e : ColumnError)
+    → ((records : List (List (List ℕ))) → AreRecordsOf options.csv left_text records → left ≡ csv.names_of options.csv.has_header records)
+    → ((records : List (List (List ℕ))) → AreRecordsOf options.csv right_text records → right ≡ csv.names_of options.csv.has_header records)
+    → IsColumnFault left right (names_of options.choice.keys.now) e → IsRunFault options left_text right_text (fault_of e)
+columns_fault options left_text right_text left right column.Memory l r h = tt
+columns_fault options left_text right_text left right (column.NameTwice side at) l r h = λ all_left all_right are_left are_right. rw (l all_left are_left, r all_right are_right) at h
+columns_fault options left_text right_text left right (column.NoKey side key) l r h = λ all_left all_right are_left are_right. rw (l all_left are_left, r all_right are_right) at h

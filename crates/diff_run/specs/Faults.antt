@@ -3,7 +3,7 @@
 -- With the key "id" the texts "id,n", "7,1" and "day,n", "3,8" are not compared, since no column of the right one is
 -- named id; nor are "id,n", "7" and any other, since the second record of the left one has one field.
 use Rattle.std.specs.Borrow.{Bor}
-use Rattle.std.specs.Prelude.{◌≡◌, ◌≤◌, ◌^◌, ℕ, Bool, true, List, Some, length, map, ⊤}
+use Rattle.std.specs.Prelude.{◌≡◌, ◌≤◌, ◌^◌, ℕ, true, List, Some, length, ⊤}
 use Rattle.diff_columns.specs.Errors.{IsColumnFault}
 use Rattle.diff_columns.specs.Layout.{IsLayout}
 use Rattle.diff_columns.specs.Names.{Names, names_of}
@@ -16,9 +16,11 @@ use Rattle.diff_csv.specs.Records as csv
 use Rattle.diff_keys.specs.Unique.{IsFirstTwice}
 use Rattle.diff_keys.specs.declared.unique.Twice.{Twice}
 use Rattle.diff_numbers.specs.Columns.{number_columns}
+use Rattle.diff_parts.specs.Rows.{rows_in}
 use Rattle.diff_report.specs.Sides.{compared_left, compared_right}
 use Rattle.diff_report.specs.declared.sides.Sides.{Sides}
 use Rattle.diff_run.specs.Comparables.{HasWideNumber}
+use Rattle.diff_run.specs.Inputs.{rows_of}
 use Rattle.diff_run.specs.Run.{AreSidesOf}
 use Rattle.diff_run.specs.declared.error.RunError.{RunError}
 use Rattle.diff_run.specs.declared.error.RunError.TheVariants as error
@@ -92,10 +94,10 @@ pub record IsKeyFault (options : Options) (left_text right_text : List ℕ) (sid
   pub twice : HasKeyTwice (compared_on side sides) sides.keys.items
   pub asked : options.unique ≡ true
 
--- the rows of the text on a side, each as its cells in the columns that are compared
-abbrev pub rows_on : Side → Bool → Layout → List (List (List ℕ)) → List (List (List ℕ)) → List (List (List ℕ))
-rows_on Left has_header layout left right = map (cells_at layout.left.items) (csv.data_rows has_header left)
-rows_on Right has_header layout left right = map (cells_at layout.right.items) (csv.data_rows has_header right)
+-- the rows of the text on a side, or those of a part, each as its cells in the columns that are compared
+abbrev pub rows_on : Side → Options → Layout → List (List (List ℕ)) → List (List (List ℕ)) → List (List (List ℕ))
+rows_on Left options layout left right = rows_in options.part layout.keys.items (rows_of options.csv.has_header left layout.left.items)
+rows_on Right options layout left right = rows_in options.part layout.keys.items (rows_of options.csv.has_header right layout.right.items)
 
 -- on this side a number in the column of this name counts, and its exponent is wide
 pub record IsWideFault (options : Options) (left_text right_text : List ℕ) (side : Side) (name : List ℕ) : Type 0 where
@@ -109,7 +111,7 @@ pub record IsWideFault (options : Options) (left_text right_text : List ℕ) (si
   pub asked : options.numbers ≡ Some texts
   pub names : Names
   pub names_are : names ≡ cells_at layout.left.items (csv.names_of options.csv.has_header left_records)
-  pub wide : HasWideNumber (number_columns (names_of texts.now) names) names (rows_on side options.csv.has_header layout left_records right_records) name
+  pub wide : HasWideNumber (number_columns (names_of texts.now) names) names (rows_on side options layout left_records right_records) name
 
 -- why two texts are not compared: one can't be read, the columns can't be matched, a number can't be compared, there
 -- are too many rows, two rows have one key, or an allocation or a write failed

@@ -4,6 +4,10 @@ use Rattle.polars_arrays_bytes.specs.OffsetStrings.{offset_strings}
 use Rattle.diff_columns.specs.Names.{AreMatchable, names_of}
 use Rattle.diff_csv.specs.Records.{AreRecordsOf}
 use Rattle.diff_csv.specs.Records as csv
+use Rattle.diff_columns.specs.declared.error.ColumnError.{ColumnError}
+use Rattle.diff_columns.specs.declared.error.ColumnError.TheVariants as column
+use Rattle.diff_run.specs.declared.error.RunError.{RunError}
+use Rattle.diff_run.specs.declared.error.RunError.TheVariants as error
 use Rattle.diff_run.specs.declared.heads.Heads.{Heads}
 use Rattle.diff_run.specs.declared.options.Options.{Options}
 use Rattle.diff_run.specs.declared.sides.Frame.{Frame}
@@ -22,3 +26,9 @@ pub record IsFrameOf (options : Options) (h : Heads) (left right : List ℕ) (f 
   pub column_names : offset_strings (λ x. x) f.names ≡ cells_at h.layout.left.items (offset_strings (λ x. x) h.left_names)
   pub keys : f.keys.items ≡ h.layout.keys.items
   pub null : option_map (λ v. v.items) f.null ≡ option_map (λ v. v.now) options.null
+
+-- why two inputs are not compared, where their columns are not matched
+abbrev pub fault_of : ColumnError → RunError
+fault_of column.Memory = error.Memory
+fault_of (column.NameTwice side at) = error.Columns (column.NameTwice side at)
+fault_of (column.NoKey side key) = error.Columns (column.NoKey side key)

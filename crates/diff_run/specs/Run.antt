@@ -53,7 +53,8 @@ differences_text Json sides comparison counts limit = json_text sides comparison
 abbrev pub HaveUniqueKeys : Sides → Type 0
 HaveUniqueKeys sides = AllDiffer (row_keys sides.keys.items (compared_left sides)) × AllDiffer (row_keys sides.keys.items (compared_right sides))
 
--- the sides are the rows of two texts in the columns that are compared, and what these rows are compared by
+-- the sides are the rows of two texts, or those of a part, in the columns that are compared, and what these rows are
+-- compared by
 pub record AreSidesOf (options : Options) (left_text right_text left_name right_name : List ℕ) (layout : Layout) (sides : Sides) : Type 0 where
   pub left_records : List (List (List ℕ))
   pub right_records : List (List (List ℕ))
@@ -65,8 +66,8 @@ pub record AreSidesOf (options : Options) (left_text right_text left_name right_
   pub right_closed : ends_open options.csv right_text ≡ false
   pub matchable : AreMatchable (csv.names_of options.csv.has_header left_records) (csv.names_of options.csv.has_header right_records) (names_of options.choice.keys.now)
   pub laid_out : IsLayout (csv.names_of options.csv.has_header left_records) (csv.names_of options.csv.has_header right_records) options.choice layout
-  pub left : IsSideWith options.csv.has_header left_records layout.left.items left_name sides.left
-  pub right : IsSideWith options.csv.has_header right_records layout.right.items right_name sides.right
+  pub left : IsSideWith options.csv.has_header left_records layout.left.items layout.keys.items options.part left_name sides.left
+  pub right : IsSideWith options.csv.has_header right_records layout.right.items layout.keys.items options.part right_name sides.right
   pub left_compared : compared_left sides ≡ rows_by options.numbers (offset_strings (λ x. x) sides.names) sides.left.table.rows
   pub right_compared : compared_right sides ≡ rows_by options.numbers (offset_strings (λ x. x) sides.names) sides.right.table.rows
   pub column_names : offset_strings (λ x. x) sides.names ≡ cells_at layout.left.items (csv.names_of options.csv.has_header left_records)

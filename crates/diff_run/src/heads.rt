@@ -1,11 +1,11 @@
 //! The columns of two inputs.
 
-ghost use Rattle.std.specs.Prelude.{ℕ, List, IfOk, MatchResult};
+ghost use Rattle.std.specs.Prelude.{◌≡◌, ℕ, List, IfOk, MatchResult};
 ghost use Rattle.polars_arrays_bytes.specs.OffsetStrings.{offset_strings};
 ghost use Rattle.diff_columns.specs.Layout.{IsLayout};
 ghost use Rattle.diff_csv.specs.Reading.{IsOpen};
 ghost use Rattle.diff_run.specs.Faults.{IsRunFault};
-ghost use Rattle.diff_run.specs.Heads.{AreHeadsOf};
+ghost use Rattle.diff_run.specs.Heads.{AreHeadsOf, fault_of};
 
 use crate::error::RunError;
 use crate::options::Options;
@@ -17,11 +17,34 @@ use std::alloc::Global;
 use std::io::Read;
 
 /// The names of the columns of two inputs, and how they are matched.
-#[derive(Drop)]
 pub(crate) struct Heads {
     pub(crate) left_names: BinaryArray<i64>,
     pub(crate) right_names: BinaryArray<i64>,
     pub(crate) layout: Layout,
+}
+
+// By hand, so that each place where heads go out of scope is one call.
+impl Drop for Heads {
+    fn drop(self) {
+        let Heads {
+            left_names,
+            right_names,
+            layout,
+        } = self;
+        drop(left_names);
+        drop(right_names);
+        drop(layout);
+    }
+}
+
+/// Returns why two inputs are not compared, where their columns are not matched.
+fn fault_of(error: ColumnError) -> RunError
+    ensures { result ≡ fault_of error }
+{
+    match error {
+        ColumnError::Memory => RunError::Memory,
+        cause => RunError::Columns { cause },
+    }
 }
 
 /// Matches the columns of two inputs by their names.
@@ -37,14 +60,20 @@ pub(crate) fn heads_of<L: Read + Drop, R: Read + Drop>(
         (λ error. (left_text right_text : List ℕ) → IsOpen L.remaining options.now.csv left_text left.now → IsOpen R.remaining options.now.csv right_text right.now → IsRunFault options.now left_text right_text error) }
 {
     let left_names = left.names(alloc)?;
-    let right_names = right.names(alloc)?;
+    let Ok(right_names) = right.names(alloc) else {
+        drop(left_names);
+        return Err(RunError::Memory);
+    };
     match match_columns(alloc, &left_names, &right_names, &options.choice) {
         Ok(layout) => Ok(Heads {
             left_names,
             right_names,
             layout,
         }),
-        Err(ColumnError::Memory) => Err(RunError::Memory),
-        Err(cause) => Err(RunError::Columns { cause }),
+        Err(error) => {
+            drop(left_names);
+            drop(right_names);
+            Err(fault_of(error))
+        }
     }
 }

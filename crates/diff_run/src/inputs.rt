@@ -5,13 +5,13 @@ ghost use Rattle.diff_csv.specs.Reading.{IsOpen};
 ghost use Rattle.diff_csv.specs.Tables.{HasShape, IsTableOf};
 ghost use Rattle.diff_run.specs.Faults.{IsRunFault, text_on};
 ghost use Rattle.diff_run.specs.Inputs.{AreBothOf};
-ghost use Rattle.diff_run.specs.declared.options.Options.{Options};
 
 use crate::error::RunError;
 use crate::options::Options;
 use diff_columns::error::Side;
 use diff_columns::layout::Layout;
 use diff_csv::source::{CsvTable, Source};
+use diff_csv::wanted::Wanted;
 use std::alloc::Global;
 use std::io::Read;
 
@@ -39,38 +39,47 @@ pub(crate) fn opened<R: Read + Drop>(
     }
 }
 
-/// Reads the rows of an input, each with its cells in these columns.
+/// Reads the rows of an input, or those of a part, each with its cells in these columns.
 fn read_rows<R: Read + Drop>(
     alloc: Global,
     source: Source<R>,
     columns: &[usize],
+    layout: &Layout,
+    options: &Options<'_>,
     side: Side,
 ) -> Result<CsvTable, RunError>
     ensures shape { IfOk result (HasShape columns.now) }
     ensures table { MatchResult result
-        (λ table. (options : Options) (text : List ℕ) → IsOpen R.remaining options.csv text source → IsTableOf options.csv text columns.now table)
-        (λ error. (options : Options) (left_text right_text : List ℕ) → IsOpen R.remaining options.csv (text_on side left_text right_text) source → IsRunFault options left_text right_text error) }
+        (λ table. (text : List ℕ) → IsOpen R.remaining options.now.csv text source → IsTableOf options.now.csv text columns.now layout.now.keys.items options.now.part table)
+        (λ error. (left_text right_text : List ℕ) → IsOpen R.remaining options.now.csv (text_on side left_text right_text) source → IsRunFault options.now left_text right_text error) }
 {
-    match source.read(alloc, columns) {
+    let wanted = Wanted {
+        columns,
+        keys: &layout.keys,
+        part: options.part,
+    };
+    match source.read(alloc, &wanted) {
         Ok(table) => Ok(table),
         Err(cause) => Err(RunError::Csv { side, cause }),
     }
 }
 
-/// Reads the rows of two inputs, each with its cells in the columns that are compared.
+/// Reads the rows of two inputs, or those of a part, each with its cells in the columns that are
+/// compared.
 pub(crate) fn read_both<L: Read + Drop, R: Read + Drop>(
     alloc: Global,
     left: Source<L>,
     right: Source<R>,
     layout: &Layout,
+    options: &Options<'_>,
 ) -> Result<Both, RunError>
     ensures left { IfOk result (λ both. HasShape layout.now.left.items both.left) }
     ensures right { IfOk result (λ both. HasShape layout.now.right.items both.right) }
     ensures tables { MatchResult result
-        (λ both. (options : Options) (left_text right_text : List ℕ) → IsOpen L.remaining options.csv left_text left → IsOpen R.remaining options.csv right_text right → AreBothOf options left_text right_text layout.now both)
-        (λ error. (options : Options) (left_text right_text : List ℕ) → IsOpen L.remaining options.csv left_text left → IsOpen R.remaining options.csv right_text right → IsRunFault options left_text right_text error) }
+        (λ both. (left_text right_text : List ℕ) → IsOpen L.remaining options.now.csv left_text left → IsOpen R.remaining options.now.csv right_text right → AreBothOf options.now left_text right_text layout.now both)
+        (λ error. (left_text right_text : List ℕ) → IsOpen L.remaining options.now.csv left_text left → IsOpen R.remaining options.now.csv right_text right → IsRunFault options.now left_text right_text error) }
 {
-    let left = read_rows(alloc, left, &layout.left, Side::Left)?;
-    let right = read_rows(alloc, right, &layout.right, Side::Right)?;
+    let left = read_rows(alloc, left, &layout.left, layout, options, Side::Left)?;
+    let right = read_rows(alloc, right, &layout.right, layout, options, Side::Right)?;
     Ok(Both { left, right })
 }

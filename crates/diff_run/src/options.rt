@@ -2,6 +2,7 @@
 
 use diff_columns::choice::Choice;
 use diff_csv::options::CsvOptions;
+use diff_parts::part::Part;
 
 /// The form of a report.
 #[derive(Clone, Copy, Debug, PartialEq, Eq)]
@@ -22,6 +23,10 @@ pub struct Options<'a> {
     /// The columns that are compared as texts, where in all others numbers are compared by what they
     /// are worth. Without it all cells are compared as texts.
     pub numbers: Option<&'a [&'a [u8]]>,
+    /// The part of the rows that is read and compared, by their cells in the key columns as they
+    /// are written. Without it all rows are. The parts make the whole where keys are compared as
+    /// texts.
+    pub part: Option<Part>,
     /// The cell that stands for no value, where there is one.
     pub null: Option<&'a [u8]>,
     /// The most differences that have a line of their own. With 0 the report is the counts.

@@ -42,8 +42,7 @@ fn report_on<L: Read + Drop, R: Read + Drop>(
     let right = opened(alloc, right.reader, options, Side::Right)?;
     let heads = heads_of(alloc, &left, &right, options)?;
     let sides = sides_of(alloc, left, right, &heads, files, options)?;
-    let report = report_of(alloc, &sides, &heads, files, options)?;
-    Ok(report)
+    report_of(alloc, &sides, &heads, files, options)
 }
 
 /// Compares two inputs, and writes the report. Nothing is written where an input can't be read, the

@@ -90,18 +90,20 @@ pub(crate) fn sides_of<L: Read + Drop, R: Read + Drop>(
         (λ error. (left_text right_text : List ℕ) → IsOpen L.remaining options.now.csv left_text left → IsOpen R.remaining options.now.csv right_text right → AreHeadsOf options.now left_text right_text heads.now → IsRunFault options.now left_text right_text error) }
 {
     let frame = frame_of(alloc, heads, files, options)?;
-    let both = read_both(alloc, left, right, &heads.layout)?;
+    let both = read_both(alloc, left, right, &heads.layout, options)?;
     let comparables = compared_by(alloc, &frame.names, &both, options)?;
     Ok(Sides {
         left: Side {
             name: frame.left,
             table: both.left.table,
             lines: both.left.lines,
+            numbers: both.left.numbers,
         },
         right: Side {
             name: frame.right,
             table: both.right.table,
             lines: both.right.lines,
+            numbers: both.right.numbers,
         },
         comparables,
         names: frame.names,

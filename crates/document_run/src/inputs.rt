@@ -43,7 +43,12 @@ pub(crate) fn read_side<R: Read + Drop>(
                 skipped,
             },
         ) => Ok(ReadSide {
-            table: Table { name, table, lines },
+            table: Table {
+                name,
+                table,
+                lines,
+                numbers: None,
+            },
             skipped,
         }),
         Err(cause) => Err(DocumentError::Read { side, cause }),
@@ -78,7 +83,12 @@ pub(crate) fn read_right<R: Read + Drop>(
                 skipped,
             },
         ) => Ok(ReadSide {
-            table: Table { name, table, lines },
+            table: Table {
+                name,
+                table,
+                lines,
+                numbers: None,
+            },
             skipped,
         }),
         Err(cause) => Err(DocumentError::Read {

@@ -8,6 +8,7 @@ mod files;
 mod keys;
 mod kinds;
 mod options;
+mod parts;
 mod progress;
 mod rules;
 mod tasks;
@@ -18,6 +19,7 @@ use crate::command::command;
 use crate::config::{Config, config_for, joined, named_file};
 use crate::keys::keys_of;
 use crate::kinds::{hold_documents, refuse_document_options, refuse_table_options};
+use crate::parts::part_of;
 use crate::rules::rules_of;
 use crate::tasks::{Task, compare_named};
 use crate::words::{Names, csv_options, format_of, is_colored, limit_of, target_of};
@@ -48,6 +50,7 @@ fn diff_tables(rt: &HostRuntime, matches: &ArgMatches<'_>, left: &str, right: &s
         numbers: matches
             .get_flag("numbers")
             .then_some(names.texts.as_slice()),
+        part: part_of(matches, &names)?,
         null: matches.get_str("null").map(|word| word.as_bytes()),
         limit: limit_of(matches),
         common: matches.get_flag("common"),

@@ -53,7 +53,7 @@ const SWITCH: CliOption = CliOption {
 };
 
 /// The options of the command.
-static OPTIONS: [CliOption; 23] = [
+static OPTIONS: [CliOption; 24] = [
     CliOption {
         id: "key",
         takes: Takes::List,
@@ -163,6 +163,15 @@ static OPTIONS: [CliOption; 23] = [
         id: "skip-bad",
         goes_with: GoesWith::Documents,
         help: "Pass over lines that are no documents, and say how many there are",
+        ..SWITCH
+    },
+    CliOption {
+        id: "partition",
+        takes: Takes::Text,
+        value: "I/N",
+        needs: Some("key"),
+        goes_with: GoesWith::Tables,
+        help: "Compare part I of N of the rows, by their keys; all N parts are the whole",
         ..SWITCH
     },
     CliOption {

@@ -1,4 +1,4 @@
-use Rattle.std.proofs.lemmas.Result.{err_from_is_err_and}
+use Rattle.std.proofs.lemmas.Result.{MatchResult-weaker, err_from_is_err_and}
 use Rattle.diff_run.proofs.run.report_on.Goals as goal
 
 pub returns-in_err-left : goal.returns-in_err-left
@@ -24,17 +24,15 @@ returns-in_err-sides g c =
     let right = c.in_ok-right.ensures right_text er in
     c.in_err-sides.ensures.texts left_text right_text left right (c.in_ok-heads.ensures.texts left_text right_text left right))
 
-pub returns-in_err-report : goal.returns-in_err-report
-returns-in_err-report g c =
-    let p = err_from_is_err_and c.from_residual-in_err-report.result c.from_residual-in_err-report.ensures.1 in
-    rw (p.1, p.2) (λ left_text right_text el er.
-    let left = c.in_ok-left.ensures left_text el in
-    let right = c.in_ok-right.ensures right_text er in
-    c.in_err-report.ensures left_text right_text (c.in_ok-sides.ensures.texts left_text right_text left right (c.in_ok-heads.ensures.texts left_text right_text left right)))
-
 pub returns : goal.returns
-returns g c = λ left_text right_text el er.
+returns g c =
+    MatchResult-weaker c.report_of.result c.report_of.ensures
+    (λ report held left_text right_text el er.
     let left = c.in_ok-left.ensures left_text el in
     let right = c.in_ok-right.ensures right_text er in
     let heads = c.in_ok-heads.ensures.texts left_text right_text left right in
-    c.in_ok-report.ensures left_text right_text heads (c.in_ok-sides.ensures.texts left_text right_text left right heads)
+    held left_text right_text heads (c.in_ok-sides.ensures.texts left_text right_text left right heads))
+    (λ error fault left_text right_text el er.
+    let left = c.in_ok-left.ensures left_text el in
+    let right = c.in_ok-right.ensures right_text er in
+    fault left_text right_text (c.in_ok-sides.ensures.texts left_text right_text left right (c.in_ok-heads.ensures.texts left_text right_text left right)))

@@ -10,12 +10,12 @@ returns-clause-sides g c =
 pub returns-clause-texts : goal.returns-clause-texts
 returns-clause-texts g c = λ left_text right_text left right heads.
     sides_are c.args.options.now left_text right_text c.args.files.left.now c.args.files.right.now c.args.heads.now c.in_ok-frame.frame c.in_ok-both.both c.in_ok-comparables.comparables heads c.requires c.in_ok-frame.ensures
-    (c.in_ok-both.ensures.tables c.args.options.now left_text right_text left right) c.in_ok-comparables.ensures
+    (c.in_ok-both.ensures.tables left_text right_text left right) c.in_ok-comparables.ensures
 
 pub returns-in_err-both-clause-texts : goal.returns-in_err-both-clause-texts
 returns-in_err-both-clause-texts g c =
     let p = err_from_is_err_and c.from_residual-in_err-both.result c.from_residual-in_err-both.ensures.1 in
-    rw (p.1, p.2) (λ left_text right_text left right heads. c.in_err-both.ensures.tables c.args.options.now left_text right_text left right)
+    rw (p.1, p.2) (λ left_text right_text left right heads. c.in_err-both.ensures.tables left_text right_text left right)
 
 pub compared_by-requires-clause-left : goal.compared_by-requires-clause-left
 compared_by-requires-clause-left g c = named_left c.args.options.now c.args.heads.now c.args.files.left.now c.args.files.right.now c.in_ok-frame.frame c.in_ok-both.both.left c.in_ok-frame.ensures c.in_ok-both.ensures.left
@@ -29,4 +29,4 @@ returns-in_err-comparables-clause-texts g c =
     let p = err_from_is_err_and c.from_residual-in_err-comparables.result c.from_residual-in_err-comparables.ensures.1 in
     rw (p.1, p.2) (λ left_text right_text left right heads.
     number_fault c.args.options.now left_text right_text c.args.files.left.now c.args.files.right.now c.args.heads.now c.in_ok-frame.frame c.in_ok-both.both _ heads c.requires c.in_ok-frame.ensures
-    (c.in_ok-both.ensures.tables c.args.options.now left_text right_text left right) c.in_err-comparables.ensures)
+    (c.in_ok-both.ensures.tables left_text right_text left right) c.in_err-comparables.ensures)

@@ -7,10 +7,10 @@ use Rattle.diff_csv.proofs.RowLemmas.{shape_of}
 use Rattle.diff_csv.proofs.source.Source.read.Goals as goal
 
 pub table_of-requires : goal.table_of-requires
-table_of-requires g c = ([], c.in_ok-none.ensures c.args.columns.now)
+table_of-requires g c = ([], c.in_ok-none.ensures c.args.wanted.now.columns.now c.args.wanted.now.keys.now c.args.wanted.now.part)
 
 pub returns-in_default-clause-shape : goal.returns-in_default-clause-shape
-returns-in_default-clause-shape g c = shape_of c.args.columns.now [] _ (c.in_ok-table.ensures [] (c.in_ok-none.ensures c.args.columns.now))
+returns-in_default-clause-shape g c = shape_of c.args.wanted.now.columns.now c.args.wanted.now.keys.now c.args.wanted.now.part [] _ (c.in_ok-table.ensures [] (c.in_ok-none.ensures c.args.wanted.now.columns.now c.args.wanted.now.keys.now c.args.wanted.now.part))
 
 pub returns-in_default-clause-table : goal.returns-in_default-clause-table
 returns-in_default-clause-table g c = λ options text opened. record {
@@ -18,13 +18,13 @@ returns-in_default-clause-table g c = λ options text opened. record {
   all = (rw c.in_default.is at opened.begun).0;
   one_length = tt;
   closed = (rw c.in_default.is at opened.begun).1;
-  table = c.in_ok-table.ensures [] (c.in_ok-none.ensures c.args.columns.now);
+  table = c.in_ok-table.ensures [] (c.in_ok-none.ensures c.args.wanted.now.columns.now c.args.wanted.now.keys.now c.args.wanted.now.part);
 }
 
 pub returns-clause-shape : goal.returns-clause-shape
 returns-clause-shape g c =
     let kept = c.in_ok-rows.ensures in
-    shape_of c.args.columns.now (data_rows c.args.self.has_header (fields_of c.in-Some.row ∷ kept.more)) _ (c.in_ok-table-2.ensures (data_rows c.args.self.has_header (fields_of c.in-Some.row ∷ kept.more)) kept.held)
+    shape_of c.args.wanted.now.columns.now c.args.wanted.now.keys.now c.args.wanted.now.part (data_rows c.args.self.has_header (fields_of c.in-Some.row ∷ kept.more)) _ (c.in_ok-table-2.ensures (data_rows c.args.self.has_header (fields_of c.in-Some.row ∷ kept.more)) kept.held)
 
 pub returns-clause-table : goal.returns-clause-table
 returns-clause-table g c = λ options text opened.
@@ -37,7 +37,7 @@ returns-clause-table g c = λ options text opened.
       all = all.0;
       one_length = kept.one_length;
       closed = all.1;
-      table = subst (λ b. IsTableWith c.args.columns.now (data_rows b (fields_of c.in-Some.row ∷ c.in_ok-rows.ensures.more)) c.in_ok-table-2.table) opened.header
+      table = subst (λ b. IsTableWith c.args.wanted.now.columns.now c.args.wanted.now.keys.now c.args.wanted.now.part (data_rows b (fields_of c.in-Some.row ∷ c.in_ok-rows.ensures.more)) c.in_ok-table-2.table) opened.header
           (c.in_ok-table-2.ensures (data_rows c.args.self.has_header records) kept.held);
     }
 

@@ -1,0 +1,4 @@
+mod Examples
+pub mod HashLemmas
+pub mod KeptLemmas
+pub mod OnePart

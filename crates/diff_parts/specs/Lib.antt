@@ -1,0 +1,3 @@
+pub mod Laws
+pub mod Parts
+pub mod Rows

@@ -1,0 +1,20 @@
+//! Laws: the comparisons of the parts of two tables make the comparison of the tables. These
+//! functions do nothing; their contracts are the laws.
+
+ghost use Rattle.diff_parts.specs.Laws.{EachKeyHasAPart, KeepsAdded, KeepsPartners, KeepsPlaces, KeepsRemoved, KeepsRows};
+
+/// Law: each key is in exactly one of the parts.
+pub fn law_one_part()
+    ensures { EachKeyHasAPart }
+{}
+
+/// Law: where of two tables the rows of some keys are kept, and all rows of these keys, each row
+/// that is kept has the same partner as before, or none as before; and these are all rows of these
+/// keys, in their order.
+pub fn law_kept_rows()
+    ensures places { KeepsPlaces }
+    ensures rows { KeepsRows }
+    ensures partners { KeepsPartners }
+    ensures removed { KeepsRemoved }
+    ensures added { KeepsAdded }
+{}

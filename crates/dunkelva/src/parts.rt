@@ -1,0 +1,41 @@
+//! The part of the rows that is compared.
+
+use crate::words::Names;
+use anyhow::{Result, anyhow};
+use clap::ArgMatches;
+use diff_parts::part::Part;
+
+/// Returns the part that a text such as 2/8 names.
+fn named_part(text: &str) -> Option<Part> {
+    let (index, count) = text.split_once('/')?;
+    match (index.parse::<u64>(), count.parse::<u64>()) {
+        (Ok(index), Ok(count)) => Part::new(index, count),
+        _ => None,
+    }
+}
+
+/// Refuses keys that are compared by what they are worth, since rows are in parts by the texts of
+/// their keys.
+fn refuse_numbers(matches: &ArgMatches<'_>, names: &Names<'_>) -> Result<()> {
+    if !matches.get_flag("numbers") {
+        return Ok(());
+    }
+    for key in &names.keys {
+        if !names.texts.contains(key) {
+            return Err(anyhow!("--partition goes with --numbers where --text has all key columns"));
+        }
+    }
+    Ok(())
+}
+
+/// Returns the part of the rows that is compared, where one is asked for.
+pub(crate) fn part_of(matches: &ArgMatches<'_>, names: &Names<'_>) -> Result<Option<Part>> {
+    let Some(text) = matches.get_str("partition") else {
+        return Ok(None);
+    };
+    refuse_numbers(matches, names)?;
+    match named_part(text) {
+        Some(part) => Ok(Some(part)),
+        None => Err(anyhow!("--partition takes I/N, as 1/8, with I from 1 to N, and not {text:?}")),
+    }
+}

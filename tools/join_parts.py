@@ -1,0 +1,100 @@
+#!/usr/bin/env python3
+"""Joins the reports of all parts of two CSV files, as JSON lines, to the report of the whole.
+
+usage: join_parts.py LEFT REPORT.. [-- OPTION..]
+
+LEFT is the left file, whose first record says in which order the columns are, and an option is one that the parts were
+compared with. A report is a file of what `dunkelva diff LEFT RIGHT --partition I/N --format json --limit 0 OPTION..`
+printed, and all N of them are needed, the first part's first. Prints what a run without `--partition` prints.
+
+Differences stand in the order of the whole: changed rows by their left row, then removed ones, then added ones by their
+row. Each report has this order, so that no more than a line of each is in memory. Counts are added up.
+"""
+import csv
+import heapq
+import json
+import re
+import sys
+
+RANKS = {b"column": 0, b"changed": 1, b"removed": 2, b"added": 3, b"counts": 4}
+KIND = re.compile(rb'\{"kind":"(\w+)"')
+# cells and keys are texts or null, so that no other member with such a name is a number
+ROW = re.compile(rb'"(?:left_)?row":([0-9]+)')
+COUNTS = re.compile(rb'\{"kind":"counts","changed":(\d+),"removed":(\d+),"added":(\d+),"same":(\d+),"not_shown":(\d+),'
+                    rb'"columns":\{(.*)\}\}\n')
+COLUMN = re.compile(rb'("(?:[^"\\]|\\.)*"):(\d+)')
+
+
+def place_of(line):
+    """Returns what lines are ordered by: their kind, and the number of their row."""
+    kind = KIND.match(line)[1]
+    return RANKS[kind], int(ROW.search(line)[1]) if kind in (b"changed", b"removed", b"added") else 0
+
+
+def option_of(options, name):
+    """Returns what stands behind an option, if it is given."""
+    for at, word in enumerate(options):
+        if word == name:
+            return options[at + 1]
+        if word.startswith(name + "="):
+            return word.removeprefix(name + "=")
+    return None
+
+
+def names_of(left, options):
+    """Returns the names of the columns of a file as JSON has them, or None where they are numbers."""
+    if "--no-header" in options:
+        return None
+    given = option_of(options, "--delimiter")
+    delimiter = {None: "\t" if left.endswith(".tsv") else ",", "\\t": "\t"}.get(given, given)
+    with open(left, newline="", encoding="latin-1") as file:
+        if file.read(3) != "\xef\xbb\xbf":
+            file.seek(0)
+        first = next((fields for fields in csv.reader(file, delimiter=delimiter) if fields), [])
+    return [name.encode("latin-1").decode("utf-8", "replace") for name in first]
+
+
+def counts_of(lines, names):
+    """Returns the line with the counts of the whole, by those of the parts."""
+    totals, columns = [0] * 5, {}
+    for line in lines:
+        found = COUNTS.fullmatch(line)
+        totals = [total + int(count) for total, count in zip(totals, found.groups())]
+        for name, count in COLUMN.findall(found[6]):
+            columns[name] = columns.get(name, 0) + int(count)
+
+    def order(name):
+        text = json.loads(name)
+        return int(text) if names is None else names.index(text)
+
+    texts = b",".join(name + b":%d" % columns[name] for name in sorted(columns, key=order))
+    return (b'{"kind":"counts","changed":%d,"removed":%d,"added":%d,"same":%d,"not_shown":%d,' % tuple(totals)
+            + b'"columns":{' + texts + b"}}\n")
+
+
+def without_columns(report, number):
+    """Makes the lines of a report, but of the first one alone those of columns that one file has alone."""
+    return (line for line in report if number == 0 or KIND.match(line)[1] != b"column")
+
+
+def joined(reports, names):
+    """Makes the lines of the whole, by the lines of the parts' reports."""
+    counts = []
+    for line in heapq.merge(*(without_columns(it, n) for n, it in enumerate(reports)), key=place_of):
+        if KIND.match(line)[1] == b"counts":
+            counts.append(line)
+        else:
+            yield line
+    yield counts_of(counts, names)
+
+
+def main(words):
+    """Prints the report of the whole."""
+    end = words.index("--") if "--" in words else len(words)
+    left, reports, options = words[0], words[1:end], words[end + 1:]
+    files = [open(report, "rb") for report in reports]
+    sys.stdout.buffer.writelines(joined(files, names_of(left, options)))
+
+
+if __name__ == "__main__":
+    main(sys.argv[1:])
