@@ -1,6 +1,6 @@
 //! Lines whose documents were read before.
 
-ghost use Rattle.std.specs.Prelude.{◌≡◌, ◌<◌, ◌++◌, ◌∷◌, [], ℕ, suc, List, false, true, length, IfOk};
+ghost use Rattle.std.specs.Prelude.{◌≡◌, ◌<◌, ◌≤◌, ◌+◌, ◌++◌, ◌∷◌, [], ℕ, suc, List, false, true, length, IfOk};
 ghost use Rattle.json_paths.specs.Paths.{Path};
 ghost use Rattle.document_rows.specs.Known.{HoldsDocumentsOf, KnowsLines};
 ghost use Rattle.document_rows.specs.Rows.{HoldsRows};
@@ -9,6 +9,7 @@ ghost use Rattle.document_rows.specs.declared.reading.Reading.{Reading};
 
 use crate::cells::Rows;
 use crate::document::line_of;
+use crate::guesses::{Guesses, likely_rows, lines_in};
 use diff_tables::table::Table;
 use std::alloc::{AllocError, Global};
 
@@ -27,28 +28,56 @@ pub(crate) struct Known<'a> {
     slots: Vec<u32>,
 }
 
-/// Returns a number that spreads lines, from eight bytes at a time.
-fn spread(line: &[u8]) -> u64 {
+/// Returns eight bytes of a line as a number.
+#[inline(always)]
+fn word_at(line: &[u8], at: usize) -> u64
+    requires { at + 8 ≤ length line.now }
+{
+    u64::from_le_bytes([
+        line[at],
+        line[at + 1],
+        line[at + 2],
+        line[at + 3],
+        line[at + 4],
+        line[at + 5],
+        line[at + 6],
+        line[at + 7],
+    ])
+}
+
+/// Returns a number into which another one is mixed.
+#[inline(always)]
+fn mixed(number: u64, other: u64) -> u64 {
+    (number ^ other).wrapping_mul(SPREAD).rotate_left(29)
+}
+
+/// Returns a number that spreads lines of less than 32 bytes. `start` is mixed into it.
+#[inline(always)]
+fn spread_short(line: &[u8], start: u64) -> u64 {
+    let mut number = start;
     let words = line.len() / 8;
-    let mut number: u64 = 0;
     for i in 0..words {
-        let at = 8 * i;
-        let word = u64::from_le_bytes([
-            line[at],
-            line[at + 1],
-            line[at + 2],
-            line[at + 3],
-            line[at + 4],
-            line[at + 5],
-            line[at + 6],
-            line[at + 7],
-        ]);
-        number = (number ^ word).wrapping_mul(SPREAD).rotate_left(29);
+        number = mixed(number, word_at(line, 8 * i));
     }
     for byte in &line[8 * words..] {
-        number = (number ^ u64::from(*byte)).wrapping_mul(SPREAD);
+        number = mixed(number, u64::from(*byte));
     }
     number ^ (number >> 32)
+}
+
+/// Returns a number that spreads lines. It is made of four, each of which takes every fourth eight
+/// bytes, so that few products wait for others.
+fn spread(line: &[u8]) -> u64 {
+    let parts = line.len() / 32;
+    let (mut a, mut b, mut c, mut d) = (0, 1, 2, 3);
+    for i in 0..parts {
+        let at = 32 * i;
+        a = mixed(a, word_at(line, at));
+        b = mixed(b, word_at(line, at + 8));
+        c = mixed(c, word_at(line, at + 16));
+        d = mixed(d, word_at(line, at + 24));
+    }
+    spread_short(&line[32 * parts..], mixed(mixed(a, b), mixed(c, d)))
 }
 
 /// Returns the slot of a line.
@@ -87,6 +116,43 @@ impl<'a> Known<'a> {
         })
     }
 
+    /// Returns the slot of each of these lines.
+    fn slots_for(&self, alloc: Global, lines: &[&[u8]]) -> Result<Vec<usize>, AllocError> {
+        let mut slots = Vec::with_capacity(alloc, lines.len())?;
+        if self.slots.is_empty() {
+            return Ok(slots);
+        }
+        for line in lines {
+            slots.push(slot_of(line, self.slots.len()))?;
+        }
+        Ok(slots)
+    }
+
+    /// Returns the row in each of these slots.
+    fn rows_in(&self, alloc: Global, slots: &[usize]) -> Result<Vec<usize>, AllocError> {
+        let mut rows = Vec::with_capacity(alloc, slots.len())?;
+        for slot in slots {
+            if *slot < self.slots.len() {
+                rows.push(self.slots[*slot] as usize)?;
+            }
+        }
+        Ok(rows)
+    }
+
+    /// Returns a row that each of the lines in some bytes may have been read from.
+    pub(crate) fn guesses_for(&self, alloc: Global, bytes: &[u8]) -> Result<Guesses, AllocError>
+        requires { (reading : Reading) × (keys : List Path) × KnowsLines reading keys self.now }
+    {
+        let Some(table) = self.table else {
+            return Ok(Guesses::none(alloc));
+        };
+        let lines = lines_in(alloc, bytes)?;
+        let slots = self.slots_for(alloc, &lines)?;
+        let rows = self.rows_in(alloc, &slots)?;
+        let rows = likely_rows(alloc, table, rows, &lines)?;
+        Ok(Guesses { rows, next: 0 })
+    }
+
     /// Returns a row that may have been read from a line.
     fn row_for(&self, line: &[u8]) -> usize {
         if self.slots.is_empty() {
@@ -95,12 +161,14 @@ impl<'a> Known<'a> {
         self.slots[slot_of(line, self.slots.len())] as usize
     }
 
-    /// Appends the row of a line, if it is known. Returns whether it is. `number` is the line's.
+    /// Appends the row of a line, if it is known. Returns whether it is. `number` is the line's, and
+    /// `guess` a row that it may have.
     pub(crate) fn push_row(
         &self,
         rows: &mut Rows,
         line: &[u8],
         number: u64,
+        guess: Option<usize>,
     ) -> Result<bool, AllocError>
         requires { (reading : Reading) × (keys : List Path) × KnowsLines reading keys self.now }
         ensures found { IfOk result (λ found. found ≡ true → (reading : Reading) (keys : List Path) (lines : List (List ℕ)) → KnowsLines reading keys self.now → number ≡ suc (length lines) → HoldsRows reading keys lines rows.old → HoldsRows reading keys (lines ++ line.now ∷ []) rows.new) }
@@ -109,7 +177,10 @@ impl<'a> Known<'a> {
         let Some(table) = self.table else {
             return Ok(false);
         };
-        let row = self.row_for(line);
+        let row = match guess {
+            Some(row) => row,
+            None => self.row_for(line),
+        };
         if row >= table.count() || line_of(table, row) != line {
             return Ok(false);
         }

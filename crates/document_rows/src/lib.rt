@@ -4,6 +4,7 @@
 mod cells;
 pub mod document;
 pub mod error;
+mod guesses;
 mod known;
 mod lines;
 mod narrow;

@@ -12,6 +12,7 @@ ghost use Rattle.document_rows.specs.declared.reading.Reading.{Reading};
 
 use crate::cells::{Rooms, Rows};
 use crate::error::{LineFault, ReadError};
+use crate::guesses::Guesses;
 use crate::known::Known;
 use crate::lines::read_line;
 use crate::reading::Reading;
@@ -84,6 +85,7 @@ fn keep_line(
     keys: &[Path],
     reading: Reading,
     known: &Known<'_>,
+    guess: Option<usize>,
     rooms: &mut Rooms,
 ) -> Result<(), ReadError>
     requires { KnowsLines reading (paths_view keys.now) known.now }
@@ -91,7 +93,7 @@ fn keep_line(
         (λ _. (all : List (List ℕ)) → number ≡ suc (length all) → HoldsRows reading (paths_view keys.now) all rows.old → HoldsRows reading (paths_view keys.now) (all ++ line.now ∷ []) rows.new)
         (IsFaultAt reading (paths_view keys.now) line.now number) }
 {
-    if known.push_row(rows, line, number)? {
+    if known.push_row(rows, line, number, guess)? {
         return Ok(());
     }
     match rows.push(alloc, line, number, keys, reading, rooms) {
@@ -108,22 +110,26 @@ fn keep_line(
 }
 
 /// Reads the rows of all lines.
-fn read_rows<B: BufRead + Drop>(
+fn read_rows<R: Read + Drop>(
     alloc: Global,
-    mut reader: B,
+    mut reader: BufReader<R>,
     keys: &[Path],
     reading: Reading,
     known: &Known<'_>,
 ) -> Result<Rows, ReadError>
     requires { KnowsLines reading (paths_view keys.now) known.now }
     ensures { MatchResult result
-        (ReadsAll B.remaining reading (paths_view keys.now) reader)
-        (λ error. (text : List ℕ) → B.remaining reader ≡ Some text → IsReadFault text reading (paths_view keys.now) error) }
+        (ReadsAll (reader_remaining R.remaining) reading (paths_view keys.now) reader)
+        (λ error. (text : List ℕ) → reader_remaining R.remaining reader ≡ Some text → IsReadFault text reading (paths_view keys.now) error) }
 {
     let mut rows = Rows::new(alloc)?;
     let mut rooms = Rooms::new(alloc)?;
     let mut line = Vec::new(alloc);
+    let mut guesses = Guesses::none(alloc);
     for before in 0..u64::MAX {
+        if guesses.are_spent() {
+            guesses = known.guesses_for(alloc, reader.buffer())?;
+        }
         if !next_line(&mut reader, &mut line)? {
             return Ok(rows);
         }
@@ -135,6 +141,7 @@ fn read_rows<B: BufRead + Drop>(
             keys,
             reading,
             known,
+            guesses.take(),
             &mut rooms,
         )?;
     }
@@ -162,11 +169,14 @@ fn table_of(alloc: Global, rows: Rows, keys: &[Path]) -> Result<Documents, ReadE
     }
 }
 
+/// How many bytes are read at once.
+const BUFFER: usize = 1 << 18;
+
 /// Returns a reader with a buffer, of which nothing is read.
 fn buffered<R: Read + Drop>(alloc: Global, reader: R) -> Result<BufReader<R>, ReadError>
     ensures { MatchResult result (λ b. reader_remaining R.remaining b ≡ R.remaining reader) IsStop }
 {
-    match BufReader::new(alloc, reader) {
+    match BufReader::with_capacity(alloc, BUFFER, reader) {
         Ok(buffered) => Ok(buffered),
         Err(cause) => Err(fault_of(cause)),
     }

@@ -3,7 +3,7 @@ use Rattle.std.proofs.lemmas.List.{append_assoc}
 use Rattle.std.proofs.lemmas.Result.{err_from_is_err_and}
 use Rattle.json_paths.specs.Views.{paths_view}
 use Rattle.document_rows.specs.Lines.{lines_of}
-use Rattle.document_rows.proofs.RowLemmas.{line_fault, no_lines}
+use Rattle.document_rows.proofs.RowLemmas.{line_fault, no_lines, stop_fault}
 use Rattle.document_rows.proofs.read.read_rows.Goals as goal
 
 pub loop-before-init : goal.loop-before-init
@@ -25,6 +25,11 @@ returns-then-not-branch g c =
           let (rest, left, cut) = before.so_far text known in
           sym (cut ∙ no_lines before.all rest (rw none at (c.in_ok-next_line.ensures.told rest left)));
     }
+
+pub returns-in_err-next_line : goal.returns-in_err-next_line
+returns-in_err-next_line g c =
+    let p = err_from_is_err_and c.from_residual-in_err-next_line.result c.from_residual-in_err-next_line.ensures.1 in
+    rw (p.1, p.2) (λ text known. stop_fault c.args.reading (paths_view c.args.keys.now) text _ c.in_err-next_line.ensures.stop)
 
 pub returns-in_err-keep_line : goal.returns-in_err-keep_line
 returns-in_err-keep_line g c =
