@@ -1,9 +1,9 @@
 -- What was found, listed, is the matching of two tables.
 use Rattle.std.proofs.Common.{◌≡◌, ◌<◌, ◌↔◌, ℕ, List, Option, Some, None, length, get_or, arith, ap, sym, ◌∙◌, refl, subst}
 use Rattle.std.proofs.lemmas.Grind.{get_or_default_zero}
-use Rattle.std.proofs.lemmas.List.Elements.{Contains-get_or}
+use Rattle.std.proofs.lemmas.List.Elements.{All-from_get_or, Contains-get_or}
 use Rattle.std.specs.List.{Contains}
-use Rattle.std.specs.Prelude.{slice_index}
+use Rattle.std.specs.Prelude.{All, slice_index}
 use Rattle.diff_keys.specs.declared.matching.Matching.{Matching}
 use Rattle.diff_keys.specs.Listing.{HasNone, IsOther, ListsFound}
 use Rattle.diff_keys.specs.Matching.{IsAdded, IsMatching, IsRemoved}
@@ -27,6 +27,17 @@ is_found left right i j (Some k) is h = ap Some (one_partner left right i k j is
 pub none_found : (left right : Keys) (i : ℕ) (o : Option ℕ) → IsPartner left right i o → (o ≡ None) ↔ IsRemoved left right i
 none_found left right i None none = (λ _. none, λ _. refl)
 none_found left right i (Some j) is = (λ e. absurd (cc), λ removed. absurd (removed j is))
+
+-- the rows that were found are rows of the right table
+pub found_within : (left right : Keys) (found : List (Option ℕ)) (ls rs : List ℕ) → length found ≡ length left
+    → ((i : ℕ) → i < length left → IsPartner left right i (get_or found i None)) → ListsFound found (length found) ls rs → All (λ j. j < length right) rs
+found_within left right found ls rs count told h = All-from_get_or (λ j. j < length right) rs 0 at
+  where
+    at : (k : ℕ) → k < length rs → slice_index rs k < length right
+    at k within =
+        let pair = h.pair k (omega (arith, within, h.one_length)) in
+        let partner : ArePartners left right (slice_index ls k) (slice_index rs k) = subst (IsPartner left right (slice_index ls k)) pair.1 (told (slice_index ls k) (omega (arith, pair.0, count))) in
+        partner.right_row
 
 pub matching_is : (left right : Keys) (found : List (Option ℕ)) (m : Matching) → length found ≡ length left
     → ((i : ℕ) → i < length left → IsPartner left right i (get_or found i None))

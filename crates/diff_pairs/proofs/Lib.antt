@@ -1,3 +1,4 @@
 mod Examples
+pub mod HeldLemmas
 pub mod PairLemmas
 pub mod Places

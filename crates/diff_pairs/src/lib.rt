@@ -2,6 +2,8 @@
 //! keys of two dictionaries over the arrays, and the kernel of missing equality compares these.
 #![tactic(auto)]
 
+pub mod cells;
 pub mod changed;
 mod picked;
+pub mod rows;
 mod unset;

@@ -15,10 +15,10 @@ use Rattle.polars_arrays_flat.specs.Validity.{window}
 use Rattle.polars_arrays_numbers.specs.Naturals.{natural_of}
 use Rattle.diff_keys.specs.Rising.{ListsRising}
 use Rattle.diff_keys.specs.RisingLaws.{rising_push}
-use Rattle.diff_tables.specs.Alike.{ArePlaces, AreSameCells, AreSameRows, ListsAllBut, NameRowsOf, all_bytes}
+use Rattle.diff_tables.specs.Alike.{AreAsLong, ArePlaces, AreSameCells, AreSameRows, ListsAllBut, NameRowsOf, TellLengths, all_bytes}
 use Rattle.diff_tables.specs.Comparison.{ArePairs, IsDifferent}
 use Rattle.diff_tables.specs.Tables.{cut_rows}
-use Rattle.diff_tables.proofs.HeldLemmas.{row_within}
+use Rattle.diff_pairs.proofs.HeldLemmas.{row_within}
 use Rattle.diff_tables.proofs.TableLemmas.{length_cut, row_cut}
 
 -- the number of a place
@@ -175,6 +175,22 @@ flag_push P flags flag old new k within set = at (cases_eq k (length flags))
     at (inr apart) =
         let below : k < suc (length flags) = grind (arith, common_steps, within) in
         old k (omega (arith, below, apart)) (sym (get_or_append_left flags (flag ∷ []) false k (omega (arith, below, apart))) ∙ set)
+
+-- before the first pair nothing is told
+pub none_told : (w : ℕ) (left right : List (List ℕ)) (ls rs : List ℕ) (start : ℕ) → TellLengths w left right ls rs start start []
+none_told w left right ls rs start = record { one_each = omega arith; lengths = λ k within. absurd (omega (arith, within)) }
+
+-- one pair more
+pub lengths_told : (w : ℕ) (left right : List (List ℕ)) (ls rs : List ℕ) (start p q : ℕ) (flag : Bool) (flags : List Bool) → TellLengths w left right ls rs start p flags → start ≤ p
+    → (flag ≡ true → AreAsLong w (w * slice_index ls p) left (w * slice_index rs p) right) → q ≡ p + 1 → TellLengths w left right ls rs start q (flags ++ flag ∷ [])
+lengths_told w left right ls rs start p q flag flags old rise new is =
+    let size : length (flags ++ flag ∷ []) ≡ suc (length flags) = grind (arith, common_steps) in
+    let place : p ≡ start + length flags = omega (arith, old.one_each, rise) in
+    record {
+      one_each = omega (arith, size, old.one_each, rise, is);
+      lengths = flag_push (λ k. AreAsLong w (w * slice_index ls (start + k)) left (w * slice_index rs (start + k)) right) flags flag old.lengths
+          (λ set. subst (λ x. AreAsLong w (w * slice_index ls x) left (w * slice_index rs x) right) place (new set));
+    }
 
 pub none_but : (P : ℕ → Type 0) → ListsAllBut P 0 []
 none_but P = record {

@@ -1,10 +1,7 @@
 -- From arrays of rows to the rows of tables.
-use Rattle.std.proofs.Common.{◌≡◌, ◌<◌, ◌↔◌, ℕ, Bool, List, [], length, get_or, arith, ap, sym, ◌∙◌}
+use Rattle.std.proofs.Common.{◌≡◌, ◌<◌, ◌↔◌, ℕ, List, [], length, get_or, arith, sym, ◌∙◌}
 use Rattle.std.proofs.lemmas.List.{length-map}
 use Rattle.std.specs.Prelude.{slice_index}
-use Rattle.polars_arrays_nested.specs.AnyRows.{row}
-use Rattle.polars_arrays_nested.specs.Lengths.{len_of}
-use Rattle.polars_arrays_nested.specs.declared.any_array.AnyArray.{AnyArray}
 use Rattle.diff_keys.specs.Errors.{IsMatchFault}
 use Rattle.diff_keys.specs.Matching.{IsMatching}
 use Rattle.diff_keys.specs.Partners.{Keys}
@@ -13,31 +10,42 @@ use Rattle.diff_keys.specs.declared.error.MatchError.TheVariants.{Memory, TooMan
 use Rattle.diff_keys.specs.declared.matching.Matching.{Matching}
 use Rattle.diff_keys.specs.Rising.{ListsRising}
 use Rattle.diff_keys.specs.RisingLaws.{listed_as}
-use Rattle.diff_pairs.specs.Pairs.{IsChanged, NameRows}
+use Rattle.diff_pairs.specs.Cells.{strings_of}
+use Rattle.diff_pairs.specs.Pairs.{NameRows}
+use Rattle.diff_pairs.specs.Rows.{HaveOtherCells, row_cells}
+use Rattle.diff_pairs.specs.declared.rows.LentRows.{LentRows}
 use Rattle.diff_tables.specs.Comparison.{ArePairs, IsDifferent}
 use Rattle.diff_tables.specs.Errors.{IsCompareFault}
-use Rattle.diff_tables.specs.Held.{HoldsRows, cells_tree}
 use Rattle.diff_tables.specs.Keys.{row_key, row_keys}
-use Rattle.diff_tables.proofs.HeldLemmas.{same_cells}
+use Rattle.diff_tables.specs.Tables.{Lends, TableRows}
+use Rattle.diff_tables.proofs.TableLemmas.{length_cut, row_cut}
 
--- rows of a table are rows of its array
-pub named_left : {far : Bool} {w : ℕ} (l r : List (List (List ℕ))) (a : AnyArray) (ls rs : List ℕ) → HoldsRows far w l a → ArePairs l r ls rs → NameRows (len_of a) ls
-named_left l r a ls rs h pairs = λ p within. let below : slice_index ls p < length l = pairs.left_within p within in omega (arith, below, h.len)
+-- the row of a table is the row that is lent
+row_lent : (t : TableRows) (lent : LentRows) (i : ℕ) → Lends t lent → i < length t.rows → get_or t.rows i [] ≡ row_cells lent.width (strings_of lent.cells) i
+row_lent t lent i h within =
+    let below : i < lent.count = omega (arith, rw h.rows at within, length_cut lent.width lent.count (strings_of lent.cells)) in
+    rw h.rows (row_cut lent.width lent.count i (strings_of lent.cells) below)
 
-pub named_right : {far : Bool} {w : ℕ} (l r : List (List (List ℕ))) (a : AnyArray) (ls rs : List ℕ) → HoldsRows far w r a → ArePairs l r ls rs → NameRows (len_of a) rs
-named_right l r a ls rs h pairs = λ p within. let below : slice_index rs p < length r = pairs.right_within p within in omega (arith, below, h.len)
+-- numbers of rows of a table are numbers of rows that are lent
+pub named_lent : (t : TableRows) (lent : LentRows) (rows : List ℕ) → Lends t lent → NameRows (length t.rows) rows → NameRows lent.count rows
+named_lent t lent rows h within = λ p inside.
+    let below : slice_index rows p < length t.rows = within p inside in
+    omega (arith, rw h.rows at below, length_cut lent.width lent.count (strings_of lent.cells))
 
--- pairs of different trees are pairs of different rows
-pub rows_differ : {far : Bool} {w : ℕ} (l r : List (List (List ℕ))) (left right : AnyArray) (ls rs changed : List ℕ) → HoldsRows far w l left → HoldsRows far w r right → ArePairs l r ls rs
-    → ListsRising (IsChanged left right ls rs) (length ls) changed → ListsRising (IsDifferent l r ls rs) (length ls) changed
-rows_differ l r left right ls rs changed from_left from_right pairs h = listed_as (IsChanged left right ls rs) (IsDifferent l r ls rs) (length ls) changed same h
+-- pairs of rows with other cells are pairs of different rows
+pub rows_differ : (left right : TableRows) (l r : LentRows) (ls rs changed : List ℕ) → Lends left l → Lends right r → l.width ≡ r.width → ArePairs left.rows right.rows ls rs
+    → ListsRising (HaveOtherCells r.width (strings_of l.cells) (strings_of r.cells) ls rs) (length ls) changed → ListsRising (IsDifferent left.rows right.rows ls rs) (length ls) changed
+rows_differ left right l r ls rs changed from_left from_right width pairs h =
+    listed_as (HaveOtherCells r.width (strings_of l.cells) (strings_of r.cells) ls rs) (IsDifferent left.rows right.rows ls rs) (length ls) changed same h
   where
-    same : (p : ℕ) → p < length ls → IsChanged left right ls rs p ↔ IsDifferent l r ls rs p
+    same : (p : ℕ) → p < length ls → HaveOtherCells r.width (strings_of l.cells) (strings_of r.cells) ls rs p ↔ IsDifferent left.rows right.rows ls rs p
     same p within =
-        let l_at : row left (slice_index ls p) ≡ cells_tree (get_or l (slice_index ls p) []) = from_left.held (slice_index ls p) (pairs.left_within p within) in
-        let r_at : row right (slice_index rs p) ≡ cells_tree (get_or r (slice_index rs p) []) = from_right.held (slice_index rs p) (pairs.right_within p (omega (arith, within, pairs.one_length))) in (
-          λ differ equal. differ (l_at ∙ (ap cells_tree equal ∙ sym r_at)),
-          λ differ equal. differ (same_cells _ _ (sym l_at ∙ (equal ∙ r_at))),
+        let l_at : get_or left.rows (slice_index ls p) [] ≡ row_cells r.width (strings_of l.cells) (slice_index ls p) =
+        rw width at (row_lent left l (slice_index ls p) from_left (pairs.left_within p within)) in
+        let r_at : get_or right.rows (slice_index rs p) [] ≡ row_cells r.width (strings_of r.cells) (slice_index rs p) =
+        row_lent right r (slice_index rs p) from_right (pairs.right_within p (omega (arith, within, pairs.one_length))) in (
+          λ differ equal. differ (sym l_at ∙ (equal ∙ r_at)),
+          λ differ equal. differ (l_at ∙ (equal ∙ sym r_at)),
         )
 
 -- rows that are matched by their keys are rows of the tables

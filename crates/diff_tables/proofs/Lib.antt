@@ -2,6 +2,5 @@ mod Examples
 pub mod AlikeLemmas
 pub mod CompareLemmas
 pub mod GroupLemmas
-pub mod HeldLemmas
 pub mod KeyLemmas
 pub mod TableLemmas

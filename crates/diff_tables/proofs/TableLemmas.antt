@@ -1,10 +1,6 @@
 -- Rows that are cut off a list of cells.
-use Rattle.std.proofs.Common.{◌≡◌, ◌<◌, ◌+◌, ◌-◌, ◌*◌, ℕ, zero, suc, List, [], length, get_or, take, drop, arith, ap, sym, ◌∙◌, refl}
-use Rattle.std.proofs.lemmas.List.{get_or-drop, get_or-take, drop-drop, length-map}
-use Rattle.std.proofs.lemmas.List.FromFn.{length-map-range_with_len}
-use Rattle.std.specs.Prelude.{ℤ}
-use Rattle.polars_arrays_bytes.specs.OffsetStrings.{OffsetStrings, offset_strings, places, row_count, string_between}
-use Rattle.polars_arrays_numbers.specs.Naturals.{natural_of}
+use Rattle.std.proofs.Common.{◌≡◌, ◌<◌, ◌+◌, ◌*◌, ℕ, zero, suc, List, [], length, get_or, take, drop, arith, ap, sym, ◌∙◌, refl}
+use Rattle.std.proofs.lemmas.List.{get_or-drop, get_or-take, drop-drop}
 use Rattle.diff_tables.specs.Tables.{cut_rows}
 
 pub length_cut : (w n : ℕ) (cells : List (List ℕ)) → length (cut_rows w n cells) ≡ n
@@ -39,9 +35,3 @@ place_within w n i c cells size row column =
     let below : i < n = omega (arith, row, length_cut w n cells) in
     let place : w * i + c < w * n = cell_within w n i c below column in
     omega (arith, place, size)
-
--- an array has as many strings as rows
-pub count_strings : (a : OffsetStrings ℤ) → length (offset_strings (λ x. x) a) ≡ row_count a.offsets
-count_strings a =
-    let count : row_count (places (λ x. x) a.offsets) ≡ row_count a.offsets = ap (λ n. n - 1) (length-map a.offsets (λ offset. natural_of offset)) in
-    length-map-range_with_len (string_between (places (λ x. x) a.offsets) a.values) 0 (row_count (places (λ x. x) a.offsets)) ∙ count

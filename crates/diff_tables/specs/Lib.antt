@@ -3,7 +3,6 @@ pub mod Cells
 pub mod Comparison
 pub mod Errors
 pub mod Groups
-pub mod Held
 pub mod Keys
 pub mod KeyLaws
 pub mod Same

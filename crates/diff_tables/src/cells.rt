@@ -1,17 +1,15 @@
 //! The cells of a table.
 
-ghost use Rattle.std.specs.Prelude.{◌≡◌, ◌<◌, ◌++◌, List, [], None, true, false, length, get_or, IfOk, MatchResult};
-ghost use Rattle.polars_arrays_bits.specs.Errors.{IsMemory};
+ghost use Rattle.std.specs.Prelude.{◌≡◌, ◌<◌, [], None, true, false, length, get_or, IfOk};
 ghost use Rattle.polars_arrays_bytes.specs.OffsetStrings.{offset_strings};
+ghost use Rattle.diff_pairs.specs.Cells.{AreWhole, strings_of};
 ghost use Rattle.diff_tables.specs.Alike.{AreSameCells, ListsAllBut, NameRowsOf};
-ghost use Rattle.diff_tables.specs.Held.{HoldsCells};
 
 use crate::alike::unlike_pairs;
+use diff_pairs::cells::LentCells;
 use polars_arrays_bits::buffer::Buffer;
-use polars_arrays_bits::error::ComputeError;
 use polars_arrays_bytes::binary::BinaryArray;
 use polars_arrays_flat::byte_rows::ByteRows;
-use polars_arrays_nested::any_array::AnyArray;
 use std::alloc::{AllocError, Global};
 use std::marker::Model;
 
@@ -47,55 +45,6 @@ impl Model for Cells {
     ghost invariant = { λ c. IsStored c.stored };
 }
 
-/// Returns ends of 32 bits, and those behind them, as ends of 64 bits.
-pub(crate) fn all_ends(alloc: Global, near: &[i32], far: &[i64]) -> Result<Vec<i64>, AllocError>
-    ensures { IfOk result (λ ends. ends.items ≡ near.now ++ far.now) }
-{
-    let mut ends = Vec::with_capacity(alloc, near.len().saturating_add(far.len()))?;
-    for end in near {
-        ends.push(i64::from(*end))?;
-    }
-    ends.extend_from_slice(far)?;
-    Ok(ends)
-}
-
-/// Returns the array of strings between ends of 32 bits. The one error is `Memory`.
-fn near_array(alloc: Global, array: &BinaryArray<i32>) -> Result<AnyArray, ComputeError>
-    requires { array.now.validity ≡ None }
-    ensures { MatchResult result (HoldsCells false (offset_strings (λ x. x) array.now)) IsMemory }
-{
-    let copy = array.clone_array(alloc)?;
-    Ok(AnyArray::Binary(copy))
-}
-
-/// Returns the array of strings between ends of 64 bits. The one error is `Memory`.
-fn far_array(alloc: Global, array: &BinaryArray<i64>) -> Result<AnyArray, ComputeError>
-    requires { array.now.validity ≡ None }
-    ensures { MatchResult result (HoldsCells true (offset_strings (λ x. x) array.now)) IsMemory }
-{
-    let copy = array.clone_array(alloc)?;
-    Ok(AnyArray::LargeBinary(copy))
-}
-
-/// Returns the strings of an array, between ends of 64 bits. `bytes` are those of the array. The
-/// one error is `Memory`.
-fn widened(
-    alloc: Global,
-    array: &BinaryArray<i32>,
-    bytes: &Buffer<u8>,
-) -> Result<AnyArray, ComputeError>
-    requires { bytes.now.items ≡ array.now.values }
-    ensures { MatchResult result (HoldsCells true (offset_strings (λ x. x) array.now)) IsMemory }
-{
-    let ends = all_ends(alloc, array.offsets(), &[])?;
-    let offsets = Buffer::from_vec(ends);
-    let values = bytes.clone_buffer(alloc)?;
-    match BinaryArray::try_new(offsets, values, None) {
-        Ok(wide) => Ok(AnyArray::LargeBinary(wide)),
-        Err(_) => unreachable!(),
-    }
-}
-
 impl Cells {
     /// Returns the strings of an array, whose bytes these are.
     pub(crate) fn near(array: BinaryArray<i32>, bytes: Buffer<u8>) -> Cells
@@ -115,16 +64,6 @@ impl Cells {
     {
         Cells {
             stored: Stored::Far(array),
-        }
-    }
-
-    /// Returns whether the ends have 64 bits.
-    pub(crate) fn is_far(&self) -> bool
-        ensures { result ≡ self.now.far }
-    {
-        match &self.stored {
-            Stored::Near(_, _) => false,
-            Stored::Far(_) => true,
         }
     }
 
@@ -179,20 +118,14 @@ impl Cells {
         }
     }
 
-    /// Returns an array of the strings, between ends of 64 bits where that is asked for. No string
-    /// is copied. The one error is `Memory`.
-    pub(crate) fn array(&self, alloc: Global, wide: bool) -> Result<AnyArray, ComputeError>
-        requires { self.now.far ≡ true → wide ≡ true }
-        ensures { MatchResult result (HoldsCells wide self.now.strings) IsMemory }
+    /// Lends the strings.
+    pub(crate) fn lent(&self) -> LentCells<'_>
+        ensures strings { strings_of result ≡ self.now.strings }
+        ensures whole { AreWhole result }
     {
         match &self.stored {
-            Stored::Near(array, bytes) => {
-                if wide {
-                    return widened(alloc, array, bytes);
-                }
-                near_array(alloc, array)
-            }
-            Stored::Far(array) => far_array(alloc, array),
+            Stored::Near(array, bytes) => LentCells::Near(array, bytes),
+            Stored::Far(array) => LentCells::Far(array),
         }
     }
 }

@@ -1,8 +1,7 @@
 //! Two tables, compared by key.
 
-ghost use Rattle.std.specs.Prelude.{◌≡◌, ◌<◌, ℕ, List, true, All, length, map, slice_index, IfOk, MatchResult};
+ghost use Rattle.std.specs.Prelude.{◌≡◌, ◌<◌, All, length, map, slice_index, IfOk, MatchResult};
 ghost use Rattle.polars_arrays_bits.specs.Errors.{IsMemory};
-ghost use Rattle.polars_arrays_nested.specs.declared.any_array.AnyArray.TheVariants.{FixedSizeList};
 ghost use Rattle.diff_keys.specs.Matching.{IsMatching};
 ghost use Rattle.diff_keys.specs.Errors.{IsMemory as IsMatchMemory};
 ghost use Rattle.diff_keys.specs.Rising.{ListsRising};
@@ -10,7 +9,6 @@ ghost use Rattle.diff_keys.specs.Unique.{TellsFirstTwice};
 ghost use Rattle.diff_tables.specs.Alike.{ArePlaces};
 ghost use Rattle.diff_tables.specs.Comparison.{ArePairs, IsComparison, IsDifferent};
 ghost use Rattle.diff_tables.specs.Errors.{IsCompareFault};
-ghost use Rattle.diff_tables.specs.Held.{HoldsRows};
 ghost use Rattle.diff_tables.specs.Keys.{row_keys};
 
 use crate::keys::keys_of;
@@ -18,10 +16,8 @@ use crate::table::Table;
 use diff_keys::error::MatchError;
 use diff_keys::matching::{Matching, match_rows};
 use diff_keys::unique::{Twice, first_twice};
-use diff_pairs::changed::changed_pairs;
+use diff_pairs::rows;
 use polars_arrays_bits::error::ComputeError;
-use polars_arrays_nested::any_array::AnyArray;
-use polars_arrays_nested::fixed_size_list::FixedSizeListArray;
 use std::alloc::{AllocError, Global};
 
 /// The rows of two tables, matched and compared.
@@ -31,32 +27,6 @@ pub struct Comparison {
     pub matching: Matching,
     /// The places among the partners where the two rows differ, in rising order.
     pub changed: Vec<usize>,
-}
-
-/// Lists the pairs of rows that differ, where the left rows are the lists of an array, whose cells
-/// lie between ends of 64 bits if `wide`.
-fn changed_lists(
-    alloc: Global,
-    left: FixedSizeListArray,
-    left_rows: Vec<u32>,
-    right: &Table,
-    right_rows: Vec<u32>,
-    wide: bool,
-) -> Result<Vec<usize>, ComputeError>
-    requires wide { right.now.far ≡ true → wide ≡ true }
-    requires pairs { (rows : List (List (List ℕ))) × HoldsRows wide right.now.width rows (FixedSizeList left) × ArePairs rows right.now.rows left_rows.items right_rows.items }
-    ensures { MatchResult result (λ changed. (rows : List (List (List ℕ))) → HoldsRows wide right.now.width rows (FixedSizeList left) → ArePairs rows right.now.rows left_rows.items right_rows.items → ListsRising (IsDifferent rows right.now.rows left_rows.items right_rows.items) (length left_rows.items) changed.items) IsMemory }
-{
-    match right.list_array(alloc, wide) {
-        Ok(right) => {
-            let (left, right) = (
-                AnyArray::FixedSizeList(left),
-                AnyArray::FixedSizeList(right),
-            );
-            changed_pairs(alloc, left, left_rows, right, right_rows)
-        }
-        Err(error) => Err(error),
-    }
 }
 
 /// Lists the pairs of rows that differ.
@@ -71,12 +41,7 @@ fn changed_rows(
     requires pairs { ArePairs left.now.rows right.now.rows left_rows.items right_rows.items }
     ensures { MatchResult result (λ changed. ListsRising (IsDifferent left.now.rows right.now.rows left_rows.items right_rows.items) (length left_rows.items) changed.items) IsMemory }
 {
-    // Both arrays have to be of one type.
-    let wide = left.is_far() || right.is_far();
-    match left.list_array(alloc, wide) {
-        Ok(left) => changed_lists(alloc, left, left_rows, right, right_rows, wide),
-        Err(error) => Err(error),
-    }
+    rows::changed_rows(alloc, left.lent(), left_rows, right.lent(), right_rows)
 }
 
 /// Returns the numbers at some places.

@@ -6,8 +6,9 @@ ghost use Rattle.polars_arrays_bytes.specs.OffsetStrings.{offset_strings};
 ghost use Rattle.diff_tables.specs.Groups.{AreGroups};
 ghost use Rattle.diff_tables.specs.Strings.{AreStrings};
 
-use crate::cells::{Cells, all_ends};
+use crate::cells::Cells;
 use crate::string_list::StringList;
+use diff_pairs::cells::all_ends;
 use polars_arrays_bits::buffer::Buffer;
 use polars_arrays_bits::error::ComputeError;
 use polars_arrays_bytes::binary::BinaryArray;

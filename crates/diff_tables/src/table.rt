@@ -1,19 +1,16 @@
 //! Tables of cells.
 
-ghost use Rattle.std.specs.Prelude.{◌≡◌, ◌<◌, ◌*◌, ℕ, Bool, List, [], true, length, get_or, IfOk, MatchResult};
+ghost use Rattle.std.specs.Prelude.{◌≡◌, ◌<◌, ◌*◌, ℕ, List, [], length, get_or, IfOk, MatchResult};
 ghost use Rattle.polars_arrays_bits.specs.Errors.{IsMemory};
-ghost use Rattle.polars_arrays_nested.specs.declared.any_array.AnyArray.TheVariants.{FixedSizeList};
 ghost use Rattle.diff_tables.specs.Alike.{AreSameRows, ListsAllBut};
 ghost use Rattle.diff_tables.specs.Comparison.{ArePairs};
-ghost use Rattle.diff_tables.specs.Held.{HoldsCells, HoldsRows};
 ghost use Rattle.diff_tables.specs.Strings.{AreStrings};
-ghost use Rattle.diff_tables.specs.Tables.{cut_rows};
+ghost use Rattle.diff_tables.specs.Tables.{Lends, cut_rows};
 
 use crate::cells::Cells;
 use crate::strings::Strings;
+use diff_pairs::rows::LentRows;
 use polars_arrays_bits::error::ComputeError;
-use polars_arrays_nested::any_array::AnyArray;
-use polars_arrays_nested::fixed_size_list::FixedSizeListArray;
 use std::alloc::{AllocError, Global};
 use std::marker::Model;
 
@@ -34,23 +31,6 @@ impl Model for Table {
     ghost view = { rows_of };
 
     ghost invariant = { IsTable };
-}
-
-/// Returns the array of `count` lists of `width` cells each. The one error is `Memory`.
-fn lists_of(
-    alloc: Global,
-    width: usize,
-    count: usize,
-    cells: AnyArray,
-) -> Result<FixedSizeListArray, ComputeError>
-    requires { (far : Bool) × (strings : List (List ℕ)) × HoldsCells far strings cells × (length strings ≡ width * count) }
-    ensures { MatchResult result (λ lists. (far : Bool) (strings : List (List ℕ)) → HoldsCells far strings cells → length strings ≡ width * count → HoldsRows far width (cut_rows width count strings) (FixedSizeList lists)) IsMemory }
-{
-    let values = Box::new(alloc, cells)?;
-    match FixedSizeListArray::try_new(width, count, values, None) {
-        Ok(array) => Ok(array),
-        Err(_) => unreachable!(),
-    }
 }
 
 impl Table {
@@ -115,27 +95,14 @@ impl Table {
             .unlike_pairs(alloc, rows, &other.cells, other_rows, self.width)
     }
 
-    /// Returns whether the ends of the cells have 64 bits, as they have where all bytes are 2^31 or
-    /// more.
-    pub(crate) fn is_far(&self) -> bool
-        ensures { result ≡ self.now.far }
+    /// Lends the rows.
+    pub(crate) fn lent(&self) -> LentRows<'_>
+        ensures { Lends self.now result }
     {
-        self.cells.is_far()
-    }
-
-    /// Returns the array whose rows are the lists of each row's cells, between ends of 64 bits where
-    /// that is asked for. No cell is copied. The one error is `Memory`.
-    pub(crate) fn list_array(
-        &self,
-        alloc: Global,
-        wide: bool,
-    ) -> Result<FixedSizeListArray, ComputeError>
-        requires { self.now.far ≡ true → wide ≡ true }
-        ensures { MatchResult result (λ lists. HoldsRows wide self.now.width self.now.rows (FixedSizeList lists)) IsMemory }
-    {
-        match self.cells.array(alloc, wide) {
-            Ok(cells) => lists_of(alloc, self.width, self.count, cells),
-            Err(error) => Err(error),
+        LentRows {
+            width: self.width,
+            count: self.count,
+            cells: self.cells.lent(),
         }
     }
 }

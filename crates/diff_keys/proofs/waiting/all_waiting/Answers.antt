@@ -1,10 +1,22 @@
-use Rattle.std.proofs.Common.{◌≡◌, ◌<◌, ◌≤◌, ◌-◌, None, arith, get_or, length, mod-lt, rules, subst, suc, sym}
-use Rattle.std.proofs.lemmas.List.{get_or_read}
+use Rattle.std.proofs.Common.{◌≡◌, ◌<◌, ◌≤◌, ◌-◌, ℕ, None, ap, arith, get_or, length, mod-lt, replicate, rules, subst, suc, sym, ◌∙◌}
+use Rattle.std.proofs.lemmas.List.{get_or-replicate, get_or_read, length-replicate}
 use Rattle.diff_keys.specs.Chains.{AreChained, class_of}
 use Rattle.diff_keys.specs.Hashes.{key_hash}
 use Rattle.diff_keys.specs.Partners.{key_at}
-use Rattle.diff_keys.proofs.ChainLemmas.{chained_push}
+use Rattle.diff_keys.proofs.ChainLemmas.{chained_none, chained_push}
 use Rattle.diff_keys.proofs.waiting.all_waiting.Goals as goal
+
+pub loop-j-init : goal.loop-j-init
+loop-j-init g c =
+    let keys = g.R.ByteRows.strings c.args.keys.now in
+    let heads = c.in_ok-heads.heads.items in
+    let next = c.in_ok-next.next.items in
+    let some : 0 < length heads = search rules in
+    let len : length next ≡ length keys = search rules in
+    let unset : heads ≡ replicate c.saturating_add-classes.result None = c.in_ok-heads.ensures.items_if_clones_equal (search rules) in
+    let count : length heads ≡ c.saturating_add-classes.result = ap length unset ∙ length-replicate c.saturating_add-classes.result None in
+    let none : (k : ℕ) → k < length heads → get_or heads k None ≡ None = λ k low. ap (λ l. get_or l k None) unset ∙ get_or-replicate c.saturating_add-classes.result k None None (omega (arith, low, count)) in
+    record { within = omega (arith, c.count-count.ensures); chains = rw c.count-count.ensures (chained_none keys heads next some len none) }
 
 pub loop-j-preserved : goal.loop-j-preserved
 loop-j-preserved g c =

@@ -1,9 +1,9 @@
 use Rattle.std.proofs.Common.{◌≡◌, refl, rules, subst, true}
 use Rattle.polars_arrays_bytes.specs.OffsetStrings.{offset_strings}
 use Rattle.polars_arrays_nested.specs.declared.any_array.AnyArray.{LargeBinary}
-use Rattle.diff_tables.specs.Held.{HoldsCells}
-use Rattle.diff_tables.proofs.HeldLemmas.{holds_far}
-use Rattle.diff_tables.proofs.cells.widened.Goals as goal
+use Rattle.diff_pairs.specs.Held.{HoldsCells}
+use Rattle.diff_pairs.proofs.HeldLemmas.{holds_far}
+use Rattle.diff_pairs.proofs.cells.widened.Goals as goal
 
 pub returns : goal.returns
 returns c =

@@ -1,8 +1,7 @@
-use Rattle.std.proofs.Common.{◌≡◌, ◌∙◌, sym, refl, arith}
+use Rattle.std.proofs.Common.{◌≡◌, ◌∙◌, refl}
 use Rattle.polars_arrays_nested.specs.AnyRows.{row}
-use Rattle.diff_tables.proofs.HeldLemmas.{list_is}
-use Rattle.diff_tables.proofs.TableLemmas.{length_cut}
-use Rattle.diff_tables.proofs.table.lists_of.Goals as goal
+use Rattle.diff_pairs.proofs.HeldLemmas.{list_is}
+use Rattle.diff_pairs.proofs.rows.lists_of.Goals as goal
 
 pub unreachable-requires : goal.unreachable-requires
 unreachable-requires c =
@@ -16,9 +15,9 @@ returns c = λ far strings held size.
     record {
       good = c.in-Ok.ensures.good;
       kind = rw (c.in-Ok.ensures.made.1, values, held.kind) refl;
-      len = rw c.in-Ok.ensures.made.1 (sym (length_cut c.args.width c.args.count strings));
+      len = rw c.in-Ok.ensures.made.1 refl;
       held = λ i within.
           c.in-Ok.ensures.rows i
           ∙ list_is (row c.in_ok-values.values.value) c.args.width c.args.count i strings
-          (λ k inside. rw values (held.held k inside)) size (omega (arith, within, length_cut c.args.width c.args.count strings));
+          (λ k inside. rw values (held.held k inside)) size within;
     }

@@ -1,0 +1,117 @@
+//! The rows of cells that differ.
+
+ghost use Rattle.std.specs.Prelude.{◌≡◌, ◌*◌, ℕ, Bool, List, true, length, MatchResult};
+ghost use Rattle.polars_arrays_bits.specs.Errors.{IsMemory};
+ghost use Rattle.polars_arrays_nested.specs.declared.any_array.AnyArray.TheVariants.{FixedSizeList};
+ghost use Rattle.diff_keys.specs.Rising.{ListsRising};
+ghost use Rattle.diff_pairs.specs.Cells.{AreRows, are_far, strings_of};
+ghost use Rattle.diff_pairs.specs.Held.{HoldsCells, HoldsRows};
+ghost use Rattle.diff_pairs.specs.Pairs.{NameRows};
+ghost use Rattle.diff_pairs.specs.Rows.{HaveOtherCells};
+
+use crate::cells::{LentCells, are_far, cell_array};
+use crate::changed::changed_pairs;
+use polars_arrays_bits::error::ComputeError;
+use polars_arrays_nested::any_array::AnyArray;
+use polars_arrays_nested::fixed_size_list::FixedSizeListArray;
+use std::alloc::Global;
+
+/// Rows of cells that are lent.
+#[derive(Clone, Copy)]
+pub struct LentRows<'a> {
+    /// How many cells each row has.
+    pub width: usize,
+    /// How many rows there are.
+    pub count: usize,
+    /// The cells of all rows, the first row's first.
+    pub cells: LentCells<'a>,
+}
+
+/// Returns the array of `count` lists of `width` cells each. The one error is `Memory`.
+fn lists_of(
+    alloc: Global,
+    width: usize,
+    count: usize,
+    cells: AnyArray,
+) -> Result<FixedSizeListArray, ComputeError>
+    requires { (far : Bool) × (strings : List (List ℕ)) × HoldsCells far strings cells × (length strings ≡ width * count) }
+    ensures { MatchResult result (λ lists. (far : Bool) (strings : List (List ℕ)) → HoldsCells far strings cells → length strings ≡ width * count → HoldsRows far width count strings (FixedSizeList lists)) IsMemory }
+{
+    let values = Box::new(alloc, cells)?;
+    match FixedSizeListArray::try_new(width, count, values, None) {
+        Ok(array) => Ok(array),
+        Err(_) => unreachable!(),
+    }
+}
+
+/// Returns the array whose rows are the lists of each row's cells, between ends of 64 bits where
+/// that is asked for. No cell is copied. The one error is `Memory`.
+fn list_array(
+    alloc: Global,
+    rows: LentRows<'_>,
+    wide: bool,
+) -> Result<FixedSizeListArray, ComputeError>
+    requires rows { AreRows rows }
+    requires wide { are_far rows.cells ≡ true → wide ≡ true }
+    ensures { MatchResult result (λ lists. HoldsRows wide rows.entry.width rows.entry.count (strings_of rows.entry.cells) (FixedSizeList lists)) IsMemory }
+{
+    match cell_array(alloc, rows.cells, wide) {
+        Ok(cells) => lists_of(alloc, rows.width, rows.count, cells),
+        Err(error) => Err(error),
+    }
+}
+
+/// Lists the pairs of rows that differ, where the left rows are the lists of an array, whose cells
+/// lie between ends of 64 bits if `wide`.
+fn changed_lists(
+    alloc: Global,
+    left: FixedSizeListArray,
+    left_rows: Vec<u32>,
+    right: LentRows<'_>,
+    right_rows: Vec<u32>,
+    wide: bool,
+) -> Result<Vec<usize>, ComputeError>
+    requires rows { AreRows right }
+    requires wide { are_far right.cells ≡ true → wide ≡ true }
+    requires one_length { length left_rows.items ≡ length right_rows.items }
+    requires right_within { NameRows right.count right_rows.items }
+    requires left { (count : ℕ) × (strings : List (List ℕ)) × HoldsRows wide right.width count strings (FixedSizeList left) × NameRows count left_rows.items }
+    ensures { MatchResult result (λ changed. (count : ℕ) (strings : List (List ℕ)) → HoldsRows wide right.entry.width count strings (FixedSizeList left) → NameRows count left_rows.items → ListsRising (HaveOtherCells right.entry.width strings (strings_of right.entry.cells) left_rows.items right_rows.items) (length left_rows.items) changed.items) IsMemory }
+{
+    match list_array(alloc, right, wide) {
+        Ok(right) => {
+            let (left, right) = (
+                AnyArray::FixedSizeList(left),
+                AnyArray::FixedSizeList(right),
+            );
+            changed_pairs(alloc, left, left_rows, right, right_rows)
+        }
+        Err(error) => Err(error),
+    }
+}
+
+/// Lists the pairs whose two rows have other cells, in rising order. Pair `p` is row `left_rows[p]`
+/// of the left rows and row `right_rows[p]` of the right ones. No cell is copied. The one error is
+/// `Memory`.
+pub fn changed_rows(
+    alloc: Global,
+    left: LentRows<'_>,
+    left_rows: Vec<u32>,
+    right: LentRows<'_>,
+    right_rows: Vec<u32>,
+) -> Result<Vec<usize>, ComputeError>
+    requires left { AreRows left }
+    requires right { AreRows right }
+    requires width { left.width ≡ right.width }
+    requires one_length { length left_rows.items ≡ length right_rows.items }
+    requires left_within { NameRows left.count left_rows.items }
+    requires right_within { NameRows right.count right_rows.items }
+    ensures { MatchResult result (λ changed. ListsRising (HaveOtherCells right.entry.width (strings_of left.entry.cells) (strings_of right.entry.cells) left_rows.items right_rows.items) (length left_rows.items) changed.items) IsMemory }
+{
+    // Both arrays have to be of one type.
+    let wide = are_far(left.cells) || are_far(right.cells);
+    match list_array(alloc, left, wide) {
+        Ok(left) => changed_lists(alloc, left, left_rows, right, right_rows, wide),
+        Err(error) => Err(error),
+    }
+}

@@ -1,5 +1,0 @@
-use Rattle.diff_tables.proofs.HeldLemmas.{holds_near}
-use Rattle.diff_tables.proofs.cells.near_array.Goals as goal
-
-pub returns : goal.returns
-returns c = rw c.in_ok-copy.ensures (holds_near c.args.array.now c.requires)
