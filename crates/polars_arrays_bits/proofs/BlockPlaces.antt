@@ -1,4 +1,4 @@
--- Blocks of one width: how many answers they have, and those of a window.
+-- Blocks of one width: the number of their results, and those of a window.
 use Rattle.std.proofs.Common.{◌≡◌, ℕ, ◌+◌, ◌*◌, ◌≤◌, Bool, List, length, take, drop, arith, ap, ◌∙◌}
 use Rattle.std.specs.List.{list_all}
 use Rattle.polars_arrays_words.specs.Blocks.{blocks_all, block_true}
@@ -7,7 +7,7 @@ use Rattle.polars_arrays_words.specs.Bits.{bit_of, first_of, window}
 use Rattle.polars_arrays_words.proofs.BlockPlaces.{block_end}
 use Rattle.polars_arrays_bits.proofs.Windows.{window-part}
 
--- as many answers as blocks
+-- there are as many results as blocks
 pub length-blocks : (width n : ℕ) (xs : List Bool) → length (blocks_all width n xs) ≡ n
 length-blocks width n xs = length-first (λ i. list_all (λ b. b) (take width (drop (width * i) xs))) n
 

@@ -17,7 +17,7 @@ right_place f (x ∷ xs) [] i h = h
 right_place f (x ∷ xs) (y ∷ ys) zero h = omega arith
 right_place f (x ∷ xs) (y ∷ ys) (suc i) h = let lt : i < length ys = right_place f xs ys i (omega arith) in omega arith
 
--- what a test of the elements at a place answers is the bit there
+-- the result of a test of the elements at a place is the bit there
 pub pair_at :
     {X Y : Type 0} (f : X → Y → Bool) (xs : List X) (ys : List Y) (i : ℕ) (x : X) (y : Y) (answer : Bool) → i < length (zip2 f xs ys) →
     x ≡ get_or xs i x → y ≡ get_or ys i y → answer ≡ f x y → answer ≡ get_or (zip2 f xs ys) i false

@@ -1,4 +1,4 @@
--- Beginnings of byte strings, of which sixteen bytes are compared at once.
+-- Prefixes of byte strings, sixteen bytes of which are compared at once.
 use Rattle.std.proofs.Common.{◌≡◌, ◌≢◌, ◌≤◌, ◌<◌, ◌%◌, ◌^◌, ◌&&◌, ◌||◌, ℕ, zero, suc, Bool, true, false, cond, not, eqb, leb, nat_eq, nat_lt, min, List, ◌∷◌, length, take, get_or, map, refl, sym, ap, ◌∙◌, arith, inl, inr}
 use Rattle.std.specs.Cmp.Lexicographic.{slice_cmp}
 use Rattle.std.specs.Int.{bit_at, trailing_zeros}
@@ -75,7 +75,7 @@ module _ (xs ys : List ℕ) (left_in : 16 ≤ length xs) (right_in : 16 ≤ leng
       ap (λ bs. mask_l bs % 18446744073709551616) (tops_compared w8 (λ a b. not (eqb a b)) (take 16 xs) (take 16 ys))
       ∙ mask_l-mod (differing xs ys) 64 (omega (arith, long))
 
--- ---- beginnings, of which the bytes before place k are the same and those at k are not
+-- ---- prefixes that agree before place k and differ at it
 -- k is the first place of sixteen at which two byte strings differ
 pub record DifferFirstAt (k : ℕ) (xs ys : List ℕ) : Type 0 where
   pub same : (i : ℕ) → i < 16 → i < k → get_or xs i 0 ≡ get_or ys i 0

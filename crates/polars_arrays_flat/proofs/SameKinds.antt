@@ -9,7 +9,7 @@ use Rattle.polars_arrays_flat.specs.Kind.{NamedKinds, StructKind}
 use Rattle.polars_arrays_flat.specs.declared.data_type.Field.{Field}
 use Rattle.polars_arrays_flat.specs.declared.data_type.ArrowDataType as types
 
--- the answer `false` is right where the fact cannot hold
+-- the result `false` is right if the proposition cannot hold
 pub never : (P : Type 0) → (P → ⊥) → IsTrue false ↔ P
 never P h = (λ f. absurd (false≢true f), λ p. absurd (h p))
 
@@ -32,7 +32,7 @@ kinds_agree (f ∷ fs) (g ∷ gs) e h =
     let rest = kinds_agree fs gs (omega arith) (λ i d low. h (suc i) d (omega arith)) in
     cc
 
--- the same kinds are as many
+-- lists of equal kinds have equal lengths
 pub kinds_count : (fs gs : List Field) → kinds_of fs ≡ kinds_of gs → length fs ≡ length gs
 kinds_count [] [] e = refl
 kinds_count [] (g ∷ gs) e = cc

@@ -27,6 +27,7 @@ cmp_suc m n =
     (λ e p. e ∙ sym (equal_from (suc m) (suc n) (omega arith)))
     (λ e p. e ∙ sym (greater_from (suc m) (suc n) (omega arith)))
 
+-- ---- parts
 -- the first m elements decide, or else the elements from an earlier place on
 pub overlap : (m k : ℕ) (xs ys : List ℕ) → k ≤ m → slice_cmp nat_cmp xs ys ≡ ordering_then (slice_cmp nat_cmp (take m xs) (take m ys)) (slice_cmp nat_cmp (drop k xs) (drop k ys))
 overlap zero zero xs ys within = refl
@@ -62,6 +63,7 @@ by_length (suc n) (x ∷ xs) (y ∷ ys) e =
     (λ f p. rw f (by_length n xs ys (omega arith) ∙ ap (ordering_then (slice_cmp nat_cmp (take n xs) (take n ys))) (cmp_suc (length xs) (length ys))))
     (λ f p. rw f refl)
 
+-- ---- numbers
 -- a greater digit outweighs all digits after it
 pub digit_step : (k a b r s : ℕ) → r < k → s < k → nat_cmp (a * k + r) (b * k + s) ≡ ordering_then (nat_cmp a b) (nat_cmp r s)
 digit_step k a b r s h g =

@@ -129,12 +129,12 @@ folded-none joined neutral (bit ∷ bits) [] none = refl
 folded-none joined neutral (true ∷ bits) (row ∷ rows) none = let first = none 0 (omega arith) in cc
 folded-none joined neutral (false ∷ bits) (row ∷ rows) none = folded-none joined neutral bits rows (λ i lt. none (suc i) (omega arith))
 
--- a window has as many elements as are asked for
+-- the length of a window is the one asked for
 pub length-window : {A : Type 0} (xs : List A) (at n : ℕ) → at + n ≤ length xs → length (take n (drop at xs)) ≡ n
 length-window xs at n h = length-take-le n (drop at xs) (omega (arith, length-drop at xs))
 
 module _ {A : Type 0} (value : A → ℤ) (xs : List A) where
-  -- stored numbers are as many rows
+  -- the number of rows is that of stored numbers
   pub length-slots : length (number_slots value xs) ≡ length xs
   length-slots = length-map xs (λ (x : A). Int (value x))
 
@@ -149,7 +149,7 @@ module _ {A : Type 0} (value : A → ℤ) (xs : List A) where
     as-long : length bits ≡ length (number_slots value xs)
     as-long = long ∙ sym length-slots
 
-    -- under a mask they are as many
+    -- a mask does not change the number of rows
     pub length-masked_slots : length (masked bits (number_slots value xs)) ≡ length xs
     length-masked_slots = length-masked bits (number_slots value xs) as-long ∙ length-slots
 
@@ -175,7 +175,7 @@ module _ {A : Type 0} (value : A → ℤ) (xs : List A) where
       ∙ ap (λ k. masked (take n (drop at bits)) (number_slots value (take k (drop at xs)))) f
       ∙ masked_slots-window bits at n
 
--- there are as many rows as stored ones
+-- the number of rows is that of stored rows
 pub length-rows : (validity : Option (List Bool)) (slots : List Row) → HasBits (length slots) validity → length (rows_under validity slots) ≡ length slots
 length-rows None slots bits = refl
 length-rows (Some bits) slots long = length-masked bits slots long

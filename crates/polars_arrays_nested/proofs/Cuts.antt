@@ -318,7 +318,7 @@ unvisited-more xs zs i new same k d past =
     let other : k ≢ i = omega (arith, past) in
     get_or-set_other xs i k new d other ∙ same k d (omega (arith, past))
 
--- structs of which each column was cut
+-- structs whose columns were all cut
 pub cut-struct : (a b : StructArray) (at n : ℕ) → IsGood (Struct b) → at + n ≤ b.len → a.fields ≡ b.fields → a.len ≡ n → length (columns a) ≡ length (columns b) → ((i : ℕ) (d : AnyArray) → i < length (columns b) → IsCut (get_or (columns a) i d) (get_or (columns b) i d) at n) → struct_validity a ≡ validity_window at n (struct_validity b) → IsCut (Struct a) (Struct b) at n
 cut-struct a b at n good within ef el many each mask =
     let known = good-struct b good in

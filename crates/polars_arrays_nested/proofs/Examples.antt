@@ -62,7 +62,7 @@ rows-lists : (p : _) → rows (List' (Small (record { items = pos 1 ∷ pos 3 �
 unfolding some
 rows-lists p = refl
 
--- the leaf slots of lists are those of their items, the first of which is none of theirs here
+-- the leaf slots of lists are those of their items; here the first item is in no list
 leaves-lists : (p : _) → leaves (List' (Small (record { items = pos 1 ∷ pos 3 ∷ pos 3 ∷ []; owned = true })) p some None) 0 2 ≡ 2
 unfolding some
 leaves-lists p = refl

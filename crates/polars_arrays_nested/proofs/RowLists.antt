@@ -52,7 +52,7 @@ bits-of : (n m : ℕ) (validity : Option (List Bool)) → n ≡ m → HasBits n 
 bits-of n m None same bits = tt
 bits-of n m (Some all) same bits = omega (arith, same, bits)
 
--- n rows, each of which is the stored one where it is present
+-- n rows, each the stored one if it is present
 rows-under : (f g : ℕ → Row) (n : ℕ) (validity : Option (List Bool)) → HasBits n validity → ((i : ℕ) → i < n → f i ≡ kept (is_present validity i) (g i)) → listed f n ≡ rows_under validity (listed g n)
 rows-under f g n validity bits each =
     let there : length (listed g n) ≡ n = length-map-range_with_len g 0 n in

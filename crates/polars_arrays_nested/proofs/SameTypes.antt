@@ -14,7 +14,7 @@ use Rattle.polars_arrays_nested.specs.declared.list_offsets.ListOffsets.{ListOff
 use Rattle.polars_arrays_nested.specs.declared.list_offsets.ListOffsets.TheVariants.{Small, Large}
 use Rattle.polars_arrays_nested.specs.declared.struct_array.StructArray.{StructArray}
 
--- the answer `false` is right where the fact cannot hold
+-- the result `false` is right if the proposition cannot hold
 pub never : (P : Type 0) → (P → ⊥) → IsTrue false ↔ P
 never P h = (λ f. absurd (false≢true f), λ p. absurd (h p))
 

@@ -63,7 +63,7 @@ every_fourth word pairs e =
           ∙ and-false (is_bit (bit_and pairs (pairs / 2 ^ 2)) i);
     }
 
--- the answers in every fourth bit, moved together in four steps
+-- the results in every fourth bit, moved together in four steps
 pub folded-fours :
     (word twos fours eights sixteens : ℕ) →
     ((i : ℕ) → i < 64 → is_bit twos i ≡ ((is_bit (bit_and (bit_and (bit_and word (word / 2 ^ 1)) (bit_and word (word / 2 ^ 1) / 2 ^ 2)) 1229782938247303441) i || is_bit (bit_and (bit_and (bit_and word (word / 2 ^ 1)) (bit_and word (word / 2 ^ 1) / 2 ^ 2)) 1229782938247303441) (3 + i)) && is_bit 217020518514230019 i)) →

@@ -48,7 +48,7 @@ every_second word =
           ∙ and-false (is_bit (bit_and word (word / 2 ^ 1)) i);
     }
 
--- the answers in every second bit, moved together in five steps
+-- the results in every second bit, moved together in five steps
 pub folded-twos :
     (word twos fours eights sixteens all : ℕ) →
     ((i : ℕ) → i < 64 → is_bit twos i ≡ ((is_bit (bit_and (bit_and word (word / 2 ^ 1)) 6148914691236517205) i || is_bit (bit_and (bit_and word (word / 2 ^ 1)) 6148914691236517205) (1 + i)) && is_bit 3689348814741910323 i)) →

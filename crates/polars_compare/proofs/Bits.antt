@@ -1,7 +1,7 @@
 -- Bits that tell one thing.
 use Rattle.std.proofs.Common.{◌≡◌, ◌<◌, ◌↔◌, ℕ, zero, suc, Bool, true, false, not, IsTrue, List, [], ◌∷◌, length, refl, sym, arith, slice_index_or}
 
--- what a bit tells is true of a second one that tells the same
+-- a proposition about a bit holds of a bit that means the same
 told-over : {P : Type 0} (told a b : Bool) → (a ≡ told) ↔ P → (b ≡ told) ↔ P → a ≡ told → b ≡ told
 told-over told a b p q e = q.1 (p.0 e)
 

@@ -92,7 +92,7 @@ order-transitive (Bytes xs) (Bytes ys) (Bytes zs) h j =
     sort-transitive (slice_cmp nat_cmp) nat_list_cmp_total Bytes (λ x y. refl) (λ x y. sym (is_eq-slice_cmp x y)) xs ys zs h j
 order-transitive _ _ _ h j = cc
 
--- of three bits of which exactly one is true, the last is false where one of the others is true
+-- if exactly one of three bits is true, the last is false if one of the others is true
 one-of-bits : {E : Type 0} (less same greater : Bool) → ExactlyOne (IsTrue less) E (IsTrue greater) → IsTrue same ↔ E → not greater ≡ (less || same)
 one-of-bits true same true o d = absurd (o.not_outer_two refl refl)
 one-of-bits true same false o d = refl

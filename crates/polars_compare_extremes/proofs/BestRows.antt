@@ -39,7 +39,7 @@ module _ (better : Row → Row → Bool) (law : Prefers Int better) where
     };
   }
 
-  -- a number before the rows of which the best is better
+  -- a number before rows whose best is better
   worse-best : (v b : ℤ) (rows : List Row) (f : FindsBest better rows (Int b)) → better (Int b) (Int v) ≡ true → (k : ℕ) → k < suc (length rows) → row (Int v ∷ rows) k ≢ Null → better (row (Int v ∷ rows) k) (row rows f.place) ≡ false
   worse-best v b rows f e zero h p = ap (better (Int v)) (sym f.is_row) ∙ law.one_way b v e
   worse-best v b rows f e (suc k) h p = f.is_best.best k (omega arith) p
@@ -60,7 +60,7 @@ module _ (better : Row → Row → Bool) (law : Prefers Int better) where
     };
   }
 
-  -- a number before rows of which none is better
+  -- a number before rows none of which is better
   at-once-best : (v : ℤ) (rows : List Row) → ((k : ℕ) → k < length rows → row rows k ≢ Null → better (row rows k) (Int v) ≡ false) → (k : ℕ) → k < suc (length rows) → row (Int v ∷ rows) k ≢ Null → better (row (Int v ∷ rows) k) (Int v) ≡ false
   at-once-best v rows not zero h p = irreflexive v
   at-once-best v rows not (suc k) h p = not k (omega arith) p

@@ -1,4 +1,4 @@
--- Rows that are set against all rows of an array.
+-- Rows compared with all rows of an array.
 use Rattle.std.proofs.Common.{◌≡◌, ◌+◌, ◌<◌, ℕ, Bool, false, List, [], ◌∷◌, ◌++◌, length, length-append, get_or, ap, subst, ◌∙◌, arith, add-zero}
 use Rattle.std.specs.List.{list_all}
 use Rattle.std.proofs.Math.ListN.{get_or-append}

@@ -54,7 +54,7 @@ columns_types (f ∷ fs) (f' ∷ fs') n m (x ∷ xs) (y ∷ ys) h k e (suc i) lo
 struct_kinds : (l r : StructArray) → type_of (Struct l) ≡ type_of (Struct r) → kinds_of (struct_fields l) ≡ kinds_of (struct_fields r)
 struct_kinds l r e = cc
 
--- two structs of one type have as many columns
+-- two structs of one type have equally many columns
 pub struct_count : (l r : StructArray) → IsGood (Struct l) → IsGood (Struct r) → type_of (Struct l) ≡ type_of (Struct r) → length (columns l) ≡ length (columns r)
 struct_count l r h k e =
     columns_count (struct_fields l) (struct_fields r) l.len r.len (columns l) (columns r) (good-struct l h).1 (good-struct r k).1 (struct_kinds l r e)

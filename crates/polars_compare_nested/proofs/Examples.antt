@@ -134,7 +134,7 @@ are_few_leaves-numbers : AreFewLeaves three three 3
 unfolding three
 are_few_leaves-numbers = record { few = omega arith; whole = record { leaves = refl; left_there = three_there; right_there = three_there } }
 
--- where memory is refused nothing is told of bits, and the count may have risen, here from 5 to 6
+-- if an allocation fails, there are no bits, and the count may have increased, here from 5 to 6
 compares-refused : (e : _) → Compares (RawBits same_leaf) three 1 four 2 2 5 6 (Err (Memory e))
 unfolding three four
 compares-refused e = record { told = tt; counted = tt; kept = omega arith }
@@ -185,7 +185,7 @@ all_items-first = refl
 all_lists-two : all_lists (true ∷ true ∷ true ∷ false ∷ []) (Some 4 ∷ Some 6 ∷ Some 8 ∷ []) 4 0 2 ≡ true ∷ false ∷ []
 all_lists-two = refl
 
--- a list is set against all rows of an array
+-- a list is compared with all rows of an array
 all_rows-numbers : all_rows three ≡ Rows (more_rows (Int (pos 1)) (more_rows (Int (pos 2)) (more_rows (Int (pos 3)) no_rows)))
 unfolding three
 all_rows-numbers = refl

@@ -53,7 +53,7 @@ rows-other agree l r bits told = record {
       ((λ unset. turn.0 (sym there ∙ unset)), (λ one. there ∙ turn.1 one));
 }
 
--- a kernel that tells equality says where two rows are the same tree
+-- a kernel whose test is equality says which rows are the same tree
 trees-told : (told : Bool) (agree : Row → Row → Bool) (l r : AnyArray) (bits : List Bool) → IsEquality agree → SameRows told agree l r bits → SameTrees told l r bits
 trees-told told agree l r bits equality rows_told = record {
   size = rows_told.size;
@@ -109,7 +109,7 @@ pub result-other : (agree : Row → Row → Bool) (l r : AnyArray) (bits : List 
 result-other agree l r bits result told turn =
     MatchResult-weaker result turn (λ unset is. subst (SameRows false agree l r) (sym is) (rows-other agree l r bits told)) (λ e memory. memory)
 
--- of a kernel that tells equality
+-- the bits of a kernel whose test is equality
 pub result-trees : (told : Bool) (agree : Row → Row → Bool) (l r : AnyArray) (result : Result (List Bool) ComputeError) → IsEquality agree → MatchResult result (SameRows told agree l r) IsMemory → MatchResult result (SameTrees told l r) IsMemory
 result-trees told agree l r result equality rows_told =
     MatchResult-weaker result rows_told (λ bits here. trees-told told agree l r bits equality here) (λ e memory. memory)

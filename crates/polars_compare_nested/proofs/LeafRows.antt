@@ -1,4 +1,4 @@
--- What a test of stored leaves, place by place, tells of the rows that are present.
+-- The bits of a test of stored leaves, place by place, for the rows that are present.
 use Rattle.std.proofs.Common.{◌≡◌, ◌<◌, ◌≤◌, ◌+◌, ◌∙◌, ℕ, ℤ, zero, suc, Bool, true, false, IsTrue, List, [], ◌∷◌, Option, Some, None, length, map, drop, refl, sym, ap, arith, slice_get, slice_index_or}
 use Rattle.std.specs.Bool.{beq}
 use Rattle.std.specs.Ordering.{int_eq}

@@ -41,7 +41,7 @@ eqb_true n m h = elim (eqb_tells n m) [ inl k ↦ k.1 | inr k ↦ cc ]
 pub eqb_false : (n m : ℕ) → eqb n m ≡ false → n ≢ m
 eqb_false n m h = elim (eqb_tells n m) [ inl k ↦ cc | inr k ↦ k.1 ]
 
--- list k of a run has as many items on both sides
+-- list k of a run has equally many items on both sides
 abbrev pub Spans : ListOffsets → ℕ → ListOffsets → ℕ → ℕ → Type 0
 Spans o a o' b n = (k : ℕ) → k < n → span o (a + k) ≡ span o' (b + k)
 

@@ -33,7 +33,7 @@ length-width all a n width = length-first (λ i. eqb (span_between all (a + i)) 
 pub get_or-width : (all : List (Option ℕ)) (a n width i : ℕ) → i < n → get_or (lists_of_width all a n width) i false ≡ eqb (span_between all (a + i)) width
 get_or-width all a n width i low = get_or-first (λ i. eqb (span_between all (a + i)) width) n i false low
 
--- what counts answer is such a bit
+-- the comparison of counts is such a bit
 pub counts_value : (all : List (Option ℕ)) (a : ℕ) (others : List (Option ℕ)) (b n i count other : ℕ) → i < n → count ≡ span_between all (a + i) → other ≡ span_between others (b + i) → eqb count other ≡ get_or (same_counts all a others b n) i false
 counts_value all a others b n i count other low here there = ap₂ eqb here there ∙ sym (get_or-counts all a others b n i low)
 
@@ -69,7 +69,7 @@ BothThere l a r b n present = (i : ℕ) → i < n → is_bit present i ≡ (is_p
 pub both_bits : (l r : ListArray) (a b n left right : ℕ) → ((i : ℕ) → i < n → is_bit left i ≡ is_present (list_validity l) (a + i)) → ((i : ℕ) → i < n → is_bit right i ≡ is_present (list_validity r) (b + i)) → BothThere l a r b n (bit_and left right)
 both_bits l r a b n left right here there i low = is_bit_and left right i ∙ ap₂ ◌&&◌ (here i low) (there i low)
 
--- lists match that have as many items, and are present or have none
+-- lists match if they have equally many items, and are present or have none
 pub match_word : (l r : ListArray) (a b n : ℕ) (all others : List (Option ℕ)) (same present empty : ℕ) → all ≡ list_places (list_offsets l) → others ≡ list_places (list_offsets r) → IsPacked same (same_counts all a others b n) 0 n → BothThere l a r b n present → IsPacked empty (lists_of_width all a n 0) 0 n → (i : ℕ) → i < n → is_bit (bit_and same (bit_or present empty)) i ≡ is_match l (a + i) r (b + i)
 match_word l r a b n all others same present empty e e' counts there none i low =
     is_bit_and same (bit_or present empty) i

@@ -1,4 +1,4 @@
--- Lists that all have as many items.
+-- Lists that all have equally many items.
 use Rattle.std.proofs.Common.{◌≡◌, ◌+◌, ◌-◌, ◌*◌, ◌<◌, ◌≤◌, ℕ, zero, suc, Bool, true, false, eqb, List, take, drop, sym, subst, ap₂, ◌∙◌, arith, add-zero}
 use Rattle.std.specs.Prelude.{Option}
 use Rattle.std.specs.List.{list_all}

@@ -51,7 +51,7 @@ entry-swap : (child child' : ℕ → ℕ → ℕ → ℕ) → Swaps child child'
 entry-swap child child' swap keys keys' i j =
     both-swap (is_present (key_validity keys) i) (is_present (key_validity keys') j) _ _ (swap _ _ 1)
 
--- leaves set against anything are compared one by one
+-- leaves compared with anything are compared one by one
 leaf-tally : (x y : AnyArray) → is_leaf (type_of x) ≡ true → (a b n : ℕ) → tally x y a b n ≡ n
 leaf-tally (Null x) y leaf a b n = cc
 leaf-tally (List' (Small offsets) p values validity) y leaf a b n = cc
@@ -61,7 +61,7 @@ leaf-tally (Struct' fields len p values validity) y leaf a b n = cc
 leaf-tally (Dictionary' keys p values) y leaf a b n = cc
 leaf-tally _ y leaf a b n = refl
 
--- nulls set against anything are not compared
+-- nulls compared with anything cost nothing
 null-tally : (x y : AnyArray) → type_of x ≡ NullKind → (a b n : ℕ) → tally x y a b n ≡ 0
 null-tally (Null x) y null a b n = refl
 null-tally (List' (Small offsets) p values validity) y null a b n = cc

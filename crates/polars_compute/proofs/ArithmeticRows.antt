@@ -24,7 +24,7 @@ results-by_rows value least width op left left' right right' after after' one tw
 back : (a b q : ℤ) → q *ℤ b +ℤ (a -ℤ b *ℤ q) ≡ a
 back a b q = omega (arith, ints, *ℤ_comm b q)
 
--- by a divisor other than 0 an operation on two numbers has its answer
+-- an operation by a divisor other than 0 has a result
 divided : (least : ℤ) (width : ℕ) (f : ℤ → ℤ → ℤ) (a b : ℤ) → b ≢ pos 0 → result_row least width (unless_zero f) (Int a) (Int b) ≡ Int (wrapped least width (f a b))
 divided least width f a (pos zero) h = absurd (h refl)
 divided least width f a (pos (suc n)) h = refl

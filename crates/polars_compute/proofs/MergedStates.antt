@@ -16,7 +16,7 @@ made values has_null = record { values = values; has_null = has_null }
 abbrev pub joined : List (ℤ × Bool) → List (ℤ × Bool) → List (ℤ × Bool)
 joined vs ws = zip2 (λ (v w : ℤ × Bool). (v.0, v.1 || w.1)) vs ws
 
--- the values of a state joined with those that a test tells
+-- the values of a state joined with those for which a test is true
 abbrev pub added : (ℤ → Bool) → List (ℤ × Bool) → List (ℤ × Bool)
 added p vs = map {B = ℤ × Bool} (λ (v : ℤ × Bool). (v.0, v.1 || p v.0)) vs
 

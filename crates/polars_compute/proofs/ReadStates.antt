@@ -1,4 +1,4 @@
--- What appending and merging make of a state of which some values stand for null, once all was seen as it is read.
+-- Appending and merging once a state has seen all, in the reading in which some values mean null.
 use Rattle.std.proofs.Common.{◌≡◌, ◌∙◌, ◌&&◌, ◌||◌, Bool, true, false, not, List, [], ◌∷◌, map, refl, sym, ap, ap₂}
 use Rattle.std.specs.Prelude.{ℤ, filter}
 use Rattle.std.specs.List.{list_all, list_any}

@@ -1,4 +1,4 @@
--- Rows that are not 0, as a comparison with 0 tells them.
+-- Rows that are not 0, found by a comparison with 0.
 use Rattle.std.proofs.Common.{◌≡◌, ◌<◌, ◌↔◌, ◌∙◌, ◌&&◌, ℕ, zero, suc, Bool, true, false, IsTrue, List, length, replicate, refl, sym, ap, subst, arith}
 use Rattle.std.specs.Prelude.{ℤ, pos, negsuc, Option, Some, None, slice_index_or, ⊤}
 use Rattle.std.proofs.lemmas.List.{get_or-map, get_or-replicate, length-map}

@@ -1,4 +1,4 @@
--- Whether the answer of a division by a number owns its values.
+-- Ownership of the values of a quotient by a number.
 use Rattle.std.proofs.Common.{◌≡◌, ◌≢◌, ◌∙◌, zero, suc, Bool, true, false, IsTrue, refl}
 use Rattle.std.specs.Prelude.{◌||◌, ℤ, pos, negsuc}
 use Rattle.polars_compute_arithmetic.specs.Zeros.{is_nonzero}

@@ -1,4 +1,4 @@
--- Rows of answers, place by place.
+-- Rows of results, place by place.
 use Rattle.std.proofs.Common.{◌≡◌, ◌<◌, ◌∙◌, ◌&&◌, ℕ, zero, suc, Bool, true, false, List, [], ◌∷◌, length, replicate, refl, sym, ap, subst, arith}
 use Rattle.std.specs.Prelude.{ℤ, pos, negsuc, Option, Some, None, slice_index_or}
 use Rattle.std.specs.List.{AllZip, zip}
@@ -18,7 +18,7 @@ use Rattle.polars_compute_arithmetic.specs.Operations.{Function, Operation, answ
 use Rattle.polars_compute_arithmetic.specs.Results.{IsAnswer, IsResult}
 use Rattle.polars_compute_arithmetic.specs.Zeros.{MasksZeros, is_nonzero}
 
--- rows of which those are kept whose bit is set
+-- the rows whose bit is set
 abbrev kept_by : (ℕ → Bool) → List Row → List Row
 kept_by p [] = []
 kept_by p (row ∷ rows) = kept (p 0) row ∷ kept_by (λ i. p (suc i)) rows
@@ -52,7 +52,7 @@ abbrev pub has_answer : Option ℤ → Bool
 has_answer None = false
 has_answer (Some a) = true
 
--- by a number there is an answer unless it is 0
+-- division by a number has a result unless the number is 0
 pub has_answer-nonzero : (f : ℤ → ℤ → ℤ) (a b : ℤ) → has_answer (unless_zero f a b) ≡ is_nonzero b
 has_answer-nonzero f a (pos zero) = refl
 has_answer-nonzero f a (pos (suc n)) = refl
@@ -97,7 +97,7 @@ module _ {A : Type 0} (value : A → ℤ) (least : ℤ) (width : ℕ) where
         let rest = each (λ i. p (suc i)) (λ i. b (suc i)) xs zs a.1 (λ i y w e. h (suc i) y (omega arith) e) in
         cc
 
-    -- an array of which each row that is present both before and in `between` has an answer
+    -- an array in which each row that is present both before and in `between` has a result
     pub answers-between : (before between after : Numbers A) → between.values ≡ before.values → HasBits (length before.values) before.validity
         → ((i : ℕ) (x : A) → i < length before.values → x ≡ slice_index_or before.values i x → is_present between.validity i ≡ (is_present before.validity i && has_answer (f (value x))))
         → MapsEach Answers between after → IsAnswer value least width f before after
@@ -109,7 +109,7 @@ module _ {A : Type 0} (value : A → ℤ) (least : ℤ) (width : ℕ) where
         ∙ each (is_present after.validity) (is_present before.validity) before.values after.values a (λ i x w e. ap (λ (v : Option (List Bool)). is_present v i) maps.nulls ∙ h i x w e)
         ∙ ap (answer_rows least width f) (sym (kept-numbers value before.validity before.values hb))
 
-    -- a function that has an answer at each number
+    -- a function that has a result for each number
     pub answers : (before after : Numbers A) → ((a : ℤ) → has_answer (f a) ≡ true) → MapsEach Answers before after → IsAnswer value least width f before after
     answers before after total maps =
         answers-between before before after refl maps.bits (λ i x w e. and-true (is_present before.validity i) ∙ ap (λ (k : Bool). is_present before.validity i && k) (sym (total (value x)))) maps
@@ -134,7 +134,7 @@ module _ {A : Type 0} (value : A → ℤ) (least : ℤ) (width : ℕ) where
         let rest = both (λ i. p (suc i)) (λ i. b (suc i)) (λ i. c (suc i)) xs ys zs (omega arith) a.1 (λ i v w k m n. h (suc i) v w (omega arith) m n) in
         cc
 
-    -- the right array, of which each row that is present in `right` and in `between` gives an answer
+    -- the right array; each row that is present in `right` and in `between` has a result
     pub results-between : (left right between after : Numbers A) → length left.values ≡ length right.values → between.values ≡ right.values
         → HasBits (length right.values) right.validity
         → ((i : ℕ) (x y : A) → i < length right.values → y ≡ slice_index_or right.values i y → is_present between.validity i ≡ (is_present right.validity i && has_answer (op (value x) (value y))))
@@ -156,13 +156,13 @@ module _ {A : Type 0} (value : A → ℤ) (least : ℤ) (width : ℕ) where
         ∙ ap (λ (rows : List Row). result_rows least width op rows (kept_by (is_present right.validity) (number_slots value right.values))) (sym (kept-numbers value left.validity left.values hl))
         ∙ ap (result_rows least width op (rows_under left.validity (number_slots value left.values))) (sym (kept-numbers value right.validity right.values hr))
 
-    -- an operation that has an answer at each two numbers
+    -- an operation that has a result for each two numbers
     pub results : (left right after : Numbers A) → ((a b : ℤ) → has_answer (op a b) ≡ true) → length left.values ≡ length right.values
         → MapsPairs Answers left right after → IsResult value least width op left right after
     results left right after total e maps =
         results-between left right right after e refl maps.right_bits (λ i x y w k. and-true (is_present right.validity i) ∙ ap (λ (q : Bool). is_present right.validity i && q) (sym (total (value x) (value y)))) maps
 
--- a function that has an answer at each number but 0
+-- a function that has a result for each number except 0
 pub answers-nonzero : {A : Type 0} (value : A → ℤ) (least : ℤ) (width : ℕ) (f : Function) (Answers : A → A → Type 0)
     → ((x z : A) → Answers x z → value z ≡ wrapped least width (or_zero (f (value x)))) → (before between after : Numbers A)
     → ((a : ℤ) → has_answer (f a) ≡ is_nonzero a) → MasksZeros value before between → MapsEach Answers between after
@@ -171,7 +171,7 @@ answers-nonzero value least width f Answers gives before between after has masks
     answers-between value least width f Answers gives before between after masks.values masks.bits_before
     (λ i x w e. masks.present i x w e ∙ ap (λ (k : Bool). is_present before.validity i && k) (sym (has (value x)))) maps
 
--- an operation that has an answer by each number but 0
+-- an operation that has a result for each divisor except 0
 pub results-nonzero : {A : Type 0} (value : A → ℤ) (least : ℤ) (width : ℕ) (op : Operation) (Answers : A → A → A → Type 0)
     → ((x y z : A) → Answers x y z → value z ≡ wrapped least width (or_zero (op (value x) (value y)))) → (left right between after : Numbers A)
     → ((a b : ℤ) → has_answer (op a b) ≡ is_nonzero b) → length left.values ≡ length right.values
@@ -198,7 +198,7 @@ all-off zero i = refl
 all-off (suc n) zero = refl
 all-off (suc n) (suc i) = all-off n i
 
--- a function that has no answer
+-- a function that has no result
 pub answers-none : {A : Type 0} (value : A → ℤ) (least : ℤ) (width : ℕ) (f : Function) → ((a : ℤ) → f a ≡ None) → (before after : Numbers A)
     → HasBits (length before.values) before.validity → after ≡ record before { validity = Some (replicate (length before.values) false) } → IsAnswer value least width f before after
 answers-none value least width f none before after hb e =
@@ -220,13 +220,13 @@ same-rows least width f g e (row ∷ rows) =
     let rest = same-rows least width f g e rows in
     cc
 
--- two functions with the same answers
+-- two functions with the same results
 pub answers-same : {A : Type 0} (value : A → ℤ) (least : ℤ) (width : ℕ) (f g : Function) → ((a : ℤ) → f a ≡ g a) → (before after : Numbers A)
     → IsAnswer value least width f before after → IsAnswer value least width g before after
 answers-same value least width f g e before after h =
     h ∙ same-rows least width f g e (number_rows value before)
 
--- answers of a function that are answers of another one too
+-- results of a function that are results of another one too
 pub maps_each-weaker : {A B : Type 0} (Answers Others : A → B → Type 0) → ((x : A) (z : B) → Answers x z → Others x z) → (before : Numbers A) (after : Numbers B)
     → MapsEach Answers before after → MapsEach Others before after
 maps_each-weaker Answers Others gives before after h =

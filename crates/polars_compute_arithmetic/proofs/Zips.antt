@@ -50,7 +50,7 @@ all_zip_over R xs ys zs i x y z e h k ex ey s r =
     let below : i < length (zip xs ys) = rw length_zip h in
     all_zip_write R (zip xs ys) zs i (x, y) (x, y) z below k (pair_at xs ys i x y e ex ey) s r
 
--- past the last place all values are answers
+-- past the last place all values are results
 pub all_zip_end : {A : Type 0} {B : Type 0} {C : Type 0} (R : A × B → C → Type 0) (xs : List A) (ys : List B) (zs : List C) (i : ℕ) → length ys ≡ length xs → length xs ≤ i → length zs ≡ length xs → AllZip R (take i (zip xs ys)) (take i zs) → AllZip R (zip xs ys) zs
 all_zip_end R xs ys zs i e h k s =
     let below : length (zip xs ys) ≤ i = rw length_zip h in
@@ -64,7 +64,7 @@ all_zip-weaker R S f [] (y ∷ ys) h = absurd h
 all_zip-weaker R S f (x ∷ xs) [] h = absurd h
 all_zip-weaker R S f (x ∷ xs) (y ∷ ys) h = (f x y h.0, all_zip-weaker R S f xs ys h.1)
 
--- a list over which as many elements were written
+-- a list overwritten with equally many elements
 pub refill-same : {A : Type 0} (xs ws : List A) → length ws ≡ length xs → take (length xs) (ws ++ drop (length ws) xs) ≡ ws
 refill-same [] [] e = refl
 refill-same [] (w ∷ ws) e = absurd (omega arith)

@@ -133,7 +133,7 @@ map-same : {A B : Type 0} (f g : A → B) → ((x : A) → f x ≡ g x) → (xs 
 map-same f g same [] = refl
 map-same f g same (x ∷ xs) = ap₂ (λ first rest. first ∷ rest) (same x) (map-same f g same xs)
 
--- an answer that says one thing says another
+-- a result that means one thing means another
 matched : {A E : Type 0} (P Q : A → Type 0) (F : E → Type 0) (r : Result A E) → ((x : A) → P x → Q x) → MatchResult r P F → MatchResult r Q F
 matched P Q F (Ok x) to m = to x m
 matched P Q F (Err e) to m = m

@@ -15,7 +15,7 @@ use lib.Dec.{T}
 fits : (a : ℤ) → neg_ℤ (pos (2 ^ 65)) ≤ℤ a → a ≤ℤ pos (2 ^ 65) → SFits w128 a
 fits a from to = search (rules, ints)
 
--- of two numbers between -2^64 and 2^64, of which the second lies above the first
+-- two numbers between -2^64 and 2^64, the second one greater
 pub difference_fits : (a b : ℤ) (n : ℕ) → (neg_ℤ (pos (2 ^ 64)) ≤ℤ a) × (a ≤ℤ pos (2 ^ 64)) → (neg_ℤ (pos (2 ^ 64)) ≤ℤ b) × (b ≤ℤ pos (2 ^ 64)) → b ≤ℤ a → a <ℤ (b +ℤ pos n) → n ≤ 2 ^ 64 →
     T (non_neg (to_z w128 (of_z w128 (to_z w128 (of_z w128 a) -ℤ to_z w128 (of_z w128 b))))) × Fits w64 (nat_abs (to_z w128 (of_z w128 (to_z w128 (of_z w128 a) -ℤ to_z w128 (of_z w128 b)))))
 difference_fits a b n na nb from to few =
@@ -51,7 +51,7 @@ range-test m n slot count z is above far =
 pub range-miss : (m n : ℤ) (count : ℕ) (z : ℤ) → z ≡ m -ℤ n → count < 2 ^ 64 → ((pos 0 ≤ℤ z) × (z <ℤ pos (2 ^ 64)) → ⊥) → (n ≤ℤ m) × (m <ℤ (n +ℤ pos count)) → ⊥
 range-miss m n count z is few miss h = miss (omega (arith, ints, h.0), omega (arith, ints, h.1))
 
--- the numbers from n to m have a slot each where they are in order and so many can be counted
+-- the numbers from n to m can have a slot each if they are in order and few enough
 pub fits-test : (m n : ℤ) (slot : ℕ) (z : ℤ) → z ≡ m -ℤ n → pos 0 ≤ℤ z → slot ≡ nat_abs z → (ltb slot (2 ^ 64 - 1 - 1) ≡ true → RangeFits n m) × (RangeFits n m → ltb slot (2 ^ 64 - 1 - 1) ≡ true)
 fits-test m n slot z is above far =
     let whole = pos-nat_abs z (yes_non_neg above) in

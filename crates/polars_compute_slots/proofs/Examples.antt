@@ -90,7 +90,7 @@ two-blocks = refl
 no-block : whole_blocks 0 ≡ 0
 no-block = refl
 
--- a state that has seen all reads nothing, but for a null
+-- a state that has seen all values reads no rows, except for a null
 full-reads : rows_read (appended (Int (pos 0) ∷ []) (new_state (numbers_from (pos 0) 1))) (Int (pos 0) ∷ Int (pos 0) ∷ []) ≡ 0
 full-reads = refl
 
@@ -107,7 +107,7 @@ slot-of-null = refl
 slots-seen : set_of (slot_state (negsuc 0) 3 (true ∷ false ∷ true ∷ true ∷ [])) ≡ negsuc 0 ∷ pos 1 ∷ []
 slots-seen = refl
 
--- of the values 0 to 2, of which 0 and 2 were seen, 0 stands for null: 1 and 2 are left, 2 of them was seen, and so was a null
+-- of the values 0 to 2, 0 means null; 0 and 2 were seen: 1 and 2 are left, and 2 and a null seen
 read-as_null : read_by (int_eq (pos 0)) (slot_state (pos 0) 3 (true ∷ false ∷ true ∷ false ∷ [])) ≡ record { values = (pos 1, false) ∷ (pos 2, true) ∷ []; has_null = true }
 read-as_null = refl
 

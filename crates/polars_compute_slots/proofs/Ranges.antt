@@ -114,7 +114,7 @@ map_agree g h a zero same = refl
 map_agree {Y} g h a (suc n) same =
     ap₂ (λ (y : Y) (ys : List Y). y ∷ ys) (same a (omega arith) (omega arith)) (map_agree g h (a + 1) n (λ i from to. same i (omega arith) (omega arith)))
 
--- slots of which none is set
+-- slots none of which is set
 pub new-slots : (least : ℤ) (n : ℕ) → slot_state least n (replicate (n + 1) false) ≡ new_state (numbers_from least n)
 new-slots least n =
     ap₂ made

@@ -36,12 +36,12 @@ take-masked (suc k) [] rows = refl
 take-masked (suc k) (bit ∷ bits) [] = refl
 take-masked (suc k) (bit ∷ bits) (row ∷ rows) = ap (λ rest. kept bit row ∷ rest) (take-masked k bits rows)
 
--- a window has as many elements as are asked for
+-- the length of a window is the one asked for
 pub length-window : {A : Type 0} (xs : List A) (at n : ℕ) → at + n ≤ length xs → length (take n (drop at xs)) ≡ n
 length-window xs at n h = length-take-le n (drop at xs) (omega (arith, length-drop at xs))
 
 module _ {A : Type 0} (value : A → ℤ) (xs : List A) where
-  -- stored numbers are as many rows
+  -- the number of rows is that of stored numbers
   pub length-slots : length (number_slots value xs) ≡ length xs
   length-slots = length-map xs (λ (x : A). Int (value x))
 
@@ -59,7 +59,7 @@ module _ {A : Type 0} (value : A → ℤ) (xs : List A) where
     as-long : length bits ≡ length (number_slots value xs)
     as-long = long ∙ sym length-slots
 
-    -- under a mask they are as many
+    -- a mask does not change the number of rows
     pub length-masked_slots : length (masked bits (number_slots value xs)) ≡ length xs
     length-masked_slots = length-masked bits (number_slots value xs) as-long ∙ length-slots
 
@@ -84,7 +84,7 @@ module _ {A : Type 0} (value : A → ℤ) (xs : List A) where
       ∙ ap (λ k. masked (take n (drop at bits)) (number_slots value (take k (drop at xs)))) f
       ∙ masked_slots-window bits at n
 
--- there are as many rows as stored ones
+-- the number of rows is that of stored rows
 pub length-rows : (validity : Option (List Bool)) (slots : List Row) → HasBits (length slots) validity → length (rows_under validity slots) ≡ length slots
 length-rows None slots bits = refl
 length-rows (Some bits) slots long = length-masked bits slots long

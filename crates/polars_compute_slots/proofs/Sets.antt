@@ -87,7 +87,7 @@ module _ (least : ℤ) (slots : List Bool) where
       let next : i + suc k ≡ i + k + 1 = omega arith in
       rw next (all-more (λ v. v <ℤ (least +ℤ pos i) → v <ℤ bound) (i + k) (least-value bound i k all) (λ set less. absurd (omega (arith, ints))))
 
-  -- ---- what slots answer
+  -- ---- results of slots
 
   pub seen-all : (n count : ℕ) (last : Bool) → length slots ≡ n + 1 → count ≡ count_by (λ b. b) (take n slots) → last ≡ get_or slots n false → count ≡ n → last ≡ all_seen (slot_state least n slots)
   seen-all n count last size is is_last e =

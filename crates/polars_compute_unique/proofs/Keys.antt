@@ -83,7 +83,7 @@ named-values n null ((v, seen) ∷ vs) all = named-one n null v seen vs (null v)
 pub read-named : (n : ℕ) (null : ℤ → Bool) (s : State) → NamesEntries n s → NamesEntries n (read_by null s)
 read-named n null s all = named-values n null s.values all
 
--- where the keys that were seen name entries, a refused growth is the one reason to give no array
+-- if the keys seen name entries, a failed allocation is the only error
 pub memory-final : (entries : AnyArray) (s : State) → NamesEntries (len_of entries) s → (e : ComputeError) → IsMemory e → IsFinalFault (Some entries) s e
 memory-final entries s named (Memory e) is = named
 memory-final entries s named Unsupported is = absurd is

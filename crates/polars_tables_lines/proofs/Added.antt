@@ -1,4 +1,4 @@
--- What the answers to one more line leave: the text, the lines and the refusals of an input.
+-- The output after one more line: the text, the lines and the refusals of an input.
 use Rattle.std.proofs.Common.{◌≡◌, ◌≤◌, ◌<◌, ◌+◌, ◌++◌, ◌∙◌, ℕ, suc, Bool, true, false, List, [], ◌∷◌, length, append_assoc, sym, ap, arith}
 use Rattle.std.specs.Prelude.{if◌then◌else◌}
 use Rattle.std.specs.Result.{is_err}

@@ -1,4 +1,4 @@
--- What a kernel made and was written is the answer that the rows lead to.
+-- The text of a kernel's result is the result for the rows.
 use Rattle.std.proofs.Common.{◌≡◌, ℕ, List, inl, refl, subst}
 use Rattle.std.specs.Prelude.{Result, Ok, Err, MatchResult}
 use Rattle.polars_arrays_bits.specs.declared.error.ComputeError.{ComputeError}

@@ -1,4 +1,4 @@
--- From what the kernels say of stored rows and validities to the answers of comparisons.
+-- The results of comparisons, from the kernels' bits of stored rows and the validities.
 use Rattle.std.proofs.Common.{◌≡◌, ◌≢◌, ◌<◌, ◌↔◌, ◌∙◌, ◌||◌, not, Bool, true, false, IsTrue, List, Option, Some, None, length, replicate, refl, sym, ap, inl, inr, arith, slice_index_or}
 use Rattle.std.specs.Prelude.{if◌then◌else◌, cond}
 use Rattle.std.proofs.lemmas.List.{length-replicate, get_or-replicate}
@@ -80,7 +80,7 @@ pub record Setting {A : Type 0} (value_row : A → Row) (lm rm : Option (List Bo
   pub left_stored : StoresValues value_row ls
   pub right_stored : StoresValues value_row rs
 
--- a scalar stands for as many equal rows
+-- a scalar acts as a list of equal rows
 pub scalar_setting : {A : Type 0} (value_row : A → Row) (lm : Option (List Bool)) (ls : List Row) (x : A) → AreValues value_row → HasBits (length ls) lm → StoresValues value_row ls → Setting value_row lm None ls (replicate (length ls) (value_row x))
 scalar_setting value_row lm ls x v b s = record {
   values = v;
@@ -150,7 +150,7 @@ module _ {A : Type 0} (value_row : A → Row) (lm rm : Option (List Bool)) (ls r
     missing_result told P one_type is h =
         MatchResult-weaker r h (λ bits e. from_missing bits told P one_type comparison is e) (λ e m. m)
 
--- a kind of array that has broadcasts answers them
+-- a kind of array that has broadcasts supports them
 pub from_answers : {X : Type 0} (has : Bool) (r : Result X ComputeError) (Q : X → Type 0) → has ≡ true → Answers has r Q → MatchResult r Q IsMemory
 from_answers true r Q e h = MatchResult-weaker r h (λ x p. p.1) (λ e m. m)
 from_answers false r Q e h = absurd (cc)

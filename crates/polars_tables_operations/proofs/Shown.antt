@@ -1,4 +1,4 @@
--- Bits and validities, as the rows that a comparison answers.
+-- Bits and validities, as the rows of a comparison's result.
 use Rattle.std.proofs.Common.{◌≡◌, ◌<◌, ◌∙◌, ◌&&◌, not, ℕ, zero, suc, Bool, true, false, cond, List, [], ◌∷◌, Option, Some, None, length, map, replicate, refl, sym, ap, arith, slice_index_or}
 use Rattle.std.specs.Simd.Lanes.{zip2}
 use Rattle.std.proofs.lemmas.List.{ext_get_or, length-map}
@@ -40,7 +40,7 @@ answer-bits comparison lm rm n l r = by_test (is_missing comparison) where
 
 -- ---- one row
 
--- a bit is the answer, where the two rows are null just where they are masked
+-- a bit is the result if the two rows are null exactly where they are masked
 raw_answer : (test : Row → Row → Bool) (p q bit : Bool) (x y : Row) → is_null x ≡ not p → is_null y ≡ not q
     → ((truth : Bool) → if_present test x y ≡ Truth truth → bit ≡ truth) → kept (p && q) (Truth bit) ≡ if_present test x y
 raw_answer test true true bit x y e f right = rw (e, f) (ap Truth (right (test x y) (rw (e, f) refl)))

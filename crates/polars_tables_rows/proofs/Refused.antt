@@ -1,4 +1,4 @@
--- What the exit of a `?` on a refused growth returns.
+-- The result of the exit of a `?` on a failed allocation.
 use Rattle.std.proofs.Common.{◌≡◌, ◌∙◌, inl, Result, Ok, Err}
 use Rattle.std.specs.Prelude.{IfErr}
 use Rattle.std.specs.Result.{IsErrAnd}
@@ -6,7 +6,7 @@ use Rattle.polars_tables_rows.specs.declared.fault.LineError.{LineError}
 use Rattle.polars_tables_rows.specs.declared.fault.LineError.TheVariants.{Memory}
 use Rattle.polars_tables_rows.specs.Faults.{UnlessMemory}
 
--- a refused growth is never another fault
+-- a failed allocation is never another fault
 pub UnlessMemory-refused : {X : Type 0} (r : Result X LineError) (Other : LineError → Type 0) → IsErrAnd r (λ e. e ≡ Memory) → IfErr r (λ e. UnlessMemory e (Other e))
 UnlessMemory-refused (Ok x) Other h = absurd h
 UnlessMemory-refused (Err e) Other h = inl h
