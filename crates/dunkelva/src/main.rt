@@ -1,5 +1,5 @@
 //! Compares files: `dunkelva diff LEFT RIGHT` prints what differs between two CSV files, or between
-//! two files of JSON documents.
+//! two files of JSON documents. `dunkelva schema FILE` prints what the columns of a CSV file are.
 #![tactic(auto)]
 
 mod command;
@@ -10,6 +10,7 @@ mod kinds;
 mod options;
 mod progress;
 mod rules;
+mod schema;
 mod tasks;
 mod trouble;
 mod words;
@@ -19,6 +20,7 @@ use crate::config::{Config, config_for, joined, named_file};
 use crate::keys::keys_of;
 use crate::kinds::{hold_documents, refuse_document_options, refuse_table_options};
 use crate::rules::rules_of;
+use crate::schema::{compare_schemas, show_schema};
 use crate::tasks::{Task, compare_named};
 use crate::words::{Names, csv_options, format_of, is_colored, limit_of, target_of};
 use anyhow::{Result, anyhow};
@@ -94,6 +96,9 @@ fn diff_documents(
 fn diff(rt: &HostRuntime, matches: &ArgMatches<'_>, config: &Config) -> Result<u8> {
     let left = named_file(matches.get_str("left"), &config.left)?;
     let right = named_file(matches.get_str("right"), &config.right)?;
+    if matches.get_flag("schema-only") {
+        return compare_schemas(rt, matches, left, right);
+    }
     if hold_documents(matches, left, right)? {
         return diff_documents(rt, matches, left, right);
     }
@@ -115,6 +120,7 @@ fn run_words(rt: &HostRuntime) -> Result<u8> {
     };
     match matches.subcommand() {
         Some(("diff", matches)) => diff(rt, matches, &config),
+        Some(("schema", matches)) => show_schema(rt, matches),
         _ => Err(anyhow!("no command is given")),
     }
 }

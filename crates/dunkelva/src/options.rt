@@ -53,7 +53,7 @@ const SWITCH: CliOption = CliOption {
 };
 
 /// The options of the command.
-static OPTIONS: [CliOption; 23] = [
+static OPTIONS: [CliOption; 24] = [
     CliOption {
         id: "key",
         takes: Takes::List,
@@ -176,6 +176,12 @@ static OPTIONS: [CliOption; 23] = [
     CliOption {
         id: "summary",
         help: "Print the counts, and no rows or documents that differ",
+        ..SWITCH
+    },
+    CliOption {
+        id: "schema-only",
+        goes_with: GoesWith::Tables,
+        help: "Compare the names and kinds of the columns, and no rows",
         ..SWITCH
     },
     CliOption {
