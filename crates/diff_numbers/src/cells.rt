@@ -11,7 +11,7 @@ use json_decimals::error::NumberError;
 use json_decimals::numbers::push_normal_number;
 
 /// Returns the text of a cell that is a number.
-fn number_in(cell: &[u8]) -> Option<&str>
+pub fn number_in(cell: &[u8]) -> Option<&str>
     ensures { MatchOption result (is_number cell.now ≡ false) (λ text. IsNumeral cell.now text.now) }
 {
     let Ok(text) = str::from_utf8(cell) else {

@@ -1,7 +1,7 @@
 //! What the cells of a table are compared by, where numbers are compared by what they are worth.
 #![tactic(auto)]
 
-mod cells;
+pub mod cells;
 pub mod columns;
 pub mod error;
 pub mod laws;

@@ -1,6 +1,7 @@
 //! The command line.
 
 use crate::options::{CliOption, Takes, options};
+use crate::schema::schema_command;
 use clap::{Arg, ArgAction, Command, value_parser};
 use std::alloc::{AllocError, Global};
 
@@ -31,7 +32,7 @@ fn taking<'a>(arg: Arg<'a>, takes: Takes) -> Arg<'a> {
 }
 
 /// Returns the argument that an option is.
-fn arg_of<'a>(alloc: Global, option: CliOption) -> Result<Arg<'a>, AllocError> {
+pub(crate) fn arg_of<'a>(alloc: Global, option: CliOption) -> Result<Arg<'a>, AllocError> {
     let mut arg = taking(Arg::new(alloc, option.id), option.takes)
         .long(option.id)
         .help(option.help);
@@ -100,5 +101,6 @@ pub(crate) fn command<'a>(alloc: Global) -> Result<Command<'a>, AllocError> {
         .about("Compares tables and documents exactly")
         .subcommand_required(true)
         .arg_required_else_help(true)
-        .subcommand(diff(alloc)?)
+        .subcommand(diff(alloc)?)?
+        .subcommand(schema_command(alloc)?)
 }

@@ -5,7 +5,7 @@ use anyhow::{Result, anyhow};
 use clap::ArgMatches;
 
 /// Returns whether a file of this name holds documents.
-fn names_documents(name: &str) -> bool {
+pub(crate) fn names_documents(name: &str) -> bool {
     name.ends_with(".ndjson") || name.ends_with(".jsonl")
 }
 

@@ -1,5 +1,5 @@
 //! Compares files: `dunkelva diff LEFT RIGHT` prints what differs between two CSV files, or between
-//! two files of JSON documents.
+//! two files of JSON documents. `dunkelva schema FILE` prints what the columns of a CSV file are.
 #![tactic(auto)]
 
 mod command;
@@ -11,6 +11,7 @@ mod options;
 mod parts;
 mod progress;
 mod rules;
+mod schema;
 mod tasks;
 mod trouble;
 mod words;
@@ -21,6 +22,7 @@ use crate::keys::keys_of;
 use crate::kinds::{hold_documents, refuse_document_options, refuse_table_options};
 use crate::parts::part_of;
 use crate::rules::rules_of;
+use crate::schema::{compare_schemas, show_schema};
 use crate::tasks::{Task, compare_named};
 use crate::words::{Names, csv_options, format_of, is_colored, limit_of, target_of};
 use anyhow::{Result, anyhow};
@@ -97,6 +99,9 @@ fn diff_documents(
 fn diff(rt: &HostRuntime, matches: &ArgMatches<'_>, config: &Config) -> Result<u8> {
     let left = named_file(matches.get_str("left"), &config.left)?;
     let right = named_file(matches.get_str("right"), &config.right)?;
+    if matches.get_flag("schema-only") {
+        return compare_schemas(rt, matches, left, right);
+    }
     if hold_documents(matches, left, right)? {
         return diff_documents(rt, matches, left, right);
     }
@@ -118,6 +123,7 @@ fn run_words(rt: &HostRuntime) -> Result<u8> {
     };
     match matches.subcommand() {
         Some(("diff", matches)) => diff(rt, matches, &config),
+        Some(("schema", matches)) => show_schema(rt, matches),
         _ => Err(anyhow!("no command is given")),
     }
 }

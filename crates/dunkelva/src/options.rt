@@ -188,6 +188,12 @@ static OPTIONS: [CliOption; 24] = [
         ..SWITCH
     },
     CliOption {
+        id: "schema-only",
+        goes_with: GoesWith::Tables,
+        help: "Compare the names and kinds of the columns, and no rows",
+        ..SWITCH
+    },
+    CliOption {
         id: "format",
         takes: Takes::Word(&["text", "json"]),
         value: "FORM",

@@ -1,0 +1,181 @@
+//! What the columns of files are: `dunkelva schema FILE`, and `dunkelva diff --schema-only LEFT RIGHT`.
+
+use crate::command::arg_of;
+use crate::files::open;
+use crate::kinds::names_documents;
+use crate::options::{Takes, options};
+use crate::words::csv_options;
+use anyhow::{Result, anyhow};
+use clap::{Arg, ArgMatches, Command};
+use diff_csv::options::CsvOptions;
+use schema_report::changes::{SchemaCounts, counts_of, push_changes};
+use schema_report::changes_json::push_changes_json;
+use schema_report::json_lines::push_schema_json;
+use schema_report::text::push_schema;
+use schema_run::read::{TableSchema, read_schema};
+use std::alloc::{AllocError, Global};
+use std::io;
+use std::io::{ErrorKind, Write};
+
+/// What `dunkelva schema --help` has behind the options.
+const NOTES: &str = "\
+Each column has the narrowest of the kinds empty, truth value, whole number,
+number and text that all its values are of. A field that is empty is missing,
+unless --null says that it is null; the others are its values.
+
+The status is 0, or 2 where the file can't be read.";
+
+/// The options of `dunkelva diff` that the command has too.
+const SHARED: [&str; 4] = ["null", "delimiter", "no-header", "format"];
+
+/// The options of `dunkelva diff` that go with no schema.
+const OTHERS: [&str; 7] = [
+    "key",
+    "only",
+    "ignore",
+    "text",
+    "html",
+    "tolerance",
+    "relative-tolerance",
+];
+
+/// Those of them that take nothing.
+const OTHER_FLAGS: [&str; 8] = [
+    "unique",
+    "common",
+    "numbers",
+    "missing-is-null",
+    "no-key-is-null",
+    "skip-bad",
+    "summary",
+    "markdown",
+];
+
+/// The status where the file can't be read, or nobody reads what is said of it.
+const TROUBLE: u8 = 2;
+
+/// Returns the command that says what the columns of a file are.
+pub(crate) fn schema_command<'a>(alloc: Global) -> Result<Command<'a>, AllocError> {
+    let mut command = Command::new(alloc, "schema")
+        .about("Says what the columns of a CSV file are")
+        .after_help(NOTES)
+        .arg(
+            Arg::new(alloc, "file")
+                .value_name("FILE")
+                .help("The file, or - for standard input")
+                .required(true),
+        )?;
+    for option in options() {
+        if SHARED.contains(&option.id) {
+            command = command.arg(arg_of(alloc, *option)?)?;
+        }
+    }
+    Ok(command)
+}
+
+/// Returns whether JSON lines are asked for.
+fn is_json(matches: &ArgMatches<'_>) -> bool {
+    matches.get_str("format") == Some("json")
+}
+
+/// Reads what the columns of a file are, beside standard input or not.
+fn schema_in(
+    rt: &HostRuntime,
+    matches: &ArgMatches<'_>,
+    file: &str,
+    options: CsvOptions,
+    is_beside: bool,
+) -> Result<TableSchema> {
+    if names_documents(file) {
+        return Err(anyhow!("schemas are of CSV files").context(file));
+    }
+    let input = open(rt, file, is_beside)?;
+    let null = matches.get_str("null").map(|word| word.as_bytes());
+    match read_schema(rt.alloc(), input.reader, options, null) {
+        Ok(schema) => Ok(schema),
+        Err(error) => Err(anyhow!("{error}").context(file)),
+    }
+}
+
+/// Prints a text, and returns the status: as with other programs, nothing is said where nobody reads
+/// it.
+fn print_text(rt: &HostRuntime, text: &[u8], status: u8) -> Result<u8> {
+    let mut out = io::writer(rt);
+    match out.write_all(text) {
+        Ok(()) => Ok(status),
+        Err(cause) if cause.kind() == ErrorKind::BrokenPipe => Ok(TROUBLE),
+        Err(cause) => Err(anyhow!("{cause}").context("standard output")),
+    }
+}
+
+/// Says what the columns of the file are that the words name, and returns the status.
+pub(crate) fn show_schema(rt: &HostRuntime, matches: &ArgMatches<'_>) -> Result<u8> {
+    let file = matches.get_str("file").unwrap_or("-");
+    let options = csv_options(matches, file, file)?;
+    let schema = schema_in(rt, matches, file, options, false)?;
+    let mut text = Vec::new(rt.alloc());
+    if is_json(matches) {
+        push_schema_json(&mut text, &schema.columns)?;
+    } else {
+        push_schema(
+            rt.alloc(),
+            &mut text,
+            file.as_bytes(),
+            schema.rows,
+            &schema.columns,
+        )?;
+    }
+    print_text(rt, &text, 0)
+}
+
+/// Refuses options that go with no schema.
+fn refuse_others(matches: &ArgMatches<'_>) -> Result<()> {
+    for option in options() {
+        let is_given = match option.takes {
+            Takes::Nothing => OTHER_FLAGS.contains(&option.id) && matches.get_flag(option.id),
+            _ => OTHERS.contains(&option.id) && matches.contains_id(option.id),
+        };
+        if is_given {
+            return Err(anyhow!("--{} goes with no --schema-only", option.id));
+        }
+    }
+    Ok(())
+}
+
+/// Returns the status for these counts.
+fn status_of(counts: SchemaCounts) -> u8 {
+    if counts.changed == 0 && counts.removed == 0 && counts.added == 0 {
+        0
+    } else {
+        1
+    }
+}
+
+/// Says what the columns of two files differ in, and returns the status.
+pub(crate) fn compare_schemas(
+    rt: &HostRuntime,
+    matches: &ArgMatches<'_>,
+    left: &str,
+    right: &str,
+) -> Result<u8> {
+    refuse_others(matches)?;
+    if left == "-" && right == "-" {
+        return Err(anyhow!("only one of the two can be standard input"));
+    }
+    let has_standard = left == "-" || right == "-";
+    let options = csv_options(matches, left, right)?;
+    let before = schema_in(rt, matches, left, options, has_standard)?;
+    let after = schema_in(rt, matches, right, options, has_standard)?;
+    let mut text = Vec::new(rt.alloc());
+    if is_json(matches) {
+        push_changes_json(&mut text, &before.columns, &after.columns)?;
+    } else {
+        let files = (left.as_bytes(), right.as_bytes());
+        push_changes(&mut text, files, &before.columns, &after.columns)?;
+    }
+    print_text(
+        rt,
+        &text,
+        status_of(counts_of(&before.columns, &after.columns)),
+    )
+}

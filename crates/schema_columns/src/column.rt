@@ -1,0 +1,122 @@
+//! What the cells of a column are.
+
+ghost use Rattle.std.specs.List.{All};
+ghost use Rattle.std.specs.Option.{option_copied};
+ghost use Rattle.std.specs.Prelude.{◌≡◌, ◌<◌, None, MatchResult};
+ghost use Rattle.polars_arrays_bits.specs.Errors.{IsMemory};
+ghost use Rattle.polars_arrays_bytes.specs.OffsetStrings.{offset_strings};
+ghost use Rattle.schema_columns.specs.Columns.{IsSchemaOf, TellsStrings, TellsValues, TellsWholes, told_of};
+ghost use Rattle.schema_columns.specs.Kinds.{AreOf, IsWhole};
+ghost use Rattle.schema_columns.specs.Present.{cells_of};
+
+use crate::distinct::{count_numbers, count_strings};
+use crate::extremes::{Ends, ends_of_numbers, ends_of_strings};
+use crate::kind::{Kind, kind_of};
+use crate::present::present_cells;
+use crate::wholes::wholes_of;
+use diff_tables::table::Table;
+use polars_arrays_bits::error::ComputeError;
+use polars_arrays_bytes::binary::BinaryArray;
+use polars_compare_extremes::kernel::MinMaxKernel;
+use std::alloc::Global;
+
+/// What the cells of a column are. A cell is null where it is the word that stands for no value, and
+/// else missing where it is empty; what is said of values is said of the other cells.
+#[derive(Drop)]
+pub struct ColumnSchema {
+    pub name: Vec<u8>,
+    /// The narrowest kind that all values are of.
+    pub kind: Kind,
+    /// How many cells there are.
+    pub rows: usize,
+    /// How many of them are null.
+    pub nulls: usize,
+    /// How many of them are missing.
+    pub missing: usize,
+    /// How many values differ, unless the kind is `Number`.
+    pub distinct: Option<usize>,
+    /// The least value: as a number where all are whole, and else as bytes. There is none where there
+    /// is no value, or the kind is `Number`.
+    pub least: Option<Vec<u8>>,
+    /// The greatest value, in the same way.
+    pub greatest: Option<Vec<u8>>,
+}
+
+/// How many values differ, and the least and the greatest.
+#[derive(Drop)]
+struct Values {
+    distinct: Option<usize>,
+    ends: Ends,
+}
+
+/// Returns what is said of byte strings.
+fn string_values(alloc: Global, cells: &BinaryArray<i64>) -> Result<Values, ComputeError>
+    requires { cells.now.validity ≡ None }
+    ensures { MatchResult result (λ values. TellsStrings (offset_strings (λ x. x) cells.now) (told_of values)) IsMemory }
+{
+    let distinct = Some(count_strings(alloc, cells)?);
+    let ends = ends_of_strings(alloc, cells)?;
+    Ok(Values { distinct, ends })
+}
+
+/// Returns what is said of whole numbers.
+fn whole_values(alloc: Global, cells: &BinaryArray<i64>) -> Result<Values, ComputeError>
+    requires { All IsWhole (offset_strings (λ x. x) cells.now) }
+    ensures { MatchResult result (λ values. TellsWholes (offset_strings (λ x. x) cells.now) (told_of values)) IsMemory }
+{
+    let wholes = wholes_of(alloc, cells)?;
+    let slice = wholes.as_slice();
+    let pair = slice.min_max_ignore_nan_kernel();
+    let ends = ends_of_numbers(alloc, pair)?;
+    let distinct = Some(count_numbers(alloc, wholes, pair)?);
+    Ok(Values { distinct, ends })
+}
+
+/// Returns what is said of cells of a kind.
+fn values_of(alloc: Global, cells: &BinaryArray<i64>, kind: Kind) -> Result<Values, ComputeError>
+    requires plain { cells.now.validity ≡ None }
+    requires all { AreOf kind (offset_strings (λ x. x) cells.now) }
+    ensures { MatchResult result (λ values. TellsValues kind (offset_strings (λ x. x) cells.now) (told_of values)) IsMemory }
+{
+    match kind {
+        Kind::Whole => whole_values(alloc, cells),
+        Kind::Number => Ok(Values {
+            distinct: None,
+            ends: Ends {
+                least: None,
+                greatest: None,
+            },
+        }),
+        Kind::Empty => string_values(alloc, cells),
+        Kind::Truth => string_values(alloc, cells),
+        Kind::Text => string_values(alloc, cells),
+    }
+}
+
+/// Returns what the cells of a table's column are, which has this name. A cell that is the word
+/// `null` is null. The one error is `Memory`.
+pub fn schema_of(
+    alloc: Global,
+    name: &[u8],
+    table: &Table,
+    column: usize,
+    null: Option<&[u8]>,
+) -> Result<ColumnSchema, ComputeError>
+    requires { column < table.now.width }
+    ensures { MatchResult result (IsSchemaOf name.now (option_copied null.entry) (cells_of column table.now.rows)) IsMemory }
+{
+    let present = present_cells(alloc, table, column, null)?;
+    let kind = kind_of(&present.cells);
+    let values = values_of(alloc, &present.cells, kind)?;
+    let name = Vec::from_slice(alloc, name)?;
+    Ok(ColumnSchema {
+        name,
+        kind,
+        rows: table.count(),
+        nulls: present.nulls,
+        missing: present.missing,
+        distinct: values.distinct,
+        least: values.ends.least,
+        greatest: values.ends.greatest,
+    })
+}

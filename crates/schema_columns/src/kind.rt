@@ -1,0 +1,126 @@
+//! Kinds of cells.
+
+ghost use Rattle.std.specs.List.{All};
+ghost use Rattle.std.specs.Prelude.{◌≡◌, ◌↔◌, ℕ, List, IsTrue};
+ghost use Rattle.polars_arrays_bytes.specs.OffsetStrings.{offset_strings};
+ghost use Rattle.schema_columns.specs.Kinds.{IsNarrowest, same_kind, width};
+
+use crate::wholes::whole_in;
+use diff_numbers::cells::number_in;
+use polars_arrays_bytes::binary::BinaryArray;
+use polars_arrays_flat::byte_rows::ByteRows;
+
+/// What all cells of a column are, from the narrowest kind to the widest.
+#[derive(Clone, Copy, Debug, PartialEq, Eq)]
+pub enum Kind {
+    /// There is no cell.
+    Empty,
+    /// The words `true` and `false`.
+    Truth,
+    /// Whole numbers from -2^63 to 2^63 - 1, with no point and no exponent.
+    Whole,
+    /// Numbers, as JSON writes them.
+    Number,
+    /// Any bytes.
+    Text,
+}
+
+/// Returns how many kinds are narrower.
+fn width(kind: Kind) -> u8
+    ensures { result ≡ width kind }
+{
+    match kind {
+        Kind::Empty => 0,
+        Kind::Truth => 1,
+        Kind::Whole => 2,
+        Kind::Number => 3,
+        Kind::Text => 4,
+    }
+}
+
+/// Returns whether two kinds are the same.
+pub fn is_same_kind(left: Kind, right: Kind) -> bool
+    ensures { result ≡ same_kind left right }
+{
+    width(left) == width(right)
+}
+
+/// A test of cells.
+trait CellTest {
+    // The cells that pass.
+    ghost Passes: { List ℕ → Type 0 };
+
+    /// Returns whether a cell passes.
+    fn passes(cell: &[u8]) -> bool
+        ensures { IsTrue result ↔ Passes cell.now };
+}
+
+/// Truth values pass.
+struct Truths;
+
+/// Whole numbers pass.
+struct Wholes;
+
+/// Numbers pass.
+struct Numbers;
+
+impl CellTest for Truths {
+    ghost use Rattle.schema_columns.specs.Kinds.{IsTruth};
+
+    ghost Passes = { IsTruth };
+
+    fn passes(cell: &[u8]) -> bool {
+        cell == b"true".as_slice() || cell == b"false".as_slice()
+    }
+}
+
+impl CellTest for Wholes {
+    ghost use Rattle.schema_columns.specs.Kinds.{IsWhole};
+
+    ghost Passes = { IsWhole };
+
+    fn passes(cell: &[u8]) -> bool {
+        whole_in(cell).is_some()
+    }
+}
+
+impl CellTest for Numbers {
+    ghost use Rattle.schema_columns.specs.Kinds.{IsNumber};
+
+    ghost Passes = { IsNumber };
+
+    fn passes(cell: &[u8]) -> bool {
+        number_in(cell).is_some()
+    }
+}
+
+/// Returns whether all cells pass a test.
+fn all_pass<T: CellTest>(cells: &BinaryArray<i64>) -> bool
+    ensures { IsTrue result ↔ All T.Passes (offset_strings (λ x. x) cells.now) }
+{
+    for i in 0..cells.count() {
+        if !T::passes(cells.bytes(i)) {
+            return false;
+        }
+    }
+    true
+}
+
+/// Returns the narrowest kind that all cells are of.
+pub fn kind_of(cells: &BinaryArray<i64>) -> Kind
+    ensures { IsNarrowest (offset_strings (λ x. x) cells.now) result }
+{
+    if cells.count() == 0 {
+        return Kind::Empty;
+    }
+    if all_pass::<Truths>(cells) {
+        return Kind::Truth;
+    }
+    if all_pass::<Wholes>(cells) {
+        return Kind::Whole;
+    }
+    if all_pass::<Numbers>(cells) {
+        return Kind::Number;
+    }
+    Kind::Text
+}

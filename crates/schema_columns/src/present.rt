@@ -1,0 +1,99 @@
+//! The cells of a column that have a value.
+
+ghost use Rattle.std.specs.Option.{option_copied};
+ghost use Rattle.std.specs.Prelude.{◌≡◌, ◌<◌, ◌+◌, ◌++◌, ◌∷◌, [], ℕ, List, IfOk, OnOk, MatchResult};
+ghost use Rattle.polars_arrays_bits.specs.Errors.{IsMemory};
+ghost use Rattle.schema_columns.specs.Present.{Gathers, IsPresentOf, cells_of, is_null};
+
+use diff_tables::strings::Strings;
+use diff_tables::table::Table;
+use polars_arrays_bits::error::ComputeError;
+use polars_arrays_bytes::binary::BinaryArray;
+use std::alloc::{AllocError, Global};
+
+/// The cells of a column that have a value, and how many have none.
+#[derive(Drop)]
+pub struct Present {
+    /// The cells that are neither null nor missing, in the order of their rows.
+    pub cells: BinaryArray<i64>,
+    /// How many cells are null.
+    pub nulls: usize,
+    /// How many are missing: empty, where these are not null.
+    pub missing: usize,
+}
+
+/// Cells that are gathered one after another.
+#[derive(Drop)]
+struct Gathered {
+    cells: Strings,
+    nulls: usize,
+    missing: usize,
+}
+
+/// Returns one more.
+fn one_more(n: usize) -> Result<usize, AllocError>
+    ensures { IfOk result (λ m. m ≡ n + 1) }
+{
+    // No memory holds so many cells.
+    n.checked_add(1).ok_or(AllocError)
+}
+
+/// Returns whether a cell is the word that stands for no value.
+fn is_null(null: Option<&[u8]>, cell: &[u8]) -> bool
+    ensures { result ≡ is_null (option_copied null.entry) cell.now }
+{
+    match null {
+        Some(word) => word == cell,
+        None => false,
+    }
+}
+
+impl Gathered {
+    /// Adds a cell.
+    fn add(&mut self, null: Option<&[u8]>, cell: &[u8]) -> Result<(), AllocError>
+        ensures { OnOk result ((all : List (List ℕ)) → Gathers (option_copied null.entry) all self.old → Gathers (option_copied null.entry) (all ++ cell.now ∷ []) self.new) }
+    {
+        if is_null(null, cell) {
+            self.nulls = one_more(self.nulls)?;
+            return Ok(());
+        }
+        if cell.is_empty() {
+            self.missing = one_more(self.missing)?;
+            return Ok(());
+        }
+        self.cells.push(cell)?;
+        Ok(())
+    }
+}
+
+/// Returns the cells of a column that have a value. A cell is null where it is the word `null`, and
+/// else missing where it is empty. The one error is `Memory`.
+pub fn present_cells(
+    alloc: Global,
+    table: &Table,
+    column: usize,
+    null: Option<&[u8]>,
+) -> Result<Present, ComputeError>
+    requires { column < table.now.width }
+    ensures { MatchResult result (IsPresentOf (option_copied null.entry) (cells_of column table.now.rows)) IsMemory }
+{
+    let mut gathered = Gathered {
+        cells: Strings::new(alloc)?,
+        nulls: 0,
+        missing: 0,
+    };
+    for i in 0..table.count() {
+        gathered.add(null, table.cell(i, column))?;
+    }
+    let Gathered {
+        cells,
+        nulls,
+        missing,
+    } = gathered;
+    let cells = cells.into_array(alloc)?;
+    Ok(Present {
+        cells,
+        nulls,
+        missing,
+    })
+}

@@ -1,0 +1,29 @@
+-- Worked examples of the definitions.
+use Rattle.std.specs.Prelude.{◌≡◌, [], ◌∷◌, Some, None, codes, refl}
+use Rattle.diff_words.specs.Quoted.{byte_text, quoted}
+use Rattle.diff_words.specs.Words.{word_text}
+use Rattle.schema_columns.specs.declared.kind.Kind.TheVariants.{Truth, Whole, Text}
+use Rattle.schema_report.specs.Aligned.{aligned}
+use Rattle.schema_report.specs.Changes.{kind_line}
+use Rattle.schema_report.specs.Words.{value_text}
+
+-- two rows of two words
+two-rows : aligned 2 ((codes "id" ∷ codes "kind" ∷ []) ∷ (codes "amount" ∷ codes "text" ∷ []) ∷ []) ≡ codes "id      kind\namount  text\n"
+two-rows = refl
+
+-- a number, a text, and a value that there is none of
+number-shown : value_text Whole (Some (codes "-7")) ≡ codes "-7"
+unfolding word_text
+number-shown = refl
+
+text-shown : value_text Text (Some (codes "Oslo")) ≡ codes "\"Oslo\""
+unfolding quoted byte_text
+text-shown = refl
+
+none-shown : value_text Text None ≡ codes "-"
+none-shown = refl
+
+-- a column whose kinds differ
+kinds-differ : kind_line (codes "paid") Truth Text ≡ codes "~ column paid  truth value -> text\n"
+unfolding kind_line word_text
+kinds-differ = refl

@@ -1,0 +1,3 @@
+mod Examples
+pub mod GridLemmas
+pub mod Pieces

@@ -1,0 +1,6 @@
+pub mod Aligned
+pub mod Changes
+pub mod Grid
+pub mod JsonLines
+pub mod Text
+pub mod Words

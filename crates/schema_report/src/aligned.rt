@@ -1,0 +1,108 @@
+//! Tables of words, whose columns stand one under another.
+
+ghost use Rattle.std.specs.Prelude.{◌≡◌, ◌<◌, ◌+◌, ◌-◌, ◌++◌, ◌∷◌, ℕ, [], length, get_or, replicate, IfOk, OnOk};
+ghost use Rattle.schema_report.specs.Aligned.{aligned, aligned_cell, begins, glyphs, line_to, widest};
+
+use diff_tables::table::Table;
+use std::alloc::{AllocError, Global};
+
+/// Returns whether a character begins with a byte.
+fn begins(byte: u8) -> bool
+    ensures { result ≡ begins byte }
+{
+    byte < 128 || 191 < byte
+}
+
+/// Returns how many characters a text has.
+fn glyphs(text: &[u8]) -> usize
+    ensures { result ≡ glyphs text.now }
+{
+    text.iter().filter(|byte| begins(**byte)).count()
+}
+
+/// Returns how many characters the longest cell of a column has.
+fn widest(table: &Table, column: usize) -> usize
+    requires { column < table.now.width }
+    ensures { result ≡ widest column table.now.rows (length table.now.rows) }
+{
+    let mut most = 0;
+    for i in 0..table.count() {
+        most = glyphs(table.cell(i, column)).max(most);
+    }
+    most
+}
+
+/// Returns for each column how many characters its longest cell has.
+fn widths_of(alloc: Global, table: &Table) -> Result<Vec<usize>, AllocError>
+    ensures many { IfOk result (λ widths. length widths.items ≡ table.now.width) }
+    ensures each { IfOk result (λ widths. (c : ℕ) → c < table.now.width → get_or widths.items c 0 ≡ widest c table.now.rows (length table.now.rows)) }
+{
+    let mut widths = Vec::new(alloc);
+    for column in 0..table.width() {
+        widths.push(widest(table, column))?;
+    }
+    Ok(widths)
+}
+
+/// Appends blanks behind a text of `len` characters, up to a width.
+fn push_blanks(out: &mut Vec<u8>, len: usize, width: usize) -> Result<(), AllocError>
+    ensures { OnOk result (out.new.items ≡ out.old.items ++ replicate (width - len) 32) }
+{
+    for _ in 0..width.saturating_sub(len) {
+        out.push(b' ')?;
+    }
+    Ok(())
+}
+
+/// Appends a cell, and what stands between it and the next one.
+fn push_cell(
+    out: &mut Vec<u8>,
+    table: &Table,
+    widths: &[usize],
+    i: usize,
+    column: usize,
+) -> Result<(), AllocError>
+    requires row { i < length table.now.rows }
+    requires column { column < table.now.width }
+    requires many { length widths.now ≡ table.now.width }
+    requires each { (c : ℕ) → c < table.now.width → get_or widths.now c 0 ≡ widest c table.now.rows (length table.now.rows) }
+    ensures { OnOk result (out.new.items ≡ out.old.items ++ aligned_cell table.now.rows table.now.width column (get_or (get_or table.now.rows i []) column [])) }
+{
+    let cell = table.cell(i, column);
+    out.extend_from_slice(cell)?;
+    if column + 1 < table.width() {
+        push_blanks(out, glyphs(cell), widths[column])?;
+        out.extend_from_slice(b"  ")?;
+    }
+    Ok(())
+}
+
+/// Appends a row in a line.
+fn push_line(out: &mut Vec<u8>, table: &Table, widths: &[usize], i: usize) -> Result<(), AllocError>
+    requires row { i < length table.now.rows }
+    requires many { length widths.now ≡ table.now.width }
+    requires each { (c : ℕ) → c < table.now.width → get_or widths.now c 0 ≡ widest c table.now.rows (length table.now.rows) }
+    ensures { OnOk result (out.new.items ≡ out.old.items ++ line_to table.now.rows table.now.width (get_or table.now.rows i []) table.now.width ++ 10 ∷ []) }
+{
+    for column in 0..table.width() {
+        push_cell(out, table, widths, i, column)?;
+    }
+    out.push(b'\n')?;
+    Ok(())
+}
+
+/// Appends the rows of a table in a line each, with blanks behind the cells of each column up to its
+/// longest one, and two more before the next column.
+pub(crate) fn push_aligned(
+    alloc: Global,
+    out: &mut Vec<u8>,
+    table: &Table,
+) -> Result<(), AllocError>
+    ensures { OnOk result (out.new.items ≡ out.old.items ++ aligned table.now.width table.now.rows) }
+{
+    let widths = widths_of(alloc, table)?;
+    for i in 0..table.count() {
+        push_line(out, table, &widths, i)?;
+    }
+    Ok(())
+}

@@ -1,0 +1,104 @@
+//! Columns as JSON lines.
+
+ghost use Rattle.std.specs.Fmt.{decimal};
+ghost use Rattle.std.specs.Option.{option_map};
+ghost use Rattle.std.specs.Prelude.{◌≡◌, ◌++◌, OnOk};
+ghost use Rattle.schema_report.specs.JsonLines.{column_line, count_member, count_members, end_members, head_members, schema_lines, value_member};
+
+use crate::words::push_kind;
+use diff_json::strings::push_string;
+use diff_words::decimals::push_decimal;
+use schema_columns::column::ColumnSchema;
+use std::alloc::AllocError;
+
+/// Appends the text before a count, and the count.
+fn push_number(out: &mut Vec<u8>, before: &[u8], n: usize) -> Result<(), AllocError>
+    ensures { OnOk result (out.new.items ≡ out.old.items ++ before.now ++ decimal n) }
+{
+    out.extend_from_slice(before)?;
+    push_decimal(out, n)?;
+    Ok(())
+}
+
+/// Appends the text before a count, and the count, or `null` where there is none.
+fn push_count(out: &mut Vec<u8>, before: &[u8], count: Option<usize>) -> Result<(), AllocError>
+    ensures { OnOk result (out.new.items ≡ out.old.items ++ before.now ++ count_member count) }
+{
+    out.extend_from_slice(before)?;
+    match count {
+        Some(n) => push_decimal(out, n),
+        None => {
+            out.extend_from_slice(b"null")?;
+            Ok(())
+        }
+    }
+}
+
+/// Appends the text before a value, and the value as a string, or `null` where there is none.
+fn push_value(out: &mut Vec<u8>, before: &[u8], value: &Option<Vec<u8>>) -> Result<(), AllocError>
+    ensures { OnOk result (out.new.items ≡ out.old.items ++ before.now ++ value_member (option_map (λ v. v.items) value.now)) }
+{
+    out.extend_from_slice(before)?;
+    match value {
+        Some(bytes) => push_string(out, bytes),
+        None => {
+            out.extend_from_slice(b"null")?;
+            Ok(())
+        }
+    }
+}
+
+/// Appends the members with a column's name and its kind.
+#[tactic(auto, unfolding(crate::specs::JsonLines::head_members))]
+fn push_head(out: &mut Vec<u8>, column: &ColumnSchema) -> Result<(), AllocError>
+    ensures { OnOk result (out.new.items ≡ out.old.items ++ head_members column.now) }
+{
+    out.extend_from_slice(br#"{"column":"#)?;
+    push_string(out, &column.name)?;
+    out.extend_from_slice(br#","type":""#)?;
+    push_kind(out, column.kind)?;
+    Ok(())
+}
+
+/// Appends the members with its counts.
+#[tactic(auto, unfolding(crate::specs::JsonLines::count_members))]
+fn push_counts(out: &mut Vec<u8>, column: &ColumnSchema) -> Result<(), AllocError>
+    ensures { OnOk result (out.new.items ≡ out.old.items ++ count_members column.now) }
+{
+    push_number(out, br#"","rows":"#, column.rows)?;
+    push_number(out, br#","null":"#, column.nulls)?;
+    push_number(out, br#","missing":"#, column.missing)?;
+    push_count(out, br#","distinct":"#, column.distinct)?;
+    Ok(())
+}
+
+/// Appends the members with its least and its greatest value.
+#[tactic(auto, unfolding(crate::specs::JsonLines::end_members))]
+fn push_ends(out: &mut Vec<u8>, column: &ColumnSchema) -> Result<(), AllocError>
+    ensures { OnOk result (out.new.items ≡ out.old.items ++ end_members column.now) }
+{
+    push_value(out, br#","least":"#, &column.least)?;
+    push_value(out, br#","greatest":"#, &column.greatest)?;
+    out.extend_from_slice(b"}\n")?;
+    Ok(())
+}
+
+/// Appends a column as an object in a line.
+fn push_column(out: &mut Vec<u8>, column: &ColumnSchema) -> Result<(), AllocError>
+    ensures { OnOk result (out.new.items ≡ out.old.items ++ column_line column.now) }
+{
+    push_head(out, column)?;
+    push_counts(out, column)?;
+    push_ends(out, column)?;
+    Ok(())
+}
+
+/// Appends columns as JSON lines, an object for each.
+pub fn push_schema_json(out: &mut Vec<u8>, columns: &[ColumnSchema]) -> Result<(), AllocError>
+    ensures { OnOk result (out.new.items ≡ out.old.items ++ schema_lines columns.now) }
+{
+    for column in columns {
+        push_column(out, column)?;
+    }
+    Ok(())
+}

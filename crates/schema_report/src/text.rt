@@ -1,0 +1,45 @@
+//! Columns as text.
+
+ghost use Rattle.std.specs.Prelude.{◌≡◌, ◌++◌, OnOk, IfErr};
+ghost use Rattle.polars_arrays_bits.specs.Errors.{IsMemory};
+ghost use Rattle.schema_report.specs.Text.{head_line, schema_text};
+
+use crate::aligned::push_aligned;
+use crate::grid::grid_of;
+use diff_words::decimals::push_decimal;
+use diff_words::words::push_word;
+use polars_arrays_bits::error::ComputeError;
+use schema_columns::column::ColumnSchema;
+use std::alloc::{AllocError, Global};
+
+/// Appends how many rows and columns a file has.
+#[tactic(auto, unfolding(crate::specs::Text::head_line))]
+fn push_head(out: &mut Vec<u8>, file: &[u8], rows: usize, columns: usize) -> Result<(), AllocError>
+    ensures { OnOk result (out.new.items ≡ out.old.items ++ head_line file.now rows columns) }
+{
+    push_word(out, file)?;
+    out.extend_from_slice(b": ")?;
+    push_decimal(out, rows)?;
+    out.extend_from_slice(b" rows, ")?;
+    push_decimal(out, columns)?;
+    out.extend_from_slice(b" columns\n")?;
+    Ok(())
+}
+
+/// Appends what the columns of a file with so many rows are, in a line each. The one error is
+/// `Memory`.
+pub fn push_schema(
+    alloc: Global,
+    out: &mut Vec<u8>,
+    file: &[u8],
+    rows: usize,
+    columns: &[ColumnSchema],
+) -> Result<(), ComputeError>
+    ensures ok { OnOk result (out.new.items ≡ out.old.items ++ schema_text file.now rows columns.now) }
+    ensures fault { IfErr result IsMemory }
+{
+    push_head(out, file, rows, columns.len())?;
+    let grid = grid_of(alloc, columns)?;
+    push_aligned(alloc, out, &grid)?;
+    Ok(())
+}

@@ -1,0 +1,4 @@
+//! What the columns of a CSV text are, from a reader.
+#![tactic(auto)]
+
+pub mod read;
