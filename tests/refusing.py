@@ -9,7 +9,8 @@ A library that is loaded in front of the C library counts the requests, and refu
 | `READ_FAILS=N`, `WRITE_FAILS=N` | the read or the write of this number fails |
 | `BYTEWISE` | a read or a write moves a byte at most |
 | `READS_INTERRUPTED`, `WRITES_INTERRUPTED` | every other read or write is interrupted by a signal |
-| `CHANGED=FILE`, `CHANGE_AT=N` | before the read of this number the file is cut to `CHANGE_TO` bytes, or the text `CHANGE_BY` is put behind it |
+| `CHANGED=FILE`, `CHANGE_AT=N` | before the read of this number the file is cut or grows |
+| `CHANGE_TO=SIZE`, `CHANGE_BY=TEXT` | to how many bytes, or the text that comes behind its end |
 | `ASKED` | at the end the counts are said on standard error |
 """
 import os

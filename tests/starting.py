@@ -2,8 +2,9 @@
 
 A library that is loaded in front of the C library has the program wait once it is linked. For each
 run it is told the words, forks, and the child goes on with what the program has before `main`. So a
-run has fresh memory, and the program is loaded and linked once, which takes longer than a small comparison. Standard output and
-standard error of the runs are files in memory, and standard input is a pipe or empty.
+run has fresh memory, and the program is loaded and linked once, which takes longer than a small
+comparison. Standard output and standard error of the runs are files in memory, and standard input is
+a pipe or empty.
 """
 import os
 import pathlib
