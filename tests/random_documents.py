@@ -447,11 +447,11 @@ def arguments(options):
     return words + ["--input", "ndjson"] * (options["input"] or options["piped"] is not None)
 
 
-def run_pair(program, pair, folder):
+def run_pair(program, pair, folder, run=runs.run):
     """Runs the program over a pair in a folder, where one of its files may come by standard input."""
     piped, contents = pair.options["piped"], (pair.left_bytes, pair.right_bytes)
     for name, content in zip(pair.options["files"], contents):
         (pathlib.Path(folder) / name).write_bytes(content)
     given = b"" if piped is None else contents[piped]
     words = [*arguments(pair.options), *document_reports.named_files(pair.options)]
-    return runs.run([program, "diff", *[word.encode() for word in words]], given, folder)
+    return run([program, "diff", *[word.encode() for word in words]], given, folder)

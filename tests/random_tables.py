@@ -176,11 +176,11 @@ def named_files(options):
     return names
 
 
-def run_pair(program, pair, folder):
+def run_pair(program, pair, folder, run=runs.run):
     """Runs the program over a pair in a folder, where one of its texts may come by standard input."""
     piped, texts = pair.options["piped"], (pair.left_bytes, pair.right_bytes)
     for name, content in zip(pair.options["files"], texts):
         (pathlib.Path(folder) / name).write_bytes(content)
     files = [name.encode("latin-1") for name in named_files(pair.options)]
     given = b"" if piped is None else texts[piped]
-    return runs.run([program, "diff", *arguments(pair.options), *files], given, folder)
+    return run([program, "diff", *arguments(pair.options), *files], given, folder)

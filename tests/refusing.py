@@ -9,6 +9,8 @@ A library that is loaded in front of the C library counts the requests, and refu
 | `READ_FAILS=N`, `WRITE_FAILS=N` | the read or the write of this number fails |
 | `BYTEWISE` | a read or a write moves a byte at most |
 | `READS_INTERRUPTED`, `WRITES_INTERRUPTED` | every other read or write is interrupted by a signal |
+| `CHANGED=FILE`, `CHANGE_AT=N` | before the read of this number the file is cut or grows |
+| `CHANGE_TO=SIZE`, `CHANGE_BY=TEXT` | to how many bytes, or the text that comes behind its end |
 | `ASKED` | at the end the counts are said on standard error |
 """
 import os
@@ -22,13 +24,16 @@ SOURCE = r"""
 #define _GNU_SOURCE
 #include <dlfcn.h>
 #include <errno.h>
+#include <fcntl.h>
 #include <stdio.h>
 #include <stdlib.h>
+#include <string.h>
+#include <sys/syscall.h>
 #include <unistd.h>
 
 enum { BEGIN = 77777, END = 88888 };
 
-static long asked, begun, ended, within, refused = -1, reads, writes, read_fails = -1, write_fails = -1;
+static long asked, begun, ended, within, refused = -1, reads, writes, read_fails = -1, write_fails = -1, change_at = -1;
 static int is_ready, is_silent, is_within, is_bytewise, reads_interrupted, writes_interrupted;
 
 static long number_of(const char *name) {
@@ -41,6 +46,7 @@ static void prepare(void) {
     refused = number_of("REFUSED");
     read_fails = number_of("READ_FAILS");
     write_fails = number_of("WRITE_FAILS");
+    change_at = number_of("CHANGE_AT");
     is_silent = getenv("SILENT") != NULL;
     is_bytewise = getenv("BYTEWISE") != NULL;
     reads_interrupted = getenv("READS_INTERRUPTED") != NULL;
@@ -91,10 +97,19 @@ static int fault_of(long number, long fails, int is_interrupted) {
     return is_interrupted && number % 2 ? EINTR : 0;
 }
 
+/* Cuts a file, or puts a text behind it. */
+static void change(const char *name, const char *by) {
+    int file = open(name, O_WRONLY | O_APPEND);
+    if (file < 0) abort();
+    if (by ? syscall(SYS_write, file, by, strlen(by)) < 0 : ftruncate(file, number_of("CHANGE_TO"))) abort();
+    close(file);
+}
+
 ssize_t read(int fd, void *to, size_t size) {
     static ssize_t (*real)(int, void *, size_t);
     if (!real) real = dlsym(RTLD_NEXT, "read");
     prepare();
+    if (reads + 1 == change_at) change(getenv("CHANGED"), getenv("CHANGE_BY"));
     int fault = fault_of(++reads, read_fails, reads_interrupted);
     if (fault) { errno = fault; return -1; }
     return real(fd, to, is_bytewise && size > 1 ? 1 : size);
