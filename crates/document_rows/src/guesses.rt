@@ -15,14 +15,20 @@ const BLOCK: usize = 256;
 /// A row for each of the lines that come next. One that is no row of the table stands for none.
 #[derive(Drop)]
 pub(crate) struct Guesses {
-    pub(crate) rows: Vec<usize>,
-    pub(crate) next: usize,
+    rows: Vec<usize>,
+    // How many of them are taken.
+    next: usize,
 }
 
 impl Guesses {
     /// Returns no guesses.
     pub(crate) fn none(alloc: Global) -> Guesses {
         let rows = Vec::new(alloc);
+        Guesses { rows, next: 0 }
+    }
+
+    /// Returns these rows as guesses.
+    pub(crate) fn of(rows: Vec<usize>) -> Guesses {
         Guesses { rows, next: 0 }
     }
 
@@ -62,7 +68,7 @@ pub(crate) fn lines_in<'a>(alloc: Global, bytes: &'a [u8]) -> Result<Vec<&'a [u8
     Ok(lines)
 }
 
-/// Returns the line of each of these rows, and an empty one where there is no such row.
+/// Returns the line of each of these rows, and an empty one in place of a row that is none.
 fn lines_of<'a>(
     alloc: Global,
     table: &'a Table,
@@ -97,8 +103,8 @@ fn are_similar(line: &[u8], other: &[u8]) -> bool {
     similar
 }
 
-/// Returns each of these rows whose line is similar to the one at its place, and a row that is none in
-/// place of the others. So the lines of the rows are at hand when they are compared.
+/// Returns each of these rows whose line is similar to the one at its place, and a row that is none
+/// in place of the others. So the lines of the rows are at hand when they are compared.
 pub(crate) fn likely_rows(
     alloc: Global,
     table: &Table,

@@ -139,7 +139,8 @@ impl<'a> Known<'a> {
         Ok(rows)
     }
 
-    /// Returns a row that each of the lines in some bytes may have been read from.
+    /// Returns for each line that ends in some bytes, up to a block of them, a row that it may have
+    /// been read from. What is read of one line waits for no other one.
     pub(crate) fn guesses_for(&self, alloc: Global, bytes: &[u8]) -> Result<Guesses, AllocError>
         requires { (reading : Reading) × (keys : List Path) × KnowsLines reading keys self.now }
     {
@@ -150,7 +151,7 @@ impl<'a> Known<'a> {
         let slots = self.slots_for(alloc, &lines)?;
         let rows = self.rows_in(alloc, &slots)?;
         let rows = likely_rows(alloc, table, rows, &lines)?;
-        Ok(Guesses { rows, next: 0 })
+        Ok(Guesses::of(rows))
     }
 
     /// Returns a row that may have been read from a line.
@@ -161,8 +162,8 @@ impl<'a> Known<'a> {
         self.slots[slot_of(line, self.slots.len())] as usize
     }
 
-    /// Appends the row of a line, if it is known. Returns whether it is. `number` is the line's, and
-    /// `guess` a row that it may have.
+    /// Appends the row of a line, if it is known. Returns whether it is. `number` is the line's,
+    /// and `guess` a row that it may have.
     pub(crate) fn push_row(
         &self,
         rows: &mut Rows,
