@@ -53,7 +53,7 @@ const SWITCH: CliOption = CliOption {
 };
 
 /// The options of the command.
-static OPTIONS: [CliOption; 24] = [
+static OPTIONS: [CliOption; 25] = [
     CliOption {
         id: "key",
         takes: Takes::List,
