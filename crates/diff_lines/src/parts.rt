@@ -1,17 +1,15 @@
 //! The parts of a line of a report.
 
-ghost use Rattle.std.specs.Prelude.{◌≡◌, ◌++◌, IfSome, OnOk, option_and_then, option_map};
+ghost use Rattle.std.specs.Prelude.{◌≡◌, IfSome, option_and_then, option_map};
 ghost use Rattle.json.specs.Find.{as_array, as_object, get};
 ghost use Rattle.json.specs.Tree.{HasNumbers, ItemsHaveNumbers, MembersHaveNumbers};
 ghost use Rattle.json.specs.Value.{items_view, members_view, value_view};
-ghost use Rattle.diff_markdown.specs.Rows.{number_at, number_cell, string_at};
+ghost use Rattle.diff_lines.specs.Parts.{number_at, string_at};
 
-use crate::escapes::push_safe;
 use json::Value;
-use std::alloc::AllocError;
 
 /// Returns the last member of a name, if there is one.
-pub(crate) fn part_of<'v, 'a>(value: &'v Value<'a>, name: &str) -> Option<&'v Value<'a>>
+pub fn part_of<'v, 'a>(value: &'v Value<'a>, name: &str) -> Option<&'v Value<'a>>
     requires { HasNumbers (value_view value.now) }
     ensures found { option_map (λ v. value_view v.now) result ≡ get name.now (value_view value.now) }
     ensures numbers { IfSome result (λ v. HasNumbers (value_view v.now)) }
@@ -20,10 +18,7 @@ pub(crate) fn part_of<'v, 'a>(value: &'v Value<'a>, name: &str) -> Option<&'v Va
 }
 
 /// Returns the members of a part that is an object.
-pub(crate) fn members_at<'v, 'a>(
-    value: &'v Value<'a>,
-    name: &str,
-) -> Option<&'v Vec<(&'a str, Value<'a>)>>
+pub fn members_at<'v, 'a>(value: &'v Value<'a>, name: &str) -> Option<&'v Vec<(&'a str, Value<'a>)>>
     requires { HasNumbers (value_view value.now) }
     ensures found { option_map (λ v. members_view v.now.items) result
         ≡ option_and_then as_object (get name.now (value_view value.now)) }
@@ -38,7 +33,7 @@ pub(crate) fn members_at<'v, 'a>(
 }
 
 /// Returns the items of a part that is an array.
-pub(crate) fn items_at<'v, 'a>(value: &'v Value<'a>, name: &str) -> Option<&'v Vec<Value<'a>>>
+pub fn items_at<'v, 'a>(value: &'v Value<'a>, name: &str) -> Option<&'v Vec<Value<'a>>>
     requires { HasNumbers (value_view value.now) }
     ensures found { option_map (λ v. items_view v.now.items) result
         ≡ option_and_then as_array (get name.now (value_view value.now)) }
@@ -53,8 +48,8 @@ pub(crate) fn items_at<'v, 'a>(value: &'v Value<'a>, name: &str) -> Option<&'v V
 }
 
 /// Returns the text of the number that a part is, or nothing.
-#[tactic(auto, unfolding(crate::specs::Rows::number_at))]
-pub(crate) fn number_at<'a>(value: &Value<'a>, name: &str) -> &'a str
+#[tactic(auto, unfolding(crate::specs::Parts::number_at))]
+pub fn number_at<'a>(value: &Value<'a>, name: &str) -> &'a str
     ensures { result.now ≡ number_at name.now (value_view value.now) }
 {
     match value.get(name) {
@@ -67,8 +62,8 @@ pub(crate) fn number_at<'a>(value: &Value<'a>, name: &str) -> &'a str
 }
 
 /// Returns the string that a part is, or nothing.
-#[tactic(auto, unfolding(crate::specs::Rows::string_at))]
-pub(crate) fn string_at<'a>(value: &Value<'a>, name: &str) -> &'a str
+#[tactic(auto, unfolding(crate::specs::Parts::string_at))]
+pub fn string_at<'a>(value: &Value<'a>, name: &str) -> &'a str
     ensures { result.now ≡ string_at name.now (value_view value.now) }
 {
     match value.get(name) {
@@ -78,16 +73,4 @@ pub(crate) fn string_at<'a>(value: &Value<'a>, name: &str) -> &'a str
         },
         None => "",
     }
-}
-
-/// Appends a number as it is written.
-pub(crate) fn push_number(
-    out: &mut Vec<u8>,
-    value: &Value<'_>,
-    name: &str,
-) -> Result<(), AllocError>
-    ensures { OnOk result (out.new.items
-        ≡ out.old.items ++ number_cell name.now (value_view value.now)) }
-{
-    push_safe(out, number_at(value, name).as_bytes())
 }

@@ -6,9 +6,9 @@ use Rattle.std.specs.Borrow.{Bor}
 use Rattle.std.specs.List.{flat_map}
 use Rattle.std.specs.Prelude.{All, IsSome, codes, map, option_and_then, option_map}
 use Rattle.json.specs.Json.{Json}
-use Rattle.diff_markdown.specs.Markdown.{kind_named, line_of, line_value}
-use Rattle.diff_markdown.specs.Rows.{string_at}
-use Rattle.diff_markdown.specs.declared.line.Kind.{Kind}
+use Rattle.diff_lines.specs.Lines.{kind_named, line_of, line_value}
+use Rattle.diff_lines.specs.Parts.{string_at}
+use Rattle.diff_lines.specs.declared.line.Kind.{Kind}
 
 -- the kind of a value, with the value
 abbrev known : Json → Option (Kind × Json)
