@@ -2,12 +2,13 @@
 use Rattle.std.specs.Prelude.{◌≡◌, ◌++◌, [], ◌∷◌, Some, codes, refl}
 use Rattle.json.specs.Json.{Json, null, number, string, array, object, no_items, item, no_members, member}
 use Rattle.json.specs.Print.{escape_byte, print_from}
+use Rattle.diff_lines.specs.Parts.{number_at, string_at}
 use Rattle.diff_markdown.specs.Cells.{name_text, pair_cell, pairs_cell, value_text}
 use Rattle.diff_markdown.specs.Counts.{counts_text, kinds_text, skipped_note}
 use Rattle.diff_markdown.specs.Escapes.{safe, safe_byte}
 use Rattle.diff_markdown.specs.Markdown.{rows_by, table}
-use Rattle.diff_markdown.specs.Rows.{change_row, change_rows, column_row, lone_row, number_at, row_name, string_at}
-use Rattle.diff_markdown.specs.declared.line.Kind.TheVariants.{Column, Changed, Removed, Added}
+use Rattle.diff_markdown.specs.Rows.{change_row, change_rows, column_row, lone_row, row_name}
+use Rattle.diff_lines.specs.declared.line.Kind.TheVariants.{Column, Changed, Removed, Added}
 
 -- a bar and a backquote
 marks : safe (codes "\"a|b`c\"") ≡ codes "\"a\\u007cb\\u0060c\""

@@ -1,6 +1,5 @@
 mod Examples
 pub mod InsideLaws
-pub mod LineLemmas
 pub mod NumberLemmas
 pub mod PartLemmas
 pub mod SafeLemmas

@@ -6,9 +6,10 @@ use Rattle.std.specs.Prelude.{ℕ, ◌==◌, if◌then◌else◌, List, [], ◌+
 use Rattle.std.specs.Str.{bytes_eq}
 use Rattle.json.specs.Find.{get}
 use Rattle.json.specs.Json.{Json}
+use Rattle.diff_lines.specs.Parts.{number_at}
 use Rattle.diff_markdown.specs.Cells.{pairs_cell}
 use Rattle.diff_markdown.specs.Escapes.{safe}
-use Rattle.diff_markdown.specs.Rows.{number_at, number_cell}
+use Rattle.diff_markdown.specs.Rows.{number_cell}
 
 -- how many rows are of each kind
 unfoldable pub kinds_text : Json → List ℕ

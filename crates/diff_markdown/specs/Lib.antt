@@ -1,6 +1,5 @@
 pub mod Cells
 pub mod Counts
-pub mod Errors
 pub mod Escapes
 pub mod Laws
 pub mod Markdown

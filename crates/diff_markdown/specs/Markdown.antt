@@ -3,37 +3,15 @@
 -- With the one line {"kind":"counts","changed":0,"removed":0,"added":0,"same":4,"not_shown":0} the report of a.csv and b.csv is
 -- `a.csv` and `b.csv`: 0 changed, 0 removed, 0 added, 4 the same.
 use Rattle.std.specs.List.{flat_map}
-use Rattle.std.specs.Prelude.{ℕ, ◌==◌, if◌then◌else◌, List, [], ◌++◌, length, codes, Option, Some, None, option_and_then, option_map, All, IsSome}
-use Rattle.std.specs.Str.{bytes_eq, IsUtf8}
+use Rattle.std.specs.Prelude.{ℕ, ◌==◌, if◌then◌else◌, List, [], ◌++◌, length, codes, Option, Some, None}
 use Rattle.std.specs.Str.Lines.{lines}
-use Rattle.json.specs.Json.{Json, if_last, value}
-use Rattle.json.specs.Lex.{tokens}
-use Rattle.diff_markdown.specs.declared.line.Kind.{Kind}
-use Rattle.diff_markdown.specs.declared.line.Kind.TheVariants.{Column, Changed, Removed, Added, Counts}
+use Rattle.json.specs.Json.{Json}
+use Rattle.diff_lines.specs.declared.line.Kind.{Kind}
+use Rattle.diff_lines.specs.declared.line.Kind.TheVariants.{Column, Changed, Removed, Added, Counts}
+use Rattle.diff_lines.specs.Lines.{line_of}
 use Rattle.diff_markdown.specs.Cells.{name_cell}
 use Rattle.diff_markdown.specs.Counts.{counts_text}
-use Rattle.diff_markdown.specs.Rows.{added_row, changed_rows, column_row, removed_row, string_at}
-
--- the kind of line that a word names
-unfoldable pub kind_named : List ℕ → Option Kind
-kind_named word =
-    if bytes_eq word (codes "column") then Some Column
-    else (if bytes_eq word (codes "changed") then Some Changed
-    else (if bytes_eq word (codes "removed") then Some Removed
-    else (if bytes_eq word (codes "added") then Some Added
-    else (if bytes_eq word (codes "counts") then Some Counts else None))))
-
--- how deep a line may nest: some levels deeper than a document, which may be a part of it
-abbrev pub most_depth : ℕ
-most_depth = 256
-
--- the value that a line is
-abbrev pub line_value : List ℕ → Option Json
-line_value line = option_and_then (λ p. if_last p.0 p.1) (value most_depth (tokens line))
-
--- the kind of a line and its value, where it is JSON with a kind
-unfoldable pub line_of : List ℕ → Option (Kind × Json)
-line_of line = option_and_then (λ j. option_map (λ k. (k, j)) (kind_named (string_at (codes "kind") j))) (line_value line)
+use Rattle.diff_markdown.specs.Rows.{added_row, changed_rows, column_row, removed_row}
 
 -- what a line gives to the table
 abbrev pub rows_by : Kind → Json → List ℕ
@@ -76,8 +54,3 @@ table rows = if length rows == 0 then [] else codes "\n| | Key | Part | Left | R
 -- a report of two files as Markdown
 unfoldable pub markdown_of : List ℕ → List ℕ → List ℕ → List ℕ
 markdown_of left right report = name_cell left ++ codes " and " ++ name_cell right ++ counts_of (lines report) ++ codes "\n" ++ table (rows_of (lines report))
-
--- a text is a report: each line is JSON with a kind
-pub record IsReport (text : List ℕ) : Type 0 where
-  pub utf8 : IsUtf8 text
-  pub each : All (λ l. IsSome (line_of l)) (lines text)

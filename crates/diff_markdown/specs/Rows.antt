@@ -1,20 +1,13 @@
 -- The rows of a table, for the lines of a report.
 --
 -- {"kind":"removed","key":{"id":"2"},"row":2,"line":3} is the row | removed | `id="2"` | | line 3 | |
-use Rattle.std.specs.Prelude.{ℕ, ◌==◌, if◌then◌else◌, List, [], ◌++◌, length, codes, Option, Some, None, option_and_then, unwrap_or}
+use Rattle.std.specs.Prelude.{ℕ, ◌==◌, if◌then◌else◌, List, [], ◌++◌, length, codes, Option, Some, None, option_and_then}
 use Rattle.std.specs.Str.{bytes_eq}
-use Rattle.json.specs.Find.{as_array, as_number, as_object, as_str, get}
+use Rattle.json.specs.Find.{as_array, as_object, get}
 use Rattle.json.specs.Json.{Json, Items, no_items, item, Members, no_members, member}
+use Rattle.diff_lines.specs.Parts.{number_at, string_at}
 use Rattle.diff_markdown.specs.Cells.{name_cell, pairs_cell, side_cell}
 use Rattle.diff_markdown.specs.Escapes.{safe}
-
--- the text of the number that a member is, or nothing
-unfoldable pub number_at : List ℕ → Json → List ℕ
-number_at name j = unwrap_or (option_and_then as_number (get name j)) []
-
--- the string that a member is, or nothing
-unfoldable pub string_at : List ℕ → Json → List ℕ
-string_at name j = unwrap_or (option_and_then as_str (get name j)) []
 
 -- a number as it is written
 abbrev pub number_cell : List ℕ → Json → List ℕ

@@ -6,9 +6,10 @@ ghost use Rattle.json.specs.Find.{get};
 ghost use Rattle.json.specs.Tree.{HasNumbers, MembersHaveNumbers};
 ghost use Rattle.json.specs.Value.{members_view, value_view};
 ghost use Rattle.diff_markdown.specs.Cells.{is_word, is_word_byte, name_cell, name_text, pair_cell, pairs_after, pairs_cell, side_cell, value_text};
+ghost use Rattle.diff_markdown.specs.Rows.{number_cell};
 
 use crate::escapes::push_safe;
-use crate::parts::{members_at, part_of};
+use diff_lines::parts::{members_at, number_at, part_of};
 use json::{Value, to_vec};
 use std::alloc::{AllocError, Global};
 
@@ -156,4 +157,16 @@ pub(crate) fn push_pairs_cell(
         Some(members) => push_pairs(alloc, out, members),
         None => Ok(()),
     }
+}
+
+/// Appends the number that a member is, as it is written.
+pub(crate) fn push_number(
+    out: &mut Vec<u8>,
+    value: &Value<'_>,
+    name: &str,
+) -> Result<(), AllocError>
+    ensures { OnOk result (out.new.items
+        ≡ out.old.items ++ number_cell name.now (value_view value.now)) }
+{
+    push_safe(out, number_at(value, name).as_bytes())
 }

@@ -5,9 +5,9 @@ ghost use Rattle.json.specs.Tree.{HasNumbers};
 ghost use Rattle.json.specs.Value.{value_view};
 ghost use Rattle.diff_markdown.specs.Counts.{columns_note, counts_text, hidden_note, kinds_text, skipped_note};
 
-use crate::cells::push_pairs_cell;
+use crate::cells::{push_number, push_pairs_cell};
 use crate::escapes::push_safe;
-use crate::parts::{number_at, push_number};
+use diff_lines::parts::number_at;
 use json::Value;
 use std::alloc::{AllocError, Global};
 

@@ -3,10 +3,8 @@
 
 mod cells;
 mod counts;
-pub mod error;
 mod escapes;
 pub mod laws;
 mod line;
 pub mod markdown;
-mod parts;
 mod rows;

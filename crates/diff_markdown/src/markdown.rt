@@ -1,12 +1,14 @@
 //! Reports as Markdown.
 
-ghost use Rattle.std.specs.Prelude.{◌≡◌, ◌++◌, All, Err, IfOk, IsSome, OnOk, map};
+ghost use Rattle.std.specs.Prelude.{◌≡◌, ◌++◌, All, Err, IsSome, OnOk, map};
 ghost use Rattle.std.specs.Str.Lines.{lines};
-ghost use Rattle.diff_markdown.specs.Markdown.{IsReport, counts_of, line_of, markdown_of, rows_of, table};
+ghost use Rattle.diff_lines.specs.Lines.{IsReport, line_of};
+ghost use Rattle.diff_markdown.specs.Markdown.{counts_of, markdown_of, rows_of, table};
 
 use crate::cells::push_name_cell;
-use crate::error::MarkdownError;
 use crate::line::push_line;
+use diff_lines::error::LineError;
+use diff_lines::lines::lines_of;
 use json::Scratch;
 use std::alloc::{AllocError, Global};
 use std::str::from_utf8;
@@ -17,13 +19,13 @@ fn push_lines(
     head: &mut Vec<u8>,
     rows: &mut Vec<u8>,
     lines: &[&str],
-) -> Result<(), MarkdownError>
+) -> Result<(), LineError>
     ensures each { OnOk result (All (λ l. IsSome (line_of l)) (map (λ l. l.now) lines.now)) }
     ensures head { OnOk result (head.new.items
         ≡ head.old.items ++ counts_of (map (λ l. l.now) lines.now)) }
     ensures rows { OnOk result (rows.new.items
         ≡ rows.old.items ++ rows_of (map (λ l. l.now) lines.now)) }
-    ensures no_report { result ≡ Err MarkdownError.NoReport
+    ensures no_report { result ≡ Err LineError.NoReport
         → ¬ All (λ l. IsSome (line_of l)) (map (λ l. l.now) lines.now) }
 {
     let mut scratch = Scratch::new(alloc);
@@ -33,24 +35,17 @@ fn push_lines(
     Ok(())
 }
 
-/// Returns the lines of a text.
-fn lines_of(alloc: Global, text: &str) -> Result<Vec<&str>, AllocError>
-    ensures { IfOk result (λ v. map (λ l. l.now) v.items ≡ lines text.now) }
-{
-    text.lines().collect(alloc)
-}
-
 /// Appends what the lines of a text give to the head and to the table.
 fn push_text(
     alloc: Global,
     head: &mut Vec<u8>,
     rows: &mut Vec<u8>,
     text: &str,
-) -> Result<(), MarkdownError>
+) -> Result<(), LineError>
     ensures each { OnOk result (All (λ l. IsSome (line_of l)) (lines text.now)) }
     ensures head { OnOk result (head.new.items ≡ head.old.items ++ counts_of (lines text.now)) }
     ensures rows { OnOk result (rows.new.items ≡ rows.old.items ++ rows_of (lines text.now)) }
-    ensures no_report { result ≡ Err MarkdownError.NoReport
+    ensures no_report { result ≡ Err LineError.NoReport
         → ¬ All (λ l. IsSome (line_of l)) (lines text.now) }
 {
     let lines = lines_of(alloc, text)?;
@@ -82,14 +77,14 @@ pub fn push_markdown(
     left: &str,
     right: &str,
     report: &[u8],
-) -> Result<(), MarkdownError>
+) -> Result<(), LineError>
     ensures report { OnOk result (IsReport report.now) }
     ensures text { OnOk result (out.new.items
         ≡ out.old.items ++ markdown_of left.now right.now report.now) }
-    ensures no_report { result ≡ Err MarkdownError.NoReport → ¬ IsReport report.now }
+    ensures no_report { result ≡ Err LineError.NoReport → ¬ IsReport report.now }
 {
     let Ok(text) = from_utf8(report) else {
-        return Err(MarkdownError::NoReport);
+        return Err(LineError::NoReport);
     };
     let mut rows = Vec::new(alloc);
     push_name_cell(alloc, out, left)?;

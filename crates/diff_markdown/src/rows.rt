@@ -6,8 +6,8 @@ ghost use Rattle.json.specs.Tree.{HasNumbers, ItemsHaveNumbers, MembersHaveNumbe
 ghost use Rattle.json.specs.Value.{items_view, members_view, value_view};
 ghost use Rattle.diff_markdown.specs.Rows.{added_row, change_row, changed_rows, column_row, item_rows, lacking, lone_row, member_rows, removed_row, row_name, rows_in_array, rows_in_object};
 
-use crate::cells::{push_name_cell, push_pairs_cell, push_side};
-use crate::parts::{items_at, members_at, push_number, string_at};
+use crate::cells::{push_name_cell, push_number, push_pairs_cell, push_side};
+use diff_lines::parts::{items_at, members_at, string_at};
 use json::Value;
 use std::alloc::{AllocError, Global};
 

@@ -2,7 +2,8 @@ use Rattle.std.proofs.Common.{rules, arith, ◌≡◌, ◌++◌, ◌∙◌, [], 
 use Rattle.json.specs.Tree.{HasNumbers, MembersHaveNumbers}
 use Rattle.json.specs.Value.{members_view, value_view}
 use Rattle.diff_markdown.specs.Cells.{pair_cell, pairs_after}
-use Rattle.diff_markdown.proofs.PartLemmas.{all_pairs, member_numbers, pair_written}
+use Rattle.diff_lines.specs.PartLaws.{member_numbers}
+use Rattle.diff_markdown.proofs.PartLemmas.{all_pairs, pair_written}
 use Rattle.diff_markdown.proofs.cells.push_pairs.Goals as goal
 
 pub push_pair-requires : goal.push_pair-requires

@@ -4,7 +4,7 @@ use Rattle.json.specs.Find.{get}
 use Rattle.json.specs.Value.{value_view}
 use Rattle.diff_markdown.specs.Cells.{pairs_cell}
 use Rattle.diff_markdown.specs.Counts.{columns_note, counts_text, hidden_note}
-use Rattle.diff_markdown.specs.Rows.{number_at}
+use Rattle.diff_lines.specs.Parts.{number_at}
 use Rattle.diff_markdown.proofs.TextLemmas.{appended}
 use Rattle.diff_markdown.proofs.counts.push_counts.Goals as goal
 

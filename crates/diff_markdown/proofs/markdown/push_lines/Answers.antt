@@ -1,8 +1,9 @@
 use Rattle.std.proofs.Common.{rules, arith, ◌≡◌, Err, ap}
 use Rattle.std.specs.Prelude.{IsSome}
-use Rattle.diff_markdown.specs.Markdown.{counts_in, line_of, rows_in}
-use Rattle.diff_markdown.specs.declared.error.MarkdownError.TheVariants.{NoReport}
-use Rattle.diff_markdown.proofs.LineLemmas.{each_more, holds_of_one, none_is, written_more}
+use Rattle.diff_lines.specs.Lines.{line_of}
+use Rattle.diff_markdown.specs.Markdown.{counts_in, rows_in}
+use Rattle.diff_lines.specs.declared.error.LineError.TheVariants.{NoReport}
+use Rattle.diff_lines.specs.LineLaws.{each_more, holds_of_one, none_is, written_more}
 use Rattle.diff_markdown.proofs.markdown.push_lines.Goals as goal
 
 pub loop-line-preserved : goal.loop-line-preserved

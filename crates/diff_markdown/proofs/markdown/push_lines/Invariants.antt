@@ -1,6 +1,7 @@
 use Rattle.std.proofs.Common.{◌≡◌, ◌++◌, take}
 use Rattle.std.specs.Prelude.{All, IsSome, map}
-use Rattle.diff_markdown.specs.Markdown.{counts_of, line_of, rows_of}
+use Rattle.diff_lines.specs.Lines.{line_of}
+use Rattle.diff_markdown.specs.Markdown.{counts_of, rows_of}
 use Rattle.diff_markdown.proofs.markdown.push_lines.Given as goal
 
 abbrev pub invariant-loop-line : goal.invariant-loop-line

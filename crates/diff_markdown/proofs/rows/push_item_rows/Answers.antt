@@ -2,7 +2,8 @@ use Rattle.std.proofs.Common.{arith, ◌++◌, ◌∙◌, sym, ap, subst}
 use Rattle.json.specs.Tree.{HasNumbers, ItemsHaveNumbers}
 use Rattle.json.specs.Value.{items_view, value_view}
 use Rattle.diff_markdown.specs.Rows.{item_rows}
-use Rattle.diff_markdown.proofs.PartLemmas.{all_item_rows, item_numbers, item_row_written}
+use Rattle.diff_lines.specs.PartLaws.{item_numbers}
+use Rattle.diff_markdown.proofs.PartLemmas.{all_item_rows, item_row_written}
 use Rattle.diff_markdown.proofs.rows.push_item_rows.Goals as goal
 
 pub push_change-requires : goal.push_change-requires

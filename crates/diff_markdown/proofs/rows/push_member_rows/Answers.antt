@@ -2,7 +2,8 @@ use Rattle.std.proofs.Common.{rules, arith, ◌≡◌, ◌++◌, ◌∙◌, sym,
 use Rattle.json.specs.Tree.{HasNumbers, MembersHaveNumbers}
 use Rattle.json.specs.Value.{members_view, value_view}
 use Rattle.diff_markdown.specs.Rows.{change_row, member_rows}
-use Rattle.diff_markdown.proofs.PartLemmas.{all_member_rows, member_numbers, member_row_written}
+use Rattle.diff_lines.specs.PartLaws.{member_numbers}
+use Rattle.diff_markdown.proofs.PartLemmas.{all_member_rows, member_row_written}
 use Rattle.diff_markdown.proofs.rows.push_member_rows.Goals as goal
 
 pub push_change-requires : goal.push_change-requires

@@ -1,0 +1,8 @@
+pub mod CutLemmas
+mod Examples
+pub mod LineLemmas
+pub mod PartLemmas
+pub mod RoomLaws
+pub mod ShownLaws
+pub mod TextLemmas
+pub mod WidthLaws

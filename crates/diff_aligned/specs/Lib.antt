@@ -1,0 +1,10 @@
+pub mod Aligned
+pub mod Counts
+pub mod Cut
+pub mod Laws
+pub mod Paragraphs
+pub mod Pieces
+pub mod Rooms
+pub mod Rows
+pub mod Shown
+pub mod Texts

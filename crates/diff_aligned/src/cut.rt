@@ -1,0 +1,100 @@
+//! How many columns of a terminal a text takes, and texts that are cut in the middle.
+
+ghost use Rattle.std.specs.Prelude.{◌≡◌, ◌≤◌, ◌++◌, ◌-◌, OnOk};
+ghost use Rattle.diff_aligned.specs.Cut.{beginning, char_columns, cut, ending, shortened, spaces, width};
+
+use std::alloc::AllocError;
+use unicode_width::UnicodeWidthChar;
+
+/// Returns the columns that a character takes by itself.
+#[tactic(auto, unfolding(crate::specs::Cut::char_columns))]
+fn char_columns(c: char) -> usize
+    ensures value { result ≡ char_columns c }
+    ensures bound { result ≤ 3 }
+{
+    match c.width() {
+        Some(columns) => columns,
+        None => 0,
+    }
+}
+
+/// Returns the columns that a text takes, character by character.
+pub(crate) fn width_of(text: &[char]) -> usize
+    ensures { result ≡ width text.now }
+{
+    let mut total = 0;
+    for c in text {
+        total += char_columns(*c);
+    }
+    total
+}
+
+/// Appends the longest beginning of a text that has room.
+fn push_beginning(out: &mut Vec<char>, text: &[char], room: usize) -> Result<(), AllocError>
+    ensures { OnOk result (out.new.items ≡ out.old.items ++ beginning room text.now) }
+{
+    let mut left = room;
+    for c in text {
+        let columns = char_columns(*c);
+        if columns > left {
+            return Ok(());
+        }
+        left -= columns;
+        out.push(*c)?;
+    }
+    Ok(())
+}
+
+/// Appends the longest end of a text that has room, without combining marks whose letter is not in
+/// it.
+fn push_ending(out: &mut Vec<char>, text: &[char], room: usize) -> Result<(), AllocError>
+    ensures { OnOk result (out.new.items ≡ out.old.items ++ ending room text.now) }
+{
+    let mut total = width_of(text);
+    for i in 0..text.len() {
+        let columns = char_columns(text[i]);
+        if total <= room && columns > 0 {
+            out.extend_from_slice(&text[i..])?;
+            return Ok(());
+        }
+        total -= columns;
+    }
+    Ok(())
+}
+
+/// Appends a text that has no room: its beginning, `…` and its end.
+fn push_shortened(out: &mut Vec<char>, text: &[char], room: usize) -> Result<(), AllocError>
+    ensures { OnOk result (out.new.items ≡ out.old.items ++ shortened room text.now) }
+{
+    if room == 0 {
+        return Ok(());
+    }
+    let half = (room - 1) / 2;
+    push_beginning(out, text, room - 1 - half)?;
+    out.push('…')?;
+    push_ending(out, text, half)?;
+    Ok(())
+}
+
+/// Appends a text as it is where it has room, and else cut in the middle.
+#[tactic(auto, unfolding(crate::specs::Cut::cut))]
+pub(crate) fn push_cut(out: &mut Vec<char>, text: &[char], room: usize) -> Result<(), AllocError>
+    ensures { OnOk result (out.new.items ≡ out.old.items ++ cut room text.now) }
+{
+    if width_of(text) <= room {
+        out.extend_from_slice(text)?;
+        return Ok(());
+    }
+    push_shortened(out, text, room)?;
+    Ok(())
+}
+
+/// Appends spaces.
+pub(crate) fn push_spaces(out: &mut Vec<char>, n: usize) -> Result<(), AllocError>
+    ensures { OnOk result (out.new.items ≡ out.old.items ++ spaces n) }
+{
+    for _done in 0..n {
+        out.push(' ')?;
+    }
+    Ok(())
+}

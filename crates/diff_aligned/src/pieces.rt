@@ -1,0 +1,186 @@
+//! The lines of rows, in colours.
+
+ghost use Rattle.std.specs.Prelude.{◌≡◌, ◌++◌, codes, encode_utf8_all, IfOk, OnOk};
+ghost use Rattle.diff_aligned.specs.Cut.{cut, filler, padded};
+ghost use Rattle.diff_aligned.specs.Pieces.{change_pieces, line_bytes, lone_pieces, row_pieces};
+ghost use Rattle.diff_aligned.specs.Rows.{row_view};
+ghost use Rattle.diff_words.specs.Colors.{painted};
+
+use crate::cut::{push_cut, push_spaces, width_of};
+use crate::rooms::Rooms;
+use crate::rows::{Mark, Row};
+use crate::shown::push_ascii;
+use diff_words::colors::{Color, push_color};
+use std::alloc::{AllocError, Global};
+
+/// Appends characters in UTF-8.
+pub(crate) fn push_chars(out: &mut Vec<u8>, text: &[char]) -> Result<(), AllocError>
+    ensures { OnOk result (out.new.items ≡ out.old.items ++ encode_utf8_all text.now) }
+{
+    for c in text {
+        let mut buffer = [0; 4];
+        out.extend_from_slice(c.encode_utf8(&mut buffer).as_bytes())?;
+    }
+    Ok(())
+}
+
+/// Appends characters in a colour, where there are colours.
+#[tactic(auto, unfolding(diff_words::specs::Colors::painted))]
+fn push_painted(
+    out: &mut Vec<u8>,
+    colored: bool,
+    color: Color,
+    text: &[char],
+) -> Result<(), AllocError>
+    ensures { OnOk result (out.new.items
+        ≡ out.old.items ++ painted colored color (encode_utf8_all text.now)) }
+{
+    push_color(out, colored, color)?;
+    push_chars(out, text)?;
+    push_color(out, colored, Color::Plain)?;
+    Ok(())
+}
+
+/// Returns a text as it is where it has room, and else cut in the middle.
+pub(crate) fn cut_of(alloc: Global, text: &[char], room: usize) -> Result<Vec<char>, AllocError>
+    ensures { IfOk result (λ v. v.items ≡ cut room text.now) }
+{
+    let mut out = Vec::new(alloc);
+    push_cut(&mut out, text, room)?;
+    Ok(out)
+}
+
+/// Appends the spaces that fill the room behind a text.
+fn push_filler(out: &mut Vec<char>, text: &[char], room: usize) -> Result<(), AllocError>
+    ensures { OnOk result (out.new.items ≡ out.old.items ++ filler room text.now) }
+{
+    push_spaces(out, room.saturating_sub(width_of(text)))
+}
+
+/// Appends a text, cut or filled up with spaces.
+#[tactic(auto, unfolding(crate::specs::Cut::padded))]
+fn push_padded(
+    alloc: Global,
+    out: &mut Vec<char>,
+    text: &[char],
+    room: usize,
+) -> Result<(), AllocError>
+    ensures { OnOk result (out.new.items ≡ out.old.items ++ padded room text.now) }
+{
+    let text = cut_of(alloc, text, room)?;
+    out.extend_from_slice(&text)?;
+    push_filler(out, &text, room)?;
+    Ok(())
+}
+
+/// Returns what stands between the key of a row that changed and its left side.
+fn middle_of(alloc: Global, rooms: &Rooms, row: &Row) -> Result<Vec<char>, AllocError>
+    ensures { IfOk result (λ v. v.items
+        ≡ filler rooms.now.key (cut rooms.now.key row.now.key.items) ++ codes "  "
+        ++ padded rooms.now.part row.now.part.items ++ codes "  ") }
+{
+    let key = cut_of(alloc, &row.key, rooms.key)?;
+    let mut text = Vec::new(alloc);
+    push_filler(&mut text, &key, rooms.key)?;
+    push_ascii(&mut text, b"  ")?;
+    push_padded(alloc, &mut text, &row.part, rooms.part)?;
+    push_ascii(&mut text, b"  ")?;
+    Ok(text)
+}
+
+/// Returns what stands between the two sides of a row that changed.
+fn arrow_of(alloc: Global, left: &[char], room: usize) -> Result<Vec<char>, AllocError>
+    ensures { IfOk result (λ v. v.items ≡ filler room left.now ++ codes " -> ") }
+{
+    let mut text = Vec::new(alloc);
+    push_filler(&mut text, left, room)?;
+    push_ascii(&mut text, b" -> ")?;
+    Ok(text)
+}
+
+/// Appends what stands behind the key of a row that changed: its part and the two sides.
+#[tactic(auto, unfolding(crate::specs::Pieces::change_pieces))]
+fn push_change(
+    alloc: Global,
+    out: &mut Vec<u8>,
+    colored: bool,
+    rooms: &Rooms,
+    row: &Row,
+) -> Result<(), AllocError>
+    ensures { OnOk result (out.new.items
+        ≡ out.old.items ++ line_bytes colored (change_pieces rooms.now (row_view row.now))) }
+{
+    let middle = middle_of(alloc, rooms, row)?;
+    let left = cut_of(alloc, &row.left, rooms.left)?;
+    let arrow = arrow_of(alloc, &left, rooms.left)?;
+    let right = cut_of(alloc, &row.right, rooms.right)?;
+    push_chars(out, &middle)?;
+    push_painted(out, colored, Color::Red, &left)?;
+    push_chars(out, &arrow)?;
+    push_painted(out, colored, Color::Green, &right)?;
+    out.push(b'\n')?;
+    Ok(())
+}
+
+/// Returns the key of a row behind its mark.
+fn marked_key(alloc: Global, mark: &[u8], rooms: &Rooms, row: &Row) -> Result<Vec<char>, AllocError>
+    ensures { IfOk result (λ v. v.items ≡ mark.now ++ cut rooms.now.key row.now.key.items) }
+{
+    let mut text = Vec::new(alloc);
+    push_ascii(&mut text, mark)?;
+    push_cut(&mut text, &row.key, rooms.key)?;
+    Ok(text)
+}
+
+/// Appends the line of a row that one file has alone, in one colour.
+#[tactic(auto, unfolding(crate::specs::Pieces::lone_pieces))]
+fn push_lone(
+    alloc: Global,
+    out: &mut Vec<u8>,
+    colored: bool,
+    color: Color,
+    mark: &[u8],
+    rooms: &Rooms,
+    row: &Row,
+) -> Result<(), AllocError>
+    ensures { OnOk result (out.new.items ≡ out.old.items
+        ++ line_bytes colored (lone_pieces color mark.now rooms.now (row_view row.now))) }
+{
+    let mut text = Vec::new(alloc);
+    push_ascii(&mut text, mark)?;
+    push_padded(alloc, &mut text, &row.key, rooms.key)?;
+    push_ascii(&mut text, b"  ")?;
+    push_cut(&mut text, &row.note, rooms.note)?;
+    push_painted(out, colored, color, &text)?;
+    out.push(b'\n')?;
+    Ok(())
+}
+
+/// Appends the line of a row.
+pub(crate) fn push_row(
+    alloc: Global,
+    out: &mut Vec<u8>,
+    colored: bool,
+    rooms: &Rooms,
+    row: &Row,
+) -> Result<(), AllocError>
+    ensures { OnOk result (out.new.items
+        ≡ out.old.items ++ line_bytes colored (row_pieces rooms.now (row_view row.now))) }
+{
+    match row.mark {
+        Mark::Changed => {
+            let key = marked_key(alloc, b"~ ", rooms, row)?;
+            push_painted(out, colored, Color::Yellow, &key)?;
+            push_change(alloc, out, colored, rooms, row)?;
+            Ok(())
+        }
+        Mark::Again => {
+            let key = marked_key(alloc, b"  ", rooms, row)?;
+            push_chars(out, &key)?;
+            push_change(alloc, out, colored, rooms, row)?;
+            Ok(())
+        }
+        Mark::Removed => push_lone(alloc, out, colored, Color::Red, b"- ", rooms, row),
+        Mark::Added => push_lone(alloc, out, colored, Color::Green, b"+ ", rooms, row),
+    }
+}

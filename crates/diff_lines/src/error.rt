@@ -1,0 +1,33 @@
+//! Why a text is not read as a report.
+
+ghost use Rattle.diff_lines.specs.Errors.{IsMemory};
+
+use std::alloc::{AllocError, AllocFailed};
+use thiserror::Error;
+
+/// The reason why a text is not read as a report.
+#[derive(Clone, Copy, Debug, Drop, Error, PartialEq, Eq)]
+pub enum LineError {
+    /// An allocation failed.
+    #[error("out of memory")]
+    Memory,
+    /// A line is no JSON, or no line of a report.
+    #[error("no report of differences")]
+    NoReport,
+}
+
+impl From<AllocError> for LineError {
+    ghost from_gives = { λ _ r. IsMemory r };
+
+    fn from(_failed: AllocError) -> LineError {
+        LineError::Memory
+    }
+}
+
+impl<T: Drop> From<AllocFailed<T>> for LineError {
+    ghost from_gives = { λ _ r. IsMemory r };
+
+    fn from(_failed: AllocFailed<T>) -> LineError {
+        LineError::Memory
+    }
+}

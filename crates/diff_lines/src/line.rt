@@ -1,0 +1,96 @@
+//! A line of a report.
+
+ghost use Rattle.std.specs.Prelude.{◌≡◌, Err, IfOk, None, Some};
+ghost use Rattle.json.specs.Tree.{HasNumbers};
+ghost use Rattle.json.specs.Value.{value_view};
+ghost use Rattle.diff_lines.specs.Lines.{kind_named, line_of, line_value};
+
+use crate::error::LineError;
+use crate::parts::string_at;
+use json::{Error, Reader, Scratch, Value};
+use std::alloc::Global;
+
+/// How deep a line may nest: some levels deeper than a document, which may be a part of it.
+const MOST_DEPTH: usize = 256;
+
+/// What a line of a report tells.
+#[derive(Clone, Copy)]
+pub enum Kind {
+    /// A column that one file has alone.
+    Column,
+    /// A row that changed.
+    Changed,
+    /// A row that the left file has alone.
+    Removed,
+    /// A row that the right file has alone.
+    Added,
+    /// The counts.
+    Counts,
+}
+
+/// Returns the kind of line that a word names.
+#[tactic(auto, unfolding(crate::specs::Lines::kind_named))]
+fn kind_named(word: &str) -> Option<Kind>
+    ensures { result ≡ kind_named word.now }
+{
+    if word == "column" {
+        return Some(Kind::Column);
+    }
+    if word == "changed" {
+        return Some(Kind::Changed);
+    }
+    if word == "removed" {
+        return Some(Kind::Removed);
+    }
+    if word == "added" {
+        return Some(Kind::Added);
+    }
+    if word == "counts" {
+        return Some(Kind::Counts);
+    }
+    None
+}
+
+/// Returns the value that a line is.
+fn value_of<'a>(
+    alloc: Global,
+    line: &'a str,
+    scratch: &'a mut Scratch,
+) -> Result<Value<'a>, LineError>
+    ensures ok { IfOk result (λ v. line_value line.now ≡ Some (value_view v)) }
+    ensures numbers { IfOk result (λ v. HasNumbers (value_view v)) }
+    ensures no_report { result ≡ Err LineError.NoReport → line_value line.now ≡ None }
+{
+    let mut reader = Reader::new(line, scratch)?;
+    let value = match Value::read(alloc, &mut reader, MOST_DEPTH) {
+        Ok(value) => value,
+        Err(Error::OutOfMemory) => return Err(LineError::Memory),
+        Err(Error::Invalid) => return Err(LineError::NoReport),
+        Err(Error::TooLong) => unreachable!(),
+        Err(Error::DuplicateKey) => unreachable!(),
+    };
+    if reader.next().is_some() {
+        return Err(LineError::NoReport);
+    }
+    Ok(value)
+}
+
+/// Reads a line of a report: what it tells, and its value. `scratch` is kept from line to line.
+///
+/// Fails where the line is no JSON, nests deeper than 256 or has no kind.
+#[tactic(auto, using(crate::specs::LineLaws::line_known, crate::specs::LineLaws::line_unknown, crate::specs::LineLaws::line_broken))]
+pub fn read_line<'a>(
+    alloc: Global,
+    line: &'a str,
+    scratch: &'a mut Scratch,
+) -> Result<(Kind, Value<'a>), LineError>
+    ensures ok { IfOk result (λ told. line_of line.now ≡ Some (told.0, value_view told.1)) }
+    ensures numbers { IfOk result (λ told. HasNumbers (value_view told.1)) }
+    ensures no_report { result ≡ Err LineError.NoReport → line_of line.now ≡ None }
+{
+    let value = value_of(alloc, line, scratch)?;
+    let Some(kind) = kind_named(string_at(&value, "kind")) else {
+        return Err(LineError::NoReport);
+    };
+    Ok((kind, value))
+}

@@ -1,0 +1,13 @@
+//! The lines of a report, one after another.
+
+ghost use Rattle.std.specs.Prelude.{◌≡◌, IfOk, map};
+ghost use Rattle.std.specs.Str.Lines.{lines};
+
+use std::alloc::{AllocError, Global};
+
+/// Returns the lines of a text.
+pub fn lines_of(alloc: Global, text: &str) -> Result<Vec<&str>, AllocError>
+    ensures { IfOk result (λ v. map (λ l. l.now) v.items ≡ lines text.now) }
+{
+    text.lines().collect(alloc)
+}

@@ -1,5 +1,0 @@
-use Rattle.diff_markdown.proofs.PartLemmas.{part_numbers}
-use Rattle.diff_markdown.proofs.parts.part_of.Goals as goal
-
-pub returns-clause-numbers : goal.returns-clause-numbers
-returns-clause-numbers c = part_numbers _ _ _ c.requires c.get.ensures
