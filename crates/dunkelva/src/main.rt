@@ -60,7 +60,13 @@ fn diff_tables(rt: &HostRuntime, matches: &ArgMatches<'_>, left: &str, right: &s
         format: format_of(matches),
         colored: is_colored(rt, matches),
     };
-    compare_named(rt, left, right, &Task::Tables(options), target_of(matches))
+    compare_named(
+        rt,
+        left,
+        right,
+        &Task::Tables(options),
+        target_of(rt, matches)?,
+    )
 }
 
 /// Compares two files of documents.
@@ -91,7 +97,7 @@ fn diff_documents(
         left,
         right,
         &Task::Documents(options),
-        target_of(matches),
+        target_of(rt, matches)?,
     )
 }
 

@@ -53,7 +53,7 @@ const SWITCH: CliOption = CliOption {
 };
 
 /// The options of the command.
-static OPTIONS: [CliOption; 25] = [
+static OPTIONS: [CliOption; 26] = [
     CliOption {
         id: "key",
         takes: Takes::List,
@@ -207,6 +207,13 @@ static OPTIONS: [CliOption; 25] = [
         value: "WHEN",
         default: Some("auto"),
         help: "Print in colours; auto does on a terminal, unless NO_COLOR is set",
+        ..SWITCH
+    },
+    CliOption {
+        id: "width",
+        takes: Takes::Number,
+        value: "N",
+        help: "Print aligned columns, no wider than N columns of the terminal; 40 or more",
         ..SWITCH
     },
     CliOption {

@@ -4,6 +4,7 @@ use crate::files::{Source, open, total_of};
 use crate::progress::{Cleared, Counted, Progress};
 use crate::trouble::{document_trouble, table_trouble};
 use anyhow::{Result, anyhow};
+use diff_aligned::aligned::{Sheet, push_aligned};
 use diff_keys::outcome::Outcome;
 use diff_markdown::markdown::push_markdown;
 use diff_page::page::push_page;
@@ -52,6 +53,8 @@ pub(crate) enum Target<'a> {
     Output,
     /// Standard output, as Markdown.
     Markdown,
+    /// Standard output, in aligned columns on a terminal of this width, with colours or without.
+    Aligned(usize, bool),
     /// A file of this name, as a page to look at.
     Page(&'a str),
 }
@@ -112,6 +115,23 @@ fn report_to<W: Write>(
     }
 }
 
+/// Prints a text that is made of a report.
+fn print_text(
+    rt: &HostRuntime,
+    text: &[u8],
+    progress: &Progress<'_>,
+    ending: Ending,
+) -> Result<Ending> {
+    let mut out = Cleared {
+        writer: io::writer(rt),
+        progress,
+    };
+    match out.write_all(text) {
+        Ok(()) => Ok(ending),
+        Err(cause) => unwritten(cause),
+    }
+}
+
 /// Compares two inputs of these names, and prints the report as Markdown.
 fn print_markdown(
     rt: &HostRuntime,
@@ -125,14 +145,23 @@ fn print_markdown(
     let ending = report_to(rt, left, right, progress, task, &mut report)?;
     let mut text = Vec::new(rt.alloc());
     push_markdown(rt.alloc(), &mut text, names.0, names.1, &report)?;
-    let mut out = Cleared {
-        writer: io::writer(rt),
-        progress,
-    };
-    match out.write_all(&text) {
-        Ok(()) => Ok(ending),
-        Err(cause) => unwritten(cause),
-    }
+    print_text(rt, &text, progress, ending)
+}
+
+/// Compares two inputs, and prints the report in aligned columns.
+fn print_aligned(
+    rt: &HostRuntime,
+    left: Input<'_, Source>,
+    right: Input<'_, Source>,
+    sheet: &Sheet<'_>,
+    progress: &Progress<'_>,
+    task: &Task<'_>,
+) -> Result<Ending> {
+    let mut report = Vec::new(rt.alloc());
+    let ending = report_to(rt, left, right, progress, task, &mut report)?;
+    let mut text = Vec::new(rt.alloc());
+    push_aligned(rt.alloc(), &mut text, sheet, &report)?;
+    print_text(rt, &text, progress, ending)
 }
 
 /// Compares two inputs, and writes the page of the report to a file.
@@ -173,6 +202,15 @@ fn compare(
             report_to(rt, left, right, progress, task, &mut out)
         }
         Target::Markdown => print_markdown(rt, left, right, names, &progress, task),
+        Target::Aligned(width, colored) => {
+            let sheet = Sheet {
+                width,
+                colored,
+                left: names.0,
+                right: names.1,
+            };
+            print_aligned(rt, left, right, &sheet, &progress, task)
+        }
         Target::Page(path) => write_page(rt, left, right, &progress, task, path),
     };
     progress.erase();

@@ -81,12 +81,40 @@ pub(crate) fn csv_options(matches: &ArgMatches<'_>, left: &str, right: &str) -> 
 /// The most differences in a page, where no other number is given.
 const MOST_IN_PAGE: usize = 10_000;
 
+/// The least number of columns that aligned columns are printed in.
+const LEAST_WIDTH: usize = 40;
+
+/// Returns the columns of the terminal where aligned columns are asked for. Fails where they are too
+/// few, or another form of the report is asked for.
+fn width_of(matches: &ArgMatches<'_>) -> Result<Option<usize>> {
+    let Some(width) = matches.get_one::<usize>("width") else {
+        return Ok(None);
+    };
+    if matches.get_str("format") == Some("json") {
+        return Err(anyhow!("--width goes with lines to read, and not with --format json"));
+    }
+    if matches.get_flag("markdown") {
+        return Err(anyhow!("--width goes with lines to read, and not with --markdown"));
+    }
+    if matches.contains_id("html") {
+        return Err(anyhow!("--width goes with lines to read, and not with --html"));
+    }
+    if width < LEAST_WIDTH {
+        return Err(anyhow!("--width takes {LEAST_WIDTH} columns or more, and not {width}"));
+    }
+    Ok(Some(width))
+}
+
 /// Returns where the report goes.
-pub(crate) fn target_of<'a>(matches: &ArgMatches<'a>) -> Target<'a> {
+pub(crate) fn target_of<'a>(rt: &HostRuntime, matches: &ArgMatches<'a>) -> Result<Target<'a>> {
+    if let Some(width) = width_of(matches)? {
+        let colored = is_colored(rt, matches);
+        return Ok(Target::Aligned(width, colored));
+    }
     match matches.get_str("html") {
-        Some(path) => Target::Page(path),
-        None if matches.get_flag("markdown") => Target::Markdown,
-        None => Target::Output,
+        Some(path) => Ok(Target::Page(path)),
+        None if matches.get_flag("markdown") => Ok(Target::Markdown),
+        None => Ok(Target::Output),
     }
 }
 
@@ -106,9 +134,9 @@ pub(crate) fn limit_of(matches: &ArgMatches<'_>) -> usize {
     }
 }
 
-/// Returns the form of the report. Pages and Markdown are made of JSON lines.
+/// Returns the form of the report. Pages, Markdown and aligned columns are made of JSON lines.
 pub(crate) fn format_of(matches: &ArgMatches<'_>) -> Format {
-    if matches.contains_id("html") || matches.get_flag("markdown") {
+    if matches.contains_id("html") || matches.get_flag("markdown") || matches.contains_id("width") {
         return Format::Json;
     }
     match matches.get_str("format") {
