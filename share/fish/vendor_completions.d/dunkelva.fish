@@ -27,6 +27,7 @@ complete -c dunkelva -n '__fish_seen_subcommand_from diff' -l summary -d 'Print 
 complete -c dunkelva -n '__fish_seen_subcommand_from diff' -l schema-only -d 'Compare the names and kinds of the columns, and no rows'
 complete -c dunkelva -n '__fish_seen_subcommand_from diff' -l format -x -a 'text json' -d 'Print lines to read, or a JSON object in each line'
 complete -c dunkelva -n '__fish_seen_subcommand_from diff' -l color -x -a 'auto always never' -d 'Print in colours; auto does on a terminal, unless NO_COLOR is set'
+complete -c dunkelva -n '__fish_seen_subcommand_from diff' -l width -x -d 'Print aligned columns, no wider than N columns of the terminal; 40 or more'
 complete -c dunkelva -n '__fish_seen_subcommand_from diff' -l markdown -d 'Print the report as Markdown, for a pull request'
 complete -c dunkelva -n '__fish_seen_subcommand_from diff' -l html -rF -d 'Write a page to look at into FILE, of up to 10000 differences, and print nothing'
 complete -c dunkelva -n '__fish_seen_subcommand_from diff' -l config -rF -d 'Take options from FILE, which is TOML; those of the command line win'
