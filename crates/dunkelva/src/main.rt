@@ -23,7 +23,7 @@ use crate::kinds::{hold_documents, refuse_document_options, refuse_table_options
 use crate::parts::part_of;
 use crate::rules::rules_of;
 use crate::schema::{compare_schemas, show_schema};
-use crate::tasks::{Task, compare_named};
+use crate::tasks::{Target, Task, compare_named};
 use crate::words::{Names, csv_options, format_of, is_colored, limit_of, target_of};
 use anyhow::{Result, anyhow};
 use clap::ArgMatches;
@@ -38,7 +38,13 @@ use std::process::ExitCode;
 const TROUBLE: u8 = 2;
 
 /// Compares two CSV files.
-fn diff_tables(rt: &HostRuntime, matches: &ArgMatches<'_>, left: &str, right: &str) -> Result<u8> {
+fn diff_tables(
+    rt: &HostRuntime,
+    matches: &ArgMatches<'_>,
+    left: &str,
+    right: &str,
+    target: Target<'_>,
+) -> Result<u8> {
     refuse_document_options(matches)?;
     let names = Names::of(rt.alloc(), matches)?;
     let choice = Choice {
@@ -60,13 +66,7 @@ fn diff_tables(rt: &HostRuntime, matches: &ArgMatches<'_>, left: &str, right: &s
         format: format_of(matches),
         colored: is_colored(rt, matches),
     };
-    compare_named(
-        rt,
-        left,
-        right,
-        &Task::Tables(options),
-        target_of(rt, matches)?,
-    )
+    compare_named(rt, left, right, &Task::Tables(&options), target)
 }
 
 /// Compares two files of documents.
@@ -75,6 +75,7 @@ fn diff_documents(
     matches: &ArgMatches<'_>,
     left: &str,
     right: &str,
+    target: Target<'_>,
 ) -> Result<u8> {
     refuse_table_options(matches)?;
     let keys = keys_of(rt.alloc(), matches)?;
@@ -92,13 +93,7 @@ fn diff_documents(
         format: format_of(matches),
         colored: is_colored(rt, matches),
     };
-    compare_named(
-        rt,
-        left,
-        right,
-        &Task::Documents(options),
-        target_of(rt, matches)?,
-    )
+    compare_named(rt, left, right, &Task::Documents(&options), target)
 }
 
 /// Compares the two files that the words name.
@@ -108,10 +103,11 @@ fn diff(rt: &HostRuntime, matches: &ArgMatches<'_>, config: &Config) -> Result<u
     if matches.get_flag("schema-only") {
         return compare_schemas(rt, matches, left, right);
     }
+    let target = target_of(rt, matches)?;
     if hold_documents(matches, left, right)? {
-        return diff_documents(rt, matches, left, right);
+        return diff_documents(rt, matches, left, right, target);
     }
-    diff_tables(rt, matches, left, right)
+    diff_tables(rt, matches, left, right, target)
 }
 
 /// Does what the words of the command line ask for, and returns the status.

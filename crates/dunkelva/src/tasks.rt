@@ -63,9 +63,9 @@ pub(crate) enum Target<'a> {
 #[derive(Clone, Copy)]
 pub(crate) enum Task<'a> {
     /// Tables, as CSV.
-    Tables(Options<'a>),
+    Tables(&'a Options<'a>),
     /// Documents of JSON, one a line.
-    Documents(DocumentOptions<'a>),
+    Documents(&'a DocumentOptions<'a>),
 }
 
 /// Returns an input whose bytes are counted.
