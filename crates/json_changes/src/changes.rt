@@ -4,7 +4,6 @@ ghost use Rattle.std.specs.Prelude.{◌≡◌, ◌↔◌, [], IfErr, IfOk, IsTru
 ghost use Rattle.json.specs.Strict.{HasUniqueKeys};
 ghost use Rattle.json.specs.Tree.{HasNumbers};
 ghost use Rattle.json.specs.Value.{value_view};
-ghost use Rattle.json_changes.specs.Differences.{differences};
 ghost use Rattle.json_changes.specs.Errors.{IsFaultOf};
 ghost use Rattle.json_changes.specs.Rules.{differences_told};
 ghost use Rattle.json_changes.specs.Texts.{change_view, rules_view, told};
@@ -15,26 +14,6 @@ pub use crate::rules::{Rules, Tolerance};
 use json::Value;
 use json_decimals::error::NumberError;
 use std::alloc::Global;
-
-/// Returns the differences between two values, in texts.
-///
-/// Fails with `WideExponent` only where the exponent of a number has more than 30 digits, its
-/// leading zeros not counted.
-pub fn changes_of(
-    alloc: Global,
-    left: &Value<'_>,
-    right: &Value<'_>,
-) -> Result<Vec<Change>, NumberError>
-    requires left_unique { HasUniqueKeys (value_view left.now) }
-    requires right_unique { HasUniqueKeys (value_view right.now) }
-    requires left_numbers { HasNumbers (value_view left.now) }
-    requires right_numbers { HasNumbers (value_view right.now) }
-    ensures told { IfOk result (λ changes. map change_view changes.items
-        ≡ map told (differences (value_view left.now) (value_view right.now))) }
-    ensures fault { IfErr result (λ e. IsFaultOf (value_view left.now) (value_view right.now) e) }
-{
-    changes_under(alloc, left, right, &Rules::none(alloc))
-}
 
 /// Returns those differences between two values that rules tell, in texts.
 ///

@@ -15,7 +15,7 @@ use json_paths::path::Step;
 use std::alloc::{AllocError, Global};
 
 /// A difference between two values, in texts.
-#[derive(Debug, Drop)]
+#[derive(Drop)]
 pub struct Change {
     /// The path to the parts that differ.
     pub path: Vec<u8>,

@@ -18,7 +18,7 @@ use json_tolerances::closeness::Margin;
 use std::alloc::Global;
 
 /// How far apart the numbers may lie that a pattern names.
-#[derive(Debug, Drop)]
+#[derive(Drop)]
 pub struct Tolerance {
     /// The numbers, and the parts that have them.
     pub pattern: Pattern,
@@ -27,7 +27,7 @@ pub struct Tolerance {
 }
 
 /// Rules that say which differences between two values are told.
-#[derive(Debug, Drop)]
+#[derive(Drop)]
 pub struct Rules {
     /// The parts whose differences are never told.
     pub ignored: Vec<Pattern>,

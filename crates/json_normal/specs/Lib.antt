@@ -1,4 +1,3 @@
-pub mod Errors
 pub mod Laws
 pub mod Narrow
 pub mod Normal

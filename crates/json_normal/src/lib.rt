@@ -1,8 +1,6 @@
 //! The normal text of a JSON value: members in the order of their names, numbers in one form.
 #![tactic(auto)]
 
-pub mod document;
 pub mod laws;
 mod order;
-pub mod text;
 pub mod write;

@@ -8,14 +8,14 @@ ghost use Rattle.json_paths.specs.Views.{path_view, step_view};
 use json::Value;
 
 /// A step into a value: to the member of a name, or to the item at a place, the first being 0.
-#[derive(Debug, Drop)]
+#[derive(Drop)]
 pub enum Step {
     Name(String),
     Place(usize),
 }
 
 /// The steps from a value to a part of it.
-#[derive(Debug, Drop)]
+#[derive(Drop)]
 pub struct Path {
     pub steps: Vec<Step>,
 }

@@ -8,14 +8,14 @@ ghost use Rattle.json_paths.specs.Views.{step_view};
 use crate::path::Step;
 
 /// A step of a pattern: one step, or the step to any item of an array.
-#[derive(Debug, Drop)]
+#[derive(Drop)]
 pub enum PatternStep {
     Exactly(Step),
     AnyItem,
 }
 
 /// The steps to the parts of a value that a pattern names.
-#[derive(Debug, Drop)]
+#[derive(Drop)]
 pub struct Pattern {
     pub steps: Vec<PatternStep>,
 }

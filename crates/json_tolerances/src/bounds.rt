@@ -13,7 +13,7 @@ use std::marker::Model;
 
 /// A bound of how far apart two numbers may lie: a decimal of at most 18 digits that is not
 /// negative.
-#[derive(Debug, Drop)]
+#[derive(Drop)]
 pub struct Bound {
     coefficient: u64,
     up: u128,

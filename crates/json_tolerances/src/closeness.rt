@@ -12,7 +12,7 @@ use crate::terms::Term;
 use json_decimals::error::NumberError;
 
 /// How far apart two numbers may lie.
-#[derive(Debug, Drop)]
+#[derive(Drop)]
 pub enum Margin {
     /// At most this far.
     Absolute(Bound),
