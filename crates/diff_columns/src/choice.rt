@@ -5,7 +5,7 @@ ghost use Rattle.diff_columns.specs.Choice.{IsChosen};
 ghost use Rattle.diff_columns.specs.Names.{names_of};
 
 /// The names by which a caller chooses the columns to compare.
-#[derive(Clone, Copy, Debug)]
+#[derive(Clone, Copy)]
 pub struct Choice<'a> {
     /// The columns that name a row. They are always compared.
     pub keys: &'a [&'a [u8]],

@@ -15,7 +15,7 @@ use polars_arrays_flat::byte_rows::ByteRows;
 use std::alloc::{AllocError, Global};
 
 /// The columns of two tables that are compared, matched by name.
-#[derive(Debug, Drop)]
+#[derive(Drop)]
 pub struct Layout {
     /// The left columns, in rising order.
     pub left: Vec<usize>,

@@ -4,7 +4,7 @@ ghost use Rattle.std.specs.Prelude.{◌≡◌};
 ghost use Rattle.diff_csv.specs.Options.{is_delimiter};
 
 /// How a CSV text is read.
-#[derive(Clone, Copy, Debug, PartialEq, Eq)]
+#[derive(Clone, Copy)]
 pub struct CsvOptions {
     /// The byte between fields: any but a quote, a line feed and a carriage return.
     pub delimiter: u8,

@@ -3,7 +3,7 @@
 use diff_parts::part::Part;
 
 /// What is read of a text: of which rows, and which of their cells.
-#[derive(Clone, Copy, Debug)]
+#[derive(Clone, Copy)]
 pub struct Wanted<'a> {
     /// The columns whose cells are read.
     pub columns: &'a [usize],

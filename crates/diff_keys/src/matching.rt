@@ -12,7 +12,7 @@ use std::alloc::{AllocError, Global};
 
 /// The rows of two tables, matched: row `left_rows[k]` of the left one and row `right_rows[k]` of
 /// the right one are partners.
-#[derive(Debug, Drop)]
+#[derive(Drop)]
 pub struct Matching {
     /// The left rows that have a partner, in rising order.
     pub left_rows: Vec<u32>,

@@ -10,7 +10,7 @@ use std::alloc::Global;
 use std::collections::HashMap;
 
 /// Two rows that have one key.
-#[derive(Clone, Copy, Debug)]
+#[derive(Clone, Copy)]
 pub struct Twice {
     /// The earlier row.
     pub first: usize,

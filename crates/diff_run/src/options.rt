@@ -14,7 +14,7 @@ pub enum Format {
 }
 
 /// What is compared, and how it is reported.
-#[derive(Clone, Copy, Debug)]
+#[derive(Clone, Copy)]
 pub struct Options<'a> {
     /// The columns to compare.
     pub choice: Choice<'a>,

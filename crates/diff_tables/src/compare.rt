@@ -21,7 +21,7 @@ use polars_arrays_bits::error::ComputeError;
 use std::alloc::{AllocError, Global};
 
 /// The rows of two tables, matched and compared.
-#[derive(Debug, Drop)]
+#[derive(Drop)]
 pub struct Comparison {
     /// The rows that are partners, and those that have none.
     pub matching: Matching,
