@@ -13,7 +13,7 @@ use Rattle.document_rows.specs.Known.{HoldsDocumentsOf, KnowsLines}
 use Rattle.document_rows.specs.Lines.{lines_of}
 use Rattle.document_rows.specs.Numbers.{AreNumbered, AreNumbersOf, numbered_lines}
 use Rattle.document_rows.specs.Tables.{line_at}
-use Rattle.document_rows.specs.declared.error.LineFault.TheVariants as fault
+use Rattle.document_faults.specs.declared.fault.LineFault.TheVariants as fault
 use Rattle.document_rows.specs.declared.known.Known.{Known}
 use Rattle.document_rows.specs.declared.reading.Reading.{Reading}
 

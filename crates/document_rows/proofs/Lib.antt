@@ -3,7 +3,6 @@ mod ExampleTables
 mod Examples
 mod KnownLemmas
 mod LineLemmas
-mod NarrowLemmas
 mod NumberLemmas
 mod PairLemmas
 mod PartLemmas

@@ -25,8 +25,8 @@ use Rattle.document_rows.specs.Numbers.{AreNumbered, numbered_lines}
 use Rattle.document_rows.specs.Reading.{IsFaultAt, IsKeyFault, LacksPart}
 use Rattle.document_rows.specs.Rows.{HoldsRows}
 use Rattle.document_rows.specs.declared.cells.Rows.{Rows}
-use Rattle.document_rows.specs.declared.error.LineFault.{LineFault}
-use Rattle.document_rows.specs.declared.error.LineFault.TheVariants as fault
+use Rattle.document_faults.specs.declared.fault.LineFault.{LineFault}
+use Rattle.document_faults.specs.declared.fault.LineFault.TheVariants as fault
 use Rattle.document_rows.specs.declared.error.ReadError.{ReadError}
 use Rattle.document_rows.specs.declared.error.ReadError.TheVariants as error
 use Rattle.document_rows.specs.declared.reading.Reading.{Reading}

@@ -6,8 +6,8 @@ use Rattle.json.specs.Json.{Json}
 use Rattle.json_paths.specs.Paths.{Path, part_at}
 use Rattle.document_rows.specs.Errors.{IsLineFault}
 use Rattle.document_rows.specs.Lines.{lines_of}
-use Rattle.document_rows.specs.declared.error.LineFault.{LineFault}
-use Rattle.document_rows.specs.declared.error.LineFault.TheVariants as fault
+use Rattle.document_faults.specs.declared.fault.LineFault.{LineFault}
+use Rattle.document_faults.specs.declared.fault.LineFault.TheVariants as fault
 use Rattle.document_rows.specs.declared.error.ReadError.{ReadError}
 use Rattle.document_rows.specs.declared.error.ReadError.TheVariants as error
 use Rattle.document_rows.specs.declared.reading.Reading.{Reading}

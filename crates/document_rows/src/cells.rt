@@ -16,12 +16,12 @@ ghost use Rattle.document_rows.specs.Rows.{HoldsRows};
 ghost use Rattle.document_rows.specs.Tables.{HoldsDocuments, line_at};
 ghost use Rattle.document_rows.specs.declared.reading.Reading.{Reading};
 
-use crate::error::LineFault;
-use crate::place::column_of;
 use crate::reading::Reading;
 use crate::values::{Trouble, document_in};
 use diff_tables::strings::Strings;
 use diff_tables::table::Table;
+use document_faults::fault::LineFault;
+use document_faults::place::column_of;
 use json::{Scratch, Value, Writer};
 use json_decimals::error::NumberError;
 use json_normal::write::write_normal;

@@ -11,13 +11,14 @@ ghost use Rattle.document_rows.specs.Tables.{AreDocumentsOf, AreDocumentsWith, H
 ghost use Rattle.document_rows.specs.declared.reading.Reading.{Reading};
 
 use crate::cells::{Rooms, Rows};
-use crate::error::{LineFault, ReadError};
+use crate::error::ReadError;
 use crate::guesses::Guesses;
 use crate::known::Known;
 use crate::lines::read_line;
 use crate::reading::Reading;
 use crate::values::Trouble;
 use diff_tables::table::Table;
+use document_faults::fault::LineFault;
 use json_paths::path::Path;
 use std::alloc::{AllocError, Global};
 use std::io;

@@ -13,9 +13,9 @@ ghost use Rattle.document_rows.specs.Errors.{IsObject};
 ghost use Rattle.document_rows.specs.Reading.{IsKeyFault, IsTrouble, IsTroubleMemory, LacksPart};
 ghost use Rattle.document_rows.specs.declared.reading.Reading.{Reading};
 
-use crate::error::LineFault;
-use crate::narrow::check_narrow;
 use crate::reading::Reading;
+use document_faults::fault::LineFault;
+use document_faults::narrow::check_narrow;
 use json::{Error, Scratch, Value};
 use json_decimals::error::NumberError;
 use json_paths::path::Path;

@@ -27,7 +27,7 @@ pub(crate) fn check_number(room: &mut Vec<u8>, text: &str) -> Result<(), NumberE
 /// Checks that no number of a value has a wide exponent. `room` is used for its numbers, one at a
 /// time.
 #[cycle(narrow)]
-pub(crate) fn check_narrow<'a>(room: &mut Vec<u8>, value: &Value<'a>) -> Result<(), NumberError>
+pub fn check_narrow<'a>(room: &mut Vec<u8>, value: &Value<'a>) -> Result<(), NumberError>
     ensures { TellsNarrow result (HasNarrowNumbers (value_view value.now)) }
 {
     match value {

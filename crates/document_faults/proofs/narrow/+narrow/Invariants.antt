@@ -1,7 +1,7 @@
 use Rattle.std.proofs.Common.{drop}
 use Rattle.json.specs.Value.{items_view, members_view}
 use Rattle.json_normal.specs.Narrow.{ItemsHaveNarrowNumbers, MembersHaveNarrowNumbers}
-use Rattle.document_rows.proofs.narrow.+narrow.Given as goal
+use Rattle.document_faults.proofs.narrow.+narrow.Given as goal
 
 abbrev pub invariant-check_items-loop-item : goal.invariant-check_items-loop-item
 invariant-check_items-loop-item l =

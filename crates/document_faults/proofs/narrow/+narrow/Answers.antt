@@ -3,7 +3,7 @@ use Rattle.std.proofs.lemmas.List.{drop_more}
 use Rattle.json.specs.Value.{value_view, items_view}
 use Rattle.json_decimals.specs.declared.error.NumberError.TheVariants.{WideExponent}
 use Rattle.json_normal.specs.Narrow.{HasNarrowNumbers, ItemsHaveNarrowNumbers}
-use Rattle.document_rows.proofs.narrow.+narrow.Goals as goal
+use Rattle.document_faults.proofs.narrow.+narrow.Goals as goal
 
 pub check_items-returns-in_err-check_narrow : goal.check_items-returns-in_err-check_narrow
 check_items-returns-in_err-check_narrow t c =

@@ -1,7 +1,7 @@
 //! The place in a line at which it is no document, for a message. No clause says which it is: the
 //! `json` crate names no place, and of the places of its tokens it has no clause.
 
-use crate::error::LineFault;
+use crate::fault::LineFault;
 use crate::narrow::check_number;
 use json::{Reader, Scratch, Token};
 use json_decimals::error::NumberError;
@@ -181,7 +181,7 @@ fn place_of(
 
 /// Returns the column at which a line is no document, the first being 1, where its fault has a
 /// place. Columns are counted in characters.
-pub(crate) fn column_of(
+pub fn column_of(
     alloc: Global,
     line: &[u8],
     fault: LineFault,
