@@ -2,21 +2,11 @@
 
 ghost use Rattle.std.specs.Option.{option_map};
 ghost use Rattle.std.specs.Prelude.{◌≡◌, ◌++◌, OnOk};
-ghost use Rattle.diff_words.specs.Cells.{is_null};
 ghost use Rattle.diff_json.specs.Cells.{json_cell};
 
 use crate::strings::push_string;
+use diff_words::cells::is_null;
 use std::alloc::AllocError;
-
-/// Returns whether a cell is the one that stands for no value.
-fn is_null(null: &Option<Vec<u8>>, cell: &[u8]) -> bool
-    ensures { result ≡ is_null (option_map (λ v. v.items) null.now) cell.now }
-{
-    match null {
-        Some(word) => word.as_slice() == cell,
-        None => false,
-    }
-}
 
 /// Appends a cell as a string, or `null` where it is the one that stands for no value.
 #[tactic(auto, unfolding(crate::specs::Cells::json_cell))]

@@ -10,7 +10,7 @@ use crate::quoted::push_quoted;
 use std::alloc::AllocError;
 
 /// Returns whether a cell is the one that stands for no value.
-fn is_null(null: &Option<Vec<u8>>, cell: &[u8]) -> bool
+pub fn is_null(null: &Option<Vec<u8>>, cell: &[u8]) -> bool
     ensures { result ≡ is_null (option_map (λ v. v.items) null.now) cell.now }
 {
     match null {

@@ -6,7 +6,7 @@ ghost use Rattle.diff_words.specs.Colors.{color_code, color_text};
 use std::alloc::AllocError;
 
 /// A colour of the texts on a terminal.
-#[derive(Clone, Copy, Debug)]
+#[derive(Clone, Copy)]
 pub enum Color {
     /// The terminal's own colour.
     Plain,
