@@ -3,6 +3,7 @@ use Rattle.std.specs.Prelude.{◌≡◌, true, false, List, ℕ, Bool, codes, re
 use Rattle.fast_float.specs.Text.{scan}
 use Rattle.json_decimals.specs.Decimals.{decimal_of}
 use Rattle.json_tolerances.specs.Closeness.{is_within, is_within_part}
+use Rattle.json_tolerances.specs.Order.{decimal_less}
 
 abbrev within : List ℕ → List ℕ → List ℕ → Bool
 within t s u = is_within (decimal_of t) (decimal_of s) (decimal_of u)
@@ -50,3 +51,24 @@ not_rounded = refl
 near_zero : within_part (codes "0.5") (codes "0") (codes "1e-9") ≡ false
 unfolding decimal_of scan
 near_zero = refl
+
+-- ---- order
+
+abbrev less : List ℕ → List ℕ → Bool
+less s t = decimal_less (decimal_of s) (decimal_of t)
+
+below : less (codes "12.50") (codes "1.3e1") ≡ true
+unfolding decimal_of scan
+below = refl
+
+negative_below : less (codes "-2") (codes "0") ≡ true
+unfolding decimal_of scan
+negative_below = refl
+
+zeros : less (codes "-0") (codes "0") ≡ false
+unfolding decimal_of scan
+zeros = refl
+
+larger_negative : less (codes "-2") (codes "-1.99") ≡ true
+unfolding decimal_of scan
+larger_negative = refl

@@ -1,3 +1,5 @@
 pub mod Closeness
 pub mod Errors
 pub mod Laws
+pub mod Order
+pub mod OrderLaws

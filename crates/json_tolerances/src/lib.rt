@@ -6,5 +6,6 @@ pub mod closeness;
 pub mod error;
 pub mod laws;
 mod numbers;
+pub mod order;
 mod sums;
 mod terms;
