@@ -1,0 +1,3 @@
+pub mod ByteWordLemmas
+pub mod Examples
+pub mod WrittenLemmas

@@ -1,0 +1,28 @@
+-- What the slices of a part hold (the Arrow layout).
+use Rattle.std.specs.Prelude.{◌+◌, ◌-◌, ◌*◌, ◌^◌, ℕ, ℤ, Bool, List, [], ◌∷◌, Option, Some, None, map, nat_le, if◌then◌else◌}
+use Rattle.polars_arrays_bytes.specs.OffsetStrings.{places}
+use Rattle.arrow_parts.specs.ByteBits.{presence}
+use Rattle.arrow_parts.specs.declared.part.Part.{Part}
+
+-- which rows are present
+abbrev pub present_in : Part → Option (List Bool)
+present_in p = presence p.first_bit p.rows p.present.now
+
+-- a place less the base, or None if it lies before the base
+abbrev pub place_from : ℕ → Option ℕ → Option ℕ
+place_from base None = None
+place_from base (Some at) = if nat_le base at then Some (at - base) else None
+
+-- each offset as a place among the lent bytes or items
+abbrev pub places_from : ℕ → List ℤ → List (Option ℕ)
+places_from base offsets = map (place_from base) (places (λ x. x) offsets)
+
+-- numbers of two words each, the low word first
+abbrev pub wide_numbers : List ℕ → List ℕ
+wide_numbers [] = []
+wide_numbers (low ∷ []) = []
+wide_numbers (low ∷ high ∷ words) = (low + 2 ^ 64 * high) ∷ wide_numbers words
+
+-- the buffers of views
+abbrev pub buffers_in : Part → List (List ℕ)
+buffers_in p = map (λ b. b.bytes.now) p.buffers.now
