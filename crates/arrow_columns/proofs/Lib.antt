@@ -1,0 +1,3 @@
+mod Compared
+mod Examples
+pub mod Written

@@ -1,0 +1,91 @@
+//! Columns of borrowed numbers.
+
+ghost use Rattle.std.specs.Option.{option_copied};
+ghost use Rattle.std.specs.Prelude.{◌≡◌, false, length, IfErr};
+ghost use Rattle.std.specs.Result.{OkIff};
+ghost use Rattle.polars_arrays_flat.specs.ArrayRows.{null_total, number_rows};
+ghost use Rattle.polars_arrays_flat.specs.Validity.{HasBits};
+
+use polars_arrays_bits::bit_mask::BitMask;
+use polars_arrays_bits::bitmap::Bitmap;
+use polars_arrays_bits::error::ArrayError;
+use polars_arrays_flat::validity::{has_bits, null_count};
+use polars_arrays_numbers::native_type::NativeType;
+use std::marker::Model;
+
+/// A column of borrowed numbers, with an optional validity of its own. A contract reads it as an
+/// array that shares its values.
+#[derive(Drop)]
+pub struct Column<'a, T: Copy> {
+    values: &'a [T],
+    validity: Option<Bitmap>,
+}
+
+impl<'a, T: Copy> Model for Column<'a, T> {
+    ghost use Rattle.std.specs.Prelude.{false, length};
+    ghost use Rattle.polars_arrays_flat.specs.Numbers.{Numbers, numbers_code};
+    ghost use Rattle.polars_arrays_flat.specs.Validity.{HasBits};
+
+    ghost Value = { Numbers T };
+
+    ghost coded = { numbers_code T.code };
+
+    ghost view = { λ c. record { values = c.values.now; validity = c.validity; owned = false } };
+
+    ghost invariant = { λ c. HasBits (length c.values.now) c.validity };
+}
+
+impl<'a, T: NativeType> Column<'a, T> {
+    /// Creates a column. The error is `Length`, if the validity does not have a bit for each value.
+    pub fn try_new(values: &'a [T], validity: Option<Bitmap>) -> Result<Column<'a, T>, ArrayError>
+        ensures made { OkIff result (HasBits (length values.now) validity)
+            (record { values = values.now; validity = validity; owned = false }) }
+        ensures refused { IfErr result (λ e. e ≡ ArrayError.Length) }
+    {
+        if !has_bits(values.len(), &validity) {
+            return Err(ArrayError::Length);
+        }
+        Ok(Column { values, validity })
+    }
+
+    /// Returns the number of rows.
+    pub fn len(&self) -> usize
+        ensures { result ≡ length self.now.values }
+    {
+        self.values.len()
+    }
+
+    /// Returns the stored values, including those of masked rows.
+    pub fn values(&self) -> &'a [T]
+        ensures { result.now ≡ self.now.values }
+    {
+        self.values
+    }
+
+    /// Returns the validity: a bit for each row, 0 if the row is masked, or `None` if no row is.
+    pub fn validity(&self) -> Option<&Bitmap>
+        ensures validity { option_copied result ≡ self.now.validity }
+        ensures bits { HasBits (length self.now.values) self.now.validity }
+    {
+        self.validity.as_ref()
+    }
+
+    /// Borrows the validity as a mask.
+    pub fn mask(&self) -> Option<BitMask<'_>>
+        ensures mask { result ≡ self.now.validity }
+        ensures bits { HasBits (length self.now.values) self.now.validity }
+    {
+        match &self.validity {
+            Some(bits) => Some(BitMask::from_bitmap(bits)),
+            None => None,
+        }
+    }
+
+    /// Returns the number of null rows.
+    #[tactic(auto, using(polars_arrays_flat::proofs::NullCounts::nulls_counted))]
+    pub fn null_count(&self) -> usize
+        ensures { result ≡ null_total (number_rows T.value self.now) }
+    {
+        null_count(&self.validity)
+    }
+}

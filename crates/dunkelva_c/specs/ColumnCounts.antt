@@ -1,0 +1,52 @@
+-- Counts of the bits of a part's numbers.
+use Rattle.std.specs.Prelude.{◌≡◌, ℕ, pos, List, [], ◌∷◌, Option, Some, None, map, slice_index_or, ⊤}
+use Rattle.arrow_columns.specs.Counting.{counted_by}
+use Rattle.arrow_columns.specs.declared.counting.Counting.{Counting}
+use Rattle.arrow_columns.specs.declared.counting.Counting.TheVariants as counting
+use Rattle.arrow_parts.specs.Kinds.{kind_number}
+use Rattle.arrow_parts.specs.declared.part.Part.{Part}
+use Rattle.dunkelva_c.specs.Columns.{IsColumn, NumberType, count_at, number_rows_of, number_type, rows_lent}
+use Rattle.dunkelva_c.specs.declared.fault.Fault.{Fault}
+use Rattle.dunkelva_c.specs.declared.fault.Fault.TheVariants.{Parts, Types, Room, Memory, NotServed}
+use Rattle.polars_compute_bits.specs.Bitwise.{counted}
+
+-- the counts by their numbers, from 0 on
+abbrev pub countings : List (Option Counting)
+countings =
+    Some counting.Ones ∷ Some counting.Zeros ∷ Some counting.LeadingOnes ∷ Some counting.LeadingZeros
+    ∷ Some counting.TrailingOnes ∷ Some counting.TrailingZeros ∷ []
+
+-- the count with a number, or None
+abbrev pub counting_number : ℕ → Option Counting
+counting_number n = slice_index_or countings n None
+
+-- counts under the validity of a part are those of its rows; a count of a null row is null
+abbrev pub AreCountsAt : Option NumberType → Counting → Part → List ℕ → Type 0
+AreCountsAt None counting p counts = ⊥
+AreCountsAt (Some type) counting p counts =
+    rows_lent (λ n. pos n) p counts ≡ map (counted (counted_by counting) type.width) (number_rows_of p)
+
+abbrev pub AreCounts : Counting → Part → List ℕ → Type 0
+AreCounts counting p counts = AreCountsAt (number_type (kind_number p.kind)) counting p counts
+
+abbrev pub AreNumberedCounts : Option Counting → Part → List ℕ → Type 0
+AreNumberedCounts None p counts = ⊥
+AreNumberedCounts (Some counting) p counts = AreCounts counting p counts
+
+-- a fault of counts of `count` stored numbers, into a slice of `room`, is true
+abbrev pub IsTrueCountsFault : ℕ → ℕ → Part → Fault → Type 0
+IsTrueCountsFault count room p Parts = ¬ IsColumn p count
+IsTrueCountsFault count room p Types = ⊥
+IsTrueCountsFault count room p Room = ¬ (room ≡ p.rows)
+IsTrueCountsFault count room p Memory = ⊤
+IsTrueCountsFault count room p NotServed = ⊥
+
+-- a fault of the counts of a part is true
+abbrev pub IsTrueCountFault : ℕ → Part → Fault → Type 0
+IsTrueCountFault room p NotServed = number_type (kind_number p.kind) ≡ None
+IsTrueCountFault room p fault = IsTrueCountsFault (count_at (kind_number p.kind) p) room p fault
+
+-- there may also be no count with a number
+abbrev pub IsTrueCountingFault : Option Counting → ℕ → Part → Fault → Type 0
+IsTrueCountingFault None room p fault = fault ≡ NotServed
+IsTrueCountingFault (Some counting) room p fault = IsTrueCountFault room p fault

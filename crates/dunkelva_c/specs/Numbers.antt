@@ -1,0 +1,17 @@
+-- Whole numbers in the caller's memory, in two's complement of 128 bits.
+use Rattle.std.specs.Prelude.{◌+◌, ◌*◌, ◌/◌, ◌%◌, ◌^◌, ℕ, ℤ, Option, Some, None}
+use Rattle.std.specs.Int.{w128, cast_signed, cast_unsigned}
+use Rattle.dunkelva_c.specs.declared.number.Number.{Number}
+
+-- the low and the high word of a whole number, or of none
+abbrev pub number_words : Option ℤ → Number
+number_words None = record { low = 0; high = 0; exists = 0 }
+number_words (Some n) = record {
+  low = cast_unsigned w128 n % 2 ^ 64;
+  high = cast_unsigned w128 n / 2 ^ 64;
+  exists = 1;
+}
+
+-- the whole number of a low and a high word
+abbrev pub words_number : ℕ → ℕ → ℤ
+words_number low high = cast_signed w128 (low + 2 ^ 64 * high)

@@ -1,0 +1,77 @@
+//! Bits of columns of numbers: reductions and counts.
+
+ghost use Rattle.std.specs.Prelude.{◌≡◌, ◌≢◌, length, pos, IfErr, IfOk};
+ghost use Rattle.num_traits.specs.Laws.{bit_len};
+ghost use Rattle.dunkelva_c.specs.ColumnBits.{HasJoinedBits, IsNumberedReduction, IsReduction, IsTrueReduceFault, operator_number};
+ghost use Rattle.dunkelva_c.specs.Columns.{IsColumn, IsTrueFault, rows_lent};
+ghost use Rattle.dunkelva_c.specs.Statuses.{IsTrueOf, IsTrueStatus};
+
+use crate::columns::{at_number_kind, column};
+use crate::fault::{Fault, status};
+use crate::number::{Number, number_of, whole};
+use arrow_columns::reducing::{BitOperator, reduce_bits};
+use arrow_parts::part::{Part, PartKind};
+use polars_compute_bits::bit_number::BitNumber;
+use polars_compute_slots::number::UniqueNumber;
+use std::alloc::Global;
+
+// Returns the operator with this number, if there is one.
+fn operator_of(number: u32) -> Option<BitOperator>
+    ensures { result ≡ operator_number number }
+{
+    match number {
+        0 => Some(BitOperator::And),
+        1 => Some(BitOperator::Or),
+        2 => Some(BitOperator::Xor),
+        _ => None,
+    }
+}
+
+// Joins the bits of a part's present numbers.
+fn reduce_numbers<T: BitNumber + UniqueNumber>(
+    alloc: Global,
+    operator: BitOperator,
+    part: &Part<'_>,
+    values: &[T],
+) -> Result<Option<i128>, Fault>
+    ensures joined { IfOk result (HasJoinedBits T.low T.high (bit_len T.width) operator
+        (rows_lent T.value part.now values.now)) }
+    ensures refused { IfErr result (IsTrueOf (IsColumn part.now (length values.now))) }
+{
+    let column = column(alloc, part, values)?;
+    Ok(whole(reduce_bits(operator, &column)))
+}
+
+// Joins the bits of a part of numbers.
+fn reduce_part(alloc: Global, operator: BitOperator, part: &Part<'_>) -> Result<Option<i128>, Fault>
+    ensures bits { IfOk result (IsReduction operator part.now) }
+    ensures refused { IfErr result (IsTrueFault part.now) }
+{
+    at_number_kind!(part, values => reduce_numbers(alloc, operator, part, values))
+}
+
+/// Writes the number whose bits join those of the present rows of a column at each place, or that
+/// there is none if no row is present. `operator` is 0 for AND, 1 for OR and 2 for exclusive OR.
+#[unsafe(no_mangle)]
+pub extern "C" fn dunkelva_part_reduce_bits(
+    alloc: Global,
+    operator: u32,
+    part: &Part<'_>,
+    out: &mut Number,
+) -> i32
+    ensures written { result ≡ pos 0 → IsNumberedReduction
+        (operator_number operator) part.now out.new }
+    ensures kept { result ≢ pos 0 → out.new ≡ out.old }
+    ensures refused { IsTrueStatus (IsTrueReduceFault (operator_number operator) part.now) result }
+{
+    let Some(operator) = operator_of(operator) else {
+        return status(Fault::NotServed);
+    };
+    match reduce_part(alloc, operator, part) {
+        Ok(whole) => {
+            *out = number_of(whole);
+            0
+        }
+        Err(fault) => status(fault),
+    }
+}

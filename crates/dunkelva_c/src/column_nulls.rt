@@ -1,0 +1,115 @@
+//! Nulls of arrays of one level.
+
+ghost use Rattle.std.specs.Prelude.{◌≡◌, ◌≢◌, length, pos, IfErr, IfOk, OnErr, OnOk};
+ghost use Rattle.arrow_parts.specs.Kinds.{kind_number};
+ghost use Rattle.arrow_parts.specs.Written.{AreWritten};
+ghost use Rattle.dunkelva_c.specs.Nulls.{AreNulls, IsTrueNullFault, IsTrueNullRoomFault, masked_bits, nulls_at, null_count_at};
+ghost use Rattle.dunkelva_c.specs.Statuses.{IsTrueOf, IsTrueStatus};
+ghost use Rattle.arrow_parts.specs.ByteBits.{HoldPresence};
+ghost use Rattle.arrow_parts.specs.Lent.{present_in};
+ghost use Rattle.polars_arrays_flat.specs.Validity.{masked_count};
+
+use crate::fault::{Fault, status};
+use arrow_parts::bits::validity;
+use arrow_parts::part::{Part, PartKind};
+use arrow_parts::written::write_bits;
+use polars_arrays_bits::bit_mask::BitMask;
+use polars_arrays_bits::bitmap::Bitmap;
+use polars_arrays_flat::validity::null_count;
+use std::alloc::Global;
+
+// A bit for each row, 1 if the row is null, and the number of nulls.
+#[derive(Drop)]
+struct Nulls {
+    bits: Bitmap,
+    count: usize,
+}
+
+// Returns the nulls of a part whose rows are null exactly where they are masked.
+fn masked(alloc: Global, part: &Part<'_>) -> Result<Nulls, Fault>
+    ensures bits { IfOk result (λ nulls. nulls.bits
+        ≡ masked_bits part.now.rows (present_in part.now)) }
+    ensures count { IfOk result (λ nulls. nulls.count ≡ masked_count (present_in part.now)) }
+    ensures long { IfOk result (λ nulls. length nulls.bits ≡ part.now.rows) }
+    ensures refused { IfErr result (IsTrueOf
+        (HoldPresence part.now.first_bit part.now.rows part.now.present.now)) }
+{
+    let validity = validity(alloc, part.present, part.first_bit, part.rows)?;
+    let count = null_count(&validity);
+    match &validity {
+        Some(bits) => {
+            let bits = BitMask::from_bitmap(bits).not(alloc)?;
+            Ok(Nulls { bits, count })
+        }
+        None => {
+            let bits = Bitmap::new_zeroed(alloc, part.rows)?;
+            Ok(Nulls { bits, count })
+        }
+    }
+}
+
+// Returns the nulls of a part.
+fn part_nulls(alloc: Global, part: &Part<'_>) -> Result<Nulls, Fault>
+    ensures bits { IfOk result (λ nulls. nulls.bits
+        ≡ nulls_at (kind_number part.now.kind) part.now) }
+    ensures count { IfOk result (λ nulls. nulls.count
+        ≡ null_count_at (kind_number part.now.kind) part.now) }
+    ensures long { IfOk result (λ nulls. length nulls.bits ≡ part.now.rows) }
+    ensures refused { IfErr result (IsTrueNullFault (kind_number part.now.kind) part.now) }
+{
+    match PartKind::of(part.kind) {
+        Some(PartKind::Null) => {
+            let bits = Bitmap::new_with_value(alloc, true, part.rows)?;
+            Ok(Nulls {
+                bits,
+                count: part.rows,
+            })
+        }
+        Some(PartKind::Boolean) => masked(alloc, part),
+        Some(PartKind::Int8) => masked(alloc, part),
+        Some(PartKind::Int16) => masked(alloc, part),
+        Some(PartKind::Int32) => masked(alloc, part),
+        Some(PartKind::Int64) => masked(alloc, part),
+        Some(PartKind::UInt8) => masked(alloc, part),
+        Some(PartKind::UInt16) => masked(alloc, part),
+        Some(PartKind::UInt32) => masked(alloc, part),
+        Some(PartKind::UInt64) => masked(alloc, part),
+        _ => Err(Fault::NotServed),
+    }
+}
+
+// Writes the nulls of a part.
+fn write_nulls(
+    alloc: Global,
+    part: &Part<'_>,
+    out: &mut [u64],
+    count: &mut u64,
+) -> Result<(), Fault>
+    ensures written { OnOk result (AreNulls part.now out.new count.new) }
+    ensures kept { OnErr result ((out.new ≡ out.old) × (count.new ≡ count.old)) }
+    ensures refused { IfErr result (IsTrueNullRoomFault (length out.old) part.now) }
+{
+    let nulls = part_nulls(alloc, part)?;
+    write_bits(&nulls.bits, out)?;
+    *count = nulls.count as u64;
+    Ok(())
+}
+
+/// Writes a bit for each row of a column, 1 if the row is null, with zeros past the last, and the
+/// number of nulls. It serves numbers of 8 to 64 bits, truth values and columns of nulls.
+#[unsafe(no_mangle)]
+pub extern "C" fn dunkelva_part_is_null(
+    alloc: Global,
+    part: &Part<'_>,
+    out: &mut [u64],
+    count: &mut u64,
+) -> i32
+    ensures written { result ≡ pos 0 → AreNulls part.now out.new count.new }
+    ensures kept { result ≢ pos 0 → (out.new ≡ out.old) × (count.new ≡ count.old) }
+    ensures refused { IsTrueStatus (IsTrueNullRoomFault (length out.old) part.now) result }
+{
+    match write_nulls(alloc, part, out, count) {
+        Ok(()) => 0,
+        Err(fault) => status(fault),
+    }
+}

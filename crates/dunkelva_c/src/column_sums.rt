@@ -1,0 +1,57 @@
+//! Sums of columns.
+
+ghost use Rattle.std.specs.Prelude.{◌≡◌, ◌≢◌, length, pos, IfErr, IfOk};
+ghost use Rattle.num_traits.specs.Laws.{bit_len};
+ghost use Rattle.arrow_columns.specs.Reductions.{sum_if_any};
+ghost use Rattle.arrow_parts.specs.Lent.{present_in};
+ghost use Rattle.dunkelva_c.specs.Columns.{IsColumn, IsTrueFault, rows_lent, sum_of_part};
+ghost use Rattle.dunkelva_c.specs.Numbers.{number_words};
+ghost use Rattle.dunkelva_c.specs.Statuses.{IsTrueOf, IsTrueStatus};
+
+use crate::columns::{at_number_kind, column};
+use crate::fault::{Fault, status};
+use crate::number::{Number, number_of, whole};
+use arrow_columns::reducing::sum;
+use arrow_parts::part::{Part, PartKind};
+use polars_compute_bits::sum::WrappingAdd;
+use polars_compute_slots::number::UniqueNumber;
+use std::alloc::Global;
+
+// Returns the sum of a part's numbers, wrapped to their type, or `None` if no row is present.
+fn sum_of<T: UniqueNumber + WrappingAdd>(
+    alloc: Global,
+    part: &Part<'_>,
+    values: &[T],
+) -> Result<Option<i128>, Fault>
+    ensures sum { IfOk result (λ sum. sum ≡ sum_if_any T.low (bit_len T.width)
+        (rows_lent T.value part.now values.now)) }
+    ensures refused { IfErr result (IsTrueOf (IsColumn part.now (length values.now))) }
+{
+    let column = column(alloc, part, values)?;
+    Ok(whole(sum(&column)))
+}
+
+// Returns the sum of a part of numbers.
+fn part_sum(alloc: Global, part: &Part<'_>) -> Result<Option<i128>, Fault>
+    ensures sum { IfOk result (λ sum. sum ≡ sum_of_part part.now) }
+    ensures refused { IfErr result (IsTrueFault part.now) }
+{
+    at_number_kind!(part, values => sum_of(alloc, part, values))
+}
+
+/// Writes the sum of the present rows of a column of numbers, wrapped to their type, or that there
+/// is none if no row is present.
+#[unsafe(no_mangle)]
+pub extern "C" fn dunkelva_part_sum(alloc: Global, part: &Part<'_>, sum: &mut Number) -> i32
+    ensures written { result ≡ pos 0 → sum.new ≡ number_words (sum_of_part part.now) }
+    ensures kept { result ≢ pos 0 → sum.new ≡ sum.old }
+    ensures refused { IsTrueStatus (IsTrueFault part.now) result }
+{
+    match part_sum(alloc, part) {
+        Ok(whole) => {
+            *sum = number_of(whole);
+            0
+        }
+        Err(fault) => status(fault),
+    }
+}

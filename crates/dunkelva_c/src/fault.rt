@@ -1,0 +1,61 @@
+//! Reasons why a call has no result, and their numbers in C.
+
+ghost use Rattle.std.specs.Prelude.{◌≡◌};
+ghost use Rattle.dunkelva_c.specs.Statuses.{fault_of, status_of};
+ghost use Rattle.dunkelva_c.specs.declared.fault.Fault.TheVariants.{Memory};
+ghost use Rattle.polars_arrays_bits.specs.Errors.{IsMemory};
+
+use arrow_parts::refused::Refused;
+use polars_arrays_bits::error::ComputeError;
+
+/// A reason why a call has no result.
+#[derive(Clone, Copy, Drop, Debug)]
+pub(crate) enum Fault {
+    /// The parts make no array.
+    Parts,
+    /// Two arrays are not of one type and length.
+    Types,
+    /// The caller's memory has no room for the result.
+    Room,
+    /// An allocation failed.
+    Memory,
+    /// The call does not serve arrays of this kind, or has no operation with this number.
+    NotServed,
+}
+
+impl From<Refused> for Fault {
+    ghost from_gives = { λ refused fault. fault ≡ fault_of refused };
+
+    fn from(refused: Refused) -> Fault {
+        match refused {
+            Refused::Parts => Fault::Parts,
+            Refused::Types => Fault::Types,
+            Refused::Room => Fault::Room,
+            Refused::Memory => Fault::Memory,
+        }
+    }
+}
+
+impl From<ComputeError> for Fault {
+    ghost from_gives = { λ e fault. IsMemory e → fault ≡ Memory };
+
+    fn from(error: ComputeError) -> Fault {
+        match error {
+            ComputeError::Memory(_) => Fault::Memory,
+            ComputeError::Unsupported | ComputeError::KeyOutOfRange { .. } => Fault::NotServed,
+        }
+    }
+}
+
+/// Returns the status of a call that has no result.
+pub(crate) fn status(fault: Fault) -> i32
+    ensures { result ≡ status_of fault }
+{
+    match fault {
+        Fault::Parts => 1,
+        Fault::Types => 2,
+        Fault::Room => 3,
+        Fault::Memory => 4,
+        Fault::NotServed => 5,
+    }
+}

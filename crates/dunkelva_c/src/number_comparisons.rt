@@ -1,0 +1,97 @@
+//! Comparisons of a column of numbers with a number.
+
+ghost use Rattle.std.specs.Prelude.{◌≡◌, ◌≢◌, length, map, pos, IfErr, IfOk, OnErr, OnOk};
+ghost use Rattle.arrow_columns.specs.Comparing.{holds_of};
+ghost use Rattle.dunkelva_c.specs.Columns.{rows_lent};
+ghost use Rattle.dunkelva_c.specs.Comparisons.{test_number};
+ghost use Rattle.dunkelva_c.specs.NumberComparisons.{AreCompared, IsNumberedTest, IsTrueNumberFault, IsTrueNumberRoomFault, IsTrueNumberTestFault, IsTrueTypeFault, compared_with};
+ghost use Rattle.dunkelva_c.specs.Numbers.{words_number};
+ghost use Rattle.dunkelva_c.specs.Statuses.{IsTrueStatus};
+ghost use Rattle.polars_arrays_flat.specs.Row.{Int};
+
+use crate::column_comparisons::test_of;
+use crate::columns::{at_number_kind, column};
+use crate::fault::{Fault, status};
+use crate::number::{narrow, whole_of};
+use arrow_columns::comparing::{Test, compare_with};
+use arrow_parts::part::{Part, PartKind};
+use arrow_parts::written::write_bits;
+use polars_arrays_bits::bitmap::Bitmap;
+use polars_compute_slots::number::UniqueNumber;
+use std::alloc::Global;
+
+// Compares each number of a part with a number of its type.
+fn compare_numbers<T: UniqueNumber>(
+    alloc: Global,
+    test: Test,
+    part: &Part<'_>,
+    number: i128,
+    values: &[T],
+) -> Result<Bitmap, Fault>
+    ensures bits { IfOk result (λ bits. bits
+        ≡ map (λ row. holds_of test row (Int number)) (rows_lent T.value part.now values.now)) }
+    ensures count { IfOk result (λ bits. length bits ≡ part.now.rows) }
+    ensures refused { IfErr result (IsTrueTypeFault T.low T.high number
+        (length values.now) part.now) }
+{
+    let Some(right) = narrow::<T>(number) else {
+        return Err(Fault::Types);
+    };
+    let left = column(alloc, part, values)?;
+    let bits = compare_with(alloc, test, &left, right)?;
+    Ok(bits)
+}
+
+// Compares each number of a part with a number.
+fn compare_part(alloc: Global, test: Test, part: &Part<'_>, number: i128) -> Result<Bitmap, Fault>
+    ensures bits { IfOk result (λ bits. bits ≡ compared_with test part.now number) }
+    ensures count { IfOk result (λ bits. length bits ≡ part.now.rows) }
+    ensures refused { IfErr result (IsTrueNumberFault number part.now) }
+{
+    at_number_kind!(part, values => compare_numbers(alloc, test, part, number, values))
+}
+
+// Compares each number of a part with a number, and writes the bits.
+fn write_compared(
+    alloc: Global,
+    test: Test,
+    part: &Part<'_>,
+    number: i128,
+    out: &mut [u64],
+) -> Result<(), Fault>
+    ensures written { OnOk result (AreCompared test part.now number out.new) }
+    ensures kept { OnErr result (out.new ≡ out.old) }
+    ensures refused { IfErr result (IsTrueNumberRoomFault number (length out.old) part.now) }
+{
+    let bits = compare_part(alloc, test, part, number)?;
+    write_bits(&bits, out)?;
+    Ok(())
+}
+
+/// Compares each row of a column of numbers with a number of its type, given as the low and the
+/// high word of 128 bits, and writes a bit for each row, with zeros past the last. `test` is a
+/// number as for `dunkelva_parts_compare`. A null is unequal to the number, and no other comparison
+/// holds of it.
+#[unsafe(no_mangle)]
+pub extern "C" fn dunkelva_part_compare_number(
+    alloc: Global,
+    test: u32,
+    part: &Part<'_>,
+    low: u64,
+    high: u64,
+    out: &mut [u64],
+) -> i32
+    ensures written { result ≡ pos 0
+        → IsNumberedTest (test_number test) part.now (words_number low high) out.new }
+    ensures kept { result ≢ pos 0 → out.new ≡ out.old }
+    ensures refused { IsTrueStatus (IsTrueNumberTestFault (test_number test)
+        (words_number low high) (length out.old) part.now) result }
+{
+    let Some(test) = test_of(test) else {
+        return status(Fault::NotServed);
+    };
+    match write_compared(alloc, test, part, whole_of(low, high), out) {
+        Ok(()) => 0,
+        Err(fault) => status(fault),
+    }
+}
