@@ -10,10 +10,13 @@ PROGRAM ?= $(if $(QUICK),$(UNPROVED),$(PROVED))
 BIN = $(DESTDIR)$(PREFIX)/bin
 SHARE = $(DESTDIR)$(PREFIX)/share
 
-.PHONY: help quick program prove test bench site install install-files uninstall deb
+LIBRARY = out/library
+
+.PHONY: help quick program prove test bench site install install-files uninstall deb library \
+    install-library uninstall-library
 
 help: ## List what can be made
-	@sed -n 's/^\([a-z]*\):.*## /  \1\t/p' Makefile | expand -t 14
+	@sed -n 's/^\([a-z-]*\):.*## /  \1\t/p' Makefile | expand -t 20
 
 quick: ## Build the program without a proof (out/quick/dunkelva; minutes)
 	packaging/build_quick
@@ -47,3 +50,18 @@ uninstall: ## Remove what install put below PREFIX
 
 deb: $(if $(QUICK),quick,program) ## Make a Debian package in out/; QUICK=1: without a proof
 	packaging/make_deb $(PROGRAM)
+
+library: ## Prove the kernels and make the library for C (out/library)
+	packaging/make_library
+
+# Installs a library that is made.
+install-library: ## Install the library for C, which is made, below PREFIX
+	install -D -m 644 $(LIBRARY)/dunkelva.h $(DESTDIR)$(PREFIX)/include/dunkelva.h
+	install -D -m 644 $(LIBRARY)/dunkelva.pc $(DESTDIR)$(PREFIX)/lib/pkgconfig/dunkelva.pc
+	install -D -m 644 $(LIBRARY)/libdunkelva.a $(DESTDIR)$(PREFIX)/lib/libdunkelva.a
+	install -m 644 $(LIBRARY)/libdunkelva.so.*.*.* $(DESTDIR)$(PREFIX)/lib
+	cp -P $(LIBRARY)/libdunkelva.so $(LIBRARY)/libdunkelva.so.0 $(DESTDIR)$(PREFIX)/lib
+
+uninstall-library: ## Remove what install-library put below PREFIX
+	rm -f $(DESTDIR)$(PREFIX)/include/dunkelva.h $(DESTDIR)$(PREFIX)/lib/pkgconfig/dunkelva.pc
+	rm -f $(DESTDIR)$(PREFIX)/lib/libdunkelva.*

@@ -1,0 +1,124 @@
+/* Kernels for columns of the Arrow C data interface.
+ *
+ * A column is a pair of an ArrowSchema, which has its type, and an ArrowArray, which has its rows.
+ * pyarrow, polars, duckdb, GDAL, arrow-rs, nanoarrow and others export their columns so:
+ * https://arrow.apache.org/docs/format/CDataInterface.html
+ *
+ * - Columns are borrowed. A call reads them while it runs and releases nothing.
+ * - A call returns 0 (DUNKELVA_OK) or another status. It writes to `out` where the status is 0
+ *   alone.
+ * - There is no state: calls can run in many threads at once.
+ * - A result depends on the rows alone: never on what is stored under a null, on offsets, on
+ *   buffers, or on whether there is a validity. `null_count` is never read.
+ * - Buffers must have the lengths that the interface asks of them. It does not say how long a
+ * buffer is, so no library can check that. What else can be wrong with an array is a status.
+ * - A column has at most 64 levels of types in types, and at most 2^20 types in all.
+ *
+ * For little-endian machines of 64 bits. */
+#ifndef DUNKELVA_H
+#define DUNKELVA_H
+
+#include <stddef.h>
+#include <stdint.h>
+
+#ifdef __cplusplus
+extern "C" {
+#endif
+
+/* The two structs as the interface defines them. Another header may have defined them already. */
+#ifndef ARROW_C_DATA_INTERFACE
+#define ARROW_C_DATA_INTERFACE
+
+#define ARROW_FLAG_DICTIONARY_ORDERED 1
+#define ARROW_FLAG_NULLABLE 2
+#define ARROW_FLAG_MAP_KEYS_SORTED 4
+
+struct ArrowSchema {
+  const char *format;
+  const char *name;
+  const char *metadata;
+  int64_t flags;
+  int64_t n_children;
+  struct ArrowSchema **children;
+  struct ArrowSchema *dictionary;
+  void (*release)(struct ArrowSchema *);
+  void *private_data;
+};
+
+struct ArrowArray {
+  int64_t length;
+  int64_t null_count;
+  int64_t offset;
+  int64_t n_buffers;
+  int64_t n_children;
+  const void **buffers;
+  struct ArrowArray **children;
+  struct ArrowArray *dictionary;
+  void (*release)(struct ArrowArray *);
+  void *private_data;
+};
+
+#endif
+
+/* What a call returns. */
+enum dunkelva_status {
+  DUNKELVA_OK = 0,
+  /* The buffers make no array: offsets, keys, views, texts that are not UTF-8. */
+  DUNKELVA_BAD_ARRAY = 1,
+  /* The columns differ in type or length. */
+  DUNKELVA_TYPES_DIFFER = 2,
+  /* `out` is too small. */
+  DUNKELVA_NO_ROOM = 3,
+  /* An allocation failed. */
+  DUNKELVA_NO_MEMORY = 4,
+  /* The call does not serve this type. */
+  DUNKELVA_NOT_SERVED = 5,
+  /* The structs break the interface: counts, null pointers, structs that were released. */
+  DUNKELVA_BAD_STRUCTS = 6,
+  /* A flag that does not exist, rows outside of a column, a null pointer in place of `out`. */
+  DUNKELVA_BAD_ARGUMENT = 7
+};
+
+/* Serves floats too, and compares their bits: a NaN is equal to a NaN of the same bits, and -0 is
+ * not equal to 0. Without this flag floats are DUNKELVA_NOT_SERVED. */
+#define DUNKELVA_FLOATS_BY_BITS 1U
+
+/* Checks that texts are UTF-8. That takes several times as long as the comparison. Without this
+ * flag texts are compared as the bytes that they are. */
+#define DUNKELVA_CHECK_TEXTS 2U
+
+/* Compares two columns of one type and one length, row by row.
+ *
+ * Bit i of `out` (bit i % 8 of byte i / 8, as in a validity) is 1 exactly where row i of the left
+ * column and row i of the right one are the same tree; a null is equal to a null alone. `out` takes
+ * (length + 7) / 8 bytes. The bits behind the last row of its last byte are 0.
+ *
+ * Types are the same where their formats are, letter for letter (unit, time zone, precision and
+ * scale), and the names of the fields of structs. Metadata and flags of schemas are not compared.
+ */
+int32_t dunkelva_equal(const struct ArrowSchema *left_type, const struct ArrowArray *left,
+                       const struct ArrowSchema *right_type, const struct ArrowArray *right,
+                       uint32_t flags, uint8_t *out, size_t out_bytes);
+
+/* Compares `rows` rows of two columns, those from row `left_first` and from row `right_first` on.
+ * So batches that end at different rows can be compared.
+ *
+ * Where `comparisons` is not null, it gets the number of leaf values that were compared. */
+int32_t dunkelva_equal_rows(const struct ArrowSchema *left_type, const struct ArrowArray *left,
+                            int64_t left_first, const struct ArrowSchema *right_type,
+                            const struct ArrowArray *right, int64_t right_first, int64_t rows,
+                            uint32_t flags, uint8_t *out, size_t out_bytes, uint64_t *comparisons);
+
+/* Returns what a status means, in English. */
+const char *dunkelva_status_text(int32_t status);
+
+#define DUNKELVA_VERSION "0.1.0"
+
+/* Returns the version of the library, which is DUNKELVA_VERSION of its own header. */
+const char *dunkelva_version(void);
+
+#ifdef __cplusplus
+}
+#endif
+
+#endif

@@ -1,0 +1,75 @@
+/* What the proved library takes: an array as a row of parts, and its exports.
+ *
+ * A part is one array of a tree. Each part comes before the parts inside it: a list before its
+ * items, a struct before its columns in order, a dictionary before its entries. */
+#ifndef DUNKELVA_PARTS_H
+#define DUNKELVA_PARTS_H
+
+#include <stddef.h>
+#include <stdint.h>
+
+/* Elements of one type at a good address. `data` is never null. */
+struct slice {
+  const void *data;
+  size_t len;
+};
+
+/* What an array holds. The proved library knows kinds by these numbers. */
+enum kind {
+  KIND_NONE = 0,
+  KIND_NULL = 1,
+  KIND_BOOLEAN = 2,
+  KIND_INT8 = 3,
+  KIND_INT16 = 4,
+  KIND_INT32 = 5,
+  KIND_INT64 = 6,
+  KIND_INT128 = 7,
+  KIND_UINT8 = 8,
+  KIND_UINT16 = 9,
+  KIND_UINT32 = 10,
+  KIND_UINT64 = 11,
+  KIND_UINT128 = 12,
+  KIND_BINARY = 13,
+  KIND_LARGE_BINARY = 14,
+  KIND_UTF8 = 15,
+  KIND_LARGE_UTF8 = 16,
+  KIND_FIXED_SIZE_BINARY = 17,
+  KIND_LIST = 18,
+  KIND_LARGE_LIST = 19,
+  KIND_FIXED_SIZE_LIST = 20,
+  KIND_STRUCT = 21,
+  KIND_DICT_INT8 = 22,
+  KIND_DICT_INT16 = 23,
+  KIND_DICT_INT32 = 24,
+  KIND_DICT_INT64 = 25,
+  KIND_DICT_UINT8 = 26,
+  KIND_DICT_UINT16 = 27,
+  KIND_DICT_UINT32 = 28,
+  KIND_DICT_UINT64 = 29,
+  KIND_BINARY_VIEW = 30,
+  KIND_UTF8_VIEW = 31
+};
+
+/* One array of a tree, but for the arrays inside it. A kind reads some of the slices; the others
+ * are empty. */
+struct part {
+  uint32_t kind;
+  uint32_t children; /* arrays directly inside */
+  size_t rows;
+  size_t width;     /* bytes or items a row, where all rows have one size */
+  size_t first_bit; /* of their first byte, in which `present` and truth values begin */
+  size_t base;      /* the offset to which the first lent byte or item belongs */
+  struct slice name;
+  struct slice present; /* a bit a row; empty where all rows are present */
+  struct slice i8s, i16s, i32s, i64s;
+  struct slice u8s; /* also truth values, byte strings, and views of 16 bytes */
+  struct slice u16s, u32s;
+  struct slice u64s;    /* also numbers of 128 bits, as pairs with the low half first */
+  struct slice buffers; /* of slices of bytes: what views point to */
+};
+
+int32_t dunkelva_parts_equal(const struct part *left, size_t left_len, const struct part *right,
+                             size_t right_len, uint64_t *out, size_t out_len, uint64_t *comparisons,
+                             size_t comparisons_len);
+
+#endif

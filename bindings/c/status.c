@@ -1,0 +1,32 @@
+/* Texts of statuses, and the version. */
+#include "shim.h"
+
+int32_t dunkelva_check_flags(uint32_t flags) {
+  uint32_t known = DUNKELVA_FLOATS_BY_BITS | DUNKELVA_CHECK_TEXTS;
+  return (flags & ~known) == 0 ? DUNKELVA_OK : DUNKELVA_BAD_ARGUMENT;
+}
+
+const char *dunkelva_status_text(int32_t status) {
+  switch (status) {
+  case DUNKELVA_OK:
+    return "no error";
+  case DUNKELVA_BAD_ARRAY:
+    return "the buffers make no array";
+  case DUNKELVA_TYPES_DIFFER:
+    return "the columns differ in type or length";
+  case DUNKELVA_NO_ROOM:
+    return "the result has no room";
+  case DUNKELVA_NO_MEMORY:
+    return "an allocation failed";
+  case DUNKELVA_NOT_SERVED:
+    return "the type is not served";
+  case DUNKELVA_BAD_STRUCTS:
+    return "the structs break the Arrow C data interface";
+  case DUNKELVA_BAD_ARGUMENT:
+    return "an argument is wrong: a flag, the rows, or a null pointer";
+  default:
+    return "an unknown status";
+  }
+}
+
+const char *dunkelva_version(void) { return DUNKELVA_VERSION; }

@@ -1,0 +1,128 @@
+/* Lets each allocation of a call fail in turn, once it alone and once all from it on. The call must
+ * return DUNKELVA_NO_MEMORY and write nothing, or be done as well as without a failure, and give
+ * back all that it took. The linker puts the functions below in front of those of the C library
+ * (--wrap). Ends with `N passed, M failed`. */
+#include "columns.h"
+
+#include <stdbool.h>
+#include <stdio.h>
+#include <string.h>
+
+void *__real_malloc(size_t bytes);
+void *__real_calloc(size_t count, size_t bytes);
+void *__real_realloc(void *memory, size_t bytes);
+void __real_free(void *memory);
+void *__wrap_malloc(size_t bytes);
+void *__wrap_calloc(size_t count, size_t bytes);
+void *__wrap_realloc(void *memory, size_t bytes);
+void __wrap_free(void *memory);
+
+static long requests;
+static long live;
+static long first_failure;
+static long last_failure;
+
+/* Says whether the next request fails. */
+static bool fails(void) {
+  requests++;
+  return requests >= first_failure && requests <= last_failure;
+}
+
+void *__wrap_malloc(size_t bytes) {
+  void *memory = fails() ? NULL : __real_malloc(bytes);
+  live += memory != NULL;
+  return memory;
+}
+
+void *__wrap_calloc(size_t count, size_t bytes) {
+  void *memory = fails() ? NULL : __real_calloc(count, bytes);
+  live += memory != NULL;
+  return memory;
+}
+
+void *__wrap_realloc(void *memory, size_t bytes) {
+  void *moved = fails() ? NULL : __real_realloc(memory, bytes);
+  live += moved != NULL && memory == NULL;
+  return moved;
+}
+
+void __wrap_free(void *memory) {
+  live -= memory != NULL;
+  __real_free(memory);
+}
+
+enum { ROWS = 100, ROOM = 13 };
+
+/* A column of structs of a truth value, a list of dictionaries of texts, and views. `shift` moves
+ * some buffers to odd addresses. */
+static struct made *column(size_t shift) {
+  static uint8_t bits[ROOM];
+  static int32_t ends[ROWS + 1];
+  static int8_t keys[ROWS];
+  static uint8_t odd[sizeof ends + 1];
+  static uint8_t views[16 * ROWS];
+  static const int32_t entry_ends[] = {0, 1, 2, 3};
+  static const int64_t lengths[] = {20};
+  memset(bits, 0x5B, sizeof bits);
+  for (int32_t row = 0; row < ROWS; row++) {
+    ends[row + 1] = row + 1;
+    keys[row] = (int8_t)(row % 3);
+    views[16 * row] = (uint8_t)(row % 12);
+    memset(views + 16 * row + 4, 'a', (size_t)row % 12);
+  }
+  memcpy(odd + shift, ends, sizeof ends);
+  struct made *texts = make("u", 3, 3, NULL, entry_ends, "abc");
+  struct made *dictionary = make("c", ROWS, 2, bits, keys, NULL);
+  dictionary->type.dictionary = &texts->type;
+  dictionary->array.dictionary = &texts->array;
+  struct made *lists = put(make("+l", ROWS, 2, bits, odd + shift, NULL), "", dictionary);
+  struct made *seen = make("vu", ROWS, 4, NULL, views, "twenty bytes of text");
+  seen->buffers[3] = lengths;
+  struct made *outer =
+      put(make("+s", ROWS, 1, bits, NULL, NULL), "b", make("b", ROWS, 2, NULL, bits, NULL));
+  return put(put(outer, "lists", lists), "views", seen);
+}
+
+/* Compares a column with itself while some requests fail. */
+static int32_t run(const struct made *made, long first, long last, uint8_t out[ROOM]) {
+  memset(out, 0xA5, ROOM);
+  requests = 0;
+  live = 0;
+  first_failure = first;
+  last_failure = last;
+  int32_t status = dunkelva_equal(&made->type, &made->array, &made->type, &made->array,
+                                  DUNKELVA_CHECK_TEXTS, out, ROOM);
+  first_failure = last_failure = 0;
+  return status;
+}
+
+int main(void) {
+  int passed = 0;
+  int failed = 0;
+  for (size_t shift = 0; shift < 2; shift++) {
+    struct made *made = column(shift);
+    uint8_t wanted[ROOM];
+    uint8_t untouched[ROOM];
+    uint8_t out[ROOM];
+    memset(untouched, 0xA5, ROOM);
+    bool good = run(made, 0, 0, wanted) == DUNKELVA_OK && live == 0 && wanted[0] == 0xFF;
+    long count = requests;
+    printf("allocations: %ld requests\n", count);
+    passed += good;
+    failed += !good;
+    for (long at = 1; at <= 2 * count; at++) {
+      long first = (at + 1) / 2;
+      int32_t status = run(made, first, at % 2 == 0 ? first : count, out);
+      good = live == 0 && ((status == DUNKELVA_NO_MEMORY && memcmp(out, untouched, ROOM) == 0) ||
+                           (status == DUNKELVA_OK && memcmp(out, wanted, ROOM) == 0));
+      passed += good;
+      failed += !good;
+      if (!good) {
+        printf("allocations: request %ld: status %d, %ld blocks are left\n", first, (int)status,
+               live);
+      }
+    }
+  }
+  printf("%d passed, %d failed\n", passed, failed);
+  return failed > 0;
+}

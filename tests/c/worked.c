@@ -1,0 +1,445 @@
+/* Calls on rows that were worked out by hand. Ends with `N passed, M failed`. */
+#include "columns.h"
+
+#include <stdbool.h>
+#include <stdio.h>
+#include <string.h>
+
+static int passed;
+static int failed;
+
+static void count(bool holds, const char *what) {
+  if (holds) {
+    passed++;
+  } else {
+    failed++;
+    printf("worked: not so: %s\n", what);
+  }
+}
+
+static int32_t status_of(const struct made *left, const struct made *right, uint32_t flags) {
+  uint8_t out[16];
+  return dunkelva_equal(&left->type, &left->array, &right->type, &right->array, flags, out,
+                        sizeof out);
+}
+
+/* Compares two columns: `wanted` has a character for each row, 1 where the rows are the same. */
+static void equal_by(const char *what, const struct made *left, const struct made *right,
+                     const char *wanted, uint32_t flags) {
+  uint8_t out[16] = {0};
+  char got[129] = {0};
+  int32_t status = dunkelva_equal(&left->type, &left->array, &right->type, &right->array, flags,
+                                  out, sizeof out);
+  for (size_t row = 0; row < strlen(wanted); row++) {
+    got[row] = (char)('0' + (out[row / 8] >> (row % 8) & 1));
+  }
+  count(status == DUNKELVA_OK && strcmp(got, wanted) == 0, what);
+}
+
+static void equal(const char *what, const struct made *left, const struct made *right,
+                  const char *wanted) {
+  equal_by(what, left, right, wanted, 0);
+  equal_by(what, left, right, wanted, DUNKELVA_CHECK_TEXTS);
+}
+
+static void refused(const char *what, const struct made *left, const struct made *right,
+                    int32_t wanted) {
+  count(status_of(left, right, 0) == wanted, what);
+}
+
+/* A byte with bits, the first row lowest. */
+#define BITS(...) ((const uint8_t[]){__VA_ARGS__})
+
+static struct made *numbers(int64_t rows, const uint8_t *validity, const int32_t *values) {
+  return make("i", rows, 2, validity, values, NULL);
+}
+
+static void try_numbers(void) {
+  const int32_t left[] = {1, 7, 3, 4};
+  const int32_t right[] = {1, 8, 3, 5};
+  struct made *bare = numbers(4, NULL, left);
+  equal("numbers", bare, numbers(4, NULL, right), "1010");
+  equal("what is under a null is not seen", numbers(4, BITS(0x5), left),
+        numbers(4, BITS(0xD), right), "1110");
+  equal("null is equal to null alone", numbers(4, BITS(0x0), left), numbers(4, BITS(0x3), left),
+        "0011");
+  equal("a validity of ones is as good as none", numbers(4, BITS(0xFF), left), bare, "1111");
+  struct made *window = numbers(2, BITS(0xE), left);
+  window->array.offset = 1;
+  equal("a window", window, numbers(2, BITS(0xFE), right + 1), "01");
+  equal("no rows", numbers(0, NULL, NULL), numbers(0, BITS(0), left), "");
+  refused("other lengths", bare, numbers(3, NULL, left), DUNKELVA_TYPES_DIFFER);
+  refused("other types", bare, make("I", 4, 2, NULL, left, NULL), DUNKELVA_TYPES_DIFFER);
+  refused("other types of no rows", numbers(0, NULL, NULL), make("I", 0, 2, NULL, NULL, NULL),
+          DUNKELVA_TYPES_DIFFER);
+  const uint8_t bytes[] = {9, 1, 0, 0, 0, 7, 0, 0, 0, 3, 0, 0, 0, 5, 0, 0, 0};
+  equal("an odd address", numbers(4, NULL, (const void *)(bytes + 1)), bare, "1110");
+}
+
+static void try_numbers_of_other_formats(void) {
+  const uint64_t left[] = {1, 2, 0, UINT64_MAX};
+  const uint64_t right[] = {1, 0, 2, UINT64_MAX};
+  const char *const wide[] = {"l",       "L",    "tdm", "ttu", "ttn",
+                              "tsu:UTC", "tss:", "tDn", "tiD", "d:18,2,64"};
+  for (size_t i = 0; i < sizeof wide / sizeof *wide; i++) {
+    equal(wide[i], make(wide[i], 4, 2, NULL, left, NULL), make(wide[i], 4, 2, NULL, right, NULL),
+          "1001");
+  }
+  const char *const pairs[] = {"d:38,2", "d:38,-1,128", "w:16", "tin"};
+  for (size_t i = 0; i < sizeof pairs / sizeof *pairs; i++) {
+    equal(pairs[i], make(pairs[i], 2, 2, NULL, left, NULL), make(pairs[i], 2, 2, NULL, right, NULL),
+          "00");
+    equal(pairs[i], make(pairs[i], 1, 2, NULL, left + 1, NULL),
+          make(pairs[i], 1, 2, NULL, right + 2, NULL), "0");
+    equal(pairs[i], make(pairs[i], 2, 2, NULL, left, NULL), make(pairs[i], 2, 2, NULL, left, NULL),
+          "11");
+  }
+  const uint8_t *bytes = (const uint8_t *)left;
+  equal("w:3", make("w:3", 3, 2, NULL, bytes, NULL), make("w:3", 3, 2, NULL, right, NULL), "110");
+  equal("w:0", make("w:0", 3, 2, BITS(5), NULL, NULL), make("w:0", 3, 2, NULL, NULL, NULL), "101");
+  equal("bytes", make("C", 9, 2, NULL, bytes, NULL), make("C", 9, 2, NULL, right, NULL),
+        "111111110");
+  equal("numbers of 16 bits", make("s", 5, 2, NULL, left, NULL), make("s", 5, 2, NULL, right, NULL),
+        "11110");
+  refused("other zones", make("tsu:UTC", 4, 2, NULL, left, NULL),
+          make("tsu:", 4, 2, NULL, left, NULL), DUNKELVA_TYPES_DIFFER);
+  refused("other scales", make("d:18,2,64", 4, 2, NULL, left, NULL),
+          make("d:18,3,64", 4, 2, NULL, left, NULL), DUNKELVA_TYPES_DIFFER);
+}
+
+static void try_floats(void) {
+  const float left[] = {1.5F, 0.0F, 2.0F};
+  const float right[] = {1.5F, -0.0F, 3.0F};
+  const uint64_t nans[] = {0x7FF8000000000000U, 0x7FF8000000000001U};
+  const uint64_t others[] = {0x7FF8000000000000U, 0x7FF8000000000002U};
+  struct made *floats = make("f", 3, 2, NULL, left, NULL);
+  refused("floats are not served", floats, floats, DUNKELVA_NOT_SERVED);
+  equal_by("-0 has other bits than 0", floats, make("f", 3, 2, NULL, right, NULL), "100",
+           DUNKELVA_FLOATS_BY_BITS);
+  equal_by("NaN by its bits", make("g", 2, 2, NULL, nans, NULL),
+           make("g", 2, 2, NULL, others, NULL), "10", DUNKELVA_FLOATS_BY_BITS);
+  equal_by("halves", make("e", 2, 2, NULL, nans, NULL), make("e", 2, 2, NULL, others, NULL), "11",
+           DUNKELVA_FLOATS_BY_BITS);
+}
+
+static void try_truth_values(void) {
+  struct made *left = make("b", 10, 2, NULL, BITS(0xA5, 0x02), NULL);
+  equal("truth values", left, make("b", 10, 2, NULL, BITS(0xA7, 0x00), NULL), "1011111110");
+  struct made *window = make("b", 3, 2, BITS(0x00, 0x06), BITS(0xFF, 0x05), NULL);
+  window->array.offset = 8; /* rows: null, false, true */
+  equal("a window of truth values", window, make("b", 3, 2, BITS(0x06), BITS(0x06), NULL), "101");
+  equal("nulls", make("n", 5, 0, NULL, NULL, NULL), make("n", 5, 0, NULL, NULL, NULL), "11111");
+}
+
+static void try_texts(void) {
+  const int32_t left[] = {0, 1, 1, 4};
+  const int32_t right[] = {2, 3, 3, 6};
+  const int64_t large[] = {0, 1, 1, 4};
+  struct made *texts = make("u", 3, 3, NULL, left, "a\xC3\xA9z");
+  equal("texts", texts, make("u", 3, 3, NULL, right, "??a\xC3\xA9z"), "111");
+  equal("an empty text is no null", texts, make("u", 3, 3, BITS(0x5), left, "b\xC3\xA9z"), "001");
+  equal("large texts", make("U", 3, 3, NULL, large, "abcd"), make("U", 3, 3, NULL, large, "abce"),
+        "110");
+  equal("bytes with a zero", make("z", 3, 3, NULL, left, "a\0bc"),
+        make("z", 3, 3, NULL, left, "a\0bd"), "110");
+  refused("texts and bytes", texts, make("z", 3, 3, NULL, left, "abcd"), DUNKELVA_TYPES_DIFFER);
+  const int32_t back[] = {0, 3, 1, 4};
+  const int32_t below[] = {-1, 1, 1, 4};
+  refused("offsets that go back", make("u", 3, 3, NULL, back, "abcd"), texts, DUNKELVA_BAD_ARRAY);
+  refused("an offset below 0", texts, make("u", 3, 3, NULL, below, "abcd"), DUNKELVA_BAD_ARRAY);
+  struct made *broken = make("u", 3, 3, NULL, left, "a\xC3zz");
+  equal_by("bytes that are no text", broken, broken, "111", 0);
+  count(status_of(broken, broken, DUNKELVA_CHECK_TEXTS) == DUNKELVA_BAD_ARRAY, "no UTF-8");
+}
+
+/* Writes a view. */
+static void view(uint8_t *to, const char *text, uint32_t number, uint32_t place) {
+  uint32_t length = (uint32_t)strlen(text);
+  memset(to, 0, 16);
+  memcpy(to, &length, 4);
+  memcpy(to + 4, text, length < 12 ? length : 12);
+  if (length > 12) {
+    memcpy(to + 8, &number, 4);
+    memcpy(to + 12, &place, 4);
+  }
+}
+
+static void try_views(void) {
+  const char *const text = "a text of more than twelve bytes";
+  uint8_t left[48];
+  uint8_t right[48];
+  view(left, "short", 0, 0);
+  view(left + 16, text, 0, 0);
+  view(left + 32, "twelve bytes", 0, 0);
+  view(right, "short", 0, 0);
+  view(right + 16, text, 1, 3);
+  view(right + 32, "twelve bites", 0, 0);
+  const int64_t lengths[] = {(int64_t)strlen(text)};
+  const int64_t others[] = {0, 3 + (int64_t)strlen(text)};
+  struct made *one = make("vu", 3, 4, NULL, left, text);
+  one->buffers[3] = lengths;
+  struct made *two = make("vu", 3, 5, BITS(0xFF), right, NULL);
+  two->buffers[3] = "???a text of more than twelve bytes";
+  two->buffers[4] = others;
+  equal("views into other buffers", one, two, "110");
+  struct made *window = make("vz", 1, 4, NULL, left, text);
+  window->buffers[3] = lengths;
+  window->array.offset = 1;
+  struct made *other = make("vz", 1, 4, NULL, left + 16, text);
+  other->buffers[3] = lengths;
+  equal("a window of views", window, other, "1");
+  struct made *shorts = make("vz", 1, 3, NULL, left + 32, NULL);
+  equal("views without buffers", shorts, shorts, "1");
+  struct made *lost = make("vz", 1, 3, NULL, left + 16, NULL);
+  refused("a view into no buffer", lost, lost, DUNKELVA_BAD_ARRAY);
+  left[8 + 5] = 1;
+  refused("a short view with a byte too many", one, two, DUNKELVA_BAD_ARRAY);
+}
+
+static void try_lists(void) {
+  const int32_t items[] = {1, 2, 3, 4, 5};
+  const int32_t left[] = {0, 2, 2, 3, 3};
+  const int32_t right[] = {1, 3, 3, 5, 5};
+  const int64_t large[] = {0, 2, 2, 3, 3};
+  struct made *lists = put(make("+l", 4, 2, NULL, left, NULL), "item", numbers(5, NULL, items));
+  struct made *nulls =
+      put(make("+l", 4, 2, BITS(0x7), left, NULL), "x", numbers(5, BITS(0x1D), items));
+  equal("lists", lists, put(make("+l", 4, 2, NULL, right, NULL), "item", numbers(5, NULL, items)),
+        "0101");
+  equal("null items, null lists", lists, nulls, "0110");
+  equal("the same", nulls, nulls, "1111");
+  equal("large lists", put(make("+L", 4, 2, NULL, large, NULL), "item", numbers(5, NULL, items)),
+        put(make("+L", 4, 2, NULL, large, NULL), "item", numbers(3, NULL, items)), "1111");
+  equal("lists of one width",
+        put(make("+w:2", 2, 1, BITS(0x1), NULL, NULL), "item", numbers(4, NULL, items)),
+        put(make("+w:2", 2, 1, BITS(0x1), NULL, NULL), "item", numbers(5, BITS(0x3), items)), "11");
+  equal("lists of no items",
+        put(make("+w:0", 2, 1, BITS(0x1), NULL, NULL), "", numbers(0, NULL, NULL)),
+        put(make("+w:0", 2, 1, NULL, NULL, NULL), "", numbers(0, NULL, NULL)), "10");
+  refused("too few items", put(make("+l", 4, 2, NULL, left, NULL), "", numbers(2, NULL, items)),
+          lists, DUNKELVA_BAD_STRUCTS);
+  refused("other items", lists,
+          put(make("+l", 4, 2, NULL, left, NULL), "", make("I", 5, 2, NULL, items, NULL)),
+          DUNKELVA_TYPES_DIFFER);
+}
+
+/* A struct of a number and a text. */
+static struct made *pair(const char *first, const char *second, const uint8_t *validity,
+                         const int32_t *values, const int32_t *offsets, const char *bytes) {
+  return put(put(make("+s", 3, 1, validity, NULL, NULL), first, numbers(3, NULL, values)), second,
+             make("u", 3, 3, NULL, offsets, bytes));
+}
+
+static void try_structs_and_maps(void) {
+  const int32_t left[] = {1, 2, 3};
+  const int32_t right[] = {1, 9, 3};
+  const int32_t offsets[] = {0, 1, 2, 3};
+  struct made *one = pair("a", "b", NULL, left, offsets, "xyz");
+  equal("structs", one, pair("a", "b", NULL, right, offsets, "xyw"), "100");
+  equal("null structs", pair("a", "b", BITS(0x5), left, offsets, "xyz"),
+        pair("a", "b", BITS(0x1), right, offsets, "xyz"), "110");
+  refused("other names", one, pair("a", "c", NULL, left, offsets, "xyz"), DUNKELVA_TYPES_DIFFER);
+  refused("columns in another order", one,
+          put(put(make("+s", 3, 1, NULL, NULL, NULL), "b", make("u", 3, 3, NULL, offsets, "xyz")),
+              "a", numbers(3, NULL, left)),
+          DUNKELVA_TYPES_DIFFER);
+  struct made *window = pair("a", "b", NULL, left, offsets, "xyz");
+  window->array.offset = 1;
+  window->array.length = 1;
+  window->arrays[0]->offset = 1; /* its rows are 2, 3 */
+  window->arrays[0]->length = 2;
+  struct made *third = put(put(make("+s", 1, 1, NULL, NULL, NULL), "a", numbers(1, NULL, left + 2)),
+                           "b", make("u", 1, 3, NULL, offsets + 1, "xyz"));
+  equal("offsets of a struct and of its column add up", window, third, "1");
+  equal("structs of no fields", make("+s", 2, 1, BITS(0x1), NULL, NULL),
+        make("+s", 2, 1, NULL, NULL, NULL), "10");
+  const int32_t ends[] = {0, 2, 3};
+  struct made *map = put(make("+m", 2, 2, NULL, ends, NULL), "entries",
+                         pair("key", "value", NULL, left, offsets, "xyz"));
+  equal("maps", map,
+        put(make("+m", 2, 2, NULL, ends, NULL), "entries",
+            pair("key", "value", NULL, right, offsets, "xyz")),
+        "01");
+}
+
+static struct made *dictionary(const char *keys, int64_t rows, const uint8_t *validity,
+                               const void *values, struct made *entries) {
+  struct made *made = make(keys, rows, 2, validity, values, NULL);
+  made->type.dictionary = &entries->type;
+  made->array.dictionary = &entries->array;
+  return made;
+}
+
+static void try_dictionaries(void) {
+  const int8_t left[] = {0, 1, 2, 9};
+  const int8_t right[] = {2, 1, 0, 1};
+  const int32_t ends[] = {0, 1, 2, 3};
+  struct made *entries = make("u", 3, 3, NULL, ends, "abc");
+  struct made *turned = make("u", 3, 3, BITS(0x5), ends, "c?a");
+  struct made *one = dictionary("c", 4, BITS(0x7), left, entries);
+  struct made *two = dictionary("c", 4, NULL, right, turned);
+  equal("entries in another order, a null entry", one, two, "1011");
+  refused("a key of no entry", dictionary("c", 4, NULL, left, entries), one, DUNKELVA_BAD_ARRAY);
+  refused("a dictionary and texts", one, make("u", 4, 3, NULL, ends, "abc"), DUNKELVA_TYPES_DIFFER);
+  refused("other keys", one, dictionary("C", 4, NULL, right, turned), DUNKELVA_TYPES_DIFFER);
+  refused("keys that are no numbers", dictionary("tdD", 4, NULL, ends, entries), one,
+          DUNKELVA_BAD_STRUCTS);
+  const uint64_t keys[] = {2, 0};
+  equal("wide keys", dictionary("L", 2, NULL, keys, entries),
+        dictionary("L", 2, NULL, keys, turned), "00");
+}
+
+static void try_broken_structs(void) {
+  const int32_t values[] = {1, 2, 3, 4};
+  struct made *good = numbers(4, NULL, values);
+  struct made *bad = numbers(4, NULL, values);
+  bad->array.release(&bad->array);
+  refused("an array that was released", good, bad, DUNKELVA_BAD_STRUCTS);
+  bad = numbers(4, NULL, values);
+  bad->type.release(&bad->type);
+  refused("a type that was released", bad, good, DUNKELVA_BAD_STRUCTS);
+  refused("no values", numbers(4, NULL, NULL), good, DUNKELVA_BAD_STRUCTS);
+  refused("too few buffers", make("i", 4, 1, NULL, values, NULL), good, DUNKELVA_BAD_STRUCTS);
+  refused("a length below 0", numbers(-1, NULL, values), numbers(-1, NULL, values),
+          DUNKELVA_BAD_STRUCTS);
+  refused("a length beyond memory", numbers(INT64_MAX, NULL, values),
+          numbers(INT64_MAX, NULL, values), DUNKELVA_BAD_STRUCTS);
+  refused("an unknown format", make("?", 4, 2, NULL, values, NULL), good, DUNKELVA_NOT_SERVED);
+  refused("unions", make("+us:0", 4, 2, NULL, values, NULL), good, DUNKELVA_NOT_SERVED);
+  struct made *deep = numbers(1, NULL, values);
+  const int32_t ends[] = {0, 1};
+  for (int level = 1; level < 64; level++) {
+    deep = put(make("+l", 1, 2, NULL, ends, NULL), "", deep);
+  }
+  equal("64 levels", deep, deep, "1");
+  deep = put(make("+l", 1, 2, NULL, ends, NULL), "", deep);
+  refused("65 levels", deep, deep, DUNKELVA_BAD_STRUCTS);
+}
+
+static void try_arguments(void) {
+  const int32_t values[] = {1, 2, 3, 4, 5, 6, 7, 8, 9};
+  struct made *made = numbers(9, NULL, values);
+  const struct ArrowSchema *type = &made->type;
+  const struct ArrowArray *array = &made->array;
+  uint8_t out[3] = {0x55, 0x55, 0x55};
+  uint64_t steps = 7;
+  count(dunkelva_equal(type, array, type, array, 0, out, 1) == DUNKELVA_NO_ROOM, "no room");
+  count(dunkelva_equal(type, array, type, array, 4, out, 2) == DUNKELVA_BAD_ARGUMENT, "flags");
+  count(dunkelva_equal(type, array, type, array, 0, NULL, 2) == DUNKELVA_BAD_ARGUMENT, "no out");
+  count(dunkelva_equal(type, NULL, type, array, 0, out, 2) == DUNKELVA_BAD_STRUCTS, "no array");
+  count(dunkelva_equal(NULL, array, type, array, 0, out, 2) == DUNKELVA_BAD_STRUCTS, "no type");
+  count(dunkelva_equal_rows(type, array, 1, type, array, 0, 9, 0, out, 2, &steps) ==
+            DUNKELVA_BAD_ARGUMENT,
+        "rows behind the last one");
+  count(dunkelva_equal_rows(type, array, -1, type, array, 0, 1, 0, out, 2, &steps) ==
+            DUNKELVA_BAD_ARGUMENT,
+        "rows before the first one");
+  count(dunkelva_equal_rows(type, array, 0, type, array, 0, -1, 0, out, 2, &steps) ==
+            DUNKELVA_BAD_ARGUMENT,
+        "fewer than no rows");
+  count(out[0] == 0x55 && out[1] == 0x55 && out[2] == 0x55 && steps == 7, "nothing is written");
+  count(dunkelva_equal_rows(type, array, 1, type, array, 0, 8, 0, out, 1, &steps) == DUNKELVA_OK &&
+            out[0] == 0 && out[1] == 0x55 && steps <= 8,
+        "a window");
+  count(dunkelva_equal(type, array, type, array, 0, out, 3) == DUNKELVA_OK && out[0] == 0xFF &&
+            out[1] == 1 && out[2] == 0x55,
+        "bits behind the last row are 0, later bytes stay");
+  count(strcmp(dunkelva_version(), DUNKELVA_VERSION) == 0, "the version");
+  for (int32_t status = 0; status < 8; status++) {
+    count(strcmp(dunkelva_status_text(status), dunkelva_status_text(-1)) != 0,
+          "a text of each status");
+  }
+}
+
+/* Columns of several windows: rows that differ at the ends of windows, and a fault in the last one.
+ */
+static void try_many_rows(void) {
+  enum { ROWS = 40000 };
+  static int32_t left[ROWS + 1];
+  static int32_t right[ROWS + 1];
+  static uint8_t out[ROWS / 8];
+  static uint8_t bytes[2 * ROWS];
+  const int32_t planted[] = {0, 16383, 16384, 39999};
+  for (int32_t row = 0; row <= ROWS; row++) {
+    left[row] = right[row] = 2 * row;
+  }
+  for (size_t i = 0; i < 4; i++) {
+    right[planted[i]] += 1;
+  }
+  struct made *one = numbers(ROWS, NULL, left);
+  struct made *two = numbers(ROWS, NULL, right);
+  count(dunkelva_equal(&one->type, &one->array, &two->type, &two->array, 0, out, sizeof out) ==
+            DUNKELVA_OK,
+        "many rows");
+  for (int32_t row = 0, next = 0; row < ROWS; row++) {
+    bool differs = next < 4 && row == planted[next];
+    next += differs;
+    if ((out[row / 8] >> (row % 8) & 1) != !differs) {
+      count(false, "the planted rows are the ones that differ");
+      return;
+    }
+  }
+  passed++;
+  struct made *texts = make("u", ROWS, 3, NULL, left, bytes);
+  right[35000] = 9; /* lies before the offset in front of it */
+  struct made *broken = make("u", ROWS, 3, NULL, right, bytes);
+  memset(out, 0x77, sizeof out);
+  count(dunkelva_equal(&texts->type, &texts->array, &broken->type, &broken->array, 0, out,
+                       sizeof out) == DUNKELVA_BAD_ARRAY,
+        "a bad offset in the last window");
+  for (size_t i = 0; i < sizeof out; i++) {
+    if (out[i] != 0x77) {
+      count(false, "nothing is written where the last window fails");
+      return;
+    }
+  }
+  passed++;
+}
+
+/* Views of 20 bytes each, whose buffer begins with many bytes that no view names. */
+static void try_many_views(void) {
+  enum { ROWS = 40000, UNUSED = 1 << 22, WIDTH = 20 };
+  static uint8_t views[16 * ROWS];
+  static uint8_t bytes[UNUSED + WIDTH * ROWS];
+  static uint8_t others[UNUSED + WIDTH * ROWS];
+  static uint8_t out[ROWS / 8];
+  static const int64_t lengths[] = {sizeof bytes};
+  memset(bytes, 'a', sizeof bytes);
+  memset(others, 'a', sizeof others);
+  for (uint32_t row = 0; row < ROWS; row++) {
+    uint32_t words[4] = {WIDTH, 0x61616161U, 0, UNUSED + WIDTH * row};
+    memcpy(views + 16 * (size_t)row, words, sizeof words);
+    others[UNUSED + WIDTH * row + 19] = row % 5000 == 0 ? 'b' : 'a';
+  }
+  struct made *left = make("vu", ROWS, 4, NULL, views, bytes);
+  struct made *right = make("vu", ROWS, 4, NULL, views, others);
+  left->buffers[3] = right->buffers[3] = lengths;
+  count(dunkelva_equal(&left->type, &left->array, &right->type, &right->array, 0, out,
+                       sizeof out) == DUNKELVA_OK,
+        "many views");
+  for (uint32_t row = 0; row < ROWS; row++) {
+    if ((out[row / 8] >> (row % 8) & 1) != (row % 5000 != 0)) {
+      count(false, "the planted views are the ones that differ");
+      return;
+    }
+  }
+  passed++;
+}
+
+int main(void) {
+  try_numbers();
+  try_numbers_of_other_formats();
+  try_floats();
+  try_truth_values();
+  try_texts();
+  try_views();
+  try_lists();
+  try_structs_and_maps();
+  try_dictionaries();
+  try_broken_structs();
+  try_arguments();
+  try_many_rows();
+  try_many_views();
+  printf("%d passed, %d failed\n", passed, failed);
+  return failed > 0;
+}
