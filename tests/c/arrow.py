@@ -6,16 +6,18 @@ A type is a format ("i", "u", "w:3", "d:9,2" ..) or one of
     ("+s", [(NAME, TYPE), ..])
     ("dict", FORMAT OF THE KEYS, ENTRY)
 
-A row is None, or a truth value, a number, bytes (of strings, of "tin"), a list of items, a list of pairs (of
-maps), or a tuple of the fields of a struct. Floats are given as the numbers of their bits.
+A row is None, or a truth value, a number, bytes (of strings, of "tin"), a list of items, a list of
+pairs (of maps), or a tuple of the fields of a struct. Floats are given as numbers with their bits.
 
-How rows are kept is left to chance: rows before and behind the window, what lies under a null, a validity where no
-row is null, items and bytes that no row uses, entries that no key names, the buffers of views, odd addresses.
+How rows are kept is left to chance: rows before and behind the window, what lies under a null, a
+validity where no row is null, items and bytes that no row uses, entries that no key names, the
+buffers of views, odd addresses.
 """
 import ctypes
 
-NUMBERS = {"c": 1, "C": 1, "s": 2, "S": 2, "i": 4, "I": 4, "l": 8, "L": 8, "e": 2, "f": 4, "g": 8, "tdD": 4, "tdm": 8,
-           "tts": 4, "ttm": 4, "ttu": 8, "ttn": 8, "tDs": 8, "tDm": 8, "tDu": 8, "tDn": 8, "tiM": 4, "tiD": 8}
+NUMBERS = {"c": 1, "C": 1, "s": 2, "S": 2, "i": 4, "I": 4, "l": 8, "L": 8, "e": 2, "f": 4, "g": 8,
+           "tdD": 4, "tdm": 8, "tts": 4, "ttm": 4, "ttu": 8, "ttn": 8, "tDs": 8, "tDm": 8, "tDu": 8,
+           "tDn": 8, "tiM": 4, "tiD": 8}
 UNSIGNED = "CSILefg"
 STRINGS = {"z": 4, "u": 4, "Z": 8, "U": 8}
 
@@ -28,9 +30,11 @@ class ArrowSchema(ctypes.Structure):
 
 
 ArrowSchema._fields_ = [
-    ("format", ctypes.c_char_p), ("name", ctypes.c_char_p), ("metadata", ctypes.c_void_p), ("flags", ctypes.c_int64),
-    ("n_children", ctypes.c_int64), ("children", ctypes.POINTER(ctypes.POINTER(ArrowSchema))),
-    ("dictionary", ctypes.POINTER(ArrowSchema)), ("release", ctypes.c_void_p), ("private_data", ctypes.c_void_p)]
+    ("format", ctypes.c_char_p), ("name", ctypes.c_char_p), ("metadata", ctypes.c_void_p),
+    ("flags", ctypes.c_int64), ("n_children", ctypes.c_int64),
+    ("children", ctypes.POINTER(ctypes.POINTER(ArrowSchema))),
+    ("dictionary", ctypes.POINTER(ArrowSchema)), ("release", ctypes.c_void_p),
+    ("private_data", ctypes.c_void_p)]
 
 
 class ArrowArray(ctypes.Structure):
@@ -39,9 +43,11 @@ class ArrowArray(ctypes.Structure):
 
 ArrowArray._fields_ = [
     ("length", ctypes.c_int64), ("null_count", ctypes.c_int64), ("offset", ctypes.c_int64),
-    ("n_buffers", ctypes.c_int64), ("n_children", ctypes.c_int64), ("buffers", ctypes.POINTER(ctypes.c_void_p)),
-    ("children", ctypes.POINTER(ctypes.POINTER(ArrowArray))), ("dictionary", ctypes.POINTER(ArrowArray)),
-    ("release", ctypes.c_void_p), ("private_data", ctypes.c_void_p)]
+    ("n_buffers", ctypes.c_int64), ("n_children", ctypes.c_int64),
+    ("buffers", ctypes.POINTER(ctypes.c_void_p)),
+    ("children", ctypes.POINTER(ctypes.POINTER(ArrowArray))),
+    ("dictionary", ctypes.POINTER(ArrowArray)), ("release", ctypes.c_void_p),
+    ("private_data", ctypes.c_void_p)]
 
 _release = ctypes.CFUNCTYPE(None, ctypes.c_void_p)(lambda _: None)
 RELEASE = ctypes.cast(_release, ctypes.c_void_p).value
@@ -51,10 +57,11 @@ def load(path):
     """Loads the library."""
     library = ctypes.CDLL(path)
     schema, array = ctypes.POINTER(ArrowSchema), ctypes.POINTER(ArrowArray)
-    column = [schema, array]
-    library.dunkelva_equal.argtypes = [*column, *column, ctypes.c_uint32, ctypes.c_void_p, ctypes.c_size_t]
-    library.dunkelva_equal_rows.argtypes = [*column, ctypes.c_int64, *column, ctypes.c_int64, ctypes.c_int64,
-                                            ctypes.c_uint32, ctypes.c_void_p, ctypes.c_size_t, ctypes.c_void_p]
+    column, place = [schema, array], ctypes.c_int64
+    out = [ctypes.c_uint32, ctypes.c_void_p, ctypes.c_size_t]
+    library.dunkelva_equal.argtypes = [*column, *column, *out]
+    library.dunkelva_equal_rows.argtypes = [*column, place, *column, place, place, *out,
+                                            ctypes.c_void_p]
     library.dunkelva_status_text.restype = library.dunkelva_version.restype = ctypes.c_char_p
     return library
 
@@ -111,11 +118,13 @@ def format_of(kind):
 def make_schema(kind, name=""):
     """Makes the schema of a type, and returns it with what keeps it alive."""
     schema, held = ArrowSchema(), []
-    schema.format, schema.name, schema.flags, schema.release = format_of(kind).encode(), name.encode(), 2, RELEASE
+    schema.format, schema.name = format_of(kind).encode(), name.encode()
+    schema.flags, schema.release = 2, RELEASE
     children = [make_schema(inner, name) for name, inner in inner_types(kind)]
     schema.n_children = len(children)
     if children:
-        pointers = (ctypes.POINTER(ArrowSchema) * len(children))(*[ctypes.pointer(child) for child, _ in children])
+        inside = [ctypes.pointer(child) for child, _ in children]
+        pointers = (ctypes.POINTER(ArrowSchema) * len(children))(*inside)
         schema.children = ctypes.cast(pointers, ctypes.POINTER(ctypes.POINTER(ArrowSchema)))
         held += [pointers, children]
     if kind[0] == "dict":
@@ -138,7 +147,7 @@ def some_value(kind, chance, null=0.2):
             return chance.choice(("", "a", "é", "a string of twenty two", "thirteen byte")).encode()
         if kind == "tin" or kind.startswith("w:"):
             width = 16 if kind == "tin" else int(kind[2:])
-            return bytes(chance.randrange(2) for _ in range(width)) if width < 4 else bytes(width - 1) + b"\1"
+            return bytes(chance.randrange(2) if place < 3 else 7 for place in range(width))
         if kind.startswith("d:"):
             return chance.choice((-1, 0, 10 ** 9))
         return chance.randrange(3)
@@ -147,7 +156,8 @@ def some_value(kind, chance, null=0.2):
     if kind[0] == "+s":
         return tuple(some_value(inner, chance) for _, inner in kind[1])
     if kind[0] == "+m":
-        return [(some_value(kind[1], chance, 0), some_value(kind[2], chance)) for _ in range(chance.randrange(3))]
+        pairs = range(chance.randrange(3))
+        return [(some_value(kind[1], chance, 0), some_value(kind[2], chance)) for _ in pairs]
     count = int(kind[0][3:]) if kind[0].startswith("+w:") else chance.randrange(4)
     return [some_value(kind[1], chance) for _ in range(count)]
 
@@ -189,12 +199,13 @@ def add_views(buffers, rows, chance):
     used = data if any(len(row) > 12 for row in rows) or chance.random() < 0.5 else []
     for content in used:
         buffers.add(bytes(content), is_missing=not content and chance.random() < 0.5)
-    buffers.add(b"".join(len(content).to_bytes(8, "little") for content in used), is_missing=not used)
+    lengths = b"".join(len(content).to_bytes(8, "little") for content in used)
+    buffers.add(lengths, is_missing=not used)
 
 
-def gaps(rows, chance, filler):
-    """Returns rows in which null ones are empty or, by chance, hold something that is not seen."""
-    return [row if row is not None else filler() if chance.random() < 0.3 else [] for row in rows]
+def filled(rows, hidden):
+    """Returns rows in which null ones hold something that is not seen."""
+    return [hidden() if row is None else row for row in rows]
 
 
 def add_offsets(buffers, lengths, size, first):
@@ -213,11 +224,13 @@ def make_column(kind, rows, chance, name=""):
 
 
 def make_array(kind, rows, chance):
-    """Makes the array of rows, as a window of a longer one, and returns it with what keeps it alive."""
+    """Makes an array of rows, a window of a longer one, and returns it with what keeps it alive."""
     before, behind = (chance.choice((0, 0, 1, 3, 8, 13)) for _ in range(2))
     array = ArrowArray()
-    array.length, array.offset, array.null_count, array.release = len(rows), before, chance.choice((-1, -1, 5)), RELEASE
-    rows = [some_value(kind, chance) for _ in range(before)] + rows + [some_value(kind, chance) for _ in range(behind)]
+    array.length, array.offset, array.release = len(rows), before, RELEASE
+    array.null_count = chance.choice((-1, -1, 5))
+    hidden = [some_value(kind, chance) for _ in range(before + behind)]
+    rows = hidden[:before] + rows + hidden[before:]
     buffers, children, dictionary = Buffers(chance), [], None
     through = [kind[0] == "dict" and row is None and chance.random() < 0.5 for row in rows]
     if kind != "n":
@@ -229,9 +242,11 @@ def make_array(kind, rows, chance):
     elif kind != "n":
         children = add_rows(buffers, kind, rows, chance)
     pointers = (ctypes.c_void_p * (len(buffers.pointers) or 1))(*buffers.pointers)
-    array.buffers, array.n_buffers = ctypes.cast(pointers, ctypes.POINTER(ctypes.c_void_p)), len(buffers.pointers)
+    array.buffers = ctypes.cast(pointers, ctypes.POINTER(ctypes.c_void_p))
+    array.n_buffers = len(buffers.pointers)
     array.n_children = len(children)
-    inside = (ctypes.POINTER(ArrowArray) * (len(children) or 1))(*[ctypes.pointer(child) for child, _ in children])
+    inside = (ctypes.POINTER(ArrowArray) * (len(children) or 1))()
+    inside[:len(children)] = [ctypes.pointer(child) for child, _ in children]
     array.children = ctypes.cast(inside, ctypes.POINTER(ctypes.POINTER(ArrowArray)))
     if dictionary:
         array.dictionary = ctypes.pointer(dictionary[0])
@@ -245,23 +260,25 @@ def add_rows(buffers, kind, rows, chance):
         return []
     names = inner_types(kind)
     if kind[0] == "+s":
-        full = [row if row is not None else tuple(some_value(inner, chance) for _, inner in names) for row in rows]
-        return [make_array(inner, [row[k] for row in full], chance) for k, (_, inner) in enumerate(names)]
+        full = filled(rows, lambda: tuple(some_value(field, chance) for _, field in names))
+        fields = enumerate(names)
+        return [make_array(field, [row[k] for row in full], chance) for k, (_, field) in fields]
     inner = names[0][1]
     if kind[0].startswith("+w:"):
         width = int(kind[0][3:])
-        full = [row if row is not None else [some_value(inner, chance) for _ in range(width)] for row in rows]
+        full = filled(rows, lambda: [some_value(inner, chance) for _ in range(width)])
         return [make_array(inner, [item for row in full for item in row], chance)]
-    full = gaps(rows, chance, lambda: [some_value(inner, chance)])
+    full = filled(rows, lambda: [some_value(inner, chance)] if chance.random() < 0.3 else [])
     first = chance.randrange(3)
     add_offsets(buffers, map(len, full), 8 if kind[0] == "+L" else 4, first)
-    unused = [[some_value(inner, chance) for _ in range(count)] for count in (first, chance.randrange(3))]
-    return [make_array(inner, unused[0] + [item for row in full for item in row] + unused[1], chance)]
+    unused = [some_value(inner, chance) for _ in range(first + chance.randrange(3))]
+    items = unused[:first] + [item for row in full for item in row] + unused[first:]
+    return [make_array(inner, items, chance)]
 
 
 def add_flat(buffers, kind, rows, chance):
     """Adds the buffers of an array of one level, which keeps something under nulls too."""
-    full = [row if row is not None else some_value(kind, chance, 0) for row in rows]
+    full = filled(rows, lambda: some_value(kind, chance, 0))
     if kind == "b":
         buffers.add(bits(full))
     elif kind in ("vz", "vu"):
@@ -275,7 +292,7 @@ def add_flat(buffers, kind, rows, chance):
 
 
 def add_keys(buffers, kind, rows, through, chance):
-    """Adds the keys of rows, and returns their entries, of which some come twice and some are named by no key.
+    """Adds the keys of rows, and returns their entries. Some come twice, some are named by no key.
 
     `through` says which null rows have a key, of a null entry."""
     entries, places, keys = [], {}, b""

@@ -205,7 +205,10 @@ static void make_views(struct ArrowArray *array, size_t rows) {
     } else {
       memset((uint8_t *)words + 4, 'a' + (int)below(2), words[0]);
     }
-    if (!wild || !seldom(10)) {
+    if (wild && seldom(10)) { /* one bit is turned */
+      words[below(4)] ^= 1U << below(32);
+    }
+    if (!wild || !seldom(20)) {
       memcpy(view, words, 16);
     }
   }

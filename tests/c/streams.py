@@ -3,10 +3,11 @@
 
 usage: streams.py LIBRARY [--rows 20000]
 
-Makes two copies of one table, one of them with other cells in four rows, as CSV, SQLite, GeoPackage and GeoJSON, and
-reads them by GDAL's streams of record batches: structs of texts, numbers, dates and bytes. The rows that differ must be
-the planted ones. A table is compared with itself too, in batches of another size. Needs Debian's python3-gdal, and so
-its own python3. Ends with `N passed, M failed`.
+Makes two copies of one table, one of them with other cells in five rows, as CSV, SQLite, GeoPackage
+and GeoJSON, and reads them by GDAL's streams of record batches: structs of texts, numbers, dates
+and bytes. The rows that differ must be the planted ones. A table is compared with itself too.
+Batches of the two sides end at different rows. Needs Debian's python3-gdal, and so its own python3.
+Ends with `N passed, M failed`.
 """
 import argparse
 import ctypes
@@ -20,8 +21,8 @@ import arrow
 
 FORMS = {"CSV": ("csv", ["AUTODETECT_TYPE=YES"]), "SQLite": ("sqlite", ["LIST_ALL_TABLES=YES"]),
          "GPKG": ("gpkg", []), "GeoJSON": ("geojson", [])}
-FIELDS = (("name", ogr.OFTString), ("amount", ogr.OFTInteger), ("big", ogr.OFTInteger64), ("share", ogr.OFTReal),
-          ("day", ogr.OFTDate), ("moment", ogr.OFTDateTime))
+FIELDS = (("name", ogr.OFTString), ("amount", ogr.OFTInteger), ("big", ogr.OFTInteger64),
+          ("share", ogr.OFTReal), ("day", ogr.OFTDate), ("moment", ogr.OFTDateTime))
 
 
 def cells(row, is_changed):
@@ -35,7 +36,8 @@ def cells(row, is_changed):
 def write_table(path, driver, rows, changed):
     """Writes a table, with changed cells in some rows."""
     source = ogr.GetDriverByName(driver).CreateDataSource(str(path))
-    layer = source.CreateLayer("t", geom_type=ogr.wkbPoint if driver in ("GPKG", "GeoJSON") else ogr.wkbNone)
+    geometry = ogr.wkbPoint if driver in ("GPKG", "GeoJSON") else ogr.wkbNone
+    layer = source.CreateLayer("t", geom_type=geometry)
     for name, kind in FIELDS:
         layer.CreateField(ogr.FieldDefn(name, kind))
     layer.StartTransaction()
@@ -86,8 +88,8 @@ def different_rows(library, left, right):
     while rows := min(left.left(), right.left()):
         out = (ctypes.c_uint8 * ((rows + 7) // 8))()
         status = library.dunkelva_equal_rows(
-            left.column.schema, left.column.array, left.first, right.column.schema, right.column.array, right.first,
-            rows, arrow.FLOATS_BY_BITS, out, len(out), None)
+            left.column.schema, left.column.array, left.first, right.column.schema,
+            right.column.array, right.first, rows, arrow.FLOATS_BY_BITS, out, len(out), None)
         if status:
             return library.dunkelva_status_text(status), done
         found += [done + row for row in range(rows) if not out[row // 8] >> row % 8 & 1]
@@ -99,12 +101,13 @@ def different_rows(library, left, right):
 
 def formats(schema):
     """Returns the formats of the fields of a schema."""
-    return " ".join(schema.children[field].contents.format.decode() for field in range(schema.n_children))
+    fields = [schema.children[field].contents for field in range(schema.n_children)]
+    return " ".join(field.format.decode() for field in fields)
 
 
 def main():
     """Compares the tables of all drivers, and returns the status."""
-    asked = argparse.ArgumentParser(description=__doc__, formatter_class=argparse.RawDescriptionHelpFormatter)
+    asked = argparse.ArgumentParser(description=__doc__.split("\n", maxsplit=1)[0])
     asked.add_argument("library")
     asked.add_argument("--rows", type=int, default=20_000)
     chosen = asked.parse_args()

@@ -54,6 +54,18 @@ static struct made *numbers(int64_t rows, const uint8_t *validity, const int32_t
   return make("i", rows, 2, validity, values, NULL);
 }
 
+/* Writes a view. */
+static void view(uint8_t *to, const char *text, uint32_t number, uint32_t place) {
+  uint32_t length = (uint32_t)strlen(text);
+  memset(to, 0, 16);
+  memcpy(to, &length, 4);
+  memcpy(to + 4, text, length < 12 ? length : 12);
+  if (length > 12) {
+    memcpy(to + 8, &number, 4);
+    memcpy(to + 12, &place, 4);
+  }
+}
+
 static void try_numbers(void) {
   const int32_t left[] = {1, 7, 3, 4};
   const int32_t right[] = {1, 8, 3, 5};
@@ -152,18 +164,6 @@ static void try_texts(void) {
   count(status_of(broken, broken, DUNKELVA_CHECK_TEXTS) == DUNKELVA_BAD_ARRAY, "no UTF-8");
 }
 
-/* Writes a view. */
-static void view(uint8_t *to, const char *text, uint32_t number, uint32_t place) {
-  uint32_t length = (uint32_t)strlen(text);
-  memset(to, 0, 16);
-  memcpy(to, &length, 4);
-  memcpy(to + 4, text, length < 12 ? length : 12);
-  if (length > 12) {
-    memcpy(to + 8, &number, 4);
-    memcpy(to + 12, &place, 4);
-  }
-}
-
 static void try_views(void) {
   const char *const text = "a text of more than twelve bytes";
   uint8_t left[48];
@@ -192,6 +192,10 @@ static void try_views(void) {
   equal("views without buffers", shorts, shorts, "1");
   struct made *lost = make("vz", 1, 3, NULL, left + 16, NULL);
   refused("a view into no buffer", lost, lost, DUNKELVA_BAD_ARRAY);
+  const int64_t below[] = {-1};
+  struct made *short_buffer = make("vz", 1, 4, NULL, left + 32, text);
+  short_buffer->buffers[3] = below;
+  refused("a buffer of views with a length below 0", short_buffer, shorts, DUNKELVA_BAD_STRUCTS);
   left[8 + 5] = 1;
   refused("a short view with a byte too many", one, two, DUNKELVA_BAD_ARRAY);
 }
@@ -251,6 +255,20 @@ static void try_structs_and_maps(void) {
   struct made *third = put(put(make("+s", 1, 1, NULL, NULL, NULL), "a", numbers(1, NULL, left + 2)),
                            "b", make("u", 1, 3, NULL, offsets + 1, "xyz"));
   equal("offsets of a struct and of its column add up", window, third, "1");
+  uint8_t views[32];
+  const int64_t lengths[] = {13};
+  view(views, "thirteen ones", 0, 0);
+  view(views + 16, "thirteen twos", 0, 0);
+  struct made *fields[4];
+  for (size_t i = 0; i < 4; i++) {
+    fields[i] =
+        make("vu", 1, 4, NULL, views + 16 * (i % 2), i % 2 ? "thirteen twos" : "thirteen ones");
+    fields[i]->buffers[3] = lengths;
+  }
+  struct made *both = put(put(make("+s", 1, 1, NULL, NULL, NULL), "a", fields[0]), "b", fields[1]);
+  equal("two columns of views", both, both, "1");
+  equal("another column of views", both,
+        put(put(make("+s", 1, 1, NULL, NULL, NULL), "a", fields[3]), "b", fields[1]), "0");
   equal("structs of no fields", make("+s", 2, 1, BITS(0x1), NULL, NULL),
         make("+s", 2, 1, NULL, NULL, NULL), "10");
   const int32_t ends[] = {0, 2, 3};
@@ -305,6 +323,9 @@ static void try_broken_structs(void) {
   refused("a length beyond memory", numbers(INT64_MAX, NULL, values),
           numbers(INT64_MAX, NULL, values), DUNKELVA_BAD_STRUCTS);
   refused("an unknown format", make("?", 4, 2, NULL, values, NULL), good, DUNKELVA_NOT_SERVED);
+  struct made *fields = put(make("+s", 4, 1, NULL, NULL, NULL), "a", numbers(4, NULL, values));
+  fields->array.n_children = 0;
+  refused("a struct without its column", fields, fields, DUNKELVA_BAD_STRUCTS);
   refused("unions", make("+us:0", 4, 2, NULL, values, NULL), good, DUNKELVA_NOT_SERVED);
   struct made *deep = numbers(1, NULL, values);
   const int32_t ends[] = {0, 1};
