@@ -80,7 +80,8 @@ static void try_numbers(void) {
   window->array.offset = 1;
   equal("a window", window, numbers(2, BITS(0xFE), right + 1), "01");
   equal("no rows", numbers(0, NULL, NULL), numbers(0, BITS(0), left), "");
-  refused("other lengths", bare, numbers(3, NULL, left), DUNKELVA_TYPES_DIFFER);
+  refused("a shorter column", bare, numbers(3, NULL, left), DUNKELVA_TYPES_DIFFER);
+  refused("a longer column", numbers(3, NULL, left), bare, DUNKELVA_TYPES_DIFFER);
   refused("other types", bare, make("I", 4, 2, NULL, left, NULL), DUNKELVA_TYPES_DIFFER);
   refused("other types of no rows", numbers(0, NULL, NULL), make("I", 0, 2, NULL, NULL, NULL),
           DUNKELVA_TYPES_DIFFER);
@@ -401,6 +402,11 @@ static void try_many_rows(void) {
     }
   }
   passed++;
+  uint64_t comparisons = 0; /* equal rows take one for each number */
+  count(dunkelva_equal_rows(&one->type, &one->array, 0, &one->type, &one->array, 0, ROWS, 0, out,
+                            sizeof out, &comparisons) == DUNKELVA_OK &&
+            comparisons == ROWS,
+        "comparisons of all windows");
   struct made *texts = make("u", ROWS, 3, NULL, left, bytes);
   right[35000] = 9; /* lies before the offset in front of it */
   struct made *broken = make("u", ROWS, 3, NULL, right, bytes);
