@@ -349,6 +349,11 @@ int32_t dunkelva_describe(struct column *column, int64_t first, int64_t rows) {
   return describe(&walk, column->type, column->array, first, rows);
 }
 
+bool dunkelva_is_numbers(const struct column *column) {
+  uint32_t kind = column->parts->kind;
+  return (kind >= KIND_INT8 && kind <= KIND_INT64) || (kind >= KIND_UINT8 && kind <= KIND_UINT64);
+}
+
 int64_t dunkelva_window(const struct column *column) {
   /* A dictionary is handed over whole each time. */
   int64_t rows = column->extent.entries < WINDOW_ROWS ? WINDOW_ROWS : column->extent.entries;

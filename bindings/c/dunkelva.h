@@ -109,6 +109,46 @@ int32_t dunkelva_equal_rows(const struct ArrowSchema *left_type, const struct Ar
                             const struct ArrowArray *right, int64_t right_first, int64_t rows,
                             uint32_t flags, uint8_t *out, size_t out_bytes, uint64_t *comparisons);
 
+/* Writes which rows of a column are null: bit i of `out`, as in `dunkelva_equal`, is 1 where row i
+ * is null. Where `count` is not null, it gets how many they are. Serves all types but dictionaries.
+ */
+int32_t dunkelva_is_null(const struct ArrowSchema *type, const struct ArrowArray *array,
+                         uint8_t *out, size_t out_bytes, uint64_t *count);
+
+/* The calls below serve columns of whole numbers of 8 to 64 bits, and others that are kept as such:
+ * dates, times, spans, points in time, decimals of 32 and 64 bits. */
+
+/* Comparisons of two rows. */
+enum dunkelva_test {
+  /* Null is equal to null alone. */
+  DUNKELVA_EQUAL = 0,
+  DUNKELVA_UNEQUAL = 1,
+  /* These hold of no null. */
+  DUNKELVA_LESS = 2,
+  DUNKELVA_LESS_OR_EQUAL = 3,
+  DUNKELVA_GREATER = 4,
+  DUNKELVA_GREATER_OR_EQUAL = 5
+};
+
+/* Compares two columns of one type and one length, row by row. Bit i of `out`, as in
+ * `dunkelva_equal`, is 1 where the test holds of the two rows i. */
+int32_t dunkelva_compare(enum dunkelva_test test, const struct ArrowSchema *left_type,
+                         const struct ArrowArray *left, const struct ArrowSchema *right_type,
+                         const struct ArrowArray *right, uint8_t *out, size_t out_bytes);
+
+/* A number of 128 bits, in two's complement, or none: then `exists`, `low` and `high` are 0. A
+ * number of a column of signed numbers is (int64_t)low, one of unsigned numbers is `low`. */
+struct dunkelva_number {
+  uint64_t low;
+  uint64_t high;
+  uint64_t exists;
+};
+
+/* Adds the rows that are present. The sum is wrapped to the type of the column, so that 100 and 100
+ * are -56 in a column of 8 bits. It does not exist where no row is present. */
+int32_t dunkelva_sum(const struct ArrowSchema *type, const struct ArrowArray *array,
+                     struct dunkelva_number *sum);
+
 /* Returns what a status means, in English. */
 const char *dunkelva_status_text(int32_t status);
 

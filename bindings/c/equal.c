@@ -12,7 +12,7 @@ struct pair {
   int64_t right_first;
   int64_t rows;
   uint64_t *words;
-  uint64_t comparisons;
+  uint64_t *comparisons; /* null, where they are not asked for */
 };
 
 /* Says whether a column has these rows. */
@@ -37,18 +37,31 @@ static int32_t describe_window(struct pair *pair, int64_t done, int64_t *count) 
   }
 }
 
+/* Compares the rows that were described. Numbers are not copied, unless comparisons are counted. */
+static int32_t compare_parts(struct pair *pair, uint64_t *out, int64_t count) {
+  struct column *left = &pair->left;
+  struct column *right = &pair->right;
+  size_t words = (size_t)words_for_bits(count);
+  uint64_t comparisons = 0;
+  if (pair->comparisons == NULL && dunkelva_is_numbers(left) && dunkelva_is_numbers(right)) {
+    return dunkelva_parts_equal_lent(left->parts, right->parts, out, words);
+  }
+  TRY(dunkelva_parts_equal(left->parts, left->extent.parts, right->parts, right->extent.parts, out,
+                           words, &comparisons, 1));
+  if (pair->comparisons != NULL) {
+    *pair->comparisons += comparisons;
+  }
+  return DUNKELVA_OK;
+}
+
 static int32_t compare_windows(struct pair *pair) {
   int64_t left_window = dunkelva_window(&pair->left);
   int64_t right_window = dunkelva_window(&pair->right);
   int64_t done = 0;
   do { /* a window of no rows is one too: the types are compared */
     int64_t count = left_window < right_window ? right_window : left_window;
-    uint64_t comparisons = 0;
     TRY(describe_window(pair, done, &count));
-    TRY(dunkelva_parts_equal(pair->left.parts, pair->left.extent.parts, pair->right.parts,
-                             pair->right.extent.parts, pair->words + done / 64,
-                             (size_t)words_for_bits(count), &comparisons, 1));
-    pair->comparisons += comparisons;
+    TRY(compare_parts(pair, pair->words + done / 64, count));
     done += count;
   } while (done < pair->rows);
   return DUNKELVA_OK;
@@ -75,8 +88,11 @@ int32_t dunkelva_equal_rows(const struct ArrowSchema *left_type, const struct Ar
                             int64_t left_first, const struct ArrowSchema *right_type,
                             const struct ArrowArray *right, int64_t right_first, int64_t rows,
                             uint32_t flags, uint8_t *out, size_t out_bytes, uint64_t *comparisons) {
-  struct pair pair = {
-      .left_first = left_first, .right_first = right_first, .rows = rows, .words = NULL};
+  uint64_t counted = 0;
+  struct pair pair = {.left_first = left_first,
+                      .right_first = right_first,
+                      .rows = rows,
+                      .comparisons = comparisons == NULL ? NULL : &counted};
   TRY(dunkelva_check_flags(flags));
   if (out == NULL && rows > 0) {
     return DUNKELVA_BAD_ARGUMENT;
@@ -92,7 +108,7 @@ int32_t dunkelva_equal_rows(const struct ArrowSchema *left_type, const struct Ar
       memcpy(out, pair.words, (size_t)bytes_for_bits(rows));
     }
     if (comparisons != NULL) {
-      *comparisons = pair.comparisons;
+      *comparisons = counted;
     }
   }
   free(pair.words);

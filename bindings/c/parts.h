@@ -1,12 +1,12 @@
-/* What the proved library takes: an array as a row of parts, and its exports.
+/* What the proved library takes: an array as a row of parts, and its exports. A slice is passed as
+ * a pointer and a length.
  *
  * A part is one array of a tree. Each part comes before the parts inside it: a list before its
  * items, a struct before its columns in order, a dictionary before its entries. */
 #ifndef DUNKELVA_PARTS_H
 #define DUNKELVA_PARTS_H
 
-#include <stddef.h>
-#include <stdint.h>
+#include "dunkelva.h"
 
 /* Elements of one type at a good address. `data` is never null. */
 struct slice {
@@ -71,5 +71,14 @@ struct part {
 int32_t dunkelva_parts_equal(const struct part *left, size_t left_len, const struct part *right,
                              size_t right_len, uint64_t *out, size_t out_len, uint64_t *comparisons,
                              size_t comparisons_len);
+
+/* These take one part each. */
+int32_t dunkelva_parts_equal_lent(const struct part *left, const struct part *right, uint64_t *out,
+                                  size_t out_len);
+int32_t dunkelva_parts_compare(uint32_t test, const struct part *left, const struct part *right,
+                               uint64_t *out, size_t out_len);
+int32_t dunkelva_part_is_null(const struct part *part, uint64_t *out, size_t out_len,
+                              uint64_t *count);
+int32_t dunkelva_part_sum(const struct part *part, struct dunkelva_number *sum);
 
 #endif

@@ -99,6 +99,9 @@ void dunkelva_close(struct column *column);
 /* Describes rows of a column as parts, those from row `first` on. They last until the next call. */
 int32_t dunkelva_describe(struct column *column, int64_t first, int64_t rows);
 
+/* Says whether a column, which is described, has numbers of 8 to 64 bits. */
+bool dunkelva_is_numbers(const struct column *column);
+
 /* Returns how many rows of a column are handed over at a time, a multiple of 64. */
 int64_t dunkelva_window(const struct column *column);
 

@@ -49,6 +49,18 @@ ArrowArray._fields_ = [
     ("dictionary", ctypes.POINTER(ArrowArray)), ("release", ctypes.c_void_p),
     ("private_data", ctypes.c_void_p)]
 
+
+class Number(ctypes.Structure):
+    """A number of 128 bits, or none."""
+
+    _fields_ = [("low", ctypes.c_uint64), ("high", ctypes.c_uint64), ("exists", ctypes.c_uint64)]
+
+    def value(self):
+        """Returns the number, or None."""
+        whole = self.high << 64 | self.low
+        return (whole - (whole >> 127 << 128)) if self.exists else None
+
+
 _release = ctypes.CFUNCTYPE(None, ctypes.c_void_p)(lambda _: None)
 RELEASE = ctypes.cast(_release, ctypes.c_void_p).value
 
@@ -62,6 +74,9 @@ def load(path):
     library.dunkelva_equal.argtypes = [*column, *column, *out]
     library.dunkelva_equal_rows.argtypes = [*column, place, *column, place, place, *out,
                                             ctypes.c_void_p]
+    library.dunkelva_compare.argtypes = [ctypes.c_uint32, *column, *column, *out[1:]]
+    library.dunkelva_is_null.argtypes = [*column, *out[1:], ctypes.c_void_p]
+    library.dunkelva_sum.argtypes = [*column, ctypes.POINTER(Number)]
     library.dunkelva_status_text.restype = library.dunkelva_version.restype = ctypes.c_char_p
     return library
 

@@ -374,6 +374,22 @@ static bool bit_of(const uint8_t *bits, int64_t row) {
   return (bits[row / 8] >> (row % 8) & 1) != 0;
 }
 
+/* Tries the calls on columns of one level. */
+static void try_flat(struct side left, struct side right) {
+  uint8_t bits[ROOM];
+  struct dunkelva_number number = {7, 7, 7};
+  uint64_t count = 7;
+  memset(bits, 0xA5, ROOM);
+  bool done = dunkelva_is_null(left.type, left.array, bits, ROOM, &count) == DUNKELVA_OK;
+  require(done || (count == 7 && bits[0] == 0xA5), "nothing is written about nulls");
+  done = dunkelva_sum(left.type, left.array, &number) == DUNKELVA_OK;
+  require(done || number.low == 7, "no sum is written");
+  memset(bits, 0xA5, ROOM);
+  done = dunkelva_compare((enum dunkelva_test)below(6), left.type, left.array, right.type,
+                          right.array, bits, ROOM) == DUNKELVA_OK;
+  require(done || bits[0] == 0xA5, "no comparison is written");
+}
+
 /* Tries a pair of columns in several ways. */
 static void try_pair(struct side left, struct side right, uint32_t flags) {
   static uint8_t bits[ROOM];
@@ -429,6 +445,7 @@ int LLVMFuzzerTestOneInput(const uint8_t *data, size_t size) {
   }
   right.array = make_array(right.type, rows);
   try_pair(left, right, flags);
+  try_flat(left, right);
   while (block_count > 0) {
     free(blocks[--block_count]);
   }

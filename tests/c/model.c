@@ -5,7 +5,7 @@
 #include <stdlib.h>
 #include <string.h>
 
-enum { DONE, NO_ARRAY, OTHER_TYPES, NO_ROOM, NO_MEMORY };
+enum { DONE, NO_ARRAY, OTHER_TYPES, NO_ROOM, NO_MEMORY, NOT_SERVED };
 
 /* An array of parts, with where the subtree of each part ends. */
 struct tree {
@@ -532,7 +532,9 @@ void model_read_all(const struct part *parts, size_t len) {
 }
 
 #ifdef MODEL_FOR_LIBRARY
-/* Stands in for the proved library. */
+
+/* These stand in for the proved library. */
+
 int32_t dunkelva_parts_equal(const struct part *left, size_t left_len, const struct part *right,
                              size_t right_len, uint64_t *out, size_t out_len, uint64_t *comparisons,
                              size_t comparisons_len) {
@@ -542,4 +544,117 @@ int32_t dunkelva_parts_equal(const struct part *left, size_t left_len, const str
              ? model_parts_equal(left, left_len, right, right_len, out, out_len, comparisons)
              : NO_ROOM;
 }
+
+/* A number of a column, in two's complement of 64 bits. */
+static uint64_t number_at(const struct part *p, size_t row) {
+  switch (p->kind) {
+  case KIND_INT8:
+    return (uint64_t)((const int8_t *)p->i8s.data)[row];
+  case KIND_INT16:
+    return (uint64_t)((const int16_t *)p->i16s.data)[row];
+  case KIND_INT32:
+    return (uint64_t)((const int32_t *)p->i32s.data)[row];
+  case KIND_INT64:
+    return (uint64_t)((const int64_t *)p->i64s.data)[row];
+  case KIND_UINT8:
+    return ((const uint8_t *)p->u8s.data)[row];
+  case KIND_UINT16:
+    return ((const uint16_t *)p->u16s.data)[row];
+  case KIND_UINT32:
+    return ((const uint32_t *)p->u32s.data)[row];
+  default:
+    return ((const uint64_t *)p->u64s.data)[row];
+  }
+}
+
+static bool is_signed(const struct part *p) { return p->kind <= KIND_INT64; }
+
+/* Says whether a part is a column of numbers of 8 to 64 bits. */
+static int32_t check_numbers(const struct part *p) {
+  size_t size = 0;
+  if (p->kind < KIND_INT8 || p->kind > KIND_UINT64 || p->kind == KIND_INT128) {
+    return NOT_SERVED;
+  }
+  bool good =
+      numbers_of(p, &size).len == p->rows && (p->present.len == 0 || has_bits(p, &p->present));
+  return good ? DONE : NO_ARRAY;
+}
+
+static bool passes(uint32_t test, uint64_t x, uint64_t y, bool with_sign) {
+  bool less = with_sign ? (int64_t)x < (int64_t)y : x < y;
+  bool results[] = {x == y, x != y, less, less || x == y, !less && x != y, !less};
+  return results[test];
+}
+
+int32_t dunkelva_parts_compare(uint32_t test, const struct part *left, const struct part *right,
+                               uint64_t *out, size_t out_len) {
+  if (test > 5) {
+    return NOT_SERVED;
+  }
+  if (left->kind != right->kind || left->rows != right->rows) {
+    return OTHER_TYPES;
+  }
+  if (check_numbers(left) != DONE || check_numbers(right) != DONE) {
+    return check_numbers(left) != DONE ? check_numbers(left) : check_numbers(right);
+  }
+  if (out_len < (left->rows + 63) / 64) {
+    return NO_ROOM;
+  }
+  memset(out, 0, out_len * sizeof *out);
+  for (size_t row = 0; row < left->rows; row++) {
+    bool l = is_present(left, row);
+    bool r = is_present(right, row);
+    bool holds = l && r ? passes(test, number_at(left, row), number_at(right, row), is_signed(left))
+                        : test < 2 && (test == 0) == (l == r);
+    out[row / 64] |= (uint64_t)holds << (row % 64);
+  }
+  return DONE;
+}
+
+int32_t dunkelva_parts_equal_lent(const struct part *left, const struct part *right, uint64_t *out,
+                                  size_t out_len) {
+  return dunkelva_parts_compare(0, left, right, out, out_len);
+}
+
+int32_t dunkelva_part_is_null(const struct part *part, uint64_t *out, size_t out_len,
+                              uint64_t *count) {
+  if (is_dictionary(part->kind)) {
+    return NOT_SERVED;
+  }
+  if (out_len < (part->rows + 63) / 64) {
+    return NO_ROOM;
+  }
+  *count = 0;
+  memset(out, 0, out_len * sizeof *out);
+  for (size_t row = 0; row < part->rows; row++) {
+    uint64_t null = !is_present(part, row);
+    *count += null;
+    out[row / 64] |= null << (row % 64);
+  }
+  return DONE;
+}
+
+int32_t dunkelva_part_sum(const struct part *part, struct dunkelva_number *sum) {
+  if (check_numbers(part) != DONE) {
+    return check_numbers(part);
+  }
+  size_t size = 0;
+  (void)numbers_of(part, &size);
+  uint64_t total = 0;
+  uint64_t some = 0;
+  for (size_t row = 0; row < part->rows; row++) {
+    if (is_present(part, row)) {
+      total += number_at(part, row);
+      some = 1;
+    }
+  }
+  unsigned unused = 64 - 8 * (unsigned)size;
+  uint64_t low = is_signed(part) ? (uint64_t)((int64_t)(total << unused) >> unused)
+                                 : total << unused >> unused;
+  sum->low = low;
+  sum->high = is_signed(part) && (int64_t)low < 0 ? UINT64_MAX : 0;
+  sum->exists = some;
+  return DONE;
+}
+
 #endif

@@ -453,6 +453,78 @@ static void try_many_views(void) {
   passed++;
 }
 
+static void try_sums(void) {
+  const int8_t values[] = {100, 100, 3, -1};
+  struct made *made = make("c", 4, 2, BITS(0x3), values, NULL);
+  struct dunkelva_number sum = {7, 7, 7};
+  int32_t status = dunkelva_sum(&made->type, &made->array, &sum);
+  count(status == DUNKELVA_OK && (int64_t)sum.low == -56 && sum.high == UINT64_MAX &&
+            sum.exists == 1,
+        "a sum wraps to the type of its column");
+  made->array.offset = 2;
+  made->array.length = 2;
+  status = dunkelva_sum(&made->type, &made->array, &sum);
+  count(status == DUNKELVA_OK && sum.low == 0 && sum.high == 0 && sum.exists == 0,
+        "no row is present");
+  made = make("C", 4, 2, NULL, values, NULL);
+  status = dunkelva_sum(&made->type, &made->array, &sum);
+  count(status == DUNKELVA_OK && sum.low == (100 + 100 + 3 + 255) % 256 && sum.high == 0,
+        "unsigned");
+  struct made *texts = make("u", 0, 3, NULL, NULL, NULL);
+  sum.low = 7;
+  count(dunkelva_sum(&texts->type, &texts->array, &sum) == DUNKELVA_NOT_SERVED && sum.low == 7,
+        "no sum of texts");
+  count(dunkelva_sum(&made->type, &made->array, NULL) == DUNKELVA_BAD_ARGUMENT,
+        "no place for a sum");
+  count(dunkelva_sum(&made->type, NULL, &sum) == DUNKELVA_BAD_STRUCTS, "a sum of no column");
+}
+
+static void try_comparisons(void) {
+  const int16_t left[] = {-5, 2, 3, 4};
+  const int16_t right[] = {5, 2, 9, 4};
+  struct made *one = make("s", 4, 2, BITS(0x7), left, NULL);
+  struct made *two = make("s", 4, 2, BITS(0xB), right, NULL);
+  const char *const wanted[] = {"0100", "1011", "1000", "1100", "0000", "0100"};
+  for (int test = 0; test < 6; test++) { /* rows: -5 and 5, 2 and 2, 3 and null, null and 4 */
+    uint8_t out = 0;
+    char got[5] = {0};
+    int32_t status = dunkelva_compare((enum dunkelva_test)test, &one->type, &one->array, &two->type,
+                                      &two->array, &out, 1);
+    for (int row = 0; row < 4; row++) {
+      got[row] = (char)('0' + (out >> row & 1));
+    }
+    count(status == DUNKELVA_OK && strcmp(got, wanted[test]) == 0, "comparisons");
+  }
+  uint8_t out = 0x55;
+  struct made *other = make("S", 4, 2, NULL, right, NULL);
+  count(dunkelva_compare(DUNKELVA_LESS, &one->type, &one->array, &other->type, &other->array, &out,
+                         1) == DUNKELVA_TYPES_DIFFER,
+        "a comparison of two types");
+  count(dunkelva_compare(DUNKELVA_LESS, &one->type, &one->array, &two->type, &two->array, &out,
+                         0) == DUNKELVA_NO_ROOM,
+        "a comparison without room");
+  count(dunkelva_compare((enum dunkelva_test)6, &one->type, &one->array, &two->type, &two->array,
+                         &out, 1) == DUNKELVA_NOT_SERVED,
+        "a comparison that does not exist");
+  count(out == 0x55, "no comparison is written");
+}
+
+static void try_nulls(void) {
+  const int32_t ends[] = {0, 1, 2, 3, 4};
+  struct made *lists = put(make("+l", 4, 2, BITS(0xB), ends, NULL), "", numbers(4, NULL, ends));
+  uint8_t out = 0x55;
+  uint64_t nulls = 7;
+  count(dunkelva_is_null(&lists->type, &lists->array, &out, 1, &nulls) == DUNKELVA_OK &&
+            out == 0x4 && nulls == 1,
+        "null lists");
+  struct made *none = make("n", 3, 0, NULL, NULL, NULL);
+  count(dunkelva_is_null(&none->type, &none->array, &out, 1, NULL) == DUNKELVA_OK && out == 0x7,
+        "rows without a type are null");
+  count(dunkelva_is_null(&none->type, &none->array, &out, 0, &nulls) == DUNKELVA_NO_ROOM &&
+            nulls == 1,
+        "nulls without room");
+}
+
 int main(void) {
   try_numbers();
   try_numbers_of_other_formats();
@@ -465,6 +537,9 @@ int main(void) {
   try_dictionaries();
   try_broken_structs();
   try_arguments();
+  try_sums();
+  try_comparisons();
+  try_nulls();
   try_many_rows();
   try_many_views();
   printf("%d passed, %d failed\n", passed, failed);

@@ -1,0 +1,108 @@
+/* Calls on columns of one level. They are handed over whole: their numbers are lent, not copied. */
+#include "shim.h"
+
+#include <stdlib.h>
+#include <string.h>
+
+/* Describes all rows of a column. The caller closes it, also where this fails. */
+static int32_t open_whole(struct column *column, const struct ArrowSchema *type,
+                          const struct ArrowArray *array) {
+  TRY(dunkelva_open(column, type, array, 0));
+  return dunkelva_describe(column, 0, array->length);
+}
+
+/* Does the same where all rows are numbers of 8 to 64 bits. */
+static int32_t open_numbers(struct column *column, const struct ArrowSchema *type,
+                            const struct ArrowArray *array) {
+  TRY(open_whole(column, type, array));
+  return dunkelva_is_numbers(column) ? DUNKELVA_OK : DUNKELVA_NOT_SERVED;
+}
+
+/* Results of a call, which are kept here until it is done: a bit for each row. */
+struct bits {
+  uint64_t *words;
+  int64_t rows;
+};
+
+/* Takes memory for bits, if the caller has room for them. */
+static int32_t take_bits(struct bits *bits, int64_t rows, const uint8_t *out, size_t out_bytes) {
+  bits->rows = rows;
+  if (out == NULL && rows > 0) {
+    return DUNKELVA_BAD_ARGUMENT;
+  }
+  if (out_bytes < (size_t)bytes_for_bits(rows)) {
+    return DUNKELVA_NO_ROOM;
+  }
+  bits->words = malloc(((size_t)words_for_bits(rows) + 1) * sizeof *bits->words);
+  return bits->words == NULL ? DUNKELVA_NO_MEMORY : DUNKELVA_OK;
+}
+
+/* Gives bits to the caller where a call is done, and frees them. */
+static int32_t give_bits(struct bits *bits, int32_t status, uint8_t *out) {
+  if (status == DUNKELVA_OK && bits->rows > 0) {
+    memcpy(out, bits->words, (size_t)bytes_for_bits(bits->rows));
+  }
+  free(bits->words);
+  return status;
+}
+
+static int32_t is_null(struct column *column, struct bits *bits, const struct ArrowSchema *type,
+                       const struct ArrowArray *array, const uint8_t *out, size_t out_bytes,
+                       uint64_t *count) {
+  TRY(open_whole(column, type, array));
+  TRY(take_bits(bits, array->length, out, out_bytes));
+  return dunkelva_part_is_null(column->parts, bits->words, (size_t)words_for_bits(bits->rows),
+                               count);
+}
+
+int32_t dunkelva_is_null(const struct ArrowSchema *type, const struct ArrowArray *array,
+                         uint8_t *out, size_t out_bytes, uint64_t *count) {
+  struct column column;
+  struct bits bits = {NULL, 0};
+  uint64_t nulls = 0;
+  int32_t status = is_null(&column, &bits, type, array, out, out_bytes, &nulls);
+  if (status == DUNKELVA_OK && count != NULL) {
+    *count = nulls;
+  }
+  dunkelva_close(&column);
+  return give_bits(&bits, status, out);
+}
+
+static int32_t compare(uint32_t test, struct column *left, struct column *right, struct bits *bits,
+                       const uint8_t *out, size_t out_bytes) {
+  if (!dunkelva_same_formats(left->type, right->type) ||
+      left->array->length != right->array->length) {
+    return DUNKELVA_TYPES_DIFFER;
+  }
+  TRY(take_bits(bits, left->array->length, out, out_bytes));
+  return dunkelva_parts_compare(test, left->parts, right->parts, bits->words,
+                                (size_t)words_for_bits(bits->rows));
+}
+
+int32_t dunkelva_compare(enum dunkelva_test test, const struct ArrowSchema *left_type,
+                         const struct ArrowArray *left, const struct ArrowSchema *right_type,
+                         const struct ArrowArray *right, uint8_t *out, size_t out_bytes) {
+  struct column left_column;
+  struct column right_column;
+  struct bits bits = {NULL, 0};
+  int32_t left_status = open_numbers(&left_column, left_type, left);
+  int32_t right_status = open_numbers(&right_column, right_type, right);
+  int32_t status = left_status != DUNKELVA_OK ? left_status : right_status;
+  if (status == DUNKELVA_OK) {
+    status = compare((uint32_t)test, &left_column, &right_column, &bits, out, out_bytes);
+  }
+  dunkelva_close(&left_column);
+  dunkelva_close(&right_column);
+  return give_bits(&bits, status, out);
+}
+
+int32_t dunkelva_sum(const struct ArrowSchema *type, const struct ArrowArray *array,
+                     struct dunkelva_number *sum) {
+  struct column column;
+  int32_t status = open_numbers(&column, type, array);
+  if (status == DUNKELVA_OK) {
+    status = sum == NULL ? DUNKELVA_BAD_ARGUMENT : dunkelva_part_sum(column.parts, sum);
+  }
+  dunkelva_close(&column);
+  return status;
+}

@@ -1,0 +1,96 @@
+#!/usr/bin/env python3
+"""Calls on columns of numbers, with random rows, and looks at each result by Python's numbers.
+
+usage: flat.py LIBRARY [--number 400] [--seed 1]
+
+Comparisons, sums and nulls of columns of each format of whole numbers, also as windows, with odd
+addresses and with numbers under nulls. Ends with `N passed, M failed`.
+"""
+import argparse
+import ctypes
+import operator
+import random
+import sys
+
+import arrow
+
+FORMATS = [form for form in arrow.NUMBERS if form not in "efg"] + ["tss:", "tsu:UTC", "d:9,2,64"]
+TESTS = [operator.eq, operator.ne, operator.lt, operator.le, operator.gt, operator.ge]
+
+
+def limits(form):
+    """Returns the least and the greatest number of a format."""
+    count = 2 ** (8 * arrow.width_of(form))
+    return (0, count - 1) if form in arrow.UNSIGNED else (-count // 2, count // 2 - 1)
+
+
+def some_rows(form, chance, count):
+    """Returns rows, of which many are equal to others or lie at an end of the type."""
+    least, greatest = limits(form)
+    nulls = chance.choice((0, 0, 0.2, 1))
+    numbers = (least, greatest, 0, 1, 2, chance.randint(least, greatest))
+    return [None if chance.random() < nulls else chance.choice(numbers) for _ in range(count)]
+
+
+def holds(test, one, other):
+    """Says what a comparison of two rows is."""
+    if test < 2:
+        return TESTS[test](one, other)
+    return one is not None and other is not None and TESTS[test](one, other)
+
+
+def bits_of(call, rows):
+    """Makes a call that writes bits, and returns its status and the bits."""
+    out = (ctypes.c_uint8 * ((rows + 7) // 8))()
+    status = call(out, len(out))
+    return status, [bool(out[row // 8] >> row % 8 & 1) for row in range(rows)]
+
+
+def wrapped_sum(form, rows):
+    """Returns the sum of the present rows, wrapped to the type, or None."""
+    least, greatest = limits(form)
+    present = [row for row in rows if row is not None]
+    return (sum(present) - least) % (greatest - least + 1) + least if present else None
+
+
+def try_column(library, form, chance):
+    """Makes all calls on two random columns, and returns what was wrong."""
+    count = chance.choice((0, 1, 7, 64, 65, 200, 1000))
+    left_rows, right_rows = (some_rows(form, chance, count) for _ in range(2))
+    left, right = (arrow.make_column(form, rows, chance) for rows in (left_rows, right_rows))
+    nulls, total = ctypes.c_uint64(), arrow.Number()
+    tried = [("is_null", bits_of(lambda *out: library.dunkelva_is_null(
+        left.schema, left.array, *out, ctypes.byref(nulls)), count),
+              (arrow.OK, [row is None for row in left_rows])),
+             ("nulls", nulls.value, left_rows.count(None)),
+             ("sum", (library.dunkelva_sum(left.schema, left.array, total), total.value()),
+              (arrow.OK, wrapped_sum(form, left_rows)))]
+    for test in range(6):
+        got = bits_of(lambda *out: library.dunkelva_compare(
+            test, left.schema, left.array, right.schema, right.array, *out), count)
+        wanted = [holds(test, one, other) for one, other in zip(left_rows, right_rows)]
+        tried.append((TESTS[test].__name__, got, (arrow.OK, wanted)))
+    return [f"{form} {what}: {got}, and not {hoped}" for what, got, hoped in tried if got != hoped]
+
+
+def main():
+    """Tries all columns, and returns the status."""
+    asked = argparse.ArgumentParser(description=__doc__.split("\n", maxsplit=1)[0])
+    asked.add_argument("library")
+    asked.add_argument("--number", type=int, default=400)
+    asked.add_argument("--seed", type=int, default=1)
+    chosen = asked.parse_args()
+    library = arrow.load(chosen.library)
+    failed = 0
+    for number in range(chosen.number):
+        chance = random.Random(f"flat {chosen.seed} {number}")
+        faults = try_column(library, FORMATS[number % len(FORMATS)], chance)
+        failed += bool(faults)
+        for fault in faults:
+            print(f"column {number}: {fault[:300]}")
+    print(f"{chosen.number - failed} passed, {failed} failed")
+    return failed > 0
+
+
+if __name__ == "__main__":
+    sys.exit(main())
