@@ -36,7 +36,7 @@ struct Case<'a> {
     plain: &'a dyn Fn() -> Vec<u64>,
 }
 
-/// How long each way is timed.
+/// The time that each way is run for.
 const TIME: Duration = Duration::from_millis(600);
 
 /// Returns the least nanoseconds a row of several runs.
