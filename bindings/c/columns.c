@@ -106,3 +106,70 @@ int32_t dunkelva_sum(const struct ArrowSchema *type, const struct ArrowArray *ar
   dunkelva_close(&column);
   return status;
 }
+
+int32_t dunkelva_min_max(const struct ArrowSchema *type, const struct ArrowArray *array,
+                         struct dunkelva_number *least, struct dunkelva_number *greatest) {
+  struct column column;
+  int32_t status = open_numbers(&column, type, array);
+  if (status == DUNKELVA_OK) {
+    status = least == NULL || greatest == NULL
+                 ? DUNKELVA_BAD_ARGUMENT
+                 : dunkelva_part_min_max(column.parts, least, greatest);
+  }
+  dunkelva_close(&column);
+  return status;
+}
+
+static int32_t compare_number(uint32_t test, const struct column *column,
+                              const struct dunkelva_number *number, struct bits *bits,
+                              const uint8_t *out, size_t out_bytes) {
+  if (number == NULL || number->exists == 0) {
+    return DUNKELVA_BAD_ARGUMENT;
+  }
+  TRY(take_bits(bits, column->array->length, out, out_bytes));
+  return dunkelva_part_compare_number(test, column->parts, number->low, number->high, bits->words,
+                                      (size_t)words_for_bits(bits->rows));
+}
+
+int32_t dunkelva_compare_number(enum dunkelva_test test, const struct ArrowSchema *type,
+                                const struct ArrowArray *array,
+                                const struct dunkelva_number *number, uint8_t *out,
+                                size_t out_bytes) {
+  struct column column;
+  struct bits bits = {NULL, 0};
+  int32_t status = open_numbers(&column, type, array);
+  if (status == DUNKELVA_OK) {
+    status = compare_number((uint32_t)test, &column, number, &bits, out, out_bytes);
+  }
+  dunkelva_close(&column);
+  return give_bits(&bits, status, out);
+}
+
+int32_t dunkelva_reduce_bits(enum dunkelva_join join, const struct ArrowSchema *type,
+                             const struct ArrowArray *array, struct dunkelva_number *result) {
+  struct column column;
+  int32_t status = open_numbers(&column, type, array);
+  if (status == DUNKELVA_OK) {
+    status = result == NULL ? DUNKELVA_BAD_ARGUMENT
+                            : dunkelva_part_reduce_bits((uint32_t)join, column.parts, result);
+  }
+  dunkelva_close(&column);
+  return status;
+}
+
+int32_t dunkelva_count_bits(enum dunkelva_bits bits, const struct ArrowSchema *type,
+                            const struct ArrowArray *array, uint32_t *counts, size_t counts_len) {
+  struct column column;
+  uint32_t none[1] = {0};
+  int32_t status = open_numbers(&column, type, array);
+  if (status == DUNKELVA_OK && counts == NULL && array->length > 0) {
+    status = DUNKELVA_BAD_ARGUMENT;
+  } else if (status == DUNKELVA_OK && counts_len < (size_t)array->length) {
+    status = DUNKELVA_NO_ROOM;
+  } else if (status == DUNKELVA_OK) {
+    status = dunkelva_part_count_bits((uint32_t)bits, column.parts, counts == NULL ? none : counts,
+                                      (size_t)array->length);
+  }
+  dunkelva_close(&column);
+  return status;
+}

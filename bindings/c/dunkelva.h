@@ -149,6 +149,40 @@ struct dunkelva_number {
 int32_t dunkelva_sum(const struct ArrowSchema *type, const struct ArrowArray *array,
                      struct dunkelva_number *sum);
 
+/* Finds the least and the greatest row that is present. Neither exists where no row is present. */
+int32_t dunkelva_min_max(const struct ArrowSchema *type, const struct ArrowArray *array,
+                         struct dunkelva_number *least, struct dunkelva_number *greatest);
+
+/* Compares each row of a column with one number, on the right. The status is DUNKELVA_TYPES_DIFFER
+ * where the column's type has no such number. */
+int32_t dunkelva_compare_number(enum dunkelva_test test, const struct ArrowSchema *type,
+                                const struct ArrowArray *array,
+                                const struct dunkelva_number *number, uint8_t *out,
+                                size_t out_bytes);
+
+/* Ways to join the bits of numbers. */
+enum dunkelva_join { DUNKELVA_AND = 0, DUNKELVA_OR = 1, DUNKELVA_XOR = 2 };
+
+/* Joins the bits of all rows that are present, place by place. The result does not exist where no
+ * row is present. */
+int32_t dunkelva_reduce_bits(enum dunkelva_join join, const struct ArrowSchema *type,
+                             const struct ArrowArray *array, struct dunkelva_number *result);
+
+/* Bits of a number that are counted: all that are 1 or 0, or those at its upper or lower end. */
+enum dunkelva_bits {
+  DUNKELVA_ONES = 0,
+  DUNKELVA_ZEROS = 1,
+  DUNKELVA_LEADING_ONES = 2,
+  DUNKELVA_LEADING_ZEROS = 3,
+  DUNKELVA_TRAILING_ONES = 4,
+  DUNKELVA_TRAILING_ZEROS = 5
+};
+
+/* Counts bits of each row. `counts` takes as many numbers as there are rows. Those of null rows
+ * mean nothing. */
+int32_t dunkelva_count_bits(enum dunkelva_bits bits, const struct ArrowSchema *type,
+                            const struct ArrowArray *array, uint32_t *counts, size_t counts_len);
+
 /* Returns what a status means, in English. */
 const char *dunkelva_status_text(int32_t status);
 

@@ -55,6 +55,11 @@ class Number(ctypes.Structure):
 
     _fields_ = [("low", ctypes.c_uint64), ("high", ctypes.c_uint64), ("exists", ctypes.c_uint64)]
 
+    @classmethod
+    def of(cls, value):
+        """Returns a number."""
+        return cls(value & (1 << 64) - 1, value >> 64 & (1 << 64) - 1, 1)
+
     def value(self):
         """Returns the number, or None."""
         whole = self.high << 64 | self.low
@@ -77,6 +82,11 @@ def load(path):
     library.dunkelva_compare.argtypes = [ctypes.c_uint32, *column, *column, *out[1:]]
     library.dunkelva_is_null.argtypes = [*column, *out[1:], ctypes.c_void_p]
     library.dunkelva_sum.argtypes = [*column, ctypes.POINTER(Number)]
+    number = ctypes.POINTER(Number)
+    library.dunkelva_min_max.argtypes = [*column, number, number]
+    library.dunkelva_compare_number.argtypes = [ctypes.c_uint32, *column, number, *out[1:]]
+    library.dunkelva_reduce_bits.argtypes = [ctypes.c_uint32, *column, number]
+    library.dunkelva_count_bits.argtypes = [ctypes.c_uint32, *column, *out[1:]]
     library.dunkelva_status_text.restype = library.dunkelva_version.restype = ctypes.c_char_p
     return library
 

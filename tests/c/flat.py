@@ -3,11 +3,12 @@
 
 usage: flat.py LIBRARY [--number 400] [--seed 1]
 
-Comparisons, sums and nulls of columns of each format of whole numbers, also as windows, with odd
-addresses and with numbers under nulls. Ends with `N passed, M failed`.
+Comparisons, sums, extremes, bits and nulls of columns of each format of whole numbers, also as
+windows, with odd addresses and with numbers under nulls. Ends with `N passed, M failed`.
 """
 import argparse
 import ctypes
+import functools
 import operator
 import random
 import sys
@@ -53,6 +54,49 @@ def wrapped_sum(form, rows):
     return (sum(present) - least) % (greatest - least + 1) + least if present else None
 
 
+def counted_bits(which, number, width):
+    """Returns a count of bits of a number, by its digits."""
+    digits = f"{number % 2 ** width:0{width}b}"
+    wanted = "10"[which % 2]
+    if which < 2:
+        return digits.count(wanted)
+    end = digits if which < 4 else digits[::-1]
+    return len(end) - len(end.lstrip(wanted))
+
+
+def try_reductions(library, form, rows, column):
+    """Reduces a column and counts its bits. Yields what each call gave, and what it should."""
+    given = column.schema, column.array
+    least, greatest, joined = arrow.Number(), arrow.Number(), arrow.Number()
+    present = [row for row in rows if row is not None]
+    status = library.dunkelva_min_max(*given, least, greatest)
+    yield ("min_max", (status, least.value(), greatest.value()),
+           (arrow.OK, min(present, default=None), max(present, default=None)))
+    for number, join in enumerate((operator.and_, operator.or_, operator.xor)):
+        status = library.dunkelva_reduce_bits(number, *given, joined)
+        wanted = functools.reduce(join, present) if present else None
+        yield join.__name__, (status, joined.value()), (arrow.OK, wanted)
+    for which in range(6):
+        counts = (ctypes.c_uint32 * len(rows))()
+        status = library.dunkelva_count_bits(which, *given, counts, len(counts))
+        got = [count for count, row in zip(counts, rows) if row is not None]
+        wanted = [counted_bits(which, row, 8 * arrow.width_of(form)) for row in present]
+        yield f"bits {which}", (status, got), (arrow.OK, wanted)
+
+
+def try_number(library, form, rows, column, number):
+    """Compares a column with a number. Yields what each call gave, and what it should."""
+    least, greatest = limits(form)
+    for test in range(6):
+        got = bits_of(lambda *out: library.dunkelva_compare_number(
+            test, column.schema, column.array, arrow.Number.of(number), *out), len(rows))
+        if least <= number <= greatest:
+            wanted = arrow.OK, [holds(test, row, number) for row in rows]
+        else:
+            wanted = arrow.TYPES_DIFFER, [False] * len(rows)
+        yield f"{TESTS[test].__name__} {number}", got, wanted
+
+
 def try_column(library, form, chance):
     """Makes all calls on two random columns, and returns what was wrong."""
     count = chance.choice((0, 1, 7, 64, 65, 200, 1000))
@@ -70,6 +114,10 @@ def try_column(library, form, chance):
             test, left.schema, left.array, right.schema, right.array, *out), count)
         wanted = [holds(test, one, other) for one, other in zip(left_rows, right_rows)]
         tried.append((TESTS[test].__name__, got, (arrow.OK, wanted)))
+    tried += try_reductions(library, form, left_rows, left)
+    least, greatest = limits(form)
+    for number in (least, greatest, 1, least - 1, greatest + 1, 2 ** 64 + 1):
+        tried += try_number(library, form, left_rows, left, number)
     return [f"{form} {what}: {got}, and not {hoped}" for what, got, hoped in tried if got != hoped]
 
 

@@ -384,8 +384,24 @@ static void try_flat(struct side left, struct side right) {
   require(done || (count == 7 && bits[0] == 0xA5), "nothing is written about nulls");
   done = dunkelva_sum(left.type, left.array, &number) == DUNKELVA_OK;
   require(done || number.low == 7, "no sum is written");
+  struct dunkelva_number other = {7, 7, 7};
+  number = other;
+  done = dunkelva_min_max(left.type, left.array, &number, &other) == DUNKELVA_OK;
+  require(done || (number.low == 7 && other.low == 7), "no extremes are written");
+  uint32_t counts[1] = {7};
+  done = dunkelva_count_bits((enum dunkelva_bits)below(7), left.type, left.array, counts, 1) ==
+         DUNKELVA_OK;
+  require(done || counts[0] == 7, "no counts are written");
+  number.low = 7;
+  done = dunkelva_reduce_bits((enum dunkelva_join)below(4), left.type, left.array, &number) ==
+         DUNKELVA_OK;
+  require(done || number.low == 7, "no joined bits are written");
   memset(bits, 0xA5, ROOM);
-  done = dunkelva_compare((enum dunkelva_test)below(6), left.type, left.array, right.type,
+  done = dunkelva_compare_number((enum dunkelva_test)below(7), left.type, left.array, &other, bits,
+                                 ROOM) == DUNKELVA_OK;
+  require(done || bits[0] == 0xA5, "no comparison with a number is written");
+  memset(bits, 0xA5, ROOM);
+  done = dunkelva_compare((enum dunkelva_test)below(7), left.type, left.array, right.type,
                           right.array, bits, ROOM) == DUNKELVA_OK;
   require(done || bits[0] == 0xA5, "no comparison is written");
 }

@@ -657,4 +657,124 @@ int32_t dunkelva_part_sum(const struct part *part, struct dunkelva_number *sum) 
   return DONE;
 }
 
+static int size_of(const struct part *part) {
+  size_t size = 0;
+  (void)numbers_of(part, &size);
+  return (int)size;
+}
+
+/* Returns a number of a column as one of 128 bits. */
+static struct dunkelva_number number_of(const struct part *part, uint64_t low) {
+  struct dunkelva_number number = {low, is_signed(part) && (int64_t)low < 0 ? UINT64_MAX : 0, 1};
+  return number;
+}
+
+int32_t dunkelva_part_min_max(const struct part *part, struct dunkelva_number *least,
+                              struct dunkelva_number *greatest) {
+  if (check_numbers(part) != DONE) {
+    return check_numbers(part);
+  }
+  struct dunkelva_number none = {0, 0, 0};
+  *least = *greatest = none;
+  for (size_t row = 0; row < part->rows; row++) {
+    if (is_present(part, row)) {
+      uint64_t number = number_at(part, row);
+      if (least->exists == 0 || passes(2, number, least->low, is_signed(part))) {
+        *least = number_of(part, number);
+      }
+      if (greatest->exists == 0 || passes(4, number, greatest->low, is_signed(part))) {
+        *greatest = number_of(part, number);
+      }
+    }
+  }
+  return DONE;
+}
+
+/* Says whether the type of a column has a number. */
+static bool has_number(const struct part *part, uint64_t low, uint64_t high) {
+  int bits = 8 * size_of(part);
+  if (!is_signed(part)) {
+    return high == 0 && (bits == 64 || low >> bits == 0);
+  }
+  int64_t value = (int64_t)low;
+  return high == (value < 0 ? UINT64_MAX : 0) &&
+         (bits == 64 || (value >= -((int64_t)1 << (bits - 1)) && value < (int64_t)1 << (bits - 1)));
+}
+
+int32_t dunkelva_part_compare_number(uint32_t test, const struct part *part, uint64_t low,
+                                     uint64_t high, uint64_t *out, size_t out_len) {
+  if (test > 5) {
+    return NOT_SERVED;
+  }
+  if (check_numbers(part) != DONE) {
+    return check_numbers(part);
+  }
+  if (!has_number(part, low, high)) {
+    return OTHER_TYPES;
+  }
+  if (out_len < (part->rows + 63) / 64) {
+    return NO_ROOM;
+  }
+  memset(out, 0, out_len * sizeof *out);
+  for (size_t row = 0; row < part->rows; row++) {
+    bool holds = is_present(part, row) ? passes(test, number_at(part, row), low, is_signed(part))
+                                       : test == 1;
+    out[row / 64] |= (uint64_t)holds << (row % 64);
+  }
+  return DONE;
+}
+
+int32_t dunkelva_part_reduce_bits(uint32_t join, const struct part *part,
+                                  struct dunkelva_number *result) {
+  if (join > 2) {
+    return NOT_SERVED;
+  }
+  if (check_numbers(part) != DONE) {
+    return check_numbers(part);
+  }
+  struct dunkelva_number joined = {0, 0, 0};
+  for (size_t row = 0; row < part->rows; row++) {
+    if (is_present(part, row)) {
+      uint64_t x = number_at(part, row);
+      uint64_t before = joined.exists == 0 ? x : joined.low;
+      uint64_t both[] = {before & x, before | x, joined.exists == 0 ? x : before ^ x};
+      joined = number_of(part, both[join]);
+    }
+  }
+  *result = joined;
+  return DONE;
+}
+
+/* Counts bits, one by one. */
+static uint32_t count_bits(uint32_t which, uint64_t number, int bits) {
+  uint32_t counted = 0;
+  uint64_t wanted = which % 2 == 0;
+  for (int i = 0; i < bits; i++) {
+    int place = which < 4 ? bits - 1 - i : i;
+    if ((number >> place & 1) == wanted) {
+      counted++;
+    } else if (which > 1) {
+      break;
+    }
+  }
+  return counted;
+}
+
+int32_t dunkelva_part_count_bits(uint32_t bits, const struct part *part, uint32_t *counts,
+                                 size_t counts_len) {
+  if (bits > 5) {
+    return NOT_SERVED;
+  }
+  if (check_numbers(part) != DONE) {
+    return check_numbers(part);
+  }
+  if (counts_len != part->rows) {
+    return NO_ROOM;
+  }
+  for (size_t row = 0; row < part->rows; row++) {
+    counts[row] = count_bits(bits, number_at(part, row), 8 * size_of(part));
+  }
+  return DONE;
+}
+
 #endif
