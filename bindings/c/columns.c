@@ -6,15 +6,15 @@
 
 /* Describes all rows of a column. The caller closes it, also where this fails. */
 static int32_t open_whole(struct column *column, const struct ArrowSchema *type,
-                          const struct ArrowArray *array) {
-  TRY(dunkelva_open(column, type, array, 0));
+                          const struct ArrowArray *array, uint32_t flags) {
+  TRY(dunkelva_open(column, type, array, flags));
   return dunkelva_describe(column, 0, array->length);
 }
 
-/* Does the same where all rows are numbers of 8 to 64 bits. */
+/* Does the same where all rows are whole numbers of 8 to 64 bits. */
 static int32_t open_numbers(struct column *column, const struct ArrowSchema *type,
                             const struct ArrowArray *array) {
-  TRY(open_whole(column, type, array));
+  TRY(open_whole(column, type, array, 0));
   return dunkelva_is_numbers(column) ? DUNKELVA_OK : DUNKELVA_NOT_SERVED;
 }
 
@@ -46,10 +46,19 @@ static int32_t give_bits(struct bits *bits, int32_t status, uint8_t *out) {
   return status;
 }
 
+/* Finds the null rows of a column. In all types but dictionaries and those that have no validity a
+ * row is null where the validity says so. So the validity alone is handed over, as that of truth
+ * values. */
 static int32_t is_null(struct column *column, struct bits *bits, const struct ArrowSchema *type,
                        const struct ArrowArray *array, const uint8_t *out, size_t out_bytes,
                        uint64_t *count) {
-  TRY(open_whole(column, type, array));
+  TRY(open_whole(column, type, array, DUNKELVA_FLOATS_BY_BITS));
+  if (type->dictionary != NULL) {
+    return DUNKELVA_NOT_SERVED;
+  }
+  if (column->parts->kind != KIND_NULL) {
+    column->parts->kind = KIND_BOOLEAN;
+  }
   TRY(take_bits(bits, array->length, out, out_bytes));
   return dunkelva_part_is_null(column->parts, bits->words, (size_t)words_for_bits(bits->rows),
                                count);
@@ -102,19 +111,6 @@ int32_t dunkelva_sum(const struct ArrowSchema *type, const struct ArrowArray *ar
   int32_t status = open_numbers(&column, type, array);
   if (status == DUNKELVA_OK) {
     status = sum == NULL ? DUNKELVA_BAD_ARGUMENT : dunkelva_part_sum(column.parts, sum);
-  }
-  dunkelva_close(&column);
-  return status;
-}
-
-int32_t dunkelva_min_max(const struct ArrowSchema *type, const struct ArrowArray *array,
-                         struct dunkelva_number *least, struct dunkelva_number *greatest) {
-  struct column column;
-  int32_t status = open_numbers(&column, type, array);
-  if (status == DUNKELVA_OK) {
-    status = least == NULL || greatest == NULL
-                 ? DUNKELVA_BAD_ARGUMENT
-                 : dunkelva_part_min_max(column.parts, least, greatest);
   }
   dunkelva_close(&column);
   return status;

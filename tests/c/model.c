@@ -617,8 +617,11 @@ int32_t dunkelva_parts_equal_lent(const struct part *left, const struct part *ri
 
 int32_t dunkelva_part_is_null(const struct part *part, uint64_t *out, size_t out_len,
                               uint64_t *count) {
-  if (is_dictionary(part->kind)) {
+  if (part->kind != KIND_NULL && part->kind != KIND_BOOLEAN && check_numbers(part) == NOT_SERVED) {
     return NOT_SERVED;
+  }
+  if (part->present.len > 0 && !has_bits(part, &part->present)) {
+    return NO_ARRAY;
   }
   if (out_len < (part->rows + 63) / 64) {
     return NO_ROOM;
@@ -666,27 +669,6 @@ static int size_of(const struct part *part) {
 static struct dunkelva_number number_of(const struct part *part, uint64_t low) {
   struct dunkelva_number number = {low, is_signed(part) && (int64_t)low < 0 ? UINT64_MAX : 0, 1};
   return number;
-}
-
-int32_t dunkelva_part_min_max(const struct part *part, struct dunkelva_number *least,
-                              struct dunkelva_number *greatest) {
-  if (check_numbers(part) != DONE) {
-    return check_numbers(part);
-  }
-  struct dunkelva_number none = {0, 0, 0};
-  *least = *greatest = none;
-  for (size_t row = 0; row < part->rows; row++) {
-    if (is_present(part, row)) {
-      uint64_t number = number_at(part, row);
-      if (least->exists == 0 || passes(2, number, least->low, is_signed(part))) {
-        *least = number_of(part, number);
-      }
-      if (greatest->exists == 0 || passes(4, number, greatest->low, is_signed(part))) {
-        *greatest = number_of(part, number);
-      }
-    }
-  }
-  return DONE;
 }
 
 /* Says whether the type of a column has a number. */

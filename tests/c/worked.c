@@ -517,12 +517,25 @@ static void try_nulls(void) {
   count(dunkelva_is_null(&lists->type, &lists->array, &out, 1, &nulls) == DUNKELVA_OK &&
             out == 0x4 && nulls == 1,
         "null lists");
+  struct made *views = make("vu", 0, 3, NULL, NULL, NULL);
+  count(dunkelva_is_null(&views->type, &views->array, &out, 0, &nulls) == DUNKELVA_OK && nulls == 0,
+        "no views");
   struct made *none = make("n", 3, 0, NULL, NULL, NULL);
   count(dunkelva_is_null(&none->type, &none->array, &out, 1, NULL) == DUNKELVA_OK && out == 0x7,
         "rows without a type are null");
   count(dunkelva_is_null(&none->type, &none->array, &out, 0, &nulls) == DUNKELVA_NO_ROOM &&
-            nulls == 1,
+            nulls == 0,
         "nulls without room");
+  const float values[] = {1.0F, 2.0F};
+  struct made *floats = make("f", 2, 2, BITS(0x2), values, NULL);
+  count(dunkelva_is_null(&floats->type, &floats->array, &out, 1, &nulls) == DUNKELVA_OK &&
+            out == 0x1 && nulls == 1,
+        "null floats");
+  const int8_t keys[] = {0, 0};
+  struct made *keyed = dictionary("c", 2, NULL, keys, make("n", 1, 0, NULL, NULL, NULL));
+  count(dunkelva_is_null(&keyed->type, &keyed->array, &out, 1, &nulls) == DUNKELVA_NOT_SERVED &&
+            out == 0x1 && nulls == 1,
+        "no nulls of dictionaries");
 }
 
 int main(void) {
