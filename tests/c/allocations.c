@@ -83,45 +83,110 @@ static struct made *column(size_t shift) {
   return put(put(outer, "lists", lists), "views", seen);
 }
 
-/* Compares a column with itself while some requests fail. */
-static int32_t run(const struct made *made, long first, long last, uint8_t out[ROOM]) {
+/* A column of numbers with nulls. `shift` moves the numbers to an odd address. */
+static struct made *numbers(size_t shift) {
+  static uint8_t bits[ROOM];
+  static uint8_t values[4 * ROWS + 1];
+  memset(bits, 0x5B, sizeof bits);
+  return make("i", ROWS, 2, bits, values + shift, NULL);
+}
+
+/* The calls that are tried, each with a result of ROOM bytes. */
+typedef int32_t call(const struct made *made, uint8_t out[ROOM]);
+
+static int32_t call_equal(const struct made *made, uint8_t out[ROOM]) {
+  return dunkelva_equal(&made->type, &made->array, &made->type, &made->array, DUNKELVA_CHECK_TEXTS,
+                        out, ROOM);
+}
+
+static int32_t call_compare(const struct made *made, uint8_t out[ROOM]) {
+  return dunkelva_compare(DUNKELVA_LESS_OR_EQUAL, &made->type, &made->array, &made->type,
+                          &made->array, out, ROOM);
+}
+
+static int32_t call_compare_number(const struct made *made, uint8_t out[ROOM]) {
+  const struct dunkelva_number zero = {0, 0, 1};
+  return dunkelva_compare_number(DUNKELVA_UNEQUAL, &made->type, &made->array, &zero, out, ROOM);
+}
+
+static int32_t call_is_null(const struct made *made, uint8_t out[ROOM]) {
+  return dunkelva_is_null(&made->type, &made->array, out, ROOM, NULL);
+}
+
+static int32_t call_sum(const struct made *made, uint8_t out[ROOM]) {
+  struct dunkelva_number sum;
+  int32_t status = dunkelva_sum(&made->type, &made->array, &sum);
+  if (status == DUNKELVA_OK) {
+    memcpy(out, &sum.low, sizeof sum.low);
+  }
+  return status;
+}
+
+static int32_t call_bits(const struct made *made, uint8_t out[ROOM]) {
+  struct dunkelva_number joined;
+  uint32_t counts[ROWS];
+  int32_t status = dunkelva_reduce_bits(DUNKELVA_XOR, &made->type, &made->array, &joined);
+  if (status == DUNKELVA_OK) {
+    status = dunkelva_count_bits(DUNKELVA_ZEROS, &made->type, &made->array, counts, ROWS);
+  }
+  if (status == DUNKELVA_OK) {
+    memcpy(out, counts, ROOM);
+  }
+  return status;
+}
+
+/* Calls while some requests fail. */
+static int32_t run(call *called, const struct made *made, long first, long last,
+                   uint8_t out[ROOM]) {
   memset(out, 0xA5, ROOM);
   requests = 0;
   live = 0;
   first_failure = first;
   last_failure = last;
-  int32_t status = dunkelva_equal(&made->type, &made->array, &made->type, &made->array,
-                                  DUNKELVA_CHECK_TEXTS, out, ROOM);
+  int32_t status = called(made, out);
   first_failure = last_failure = 0;
   return status;
 }
 
-int main(void) {
-  int passed = 0;
-  int failed = 0;
-  for (size_t shift = 0; shift < 2; shift++) {
-    struct made *made = column(shift);
-    uint8_t wanted[ROOM];
-    uint8_t untouched[ROOM];
-    uint8_t out[ROOM];
-    memset(untouched, 0xA5, ROOM);
-    bool good = run(made, 0, 0, wanted) == DUNKELVA_OK && live == 0 && wanted[0] == 0xFF;
-    long count = requests;
-    printf("allocations: %ld requests\n", count);
+static int passed;
+static int failed;
+
+/* Tries a call with each request failing. */
+static void try_call(const char *name, call *called, const struct made *made) {
+  uint8_t wanted[ROOM];
+  uint8_t untouched[ROOM];
+  uint8_t out[ROOM];
+  memset(untouched, 0xA5, ROOM);
+  bool good = run(called, made, 0, 0, wanted) == DUNKELVA_OK && live == 0 &&
+              memcmp(wanted, untouched, ROOM) != 0;
+  long count = requests;
+  printf("allocations: %s: %ld requests\n", name, count);
+  passed += good;
+  failed += !good;
+  for (long at = 1; at <= 2 * count; at++) {
+    long first = (at + 1) / 2;
+    int32_t status = run(called, made, first, at % 2 == 0 ? first : count, out);
+    good = live == 0 && ((status == DUNKELVA_NO_MEMORY && memcmp(out, untouched, ROOM) == 0) ||
+                         (status == DUNKELVA_OK && memcmp(out, wanted, ROOM) == 0));
     passed += good;
     failed += !good;
-    for (long at = 1; at <= 2 * count; at++) {
-      long first = (at + 1) / 2;
-      int32_t status = run(made, first, at % 2 == 0 ? first : count, out);
-      good = live == 0 && ((status == DUNKELVA_NO_MEMORY && memcmp(out, untouched, ROOM) == 0) ||
-                           (status == DUNKELVA_OK && memcmp(out, wanted, ROOM) == 0));
-      passed += good;
-      failed += !good;
-      if (!good) {
-        printf("allocations: request %ld: status %d, %ld blocks are left\n", first, (int)status,
-               live);
-      }
+    if (!good) {
+      printf("%s: request %ld: status %d, %ld blocks are left\n", name, first, (int)status, live);
     }
+  }
+}
+
+int main(void) {
+  for (size_t shift = 0; shift < 2; shift++) {
+    struct made *tree = column(shift);
+    struct made *flat = numbers(shift);
+    try_call("equal", call_equal, tree);
+    try_call("equal numbers", call_equal, flat);
+    try_call("compare", call_compare, flat);
+    try_call("compare_number", call_compare_number, flat);
+    try_call("is_null", call_is_null, tree);
+    try_call("sum", call_sum, flat);
+    try_call("bits", call_bits, flat);
   }
   printf("%d passed, %d failed\n", passed, failed);
   return failed > 0;
