@@ -1,0 +1,37 @@
+-- Worked examples of the definitions.
+use Rattle.std.specs.Prelude.{◌≡◌, pos, [], ◌∷◌, Some, refl}
+use Rattle.polars_arrays_flat.specs.Row.{Int, Entry, Rows, Null, no_rows, more_rows}
+use Rattle.polars_arrays_flat.specs.StoredRows.{number_slots}
+use Rattle.polars_arrays_flat.specs.StoredRows.{row as row_at}
+use Rattle.arrow_arrays.specs.Columns.{Column, across, entries, fixed_lists, lists, no_column, only}
+
+-- the rows 7, 8, 9
+abbrev three : Column
+three = record { len = 3; row = row_at (number_slots (λ x. x) (pos 7 ∷ pos 8 ∷ pos 9 ∷ [])) }
+
+-- between the places 0, 2, 3 list 0 is 7, 8 and list 1 is 9
+first-list : lists (Some 0 ∷ Some 2 ∷ Some 3 ∷ []) (three ∷ []) 0 ≡ Rows (more_rows (Int (pos 7)) (more_rows (Int (pos 8)) no_rows))
+first-list = refl
+
+second-list : lists (Some 0 ∷ Some 2 ∷ Some 3 ∷ []) (three ∷ []) 1 ≡ Rows (more_rows (Int (pos 9)) no_rows)
+second-list = refl
+
+-- lists take one column
+no-lists : lists (Some 0 ∷ Some 2 ∷ []) [] 0 ≡ Null
+no-lists = refl
+
+-- list 2 of one item each
+third-list : fixed_lists 1 (three ∷ []) 2 ≡ Rows (more_rows (Int (pos 9)) no_rows)
+third-list = refl
+
+-- row 1 of two columns
+second-fields : across (three ∷ three ∷ []) 1 ≡ more_rows (Int (pos 8)) (more_rows (Int (pos 8)) no_rows)
+second-fields = refl
+
+-- key 0 names entry 2
+named : entries (Some 2 ∷ Some 0 ∷ []) (three ∷ []) 0 ≡ Entry (Int (pos 9))
+named = refl
+
+-- two columns are not one
+two-columns : only (three ∷ three ∷ []) ≡ no_column
+two-columns = refl

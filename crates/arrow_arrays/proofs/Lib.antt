@@ -1,0 +1,5 @@
+pub mod EndLemmas
+pub mod Examples
+pub mod MaskedRows
+pub mod Stacks
+pub mod Standing

@@ -1,0 +1,161 @@
+-- Stacks of arrays that stand for the columns of parts.
+use Rattle.std.proofs.Common.{◌≡◌, ℕ, zero, suc, ◌+◌, ◌-◌, List, [], ◌∷◌, ◌++◌, ◌<◌, ◌≤◌, length, get_or, take, drop, reverse, refl, sym, ap, subst, ◌∙◌, arith, append_assoc}
+use Rattle.std.proofs.Math.Seq.{drop-cons, take-suc}
+use Rattle.std.proofs.lemmas.List.{drop_all, length-append, reverse-append, take_all}
+use Rattle.std.proofs.lemmas.List.Elements.{All-cons, All-nil}
+use Rattle.std.specs.List.{All}
+use Rattle.polars_arrays_nested.specs.GoodParts.{IsGood}
+use Rattle.polars_arrays_nested.specs.declared.any_array.AnyArray.{AnyArray}
+use Rattle.arrow_parts.specs.Kinds.{kind_number}
+use Rattle.arrow_parts.specs.declared.part.Part.{Part}
+use Rattle.arrow_arrays.specs.Columns.{Column, column_of, columns_of, only, rows_of_parts, stacked}
+use Rattle.arrow_arrays.specs.Shapes.{FitsPart, GoodShape, SameColumn, shape_column}
+use Rattle.arrow_arrays.specs.Stacks.{AllFit, AreTaken, IsStep, Stacks}
+use Rattle.arrow_arrays.specs.Stands.{AllStand, Fills, Stands}
+use Rattle.arrow_arrays.specs.declared.shapes.Shape.{Shape}
+
+-- ---- shapes
+
+fit-snoc : (ps : List Part) (ss : List Shape) (p : Part) (s : Shape) → AllFit ps ss → FitsPart p s → AllFit (ps ++ p ∷ []) (ss ++ s ∷ [])
+fit-snoc [] [] p s all new = (new, tt)
+fit-snoc [] (t ∷ ss) p s all new = absurd all
+fit-snoc (q ∷ ps) [] p s all new = absurd all
+fit-snoc (q ∷ ps) (t ∷ ss) p s all new = (all.0, fit-snoc ps ss p s all.1 new)
+
+pub fit-more : (ps : List Part) (was shapes : List Shape) (p : Part) (s : Shape) → shapes ≡ was ++ s ∷ [] → AllFit ps was → FitsPart p s → AllFit (ps ++ p ∷ []) shapes
+fit-more ps was shapes p s new all fits = subst (AllFit (ps ++ p ∷ [])) (sym new) (fit-snoc ps was p s all fits)
+
+-- one part more
+pub fit-next : (parts : List Part) (i : ℕ) (d : Part) (was shapes : List Shape) → i < length parts → AllFit (take i parts) was → ((ps : List Part) → AllFit ps was → AllFit (ps ++ get_or parts i d ∷ []) shapes) → AllFit (take (i + 1) parts) shapes
+fit-next parts i d was shapes low all step =
+    let at : suc i ≡ i + 1 = omega arith in
+    subst (λ n. AllFit (take n parts) shapes) at (subst (λ ps. AllFit ps shapes) (sym (take-suc parts i d low)) (step (take i parts) all))
+
+pub fit-all : (parts : List Part) (i : ℕ) (shapes : List Shape) → length parts ≤ i → AllFit (take i parts) shapes → AllFit parts shapes
+fit-all parts i shapes end all = subst (λ ps. AllFit ps shapes) (take_all i parts end) all
+
+unfit : (ps : List Part) (p : Part) → AllFit (ps ++ p ∷ []) [] → ⊥
+unfit [] p all = all
+unfit (q ∷ ps) p all = all
+
+unfit-one : (ss : List Shape) (s : Shape) → AllFit [] (ss ++ s ∷ []) → ⊥
+unfit-one [] s all = all
+unfit-one (t ∷ ss) s all = all
+
+fit-last : (ps : List Part) (ss : List Shape) (p : Part) (s : Shape) → AllFit (ps ++ p ∷ []) (ss ++ s ∷ []) → AllFit ps ss × FitsPart p s
+fit-last [] [] p s all = (tt, all.0)
+fit-last [] (t ∷ ss) p s all = absurd (unfit-one ss s all.1)
+fit-last (q ∷ ps) [] p s all = absurd (unfit ps p all.1)
+fit-last (q ∷ ps) (t ∷ ss) p s all =
+    let rest = fit-last ps ss p s all.1 in
+    ((all.0, rest.0), rest.1)
+
+last-good : (ps : List Part) (ss : List Shape) (s : Shape) → AllFit ps (ss ++ s ∷ []) → GoodShape s
+last-good [] [] s all = absurd all
+last-good [] (t ∷ ss) s all = absurd all
+last-good (p ∷ ps) [] s all = all.0.good
+last-good (p ∷ ps) (t ∷ ss) s all = last-good ps ss s all.1
+
+pub shape-good : (was ss : List Shape) (s : Shape) → was ≡ ss ++ s ∷ [] → ((ps : List Part) × AllFit ps was) → GoodShape s
+shape-good was ss s top some = last-good some.0 ss s (subst (AllFit some.0) top some.1)
+
+-- ---- arrays
+
+all-good : (arrays : List AnyArray) (cs : List Column) → AllStand arrays cs → All IsGood arrays
+all-good [] cs all = All-nil IsGood
+all-good (a ∷ arrays) [] all = absurd all
+all-good (a ∷ arrays) (c ∷ cs) all = All-cons IsGood a arrays all.0.good (all-good arrays cs all.1)
+
+-- the first arrays stand for the first columns, and the others for the others
+stand-split : (xs ys : List AnyArray) (cs : List Column) (n : ℕ) → length xs ≡ n → AllStand (xs ++ ys) cs → AllStand xs (take n cs) × AllStand ys (drop n cs)
+stand-split [] ys cs zero long all = (tt, all)
+stand-split [] ys cs (suc n) long all = absurd (omega arith)
+stand-split (x ∷ xs) ys cs zero long all = absurd (omega arith)
+stand-split (x ∷ xs) ys [] (suc n) long all = absurd all
+stand-split (x ∷ xs) ys (c ∷ cs) (suc n) long all =
+    let rest = stand-split xs ys cs n (omega arith) all.1 in
+    ((all.0, rest.0), rest.1)
+
+-- arrays that were taken from a stack
+pub taken-good : (count : ℕ) (taken was left : List AnyArray) → AreTaken count taken was left → ((cs : List Column) × AllStand (reverse was) cs) → All IsGood taken
+taken-good count taken was left are some =
+    let both = stand-split taken (reverse left) some.0 count are.count_is (subst (λ xs. AllStand xs some.0) (sym are.order) some.1) in
+    all-good taken (take count some.0) both.0
+
+pub take-none : (was : List AnyArray) → AreTaken 0 [] was was
+take-none was = record { count_is = refl; order = refl }
+
+pub take-more : (k : ℕ) (taken new was stack left : List AnyArray) (a : AnyArray) → AreTaken k taken was stack → stack ≡ left ++ a ∷ [] → new ≡ taken ++ a ∷ [] → AreTaken (k + 1) new was left
+take-more k taken new was stack left a are top is = record {
+  count_is = ap length is ∙ length-append taken (a ∷ []) ∙ ap (λ n. n + 1) are.count_is;
+  order =
+      ap (λ xs. xs ++ reverse left) is
+      ∙ append_assoc taken (a ∷ []) (reverse left)
+      ∙ ap (λ r. taken ++ r) (sym (ap reverse top ∙ reverse-append left (a ∷ [])))
+      ∙ are.order;
+}
+
+stands-as : (a : AnyArray) (c d : Column) → Stands a c → SameColumn c d → Stands a d
+stands-as a c d stands same = record { good = stands.good; len = stands.len ∙ same.len; rows = λ i. stands.rows i ∙ same.rows i }
+
+-- the array of the last shape
+pub made-step : (count : ℕ) (was shapes : List Shape) (s : Shape) (taken stack left : List AnyArray) (a : AnyArray) → was ≡ shapes ++ s ∷ [] → AreTaken count taken stack left → Fills s taken a → IsStep count was shapes stack left a
+made-step count was shapes s taken stack left a top are fills p ps cs same fit all =
+    let parts = fit-last ps shapes p s (subst (AllFit (ps ++ p ∷ [])) top fit) in
+    let both = stand-split taken (reverse left) cs p.children (are.count_is ∙ sym same) (subst (λ xs. AllStand xs cs) (sym are.order) all) in
+    (parts.0, (stands-as a (shape_column s (take p.children cs)) (column_of (kind_number p.kind) p (take p.children cs)) (fills (take p.children cs) both.0) (parts.1.fits (take p.children cs)), both.1))
+
+pub pushed-step : (count : ℕ) (was shapes : List Shape) (stack left new : List AnyArray) (a : AnyArray) → IsStep count was shapes stack left a → new ≡ left ++ a ∷ [] → Stacks count was shapes stack new
+pushed-step count was shapes stack left new a step is p ps cs same fit all =
+    let both = step p ps cs same fit all in
+    (both.0, subst (λ xs. AllStand xs (stacked p cs)) (sym (ap reverse is ∙ reverse-append left (a ∷ []))) both.1)
+
+-- ---- all parts
+
+-- the stack and the shapes after i of the parts, from the last one on
+pub record AreStacked (parts : List Part) (i : ℕ) (shapes : List Shape) (stack : List AnyArray) : Type 0 where
+  pub fit : AllFit (take (length parts - i) parts) shapes
+  pub stand : AllStand (reverse stack) (columns_of (drop (length parts - i) parts))
+
+pub none-stacked : (parts : List Part) (shapes : List Shape) → AllFit parts shapes → AreStacked parts 0 shapes []
+none-stacked parts shapes fit = record {
+  fit = subst (λ ps. AllFit ps shapes) (sym (take_all (length parts - 0) parts (omega arith))) fit;
+  stand = subst (λ ps. AllStand [] (columns_of ps)) (sym (drop_all (length parts - 0) parts (omega arith))) tt;
+}
+
+take-next : (parts : List Part) (i : ℕ) (p d : Part) → i < length parts → get_or parts (length parts - 1 - i) d ≡ p → take (length parts - i) parts ≡ take (length parts - (i + 1)) parts ++ p ∷ []
+take-next parts i p d low is =
+    let at : length parts - i ≡ suc (length parts - 1 - i) = omega arith in
+    let begin : length parts - 1 - i ≡ length parts - (i + 1) = omega arith in
+    ap (λ n. take n parts) at
+    ∙ take-suc parts (length parts - 1 - i) d (omega arith)
+    ∙ ap (λ x. take (length parts - 1 - i) parts ++ x ∷ []) is
+    ∙ ap (λ n. take n parts ++ p ∷ []) begin
+
+drop-next : (parts : List Part) (i : ℕ) (p d : Part) → i < length parts → get_or parts (length parts - 1 - i) d ≡ p → drop (length parts - (i + 1)) parts ≡ p ∷ drop (length parts - i) parts
+drop-next parts i p d low is =
+    let at : length parts - (i + 1) ≡ length parts - 1 - i = omega arith in
+    let next : suc (length parts - 1 - i) ≡ length parts - i = omega arith in
+    let within : length parts - 1 - i < length parts = omega arith in
+    ap (λ k. drop k parts) at ∙ drop-cons parts (length parts - 1 - i) d within ∙ ap (λ x. x ∷ drop (suc (length parts - 1 - i)) parts) is ∙ ap (λ k. p ∷ drop k parts) next
+
+pub one-stacked : (parts : List Part) (i : ℕ) (p d : Part) (was shapes : List Shape) (stack new : List AnyArray) → i < length parts → get_or parts (length parts - 1 - i) d ≡ p → AreStacked parts i was stack → Stacks p.children was shapes stack new → AreStacked parts (i + 1) shapes new
+one-stacked parts i p d was shapes stack new low is are step =
+    let fit = subst (λ ps. AllFit ps was) (take-next parts i p d low is) are.fit in
+    let both = step p (take (length parts - (i + 1)) parts) (columns_of (drop (length parts - i) parts)) refl fit are.stand in
+    record {
+      fit = both.0;
+      stand = subst (λ ps. AllStand (reverse new) (columns_of ps)) (sym (drop-next parts i p d low is)) both.1;
+    }
+
+stand-only : (a : AnyArray) (cs : List Column) → AllStand (a ∷ []) cs → Stands a (only cs)
+stand-only a [] all = absurd all
+stand-only a (c ∷ []) all = all.0
+stand-only a (c ∷ d ∷ cs) all = absurd all.1
+
+pub all-stacked : (parts : List Part) (i : ℕ) (shapes : List Shape) (stack : List AnyArray) (a : AnyArray) → i ≡ length parts → stack ≡ a ∷ [] → AreStacked parts i shapes stack → Stands a (rows_of_parts parts)
+all-stacked parts i shapes stack a end one are =
+    let none : length parts - i ≡ 0 = omega arith in
+    stand-only a (columns_of parts) (subst (λ k. AllStand (a ∷ []) (columns_of (drop k parts))) none (subst (λ xs. AllStand (reverse xs) (columns_of (drop (length parts - i) parts))) one are.stand))
+
+pub ruleset stacks = (fit-more, shape-good, taken-good, take-none, made-step, pushed-step)

@@ -1,0 +1,5 @@
+use Rattle.arrow_arrays.proofs.Stacks.{AreStacked}
+use Rattle.arrow_arrays.proofs.build.build.Given as goal
+
+abbrev pub invariant-loop-i : goal.invariant-loop-i
+invariant-loop-i l = AreStacked l.parts l.i l.shapes.items l.stack.items

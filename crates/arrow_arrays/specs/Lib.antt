@@ -1,0 +1,4 @@
+pub mod Columns
+pub mod Shapes
+pub mod Stacks
+pub mod Stands

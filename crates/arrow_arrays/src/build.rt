@@ -1,0 +1,175 @@
+//! Arrays of whole trees of parts.
+#![tactic(auto, using(crate::proofs::Stacks::stacks))]
+
+ghost use Rattle.std.specs.Prelude.{◌≡◌, ◌++◌, ◌∷◌, [], List, IfOk, OnOk, length, reverse};
+ghost use Rattle.arrow_arrays.specs.Columns.{Column, rows_of_parts};
+ghost use Rattle.arrow_arrays.specs.Stacks.{AllFit, AreTaken, IsStep, Stacks};
+ghost use Rattle.arrow_arrays.specs.Stands.{AllStand, Stands};
+ghost use Rattle.arrow_parts.specs.declared.part.Part.{Part};
+
+use crate::nested::{Inside, fill, only_one};
+use crate::shapes::{Shape, shape_of};
+use arrow_parts::part::Part;
+use arrow_parts::refused::Refused;
+use polars_arrays_flat::data_type::Field;
+use polars_arrays_nested::any_array::AnyArray;
+use std::alloc::Global;
+
+/// Returns the name of a part. The error is `Parts` if it is not UTF-8.
+fn name_of(alloc: Global, part: &Part<'_>) -> Result<String, Refused> {
+    match std::str::from_utf8(part.name) {
+        Ok(text) => Ok(String::from_str(alloc, text)?),
+        Err(_) => Err(Refused::Parts),
+    }
+}
+
+/// Puts the name of a part on top of others.
+fn put_name(alloc: Global, part: &Part<'_>, names: &mut Vec<String>) -> Result<(), Refused> {
+    let name = name_of(alloc, part)?;
+    names.push(name)?;
+    Ok(())
+}
+
+/// Takes arrays from the top, the topmost first.
+fn take_columns(
+    alloc: Global,
+    count: usize,
+    stack: &mut Vec<AnyArray>,
+) -> Result<Vec<AnyArray>, Refused>
+    ensures { IfOk result (λ taken. AreTaken count taken.items stack.old.items stack.new.items) }
+{
+    if stack.len() < count {
+        return Err(Refused::Parts);
+    }
+    let mut columns = Vec::with_capacity(alloc, count)?;
+    for _taken in 0..count {
+        match stack.pop() {
+            Some(array) => columns.push_reserved(array),
+            None => return Err(Refused::Parts),
+        }
+    }
+    Ok(columns)
+}
+
+/// Takes a name from the top for each column, and returns the columns' names and types.
+fn take_fields(
+    alloc: Global,
+    columns: &[AnyArray],
+    names: &mut Vec<String>,
+) -> Result<Vec<Field>, Refused> {
+    let mut fields = Vec::with_capacity(alloc, columns.len())?;
+    for column in columns {
+        let Some(name) = names.pop() else {
+            return Err(Refused::Parts);
+        };
+        let dtype = column.dtype(alloc)?;
+        fields.push(Field { name, dtype })?;
+    }
+    Ok(fields)
+}
+
+/// Takes the arrays inside another, and their names, from the top.
+fn take_inside(
+    alloc: Global,
+    count: usize,
+    stack: &mut Vec<AnyArray>,
+    names: &mut Vec<String>,
+) -> Result<Inside, Refused>
+    ensures { IfOk result (λ t. AreTaken count t.columns.items stack.old.items stack.new.items) }
+{
+    let columns = take_columns(alloc, count, stack)?;
+    let fields = take_fields(alloc, &columns, names)?;
+    Ok(Inside { fields, columns })
+}
+
+/// Takes the last shape.
+fn take_shape(shapes: &mut Vec<Shape>) -> Result<Shape, Refused>
+    ensures { IfOk result (λ s. shapes.old.items ≡ shapes.new.items ++ s ∷ []) }
+{
+    match shapes.pop() {
+        Some(shape) => Ok(shape),
+        None => Err(Refused::Parts),
+    }
+}
+
+/// Takes the last shape, and the arrays inside it from the top, and returns its array.
+fn filled(
+    alloc: Global,
+    count: usize,
+    shapes: &mut Vec<Shape>,
+    stack: &mut Vec<AnyArray>,
+    names: &mut Vec<String>,
+) -> Result<AnyArray, Refused>
+    requires shapes { (ps : List Part) × AllFit ps shapes.old.items }
+    requires stack { (cs : List Column) × AllStand (reverse stack.old.items) cs }
+    ensures { IfOk result (IsStep count shapes.old.items shapes.new.items stack.old.items stack.new.items) }
+{
+    let inside = take_inside(alloc, count, stack, names)?;
+    let shape = take_shape(shapes)?;
+    let array = fill(alloc, shape, inside)?;
+    Ok(array)
+}
+
+/// Puts the array of the last shape on top, in place of the arrays inside it.
+fn step(
+    alloc: Global,
+    count: usize,
+    shapes: &mut Vec<Shape>,
+    stack: &mut Vec<AnyArray>,
+    names: &mut Vec<String>,
+) -> Result<(), Refused>
+    requires shapes { (ps : List Part) × AllFit ps shapes.old.items }
+    requires stack { (cs : List Column) × AllStand (reverse stack.old.items) cs }
+    ensures { OnOk result (Stacks count shapes.old.items shapes.new.items stack.old.items stack.new.items) }
+{
+    let array = filled(alloc, count, shapes, stack, names)?;
+    stack.push(array)?;
+    Ok(())
+}
+
+/// Puts the shape of a part behind others.
+fn put_shape(alloc: Global, part: &Part<'_>, shapes: &mut Vec<Shape>) -> Result<(), Refused>
+    ensures { OnOk result ((ps : List Part) → AllFit ps shapes.old.items → AllFit (ps ++ part.now ∷ []) shapes.new.items) }
+{
+    let shape = shape_of(alloc, part)?;
+    shapes.push(shape)?;
+    Ok(())
+}
+
+/// Returns the shapes of parts.
+fn shapes_of(alloc: Global, parts: &[Part<'_>]) -> Result<Vec<Shape>, Refused>
+    ensures { IfOk result (λ shapes. AllFit parts.now shapes.items) }
+{
+    let mut shapes = Vec::with_capacity(alloc, parts.len())?;
+    for i in 0..parts.len() {
+        put_shape(alloc, &parts[i], &mut shapes)?;
+    }
+    Ok(shapes)
+}
+
+/// Returns the array that parts in pre-order describe. Its rows are copies, so nothing stays lent.
+///
+/// The error is `Parts` if the parts make no array or have views, and `Memory` if an allocation
+/// fails. A text, masked or not, has to be UTF-8; keys of masked rows are arbitrary.
+pub fn build(alloc: Global, parts: &[Part<'_>]) -> Result<AnyArray, Refused>
+    ensures { IfOk result (λ a. Stands a (rows_of_parts parts.now)) }
+{
+    let mut shapes = shapes_of(alloc, parts)?;
+    let mut stack: Vec<AnyArray> = Vec::new(alloc);
+    let mut names: Vec<String> = Vec::new(alloc);
+    let count = parts.len();
+    // The last part comes first, so that the arrays inside another are made before it.
+    for i in 0..count {
+        let part = &parts[count - 1 - i];
+        step(
+            alloc,
+            part.children as usize,
+            &mut shapes,
+            &mut stack,
+            &mut names,
+        )?;
+        put_name(alloc, part, &mut names)?;
+    }
+    let array = only_one(stack)?;
+    Ok(array)
+}

@@ -1,0 +1,149 @@
+//! Shapes that are filled with the arrays inside them.
+#![tactic(auto, using(crate::proofs::Standing::filling))]
+
+ghost use Rattle.std.specs.Prelude.{◌≡◌, ◌∷◌, [], IfOk};
+ghost use Rattle.std.specs.List.{All};
+ghost use Rattle.polars_arrays_nested.specs.GoodParts.{IsGood};
+ghost use Rattle.arrow_arrays.specs.Shapes.{GoodShape};
+ghost use Rattle.arrow_arrays.specs.Stands.{Fills, FillsOne};
+ghost use Rattle.arrow_arrays.specs.declared.shapes.Shape.TheVariants.{Lists, FixedLists, Structs, Entries};
+
+use crate::shapes::{Shape, Size};
+use arrow_parts::refused::Refused;
+use polars_arrays_bits::bitmap::Bitmap;
+use polars_arrays_flat::data_type::Field;
+use polars_arrays_nested::any_array::AnyArray;
+use polars_arrays_nested::dict_keys::DictKeys;
+use polars_arrays_nested::dictionary::DictionaryArray;
+use polars_arrays_nested::fixed_size_list::FixedSizeListArray;
+use polars_arrays_nested::list::ListArray;
+use polars_arrays_nested::list_offsets::ListOffsets;
+use polars_arrays_nested::struct_array::StructArray;
+use std::alloc::Global;
+
+/// The arrays inside another, and a struct's fields for them.
+#[derive(Drop)]
+pub struct Inside {
+    pub fields: Vec<Field>,
+    pub columns: Vec<AnyArray>,
+}
+
+/// Returns the one array. The error is `Parts` if there are more, or none.
+pub fn only_one(columns: Vec<AnyArray>) -> Result<AnyArray, Refused>
+    ensures { IfOk result (λ a. columns.items ≡ a ∷ []) }
+{
+    let mut columns = columns;
+    if columns.len() != 1 {
+        return Err(Refused::Parts);
+    }
+    match columns.pop() {
+        Some(items) => Ok(items),
+        None => Err(Refused::Parts),
+    }
+}
+
+/// Returns lists of items.
+fn lists(
+    alloc: Global,
+    offsets: ListOffsets,
+    validity: Option<Bitmap>,
+    items: AnyArray,
+) -> Result<AnyArray, Refused>
+    requires { IsGood items }
+    ensures { IfOk result (FillsOne (Lists offsets validity) items) }
+{
+    let items = Box::new(alloc, items)?;
+    let array = ListArray::try_new(offsets, items, validity)?;
+    Ok(AnyArray::List(array))
+}
+
+/// Returns lists of one width of items.
+fn fixed_lists(
+    alloc: Global,
+    size: Size,
+    validity: Option<Bitmap>,
+    items: AnyArray,
+) -> Result<AnyArray, Refused>
+    requires { IsGood items }
+    ensures { IfOk result (FillsOne (FixedLists size validity) items) }
+{
+    let items = Box::new(alloc, items)?;
+    let array = FixedSizeListArray::try_new(size.width, size.rows, items, validity)?;
+    Ok(AnyArray::FixedSizeList(array))
+}
+
+/// Returns a dictionary of entries.
+fn entries(alloc: Global, keys: DictKeys, items: AnyArray) -> Result<AnyArray, Refused>
+    requires { IsGood items }
+    ensures { IfOk result (FillsOne (Entries keys) items) }
+{
+    let items = Box::new(alloc, items)?;
+    let array = DictionaryArray::try_new(keys, items)?;
+    Ok(AnyArray::Dictionary(array))
+}
+
+/// Returns structs of columns.
+fn structs(rows: usize, validity: Option<Bitmap>, inside: Inside) -> Result<AnyArray, Refused>
+    requires { All IsGood inside.columns.items }
+    ensures { IfOk result (Fills (Structs rows validity) inside.columns.items) }
+{
+    let Inside { fields, columns } = inside;
+    let array = StructArray::try_new(fields, rows, columns, validity)?;
+    Ok(AnyArray::Struct(array))
+}
+
+/// Returns lists of the one array inside.
+fn listed(
+    alloc: Global,
+    offsets: ListOffsets,
+    validity: Option<Bitmap>,
+    inside: Inside,
+) -> Result<AnyArray, Refused>
+    requires { All IsGood inside.columns.items }
+    ensures { IfOk result (Fills (Lists offsets validity) inside.columns.items) }
+{
+    let items = only_one(inside.columns)?;
+    let array = lists(alloc, offsets, validity, items)?;
+    Ok(array)
+}
+
+/// Returns lists of one width of the one array inside.
+fn fixed_listed(
+    alloc: Global,
+    size: Size,
+    validity: Option<Bitmap>,
+    inside: Inside,
+) -> Result<AnyArray, Refused>
+    requires { All IsGood inside.columns.items }
+    ensures { IfOk result (Fills (FixedLists size validity) inside.columns.items) }
+{
+    let items = only_one(inside.columns)?;
+    let array = fixed_lists(alloc, size, validity, items)?;
+    Ok(array)
+}
+
+/// Returns a dictionary of the one array inside.
+fn entered(alloc: Global, keys: DictKeys, inside: Inside) -> Result<AnyArray, Refused>
+    requires { All IsGood inside.columns.items }
+    ensures { IfOk result (Fills (Entries keys) inside.columns.items) }
+{
+    let items = only_one(inside.columns)?;
+    let array = entries(alloc, keys, items)?;
+    Ok(array)
+}
+
+/// Returns the array of a shape and of the arrays inside it. The error is `Parts` if these make no
+/// array, and `Memory` if an allocation fails.
+pub fn fill(alloc: Global, shape: Shape, inside: Inside) -> Result<AnyArray, Refused>
+    requires columns { All IsGood inside.columns.items }
+    requires shape { GoodShape shape }
+    ensures { IfOk result (Fills shape inside.columns.items) }
+{
+    match shape {
+        Shape::Leaf(array) => Ok(array),
+        Shape::Lists(offsets, validity) => listed(alloc, offsets, validity, inside),
+        Shape::FixedLists(size, validity) => fixed_listed(alloc, size, validity, inside),
+        Shape::Structs(rows, validity) => structs(rows, validity, inside),
+        Shape::Entries(keys) => entered(alloc, keys, inside),
+    }
+}

@@ -1,0 +1,76 @@
+//! Numbers of 128 bits that are lent as pairs of words.
+
+ghost use Rattle.std.specs.Prelude.{◌≡◌, ◌+◌, ◌*◌, ◌^◌, length, map, IfOk};
+ghost use Rattle.arrow_parts.specs.Lent.{present_in, signed_wide, wide_numbers};
+
+use crate::slots::numbers;
+use arrow_parts::part::Part;
+use arrow_parts::refused::Refused;
+use polars_arrays_flat::primitive::PrimitiveArray;
+use std::alloc::Global;
+
+/// Returns the number of a low and a high word.
+#[inline(always)]
+fn joined(low: u64, high: u64) -> u128
+    ensures { result ≡ low + 2 ^ 64 * high }
+{
+    u128::from(low) + u128::from(high) * (1 << 64)
+}
+
+/// Returns the signed number with the same bits.
+#[inline(always)]
+fn signed(number: u128) -> i128
+    ensures { result ≡ signed_wide number }
+{
+    if number < 1 << 127 {
+        number as i128
+    } else {
+        -1 - (u128::MAX - number) as i128
+    }
+}
+
+/// Returns the numbers of pairs of words; a last word alone makes none.
+fn numbers_of(alloc: Global, words: &[u64]) -> Result<Vec<u128>, Refused>
+    ensures { IfOk result (λ all. all.items ≡ wide_numbers words.now) }
+{
+    let count = words.len() / 2;
+    let mut all: Vec<u128> = Vec::with_capacity(alloc, count)?;
+    for i in 0..count {
+        all.push_reserved(joined(words[2 * i], words[2 * i + 1]));
+    }
+    Ok(all)
+}
+
+/// Returns the signed numbers of pairs of words.
+fn signed_of(alloc: Global, words: &[u64]) -> Result<Vec<i128>, Refused>
+    ensures { IfOk result (λ all. all.items ≡ map signed_wide (wide_numbers words.now)) }
+{
+    let unsigned = numbers_of(alloc, words)?;
+    let mut all: Vec<i128> = Vec::with_capacity(alloc, unsigned.len())?;
+    for i in 0..unsigned.len() {
+        all.push_reserved(signed(unsigned[i]));
+    }
+    Ok(all)
+}
+
+/// Returns the array of a part's rows, which are unsigned numbers of 128 bits.
+pub fn unsigned_numbers(alloc: Global, part: &Part<'_>) -> Result<PrimitiveArray<u128>, Refused>
+    ensures stored { IfOk result (λ a. a.values ≡ wide_numbers part.now.u64s.now) }
+    ensures count { IfOk result (λ a. length a.values ≡ part.now.rows) }
+    ensures mask { IfOk result (λ a. a.validity ≡ present_in part.now) }
+{
+    let values = numbers_of(alloc, part.u64s)?;
+    let array = numbers(alloc, part, &values)?;
+    Ok(array)
+}
+
+/// Returns the array of a part's rows, which are signed numbers of 128 bits.
+pub fn signed_numbers(alloc: Global, part: &Part<'_>) -> Result<PrimitiveArray<i128>, Refused>
+    ensures stored { IfOk result (λ a. a.values ≡ map signed_wide (wide_numbers part.now.u64s.now)) }
+    ensures count { IfOk result (λ a. length a.values ≡ part.now.rows) }
+    ensures mask { IfOk result (λ a. a.validity ≡ present_in part.now) }
+{
+    let values = signed_of(alloc, part.u64s)?;
+    let array = numbers(alloc, part, &values)?;
+    Ok(array)
+}
