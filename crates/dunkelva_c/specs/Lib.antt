@@ -2,6 +2,7 @@ pub mod ColumnBits
 pub mod ColumnCounts
 pub mod Columns
 pub mod Comparisons
+pub mod Extremes
 pub mod Nulls
 pub mod NumberComparisons
 pub mod Numbers

@@ -7,6 +7,7 @@
 mod column_bits;
 mod column_comparisons;
 mod column_counts;
+mod column_extremes;
 mod column_nulls;
 mod column_sums;
 mod columns;
