@@ -37,21 +37,26 @@ static int32_t describe_window(struct pair *pair, int64_t done, int64_t *count) 
   }
 }
 
-/* Compares the rows that were described. Numbers are not copied, unless comparisons are counted. */
+/* Compares the rows that were described. Numbers are not copied, unless comparisons are counted.
+ * Kernels that compare no trees serve numbers alone. */
 static int32_t compare_parts(struct pair *pair, uint64_t *out, int64_t count) {
   struct column *left = &pair->left;
   struct column *right = &pair->right;
   size_t words = (size_t)words_for_bits(count);
-  uint64_t comparisons = 0;
   if (pair->comparisons == NULL && dunkelva_is_numbers(left) && dunkelva_is_numbers(right)) {
     return dunkelva_parts_equal_lent(left->parts, right->parts, out, words);
   }
+#ifdef DUNKELVA_NUMBERS_ONLY
+  return DUNKELVA_NOT_SERVED;
+#else
+  uint64_t comparisons = 0;
   TRY(dunkelva_parts_equal(left->parts, left->extent.parts, right->parts, right->extent.parts, out,
                            words, &comparisons, 1));
   if (pair->comparisons != NULL) {
     *pair->comparisons += comparisons;
   }
   return DUNKELVA_OK;
+#endif
 }
 
 static int32_t compare_windows(struct pair *pair) {

@@ -1,11 +1,11 @@
 #!/usr/bin/env python3
 """Compares random columns of all types, and looks at each row by Python's own ==.
 
-usage: trees.py LIBRARY [--number 400] [--seed 1]
+usage: trees.py LIBRARY [--number 400] [--seed 1] [--numbers]
 
 A column has a random type, up to four levels, and up to 200 rows; a few have 20,000 to 40,000,
 which takes several windows. Each pair is compared whole, with sides exchanged, and in a window at
-random rows of each side. Ends with `N passed, M failed`.
+random rows of each side. With --numbers all types are numbers. Ends with `N passed, M failed`.
 """
 import argparse
 import ctypes
@@ -61,7 +61,7 @@ def unpacked(out, rows):
 
 def try_pair(library, chance, depth, rows):
     """Compares two random columns, and returns what was wrong, and how many rows were the same."""
-    kind = some_type(chance, depth)
+    kind = some_type(chance, depth) if depth else chance.choice([*arrow.NUMBERS])
     left_rows = [arrow.some_value(kind, chance) for _ in range(rows)]
     right_rows = [row if chance.random() < 0.6 else arrow.some_value(kind, chance)
                   for row in left_rows]
@@ -87,6 +87,7 @@ def main():
     asked.add_argument("library")
     asked.add_argument("--number", type=int, default=400)
     asked.add_argument("--seed", type=int, default=1)
+    asked.add_argument("--numbers", action="store_true")
     chosen = asked.parse_args()
     library = arrow.load(chosen.library)
     failed = rows = same = 0
@@ -94,7 +95,8 @@ def main():
         chance = random.Random(f"trees {chosen.seed} {number}")
         is_long = number % 100 == 99
         count = chance.randrange(20_000, 40_000) if is_long else chance.choice(LENGTHS)
-        faults, equal_count = try_pair(library, chance, 1 if is_long else 3, count)
+        depth = 0 if chosen.numbers else 1 if is_long else 3
+        faults, equal_count = try_pair(library, chance, depth, count)
         failed += bool(faults)
         rows, same = rows + count, same + equal_count
         for fault in faults:

@@ -540,21 +540,23 @@ static void try_nulls(void) {
 
 int main(void) {
   try_numbers();
-  try_numbers_of_other_formats();
-  try_floats();
-  try_truth_values();
-  try_texts();
-  try_views();
-  try_lists();
-  try_structs_and_maps();
-  try_dictionaries();
-  try_broken_structs();
-  try_arguments();
   try_sums();
   try_comparisons();
   try_nulls();
-  try_many_rows();
-  try_many_views();
+  if (!NUMBERS_ONLY) {
+    try_numbers_of_other_formats();
+    try_floats();
+    try_truth_values();
+    try_texts();
+    try_views();
+    try_lists();
+    try_structs_and_maps();
+    try_dictionaries();
+    try_broken_structs();
+    try_arguments();
+    try_many_rows();
+    try_many_views();
+  }
   printf("%d passed, %d failed\n", passed, failed);
   return failed > 0;
 }
