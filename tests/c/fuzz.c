@@ -440,8 +440,9 @@ static void try_pair(struct side left, struct side right, uint32_t flags) {
           "exchanged sides fail alike");
   require(status != 0 || turned != 0 || memcmp(bits, other, ROOM) == 0,
           "exchanged sides give the same bits");
-  int64_t first = below(70);
-  int64_t count = (int64_t)below(255) - 1;
+  bool is_inside = rows < 250 && !seldom(8);
+  int64_t first = below(is_inside ? (uint32_t)rows + 1 : 70);
+  int64_t count = is_inside ? below((uint32_t)(rows - first) + 1) : (int64_t)below(255) - 1;
   int32_t window = compare(left, first, right, first, count, flags, other);
   if (status == 0 && count >= 0 && first + count <= rows) {
     require(window == 0 || window == DUNKELVA_NO_ROOM, "rows of two columns that were compared");
