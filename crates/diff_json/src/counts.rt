@@ -4,11 +4,12 @@ ghost use Rattle.std.specs.Prelude.{◌≡◌, ◌<◌, ◌≤◌, ◌+◌, ◌+
 ghost use Rattle.diff_words.specs.Lists.{gap};
 ghost use Rattle.diff_report.specs.Sides.{naming_of};
 ghost use Rattle.diff_report.specs.Summary.{is_counted};
-ghost use Rattle.diff_json.specs.Counts.{column_member, column_members, counts_object, totals_of};
+ghost use Rattle.diff_json.specs.Counts.{column_member, column_members, counts_object, totals_members};
 
 use crate::numbers::push_number;
 use crate::strings::push_string;
 use diff_report::sides::Sides;
+use diff_report::summary::difference_count;
 use diff_tables::compare::Comparison;
 use diff_words::lists::push_gap;
 use polars_arrays_flat::byte_rows::ByteRows;
@@ -52,25 +53,28 @@ fn push_by_column(out: &mut Vec<u8>, sides: &Sides, counts: &[usize]) -> Result<
 
 /// Appends how many rows are changed, removed, added and the same, and how many differences have
 /// no line.
-fn push_totals(out: &mut Vec<u8>, comparison: &Comparison, limit: usize) -> Result<(), AllocError>
-    requires { length comparison.now.changed.items ≤ length comparison.now.matching.left_rows.items }
-    ensures { OnOk result (out.new.items ≡ out.old.items ++ totals_of comparison.now limit) }
+#[tactic(auto, unfolding(crate::specs::Counts::totals_members))]
+pub fn push_totals(
+    out: &mut Vec<u8>,
+    changed: usize,
+    removed: usize,
+    added: usize,
+    same: usize,
+    not_shown: u128,
+) -> Result<(), AllocError>
+    ensures { OnOk result (out.new.items ≡ out.old.items ++ totals_members changed removed added same not_shown) }
 {
-    let matching = &comparison.matching;
-    let same = matching.left_rows.len() - comparison.changed.len();
-    let alone = matching.removed.len() as u128 + matching.added.len() as u128;
-    let count = comparison.changed.len() as u128 + alone;
-    let not_shown = count.saturating_sub(limit as u128);
-    push_number(out, br#""changed":"#, comparison.changed.len())?;
-    push_number(out, br#","removed":"#, matching.removed.len())?;
-    push_number(out, br#","added":"#, matching.added.len())?;
+    push_number(out, br#""changed":"#, changed)?;
+    push_number(out, br#","removed":"#, removed)?;
+    push_number(out, br#","added":"#, added)?;
     push_number(out, br#","same":"#, same)?;
     push_number(out, br#","not_shown":"#, not_shown)?;
     Ok(())
 }
 
-/// Appends the last line: how many rows differ, and in which columns.
-pub(crate) fn push_counts(
+/// Appends the last line: how many rows differ, and in which columns. `counts` says how often each
+/// column differs.
+pub fn push_counts(
     out: &mut Vec<u8>,
     sides: &Sides,
     comparison: &Comparison,
@@ -81,8 +85,12 @@ pub(crate) fn push_counts(
     requires counts { length counts.now ≡ length (naming_of sides.now).names }
     ensures { OnOk result (out.new.items ≡ out.old.items ++ counts_object (naming_of sides.now) comparison.now counts.now limit) }
 {
+    let (matching, changed) = (&comparison.matching, comparison.changed.len());
+    let (removed, added) = (matching.removed.len(), matching.added.len());
+    let same = matching.left_rows.len() - changed;
+    let not_shown = difference_count(matching, changed).saturating_sub(limit as u128);
     out.extend_from_slice(br#"{"kind":"counts","#)?;
-    push_totals(out, comparison, limit)?;
+    push_totals(out, changed, removed, added, same, not_shown)?;
     out.extend_from_slice(br#","columns":{"#)?;
     push_by_column(out, sides, counts)?;
     out.extend_from_slice(b"}}\n")?;

@@ -4,10 +4,9 @@
 mod cells;
 mod changes;
 pub mod columns;
-mod counts;
+pub mod counts;
 mod keys;
 pub mod laws;
-mod lines;
-mod numbers;
-pub mod report;
+pub mod lines;
+pub mod numbers;
 pub mod strings;

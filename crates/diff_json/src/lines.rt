@@ -1,19 +1,17 @@
 //! The lines of differences.
 
-ghost use Rattle.std.specs.List.{flat_map};
-ghost use Rattle.std.specs.Prelude.{◌≡◌, ◌<◌, ◌++◌, All, length, take, OnOk};
-ghost use Rattle.diff_report.specs.Sides.{AreSides, IsSide, NamesRows, naming_of};
-ghost use Rattle.diff_json.specs.Lines.{changed_object, object_of, side_object};
+ghost use Rattle.std.specs.Prelude.{◌≡◌, ◌<◌, ◌++◌, length, OnOk};
+ghost use Rattle.diff_report.specs.Sides.{AreSides, IsSide, naming_of};
+ghost use Rattle.diff_json.specs.Lines.{object_of, side_object};
 
 use crate::changes::push_changes;
 use crate::keys::push_keys;
 use crate::numbers::push_number;
 use diff_report::sides::{Side, Sides};
-use diff_tables::compare::Comparison;
 use std::alloc::AllocError;
 
-/// Appends the line of two rows that differ.
-fn push_pair(out: &mut Vec<u8>, sides: &Sides, i: usize, j: usize) -> Result<(), AllocError>
+/// Appends the line of left row `i` and right row `j`, which differ.
+pub fn push_pair(out: &mut Vec<u8>, sides: &Sides, i: usize, j: usize) -> Result<(), AllocError>
     requires sides { AreSides sides.now }
     requires left { i < length sides.now.left.table.rows }
     requires right { j < length sides.now.right.table.rows }
@@ -31,8 +29,8 @@ fn push_pair(out: &mut Vec<u8>, sides: &Sides, i: usize, j: usize) -> Result<(),
     Ok(())
 }
 
-/// Appends the line of a row that only one side has.
-fn push_alone(
+/// Appends the line of a row that only one side has. `kind` is `removed` or `added`.
+pub fn push_alone(
     out: &mut Vec<u8>,
     kind: &[u8],
     sides: &Sides,
@@ -51,45 +49,5 @@ fn push_alone(
     push_number(out, br#"},"row":"#, side.number(i))?;
     push_number(out, br#","line":"#, side.lines[i])?;
     out.extend_from_slice(b"}\n")?;
-    Ok(())
-}
-
-/// Appends the lines of the first `limit` pairs that differ.
-pub(crate) fn push_changed_lines(
-    out: &mut Vec<u8>,
-    sides: &Sides,
-    comparison: &Comparison,
-    limit: usize,
-) -> Result<(), AllocError>
-    requires sides { AreSides sides.now }
-    requires rows { NamesRows sides.now comparison.now }
-    ensures { OnOk result (out.new.items ≡ out.old.items ++ flat_map (changed_object sides.now comparison.now.matching) (take limit comparison.now.changed.items)) }
-{
-    for n in 0..comparison.changed.len().min(limit) {
-        let k = comparison.changed[n];
-        let i = comparison.matching.left_rows[k] as usize;
-        let j = comparison.matching.right_rows[k] as usize;
-        push_pair(out, sides, i, j)?;
-    }
-    Ok(())
-}
-
-/// Appends the lines of the first `limit` of these rows.
-pub(crate) fn push_side_lines(
-    out: &mut Vec<u8>,
-    kind: &[u8],
-    sides: &Sides,
-    side: &Side,
-    rows: &[u32],
-    limit: usize,
-) -> Result<(), AllocError>
-    requires sides { AreSides sides.now }
-    requires side { IsSide (naming_of sides.now) side.now }
-    requires rows { All (λ i. i < length side.now.table.rows) rows.now }
-    ensures { OnOk result (out.new.items ≡ out.old.items ++ flat_map (side_object kind.now (naming_of sides.now) side.now) (take limit rows.now)) }
-{
-    for n in 0..rows.len().min(limit) {
-        push_alone(out, kind, sides, side, rows[n] as usize)?;
-    }
     Ok(())
 }

@@ -7,11 +7,7 @@ use itoa::Integer;
 use std::alloc::AllocError;
 
 /// Appends the text before a number, and the number in decimal.
-pub(crate) fn push_number<I: Integer>(
-    out: &mut Vec<u8>,
-    before: &[u8],
-    n: I,
-) -> Result<(), AllocError>
+pub fn push_number<I: Integer>(out: &mut Vec<u8>, before: &[u8], n: I) -> Result<(), AllocError>
     ensures { OnOk result (out.new.items ≡ out.old.items ++ before.now ++ I.text n) }
 {
     out.extend_from_slice(before)?;

@@ -3,11 +3,16 @@
 -- 2 changed, 1 removed, 1 added, 998999 the same.  By column: city 1, amount 2.
 use Rattle.std.specs.Fmt.{decimal}
 use Rattle.std.specs.List.{range_with_len}
-use Rattle.std.specs.Prelude.{ℕ, ◌-◌, ◌==◌, nat_lt, Bool, not, ◌&&◌, if◌then◌else◌, List, [], ◌∷◌, ◌++◌, length, map, filter, get_or, slice_index, codes}
+use Rattle.std.specs.Prelude.{ℕ, ◌+◌, ◌-◌, ◌==◌, nat_lt, Bool, not, ◌&&◌, if◌then◌else◌, List, [], ◌∷◌, ◌++◌, length, map, filter, get_or, slice_index, codes}
+use Rattle.diff_keys.specs.declared.matching.Matching.{Matching}
 use Rattle.diff_tables.specs.declared.compare.Comparison.{Comparison}
 use Rattle.diff_words.specs.Lists.{listed}
 use Rattle.diff_words.specs.Words.{word_text}
 use Rattle.diff_report.specs.Naming.{Naming}
+
+-- how many differences there are, where so many of the matched rows are changed
+abbrev pub difference_count : Matching → ℕ → ℕ
+difference_count m changed = changed + length m.removed.items + length m.added.items
 
 -- how many of some differences have no line, where some have one and others none
 unfoldable pub rest_text : ℕ → ℕ → List ℕ

@@ -2,9 +2,8 @@
 #![tactic(auto)]
 
 pub mod counts;
-mod lines;
+pub mod lines;
 mod pairs;
-pub mod report;
 mod rows;
 pub mod sides;
-mod summary;
+pub mod summary;

@@ -4,9 +4,10 @@ ghost use Rattle.std.specs.Fmt.{decimal};
 ghost use Rattle.std.specs.Prelude.{◌≡◌, ◌<◌, ◌≤◌, ◌+◌, ◌++◌, [], if◌then◌else◌, length, map, codes, IfOk, OnOk};
 ghost use Rattle.diff_words.specs.Lists.{gap, listed};
 ghost use Rattle.diff_report.specs.Sides.{naming_of};
-ghost use Rattle.diff_report.specs.Summary.{by_column, count_text, is_counted, rest_text, summary_text, totals_text};
+ghost use Rattle.diff_report.specs.Summary.{by_column, count_text, difference_count, is_counted, rest_text, summary_text, totals_text};
 
 use crate::sides::Sides;
+use diff_keys::matching::Matching;
 use diff_tables::compare::Comparison;
 use diff_words::decimals::push_decimal;
 use diff_words::lists::push_gap;
@@ -14,18 +15,18 @@ use diff_words::words::push_word;
 use polars_arrays_flat::byte_rows::ByteRows;
 use std::alloc::AllocError;
 
-/// Appends how many differences have no line, where some have one and others none.
-#[tactic(auto, unfolding(crate::specs::Summary::rest_text))]
-pub(crate) fn push_rest(
-    out: &mut Vec<u8>,
-    comparison: &Comparison,
-    limit: usize,
-) -> Result<(), AllocError>
-    ensures { OnOk result (out.new.items ≡ out.old.items ++ rest_text limit (length comparison.now.changed.items + length comparison.now.matching.removed.items + length comparison.now.matching.added.items)) }
+/// Returns how many differences there are, where `changed` of the matched rows differ.
+pub fn difference_count(matching: &Matching, changed: usize) -> u128
+    ensures { result ≡ difference_count matching.now changed }
 {
-    let matching = &comparison.matching;
-    let alone = matching.removed.len() as u128 + matching.added.len() as u128;
-    let count = comparison.changed.len() as u128 + alone;
+    changed as u128 + matching.removed.len() as u128 + matching.added.len() as u128
+}
+
+/// Appends how many of `count` differences have no line, where some have one and others none.
+#[tactic(auto, unfolding(crate::specs::Summary::rest_text))]
+pub fn push_rest(out: &mut Vec<u8>, count: u128, limit: usize) -> Result<(), AllocError>
+    ensures { OnOk result (out.new.items ≡ out.old.items ++ rest_text limit count) }
+{
     if limit == 0 || count <= limit as u128 {
         return Ok(());
     }
@@ -97,9 +98,10 @@ fn push_by_column(out: &mut Vec<u8>, sides: &Sides, counts: &[usize]) -> Result<
     Ok(())
 }
 
-/// Appends the last line: how many rows differ, and in which columns.
+/// Appends the last line: how many rows differ, and in which columns. `counts` says how often each
+/// column differs.
 #[tactic(auto, unfolding(crate::specs::Summary::summary_text))]
-pub(crate) fn push_summary(
+pub fn push_summary(
     out: &mut Vec<u8>,
     sides: &Sides,
     comparison: &Comparison,

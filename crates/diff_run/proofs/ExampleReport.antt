@@ -17,7 +17,7 @@ use Rattle.diff_tables.specs.Keys.{cells_at}
 use Rattle.diff_tables.specs.declared.compare.Comparison.{Comparison}
 use Rattle.diff_run.specs.Lone.{alone_lines}
 use Rattle.diff_run.specs.Run.{AreSidesOf, IsReportOf, outcome_of}
-use Rattle.diff_run.specs.declared.options.Format.TheVariants.{Text}
+use Rattle.diff_words.specs.declared.formats.Format.TheVariants.{Text}
 use Rattle.diff_run.specs.declared.options.Options.{Options}
 use Rattle.diff_keys.specs.declared.outcome.Outcome.{Outcome}
 use Rattle.diff_keys.specs.declared.outcome.Outcome.TheVariants.{Different}

@@ -15,7 +15,7 @@ use Rattle.diff_run.specs.Faults.{IsRunFault}
 use Rattle.diff_run.specs.Lone.{alone_lines, lone_line}
 use Rattle.diff_run.specs.Run.{columns_text, outcome_of}
 use Rattle.diff_run.specs.declared.error.RunError.TheVariants as error
-use Rattle.diff_run.specs.declared.options.Format.TheVariants.{Text}
+use Rattle.diff_words.specs.declared.formats.Format.TheVariants.{Text}
 use Rattle.diff_run.specs.declared.options.Options.{Options}
 use Rattle.diff_keys.specs.declared.outcome.Outcome.TheVariants.{Same, Different}
 use Rattle.diff_tables.specs.declared.compare.Comparison.{Comparison}

@@ -3,5 +3,6 @@ pub mod ExampleLines
 pub mod ExampleReport
 pub mod ExampleRows
 mod Examples
+pub mod LineLemmas
 pub mod OnceLemmas
 pub mod SideLemmas

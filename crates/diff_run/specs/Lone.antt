@@ -5,8 +5,8 @@ use Rattle.std.specs.List.{flat_map}
 use Rattle.std.specs.Prelude.{ℕ, List, [], ◌∷◌, ◌++◌, get_or, codes}
 use Rattle.diff_columns.specs.declared.error.Side.{Side}
 use Rattle.diff_json.specs.Columns.{column_object}
-use Rattle.diff_run.specs.declared.options.Format.{Format}
-use Rattle.diff_run.specs.declared.options.Format.TheVariants.{Text, Json}
+use Rattle.diff_words.specs.declared.formats.Format.{Format}
+use Rattle.diff_words.specs.declared.formats.Format.TheVariants.{Text, Json}
 use Rattle.diff_words.specs.Words.{word_text}
 
 -- the line of a column that only one input has, in text

@@ -23,8 +23,8 @@ use Rattle.diff_report.specs.declared.sides.Sides.{Sides}
 use Rattle.diff_run.specs.Comparables.{rows_by}
 use Rattle.diff_run.specs.Inputs.{IsSideWith}
 use Rattle.diff_run.specs.Lone.{alone_lines}
-use Rattle.diff_run.specs.declared.options.Format.{Format}
-use Rattle.diff_run.specs.declared.options.Format.TheVariants.{Text, Json}
+use Rattle.diff_words.specs.declared.formats.Format.{Format}
+use Rattle.diff_words.specs.declared.formats.Format.TheVariants.{Text, Json}
 use Rattle.diff_run.specs.declared.options.Options.{Options}
 use Rattle.diff_keys.specs.declared.outcome.Outcome.{Outcome}
 use Rattle.diff_tables.specs.Comparison.{IsComparison}

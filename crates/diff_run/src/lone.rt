@@ -4,9 +4,9 @@ ghost use Rattle.std.specs.Prelude.{◌≡◌, ◌<◌, ◌++◌, All, length, O
 ghost use Rattle.polars_arrays_bytes.specs.OffsetStrings.{offset_strings};
 ghost use Rattle.diff_run.specs.Lone.{alone_line, alone_lines, lone_line};
 
-use crate::options::Format;
 use diff_columns::error::Side;
 use diff_json::columns::push_json_column;
+use diff_words::formats::Format;
 use diff_words::words::push_word;
 use polars_arrays_bytes::binary::BinaryArray;
 use polars_arrays_flat::byte_rows::ByteRows;

@@ -3,15 +3,7 @@
 use diff_columns::choice::Choice;
 use diff_csv::options::CsvOptions;
 use diff_parts::part::Part;
-
-/// The form of a report.
-#[derive(Clone, Copy, Debug, PartialEq, Eq)]
-pub enum Format {
-    /// Lines to read.
-    Text,
-    /// A JSON object in each line.
-    Json,
-}
+pub use diff_words::formats::Format;
 
 /// What is compared, and how it is reported.
 #[derive(Clone, Copy)]

@@ -13,17 +13,16 @@ ghost use Rattle.diff_tables.specs.Comparison.{IsComparison};
 
 use crate::error::RunError;
 use crate::heads::Heads;
+use crate::lines::{push_end, push_lines};
 use crate::lone::push_alone;
-use crate::options::{Format, Options};
+use crate::options::Options;
 use crate::sides::Files;
 use crate::unique::test_keys;
 use diff_columns::error::Side;
 use diff_columns::layout::Layout;
-use diff_json::report::push_json;
 use diff_keys::error::MatchError;
 use diff_keys::outcome::{self, Outcome};
 use diff_report::counts::count_by_column;
-use diff_report::report::push_report;
 use diff_report::sides::Sides;
 use diff_tables::compare::{Comparison, compare_tables};
 use std::alloc::{AllocError, Global};
@@ -95,10 +94,10 @@ fn push_all(
     ensures { IfOk result (λ _. out.new.items ≡ out.old.items ++ differences_text options.now.format sides.now comparison.now (column_counts sides.now comparison.now.matching comparison.now.changed.items) options.now.limit) }
 {
     let counts = count_by_column(alloc, sides, comparison)?;
-    match options.format {
-        Format::Text => push_report(out, sides, comparison, &counts, options.limit),
-        Format::Json => push_json(out, sides, comparison, &counts, options.limit),
-    }
+    let (format, limit) = (options.format, options.limit);
+    push_lines(out, format, sides, comparison, limit)?;
+    push_end(out, format, sides, comparison, &counts, limit)?;
+    Ok(())
 }
 
 /// Returns whether the tables are the same.

@@ -1,3 +1,4 @@
 pub mod DocumentLemmas
 mod Examples
+pub mod FormLemmas
 pub mod Joins

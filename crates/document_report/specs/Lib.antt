@@ -1,4 +1,5 @@
 pub mod Documents
+pub mod Forms
 pub mod Objects
 pub mod Pairs
 pub mod Report

@@ -2,7 +2,5 @@
 #![tactic(auto)]
 
 mod documents;
-pub mod objects;
-mod pair_lines;
-mod pair_objects;
+mod pairs;
 pub mod report;

@@ -1,15 +1,18 @@
 //! The report of a comparison of documents.
 
 ghost use Rattle.std.specs.List.{concat};
-ghost use Rattle.std.specs.Prelude.{◌≡◌, ◌++◌, take, OnOk};
+ghost use Rattle.std.specs.Prelude.{◌≡◌, ◌≤◌, ◌++◌, length, take, OnOk};
 ghost use Rattle.document_words.specs.Sides.{AreDocumentSides, NamesDocuments};
 ghost use Rattle.document_report.specs.Documents.{HoldDocuments};
-ghost use Rattle.document_report.specs.Report.{difference_lines, document_report_text};
+ghost use Rattle.document_report.specs.Forms.{all_lines, end_text, format_text};
 
-use crate::pair_lines::push_changed_lines;
+use crate::pairs::push_pairs;
 use diff_keys::matching::Matching;
-use document_words::counts::{push_rest, push_summary};
-use document_words::lines::push_alone_lines;
+use diff_report::lines::Alone;
+use diff_report::summary::{difference_count, push_rest};
+use diff_words::formats::Format;
+use document_words::counts::{push_counts, push_summary};
+use document_words::lines::push_documents_alone;
 use document_words::sides::DocumentSides;
 use document_words::skipped::push_skipped_lines;
 use std::alloc::{AllocError, Global};
@@ -19,6 +22,7 @@ use std::alloc::{AllocError, Global};
 fn push_lines(
     alloc: Global,
     out: &mut Vec<u8>,
+    format: Format,
     sides: &DocumentSides<'_>,
     matching: &Matching,
     changed: &[usize],
@@ -27,22 +31,50 @@ fn push_lines(
     requires sides { AreDocumentSides sides.now }
     requires documents { HoldDocuments sides.now }
     requires rows { NamesDocuments sides.now matching.now changed.now }
-    ensures { OnOk result (out.new.items ≡ out.old.items ++ concat (take limit (difference_lines sides.now matching.now changed.now))) }
+    ensures { OnOk result (out.new.items ≡ out.old.items ++ concat (take limit (all_lines format sides.now matching.now changed.now))) }
 {
-    push_changed_lines(alloc, out, sides, matching, changed, limit)?;
+    let (left, right) = (&sides.left, &sides.right);
+    let (removed, added) = (&matching.removed, &matching.added);
+    push_pairs(alloc, out, format, sides, matching, changed, limit)?;
     let room = limit.saturating_sub(changed.len());
-    push_alone_lines(out, b'-', sides, &sides.left, &matching.removed, room)?;
-    let room = room.saturating_sub(matching.removed.len());
-    push_alone_lines(out, b'+', sides, &sides.right, &matching.added, room)?;
+    push_documents_alone(out, format, Alone::Removed, sides, left, removed, room)?;
+    let room = room.saturating_sub(removed.len());
+    push_documents_alone(out, format, Alone::Added, sides, right, added, room)?;
     Ok(())
 }
 
-/// Appends the report of a comparison of documents: the lines of the first `limit` differences, how
-/// many more there are, the summary, and how many lines are passed over. `changed` has the places of
-/// the matched documents that differ. The one error is that memory is short.
+/// Appends what stands behind the lines, where `changed` of the matched documents differ: in text
+/// how many more differences there are, the summary, and how many lines are passed over, in JSON
+/// the counts.
+fn push_end(
+    out: &mut Vec<u8>,
+    format: Format,
+    sides: &DocumentSides<'_>,
+    matching: &Matching,
+    changed: usize,
+    limit: usize,
+) -> Result<(), AllocError>
+    requires { changed ≤ length matching.now.left_rows.items }
+    ensures { OnOk result (out.new.items ≡ out.old.items ++ end_text format sides.now matching.now changed limit) }
+{
+    match format {
+        Format::Text => {
+            push_rest(out, difference_count(matching, changed), limit)?;
+            push_summary(out, matching, changed)?;
+            push_skipped_lines(out, sides)?;
+            Ok(())
+        }
+        Format::Json => push_counts(out, sides, matching, changed, limit),
+    }
+}
+
+/// Appends the report of a comparison of documents: the lines of the first `limit` differences, and
+/// the counts behind them. `changed` has the places of the matched documents that differ. The one
+/// error is that memory is short.
 pub fn push_document_report(
     alloc: Global,
     out: &mut Vec<u8>,
+    format: Format,
     sides: &DocumentSides<'_>,
     matching: &Matching,
     changed: &[usize],
@@ -51,11 +83,9 @@ pub fn push_document_report(
     requires sides { AreDocumentSides sides.now }
     requires documents { HoldDocuments sides.now }
     requires rows { NamesDocuments sides.now matching.now changed.now }
-    ensures { OnOk result (out.new.items ≡ out.old.items ++ document_report_text sides.now matching.now changed.now limit) }
+    ensures { OnOk result (out.new.items ≡ out.old.items ++ format_text format sides.now matching.now changed.now limit) }
 {
-    push_lines(alloc, out, sides, matching, changed, limit)?;
-    push_rest(out, matching, changed.len(), limit)?;
-    push_summary(out, matching, changed.len())?;
-    push_skipped_lines(out, sides)?;
+    push_lines(alloc, out, format, sides, matching, changed, limit)?;
+    push_end(out, format, sides, matching, changed.len(), limit)?;
     Ok(())
 }

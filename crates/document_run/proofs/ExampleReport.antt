@@ -22,12 +22,13 @@ use Rattle.diff_words.specs.Colors.{color_text, painted}
 use Rattle.diff_words.specs.Lists.{listed}
 use Rattle.document_report.specs.Documents.{changes_at, changes_between}
 use Rattle.document_report.specs.Pairs.{pair_text}
+use Rattle.document_report.specs.Forms.{format_text}
 use Rattle.document_report.specs.Report.{document_report_text}
 use Rattle.document_rows.specs.Documents.{tree_of}
 use Rattle.document_rows.specs.Lines.{lines_of}
 use Rattle.document_rows.specs.Numbers.{numbered_lines}
 use Rattle.document_rows.specs.Tables.{line_at}
-use Rattle.document_run.specs.Run.{AreSidesOf, IsDocumentReportOf, document_keys, format_text, key_columns, left_documents, outcome_of, right_documents}
+use Rattle.document_run.specs.Run.{AreSidesOf, IsDocumentReportOf, document_keys, key_columns, left_documents, outcome_of, right_documents}
 use Rattle.document_run.specs.declared.options.DocumentOptions.{DocumentOptions}
 use Rattle.document_words.specs.Changes.{change_text, part_text}
 use Rattle.document_words.specs.Counts.{totals_text}

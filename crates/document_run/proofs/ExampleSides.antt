@@ -7,7 +7,7 @@ use Rattle.diff_keys.specs.Rising.{ListsRising}
 use Rattle.diff_keys.specs.RisingLaws.{none_listed, one_listed, one_passed}
 use Rattle.diff_report.specs.declared.sides.Side.{Side}
 use Rattle.diff_run.proofs.OnceLemmas.{one_listing}
-use Rattle.diff_run.specs.declared.options.Format.TheVariants as format
+use Rattle.diff_words.specs.declared.formats.Format.TheVariants as format
 use Rattle.document_rows.specs.Documents.{IsDocument, document_row, tree_of}
 use Rattle.document_rows.specs.Lines.{lines_of}
 use Rattle.document_rows.specs.Numbers.{AreNumbered, AreNumbersOf, IsNumberOf, numbered_lines}

@@ -16,12 +16,9 @@ use Rattle.diff_keys.specs.Rising.{ListsRising}
 use Rattle.diff_keys.specs.Unique.{AllDiffer}
 use Rattle.diff_keys.specs.declared.matching.Matching.{Matching}
 use Rattle.diff_report.specs.declared.sides.Side.{Side}
-use Rattle.diff_run.specs.declared.options.Format.{Format}
-use Rattle.diff_run.specs.declared.options.Format.TheVariants as format
 use Rattle.diff_keys.specs.declared.outcome.Outcome.{Outcome}
 use Rattle.diff_tables.specs.Keys.{row_keys}
-use Rattle.document_report.specs.Objects.{document_json_text}
-use Rattle.document_report.specs.Report.{document_report_text}
+use Rattle.document_report.specs.Forms.{format_text}
 use Rattle.document_rows.specs.Documents.{document_row, tree_of}
 use Rattle.document_rows.specs.Lines.{lines_of}
 use Rattle.document_rows.specs.Numbers.{numbered_lines}
@@ -85,11 +82,6 @@ pub record AreSidesOf (options : DocumentOptions) (left_text right_text left_nam
   pub names : words.names_of sides ≡ names_of options.names.now
   pub colored : sides.colored ≡ options.colored
   pub rules : sides.rules.now ≡ options.rules.now
-
--- the lines of the differences, and the counts
-abbrev pub format_text : Format → DocumentSides → Matching → List ℕ → ℕ → List ℕ
-format_text format.Text sides matching changed limit = document_report_text sides matching changed limit
-format_text format.Json sides matching changed limit = document_json_text sides matching changed limit
 
 -- what a comparison comes to
 abbrev pub outcome_of : Matching → List ℕ → Outcome

@@ -7,7 +7,8 @@ use Rattle.diff_report.specs.declared.sides.Side.{Side}
 use Rattle.diff_keys.specs.declared.outcome.Outcome.{Outcome}
 use Rattle.diff_tables.specs.Keys.{row_keys}
 use Rattle.document_rows.specs.Tables.{HaveDocuments, IsOtherDocument}
-use Rattle.document_run.specs.Run.{format_text, key_columns, outcome_of, paths_of, rules_of}
+use Rattle.document_report.specs.Forms.{format_text}
+use Rattle.document_run.specs.Run.{key_columns, outcome_of, paths_of, rules_of}
 use Rattle.document_run.specs.declared.found.Found.{Found}
 use Rattle.document_run.specs.declared.options.DocumentOptions.{DocumentOptions}
 use Rattle.document_words.specs.declared.sides.DocumentSides.{DocumentSides}

@@ -2,7 +2,7 @@
 
 ghost use Rattle.std.specs.Prelude.{◌≡◌, length};
 
-use diff_run::options::Format;
+use diff_words::formats::Format;
 use document_rows::reading::Reading;
 use json_changes::changes::Rules;
 use json_paths::path::Path;

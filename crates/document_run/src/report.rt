@@ -1,16 +1,14 @@
 //! The report of two sides.
 
 ghost use Rattle.std.specs.Prelude.{◌≡◌, IfOk, MatchResult};
+ghost use Rattle.document_report.specs.Forms.{format_text};
 ghost use Rattle.document_run.specs.Faults.{IsRowsFault};
-ghost use Rattle.document_run.specs.Run.{format_text};
 ghost use Rattle.document_run.specs.Sides.{AreComparable, IsFoundOn, IsReportOn};
 
 use crate::error::DocumentError;
 use crate::found::{Found, found_on};
 use crate::options::DocumentOptions;
 use diff_keys::outcome::{Outcome, outcome_of};
-use diff_run::options::Format;
-use document_report::objects::push_document_json;
 use document_report::report::push_document_report;
 use document_words::sides::DocumentSides;
 use std::alloc::{AllocError, Global};
@@ -35,14 +33,8 @@ fn text_of(
 {
     let (matching, changed) = (&found.matching, &found.changed);
     let mut text = Vec::new(alloc);
-    match options.format {
-        Format::Text => {
-            push_document_report(alloc, &mut text, sides, matching, changed, options.limit)?;
-        }
-        Format::Json => {
-            push_document_json(alloc, &mut text, sides, matching, changed, options.limit)?;
-        }
-    }
+    let (format, limit) = (options.format, options.limit);
+    push_document_report(alloc, &mut text, format, sides, matching, changed, limit)?;
     Ok(text)
 }
 

@@ -4,15 +4,12 @@
 -- {"kind":"counts","changed":1,"removed":1,"added":1,"same":5,"not_shown":0}
 -- {"kind":"counts","changed":1,"removed":1,"added":1,"same":5,"not_shown":0,"left_skipped":2,"right_skipped":0}
 use Rattle.std.specs.Fmt.{decimal}
-use Rattle.std.specs.Prelude.{ℕ, ◌+◌, ◌-◌, List, ◌++◌, length, codes}
+use Rattle.std.specs.Prelude.{ℕ, ◌-◌, List, ◌++◌, length, codes}
 use Rattle.diff_json.specs.Counts.{totals_members}
 use Rattle.diff_keys.specs.declared.matching.Matching.{Matching}
+use Rattle.diff_report.specs.Summary.{difference_count}
 use Rattle.document_words.specs.Skipped.{skipped_members}
 use Rattle.document_words.specs.declared.sides.DocumentSides.{DocumentSides}
-
--- how many differences there are, where so many of the matched rows are changed
-abbrev pub difference_count : Matching → ℕ → ℕ
-difference_count m changed = changed + length m.removed.items + length m.added.items
 
 -- how many documents are changed, removed, added, and the same
 unfoldable pub totals_text : ℕ → ℕ → ℕ → ℕ → List ℕ

@@ -2,30 +2,20 @@
 
 ghost use Rattle.std.specs.List.{flat_map};
 ghost use Rattle.std.specs.Prelude.{◌≡◌, ◌<◌, ◌++◌, All, length, slice_index, take, OnOk};
-ghost use Rattle.diff_report.specs.Lines.{mark_color};
 ghost use Rattle.diff_report.specs.Sides.{row_of};
 ghost use Rattle.document_words.specs.Keys.{document_name};
-ghost use Rattle.document_words.specs.Lines.{alone_line, alone_object, alone_text};
+ghost use Rattle.document_words.specs.Lines.{alone_line, alone_object, alone_text, document_alone};
 ghost use Rattle.document_words.specs.Sides.{IsDocumentSide, names_of};
 
 use crate::keys::{push_document_name, push_key_members};
 use crate::sides::DocumentSides;
+use diff_report::lines::{Alone, mark_color};
 use diff_report::sides::Side;
 use diff_words::colors::{Color, push_color};
 use diff_words::decimals::push_decimal;
+use diff_words::formats::Format;
 use diff_words::words::push_word;
 use std::alloc::AllocError;
-
-/// Returns the colour of a line with this mark: red behind a minus, and else green.
-fn mark_color(mark: u8) -> Color
-    ensures { result ≡ mark_color mark }
-{
-    if mark == b'-' {
-        Color::Red
-    } else {
-        Color::Green
-    }
-}
 
 /// Appends a document that only one file has, without the line feed.
 #[tactic(auto, unfolding(crate::specs::Lines::alone_text))]
@@ -70,25 +60,6 @@ fn push_alone_line(
     Ok(())
 }
 
-/// Appends the lines of the first `limit` of these documents.
-pub fn push_alone_lines(
-    out: &mut Vec<u8>,
-    mark: u8,
-    sides: &DocumentSides<'_>,
-    side: &Side,
-    rows: &[u32],
-    limit: usize,
-) -> Result<(), AllocError>
-    requires side { IsDocumentSide (length sides.now.keys.items) side.now }
-    requires rows { All (λ i. i < length side.now.table.rows) rows.now }
-    ensures { OnOk result (out.new.items ≡ out.old.items ++ flat_map (alone_line mark sides.now side.now) (take limit rows.now)) }
-{
-    for n in 0..rows.len().min(limit) {
-        push_alone_line(out, mark, sides, side, rows[n] as usize)?;
-    }
-    Ok(())
-}
-
 /// Appends the line of a document that only one file has, in JSON.
 #[tactic(auto, unfolding(crate::specs::Lines::alone_json, crate::specs::Lines::alone_object))]
 fn push_alone_object(
@@ -112,10 +83,32 @@ fn push_alone_object(
     Ok(())
 }
 
-/// Appends the lines of the first `limit` of these documents, in JSON.
-pub fn push_alone_objects(
+/// Appends the line of a document that has no partner, in a form.
+fn push_document_alone(
     out: &mut Vec<u8>,
-    kind: &[u8],
+    format: Format,
+    alone: Alone,
+    sides: &DocumentSides<'_>,
+    side: &Side,
+    i: usize,
+) -> Result<(), AllocError>
+    requires side { IsDocumentSide (length sides.now.keys.items) side.now }
+    requires row { i < length side.now.table.rows }
+    ensures { OnOk result (out.new.items ≡ out.old.items ++ document_alone format alone sides.now side.now i) }
+{
+    match (format, alone) {
+        (Format::Text, Alone::Removed) => push_alone_line(out, b'-', sides, side, i),
+        (Format::Text, Alone::Added) => push_alone_line(out, b'+', sides, side, i),
+        (Format::Json, Alone::Removed) => push_alone_object(out, b"removed", sides, side, i),
+        (Format::Json, Alone::Added) => push_alone_object(out, b"added", sides, side, i),
+    }
+}
+
+/// Appends the lines of the first `limit` of these documents, which have no partner.
+pub fn push_documents_alone(
+    out: &mut Vec<u8>,
+    format: Format,
+    alone: Alone,
     sides: &DocumentSides<'_>,
     side: &Side,
     rows: &[u32],
@@ -123,10 +116,10 @@ pub fn push_alone_objects(
 ) -> Result<(), AllocError>
     requires side { IsDocumentSide (length sides.now.keys.items) side.now }
     requires rows { All (λ i. i < length side.now.table.rows) rows.now }
-    ensures { OnOk result (out.new.items ≡ out.old.items ++ flat_map (alone_object kind.now sides.now side.now) (take limit rows.now)) }
+    ensures { OnOk result (out.new.items ≡ out.old.items ++ flat_map (document_alone format alone sides.now side.now) (take limit rows.now)) }
 {
     for n in 0..rows.len().min(limit) {
-        push_alone_object(out, kind, sides, side, rows[n] as usize)?;
+        push_document_alone(out, format, alone, sides, side, rows[n] as usize)?;
     }
     Ok(())
 }

@@ -1,6 +1,0 @@
-use Rattle.std.proofs.Common.{sym}
-use Rattle.std.proofs.lemmas.List.{append-nil}
-use Rattle.diff_json.proofs.lines.push_side_lines.Goals as goal
-
-pub loop-n-init : goal.loop-n-init
-loop-n-init c = sym (append-nil c.args.out.now.items)

@@ -1,7 +1,0 @@
-use Rattle.std.proofs.Common.{◌≡◌, ◌++◌, take}
-use Rattle.std.specs.List.{flat_map}
-use Rattle.document_words.specs.Lines.{alone_object}
-use Rattle.document_words.proofs.lines.push_alone_objects.Given as goal
-
-abbrev pub invariant-loop-n : goal.invariant-loop-n
-invariant-loop-n l = l.out.items ≡ l.fn.out.items ++ flat_map (alone_object l.kind l.sides l.side) (take l.n l.rows)
