@@ -66,8 +66,8 @@ fn write_counts<T: NativeType, C: BitCount<T> + Drop>(
     write(&Counts { values, count }, out);
 }
 
-/// Writes a count of the bits of each row into a slice of the same length. The count of a masked
-/// row is arbitrary: the validity of the column tells which counts are null.
+/// Writes a count of the bits of each row into a slice of the same length. The validity of the
+/// counts is that of the column, and the count of a masked row is arbitrary.
 pub fn count_bits<T: BitNumber>(counting: Counting, column: &Column<'_, T>, out: &mut [u32])
     requires { length out.old ≡ length column.now.values }
     ensures { rows_under column.now.validity (number_slots (λ n. pos n) out.new)
