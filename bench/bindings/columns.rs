@@ -42,6 +42,9 @@ unsafe extern "C" {
     ) -> i32;
 }
 
+/// The status of a type that the library does not serve.
+const NOT_SERVED: i32 = 5;
+
 unsafe extern "C" fn keep_schema(_: *mut ArrowSchema) {}
 unsafe extern "C" fn keep_array(_: *mut ArrowArray) {}
 
@@ -146,8 +149,9 @@ impl Column {
     }
 }
 
-/// Compares two columns by the library for C.
-pub fn equal(left: &Column, right: &Column, bits: &mut [u8]) {
+/// Compares two columns by the library for C. Returns false if the library does not serve them.
+pub fn equal(left: &Column, right: &Column, bits: &mut [u8]) -> bool {
+    let (out, out_bytes) = (bits.as_mut_ptr(), bits.len());
     let status = unsafe {
         dunkelva_equal(
             left.schema,
@@ -155,9 +159,10 @@ pub fn equal(left: &Column, right: &Column, bits: &mut [u8]) {
             right.schema,
             right.array,
             0,
-            bits.as_mut_ptr(),
-            bits.len(),
+            out,
+            out_bytes,
         )
     };
-    assert_eq!(status, 0);
+    assert!(status == 0 || status == NOT_SERVED);
+    status == 0
 }

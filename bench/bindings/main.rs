@@ -67,17 +67,20 @@ fn best_alone(rows: usize, run: &dyn Fn(usize) -> u64) -> f64 {
 impl Case<'_> {
     /// Compares the results of both sides, and prints the times.
     fn time(&self) {
-        let mut bits = vec![0u8; self.rows.div_ceil(8)];
-        equal(self.left, self.right, &mut bits);
+        let (name, rows) = (self.name, self.rows);
+        let mut bits = vec![0u8; rows.div_ceil(8)];
+        if !equal(self.left, self.right, &mut bits) {
+            println!("{name:16} {rows:>8} rows: not served");
+            return;
+        }
         let wanted: Vec<u8> = (self.plain)()
             .iter()
             .flat_map(|word| word.to_le_bytes())
             .collect();
-        assert_eq!(bits, wanted[..bits.len()], "{}", self.name);
-        let ours = best(self.rows, || equal(self.left, self.right, &mut bits));
-        let alone = best_alone(self.rows, self.alone);
-        let plain = best(self.rows, || drop(black_box((self.plain)())));
-        let (name, rows) = (self.name, self.rows);
+        assert_eq!(bits, wanted[..bits.len()], "{name}");
+        let ours = best(rows, || assert!(equal(self.left, self.right, &mut bits)));
+        let alone = best_alone(rows, self.alone);
+        let plain = best(rows, || drop(black_box((self.plain)())));
         println!(
             "{name:16} {rows:>8} rows: {ours:6.2} from C, {alone:6.2} alone, {plain:6.2} plain Rust"
         );
