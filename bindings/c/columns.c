@@ -116,6 +116,19 @@ int32_t dunkelva_sum(const struct ArrowSchema *type, const struct ArrowArray *ar
   return status;
 }
 
+int32_t dunkelva_min_max(const struct ArrowSchema *type, const struct ArrowArray *array,
+                         struct dunkelva_number *least, struct dunkelva_number *greatest) {
+  struct column column;
+  int32_t status = open_numbers(&column, type, array);
+  if (status == DUNKELVA_OK) {
+    status = least == NULL || greatest == NULL
+                 ? DUNKELVA_BAD_ARGUMENT
+                 : dunkelva_part_min_max(column.parts, least, greatest);
+  }
+  dunkelva_close(&column);
+  return status;
+}
+
 static int32_t compare_number(uint32_t test, const struct column *column,
                               const struct dunkelva_number *number, struct bits *bits,
                               const uint8_t *out, size_t out_bytes) {

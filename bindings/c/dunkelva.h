@@ -149,6 +149,10 @@ struct dunkelva_number {
 int32_t dunkelva_sum(const struct ArrowSchema *type, const struct ArrowArray *array,
                      struct dunkelva_number *sum);
 
+/* Finds the least and the greatest row that is present. Neither exists where no row is present. */
+int32_t dunkelva_min_max(const struct ArrowSchema *type, const struct ArrowArray *array,
+                         struct dunkelva_number *least, struct dunkelva_number *greatest);
+
 /* Compares each row of a column with one number, on the right. The status is DUNKELVA_TYPES_DIFFER
  * where the column's type has no such number. */
 int32_t dunkelva_compare_number(enum dunkelva_test test, const struct ArrowSchema *type,

@@ -80,6 +80,8 @@ int32_t dunkelva_parts_compare(uint32_t test, const struct part *left, const str
 int32_t dunkelva_part_is_null(const struct part *part, uint64_t *out, size_t out_len,
                               uint64_t *count);
 int32_t dunkelva_part_sum(const struct part *part, struct dunkelva_number *sum);
+int32_t dunkelva_part_min_max(const struct part *part, struct dunkelva_number *least,
+                              struct dunkelva_number *greatest);
 int32_t dunkelva_part_compare_number(uint32_t test, const struct part *part, uint64_t low,
                                      uint64_t high, uint64_t *out, size_t out_len);
 int32_t dunkelva_part_reduce_bits(uint32_t join, const struct part *part,

@@ -122,6 +122,16 @@ static int32_t call_sum(const struct made *made, uint8_t out[ROOM]) {
   return status;
 }
 
+static int32_t call_min_max(const struct made *made, uint8_t out[ROOM]) {
+  struct dunkelva_number least;
+  struct dunkelva_number greatest;
+  int32_t status = dunkelva_min_max(&made->type, &made->array, &least, &greatest);
+  if (status == DUNKELVA_OK) {
+    memcpy(out, &greatest.low, sizeof greatest.low);
+  }
+  return status;
+}
+
 static int32_t call_bits(const struct made *made, uint8_t out[ROOM]) {
   struct dunkelva_number joined;
   uint32_t counts[ROWS];
@@ -188,6 +198,7 @@ int main(void) {
     try_call("compare_number", call_compare_number, flat);
     try_call("is_null", call_is_null, tree);
     try_call("sum", call_sum, flat);
+    try_call("min_max", call_min_max, flat);
     try_call("bits", call_bits, flat);
   }
   printf("%d passed, %d failed\n", passed, failed);

@@ -83,6 +83,7 @@ def load(path):
     library.dunkelva_is_null.argtypes = [*column, *out[1:], ctypes.c_void_p]
     library.dunkelva_sum.argtypes = [*column, ctypes.POINTER(Number)]
     number = ctypes.POINTER(Number)
+    library.dunkelva_min_max.argtypes = [*column, number, number]
     library.dunkelva_compare_number.argtypes = [ctypes.c_uint32, *column, number, *out[1:]]
     library.dunkelva_reduce_bits.argtypes = [ctypes.c_uint32, *column, number]
     library.dunkelva_count_bits.argtypes = [ctypes.c_uint32, *column, *out[1:]]

@@ -3,8 +3,8 @@
 
 usage: flat.py LIBRARY [--number 400] [--seed 1]
 
-Comparisons, sums, bits and nulls of columns of each format of whole numbers, also as windows,
-with odd addresses and with numbers under nulls. Ends with `N passed, M failed`.
+Comparisons, sums, extremes, bits and nulls of columns of each format of whole numbers, also as
+windows, with odd addresses and with numbers under nulls. Ends with `N passed, M failed`.
 """
 import argparse
 import ctypes
@@ -67,7 +67,11 @@ def counted_bits(which, number, width):
 def try_reductions(library, form, rows, column):
     """Reduces a column and counts its bits. Yields what each call gave, and what it should."""
     given = column.schema, column.array
-    joined, present = arrow.Number(), [row for row in rows if row is not None]
+    least, greatest, joined = arrow.Number(), arrow.Number(), arrow.Number()
+    present = [row for row in rows if row is not None]
+    status = library.dunkelva_min_max(*given, least, greatest)
+    yield ("min_max", (status, least.value(), greatest.value()),
+           (arrow.OK, min(present, default=None), max(present, default=None)))
     for number, join in enumerate((operator.and_, operator.or_, operator.xor)):
         status = library.dunkelva_reduce_bits(number, *given, joined)
         wanted = functools.reduce(join, present) if present else None

@@ -407,6 +407,10 @@ static void try_flat(struct side left, struct side right) {
   done = dunkelva_sum(left.type, left.array, &number) == DUNKELVA_OK;
   require(done || number.low == 7, "no sum is written");
   struct dunkelva_number other = {7, 0, 1};
+  number = other;
+  done = dunkelva_min_max(left.type, left.array, &number, &other) == DUNKELVA_OK;
+  require(done || (number.low == 7 && other.low == 7), "no extremes are written");
+  other.exists = 1;
   uint32_t counts[1] = {7};
   done = dunkelva_count_bits((enum dunkelva_bits)below(7), left.type, left.array, counts, 1) ==
          DUNKELVA_OK;

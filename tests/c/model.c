@@ -671,6 +671,27 @@ static struct dunkelva_number number_of(const struct part *part, uint64_t low) {
   return number;
 }
 
+int32_t dunkelva_part_min_max(const struct part *part, struct dunkelva_number *least,
+                              struct dunkelva_number *greatest) {
+  if (check_numbers(part) != DONE) {
+    return check_numbers(part);
+  }
+  struct dunkelva_number none = {0, 0, 0};
+  *least = *greatest = none;
+  for (size_t row = 0; row < part->rows; row++) {
+    if (is_present(part, row)) {
+      uint64_t number = number_at(part, row);
+      if (least->exists == 0 || passes(2, number, least->low, is_signed(part))) {
+        *least = number_of(part, number);
+      }
+      if (greatest->exists == 0 || passes(4, number, greatest->low, is_signed(part))) {
+        *greatest = number_of(part, number);
+      }
+    }
+  }
+  return DONE;
+}
+
 /* Says whether the type of a column has a number. */
 static bool has_number(const struct part *part, uint64_t low, uint64_t high) {
   int bits = 8 * size_of(part);

@@ -470,6 +470,13 @@ static void try_sums(void) {
   status = dunkelva_sum(&made->type, &made->array, &sum);
   count(status == DUNKELVA_OK && sum.low == (100 + 100 + 3 + 255) % 256 && sum.high == 0,
         "unsigned");
+  struct dunkelva_number least;
+  struct dunkelva_number greatest;
+  struct made *extremes = make("c", 4, 2, BITS(0xD), values, NULL);
+  status = dunkelva_min_max(&extremes->type, &extremes->array, &least, &greatest);
+  count(status == DUNKELVA_OK && (int64_t)least.low == -1 && least.high == UINT64_MAX &&
+            least.exists == 1 && greatest.low == 100 && greatest.high == 0 && greatest.exists == 1,
+        "the least and the greatest");
   struct made *texts = make("u", 0, 3, NULL, NULL, NULL);
   sum.low = 7;
   count(dunkelva_sum(&texts->type, &texts->array, &sum) == DUNKELVA_NOT_SERVED && sum.low == 7,
