@@ -26,10 +26,8 @@ static const struct known_format whole_formats[] = {
     {"g", KIND_UINT64, DUNKELVA_FLOATS_BY_BITS},
     {"z", KIND_BINARY, 0},
     {"Z", KIND_LARGE_BINARY, 0},
-    {"vz", KIND_BINARY_VIEW, 0},
     {"u", KIND_UTF8, 0},
     {"U", KIND_LARGE_UTF8, 0},
-    {"vu", KIND_UTF8_VIEW, 0},
     /* dates, times of a day, spans: numbers of one unit */
     {"tdD", KIND_INT32, 0},
     {"tdm", KIND_INT64, 0},
@@ -46,6 +44,10 @@ static const struct known_format whole_formats[] = {
     {"+l", KIND_LIST, 0},
     {"+L", KIND_LARGE_LIST, 0},
     {"+s", KIND_STRUCT, 0},
+#ifndef DUNKELVA_WITHOUT_VIEWS
+    {"vz", KIND_BINARY_VIEW, 0},
+    {"vu", KIND_UTF8_VIEW, 0},
+#endif
     /* a map is the list of its entries, in their order */
     {"+m", KIND_LIST, 0},
 };

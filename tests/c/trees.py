@@ -1,11 +1,12 @@
 #!/usr/bin/env python3
 """Compares random columns of all types, and looks at each row by Python's own ==.
 
-usage: trees.py LIBRARY [--number 400] [--seed 1] [--numbers]
+usage: trees.py LIBRARY [--number 400] [--seed 1] [--numbers] [--no-views]
 
 A column has a random type, up to four levels, and up to 200 rows; a few have 20,000 to 40,000,
 which takes several windows. Each pair is compared whole, with sides exchanged, and in a window at
-random rows of each side. With --numbers all types are numbers. Ends with `N passed, M failed`.
+random rows of each side. With --numbers all types are numbers, with --no-views none has views. Ends
+with `N passed, M failed`.
 """
 import argparse
 import ctypes
@@ -17,6 +18,7 @@ import arrow
 FLAT = ["n", "b", "b", *arrow.NUMBERS, *5 * ["z", "Z", "u", "U", "vz", "vu"], "w:0", "w:3", "d:9,2",
         "d:9,-2,128", "d:9,2,256", "d:9,2,64", "d:9,2,32", "tss:", "tsm:UTC", "tsu:Europe/Oslo",
         "tsn:", "tin"]
+KEYS = ["i", "u", "vu"]
 LENGTHS = (0, 1, 7, 8, 63, 64, 65, 200)
 
 
@@ -29,7 +31,7 @@ def some_type(chance, depth):
         sized = f"+w:{chance.randrange(3)}"
         return chance.choice(("+l", "+L", sized)), some_type(chance, depth - 1)
     if form < 0.68:
-        return "+m", chance.choice(("i", "u", "vu")), some_type(chance, depth - 1)
+        return "+m", chance.choice(KEYS), some_type(chance, depth - 1)
     if form < 0.86:
         names = chance.sample(("a", "b", "", "é"), chance.randrange(4))
         return "+s", [(name, some_type(chance, depth - 1)) for name in names]
@@ -88,7 +90,11 @@ def main():
     asked.add_argument("--number", type=int, default=400)
     asked.add_argument("--seed", type=int, default=1)
     asked.add_argument("--numbers", action="store_true")
+    asked.add_argument("--no-views", action="store_true")
     chosen = asked.parse_args()
+    if chosen.no_views:
+        FLAT[:] = [form for form in FLAT if form not in ("vz", "vu")]
+        KEYS.remove("vu")
     library = arrow.load(chosen.library)
     failed = rows = same = 0
     for number in range(chosen.number):

@@ -228,6 +228,23 @@ static void try_lists(void) {
           DUNKELVA_TYPES_DIFFER);
 }
 
+static void try_columns_of_views(void) {
+  uint8_t views[32];
+  const int64_t lengths[] = {13};
+  view(views, "thirteen ones", 0, 0);
+  view(views + 16, "thirteen twos", 0, 0);
+  struct made *fields[4];
+  for (size_t i = 0; i < 4; i++) {
+    fields[i] =
+        make("vu", 1, 4, NULL, views + 16 * (i % 2), i % 2 ? "thirteen twos" : "thirteen ones");
+    fields[i]->buffers[3] = lengths;
+  }
+  struct made *both = put(put(make("+s", 1, 1, NULL, NULL, NULL), "a", fields[0]), "b", fields[1]);
+  equal("two columns of views", both, both, "1");
+  equal("another column of views", both,
+        put(put(make("+s", 1, 1, NULL, NULL, NULL), "a", fields[3]), "b", fields[1]), "0");
+}
+
 /* A struct of a number and a text. */
 static struct made *pair(const char *first, const char *second, const uint8_t *validity,
                          const int32_t *values, const int32_t *offsets, const char *bytes) {
@@ -256,20 +273,6 @@ static void try_structs_and_maps(void) {
   struct made *third = put(put(make("+s", 1, 1, NULL, NULL, NULL), "a", numbers(1, NULL, left + 2)),
                            "b", make("u", 1, 3, NULL, offsets + 1, "xyz"));
   equal("offsets of a struct and of its column add up", window, third, "1");
-  uint8_t views[32];
-  const int64_t lengths[] = {13};
-  view(views, "thirteen ones", 0, 0);
-  view(views + 16, "thirteen twos", 0, 0);
-  struct made *fields[4];
-  for (size_t i = 0; i < 4; i++) {
-    fields[i] =
-        make("vu", 1, 4, NULL, views + 16 * (i % 2), i % 2 ? "thirteen twos" : "thirteen ones");
-    fields[i]->buffers[3] = lengths;
-  }
-  struct made *both = put(put(make("+s", 1, 1, NULL, NULL, NULL), "a", fields[0]), "b", fields[1]);
-  equal("two columns of views", both, both, "1");
-  equal("another column of views", both,
-        put(put(make("+s", 1, 1, NULL, NULL, NULL), "a", fields[3]), "b", fields[1]), "0");
   equal("structs of no fields", make("+s", 2, 1, BITS(0x1), NULL, NULL),
         make("+s", 2, 1, NULL, NULL, NULL), "10");
   const int32_t ends[] = {0, 2, 3};
@@ -524,9 +527,9 @@ static void try_nulls(void) {
   count(dunkelva_is_null(&lists->type, &lists->array, &out, 1, &nulls) == DUNKELVA_OK &&
             out == 0x4 && nulls == 1,
         "null lists");
-  struct made *views = make("vu", 0, 3, NULL, NULL, NULL);
-  count(dunkelva_is_null(&views->type, &views->array, &out, 0, &nulls) == DUNKELVA_OK && nulls == 0,
-        "no views");
+  struct made *texts = make("u", 0, 3, NULL, NULL, NULL);
+  count(dunkelva_is_null(&texts->type, &texts->array, &out, 0, &nulls) == DUNKELVA_OK && nulls == 0,
+        "no texts");
   struct made *none = make("n", 3, 0, NULL, NULL, NULL);
   count(dunkelva_is_null(&none->type, &none->array, &out, 1, NULL) == DUNKELVA_OK && out == 0x7,
         "rows without a type are null");
@@ -555,14 +558,17 @@ int main(void) {
     try_floats();
     try_truth_values();
     try_texts();
-    try_views();
+    if (WITH_VIEWS) {
+      try_views();
+      try_columns_of_views();
+      try_many_views();
+    }
     try_lists();
     try_structs_and_maps();
     try_dictionaries();
     try_broken_structs();
     try_arguments();
     try_many_rows();
-    try_many_views();
   }
   printf("%d passed, %d failed\n", passed, failed);
   return failed > 0;
