@@ -1,0 +1,17 @@
+-- Comparisons of two arrays, row by row.
+use Rattle.std.specs.Prelude.{◌≡◌, ◌-◌, ◌^◌, ℕ, min, true}
+use Rattle.polars_arrays_nested.specs.Lengths.{len_of}
+use Rattle.polars_arrays_nested.specs.declared.any_array.AnyArray.{AnyArray}
+use Rattle.polars_compare_nested.specs.Headline.{SameTrees}
+use Rattle.polars_compare_nested.specs.Tally.{tally}
+use Rattle.arrow_equality.specs.declared.compared.Compared.{Compared}
+
+-- the exact number of comparisons of leaves, as a number of 64 bits
+abbrev pub IsCounted : AnyArray → AnyArray → ℕ → Type 0
+IsCounted left right n = n ≡ min (tally left right 0 0 (len_of left)) (2 ^ 64 - 1)
+
+-- two arrays of one length, their equal rows, and the comparisons that this took
+pub record AreCompared (left right : AnyArray) (c : Compared) : Type 0 where
+  pub one_length : len_of left ≡ len_of right
+  pub same : SameTrees true left right c.bits
+  pub counted : IsCounted left right c.comparisons

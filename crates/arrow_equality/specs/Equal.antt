@@ -1,0 +1,40 @@
+-- Equal rows of two columns.
+use Rattle.std.specs.Prelude.{◌≡◌, ◌<◌, ◌≤◌, ◌*◌, ◌↔◌, ℕ, Bool, true, false, List, length, slice_index_or}
+use Rattle.polars_arrays_nested.specs.declared.any_array.AnyArray.{AnyArray}
+use Rattle.polars_arrays_words.specs.Bits.{bit_of}
+use Rattle.arrow_arrays.specs.Columns.{Column, rows_of_parts}
+use Rattle.arrow_parts.specs.declared.part.Part.{Part}
+use Rattle.arrow_arrays.specs.Stands.{Stands}
+use Rattle.arrow_equality.specs.Compared.{AreCompared, IsCounted}
+use Rattle.arrow_equality.specs.declared.compared.Compared.{Compared}
+
+-- a bit for each row, set exactly if the two rows are the same tree, and zeros behind the last row
+pub record AreEqualRows (left right : Column) (words : List ℕ) : Type 0 where
+  pub one_length : left.len ≡ right.len
+  pub room : left.len ≤ 64 * length words
+  pub at_each : (i : ℕ) → i < left.len → (bit_of words i ≡ true) ↔ (left.row i ≡ right.row i)
+  pub behind : (i : ℕ) → left.len ≤ i → bit_of words i ≡ false
+
+-- the comparisons of leaves that the kernel makes of arrays with these rows
+pub record IsCount (left right : Column) (n : ℕ) : Type 0 where
+  pub left_array : AnyArray
+  pub right_array : AnyArray
+  pub left_stands : Stands left_array left
+  pub right_stands : Stands right_array right
+  pub counted : IsCounted left_array right_array n
+
+-- the comparison of arrays with these rows
+pub record IsComparison (left right : Column) (c : Compared) : Type 0 where
+  pub one_length : left.len ≡ right.len
+  pub size : length c.bits ≡ left.len
+  pub at_each : (i : ℕ) → i < left.len → (slice_index_or c.bits i false ≡ true) ↔ (left.row i ≡ right.row i)
+  pub count : IsCount left right c.comparisons
+
+-- equal rows of the columns that parts stand for
+abbrev pub AreEqualIn : List Part → List Part → List ℕ → Type 0
+AreEqualIn left right words = AreEqualRows (rows_of_parts left) (rows_of_parts right) words
+
+-- the first word is the number of comparisons of the rows that parts stand for
+abbrev pub IsCountIn : List Part → List Part → List ℕ → Type 0
+IsCountIn left right words =
+    IsCount (rows_of_parts left) (rows_of_parts right) (slice_index_or words 0 0)

@@ -1,0 +1,60 @@
+//! The bits and the count of a comparison.
+
+ghost use Rattle.std.specs.Prelude.{◌≡◌, slice_index_or, OnErr, OnOk, IfErr, IfOk};
+ghost use Rattle.polars_arrays_nested.specs.GoodParts.{IsGood};
+ghost use Rattle.polars_arrays_nested.specs.Lengths.{len_of};
+ghost use Rattle.polars_arrays_nested.specs.Types.{type_of};
+ghost use Rattle.arrow_equality.specs.Compared.{AreCompared, IsCounted};
+ghost use Rattle.arrow_parts.specs.Refusals.{IsMemoryFailure};
+ghost use Rattle.arrow_parts.specs.Written.{AreWritten};
+ghost use Rattle.arrow_parts.specs.declared.refused.Refused.TheVariants.{Room};
+
+use arrow_parts::refused::Refused;
+use arrow_parts::written::write_bits;
+use polars_arrays_bits::bitmap::Bitmap;
+use polars_arrays_nested::any_array::AnyArray;
+use polars_arrays_numbers::steps::Steps;
+use polars_compare_nested::kernels::array_tot_eq_missing_kernel_with_steps;
+use std::alloc::Global;
+
+/// The bits of equal rows, and the number of comparisons of leaves, at most the greatest `u64`.
+#[derive(Drop)]
+pub struct Compared {
+    pub bits: Bitmap,
+    pub comparisons: u64,
+}
+
+/// Compares two arrays of one type and length, row by row. The one error is `Memory`.
+pub fn compare(alloc: Global, left: &AnyArray, right: &AnyArray) -> Result<Compared, Refused>
+    requires left_good { IsGood left.now }
+    requires right_good { IsGood right.now }
+    requires one_type { type_of left.now ≡ type_of right.now }
+    requires one_length { len_of left.now ≡ len_of right.now }
+    ensures compared { IfOk result (AreCompared left.now right.now) }
+    ensures refused { IfErr result IsMemoryFailure }
+{
+    let mut steps = Steps::new();
+    let bits = array_tot_eq_missing_kernel_with_steps(alloc, left, right, &mut steps)?;
+    Ok(Compared {
+        bits,
+        comparisons: steps.seen(),
+    })
+}
+
+/// Writes the bits into words, from the lowest bit of the first word on, with zeros behind them, and
+/// the number of comparisons into the first word of `comparisons`. The error is `Room` if there are
+/// too few words; they are then unchanged.
+pub fn write(compared: &Compared, out: &mut [u64], comparisons: &mut [u64]) -> Result<(), Refused>
+    ensures bits { OnOk result (AreWritten compared.now.bits out.new) }
+    ensures count { OnOk result (slice_index_or comparisons.new 0 0 ≡ compared.now.comparisons) }
+    ensures refused { IfErr result (λ e. e ≡ Room) }
+    ensures kept { OnErr result (out.new ≡ out.old) }
+    ensures count_kept { OnErr result (comparisons.new ≡ comparisons.old) }
+{
+    if comparisons.is_empty() {
+        return Err(Refused::Room);
+    }
+    write_bits(&compared.bits, out)?;
+    comparisons[0] = compared.comparisons;
+    Ok(())
+}

@@ -1,0 +1,59 @@
+//! Rows of lent arrays that are the same.
+
+ghost use Rattle.std.specs.Prelude.{◌≡◌, IfOk, OnErr, OnOk};
+ghost use Rattle.polars_arrays_nested.specs.GoodParts.{IsGood};
+ghost use Rattle.arrow_arrays.specs.Columns.{rows_of_parts};
+ghost use Rattle.arrow_equality.specs.Compared.{AreCompared};
+ghost use Rattle.arrow_equality.specs.Equal.{AreEqualIn, IsComparison, IsCountIn};
+
+use crate::compared::{Compared, compare, write};
+use arrow_arrays::build::build;
+use arrow_parts::part::Part;
+use arrow_parts::refused::Refused;
+use polars_arrays_nested::any_array::AnyArray;
+use std::alloc::Global;
+
+/// Compares two arrays, row by row. The error is `Types` if they are not of one type and length, and
+/// `Memory` if an allocation fails.
+fn compare_arrays(alloc: Global, left: &AnyArray, right: &AnyArray) -> Result<Compared, Refused>
+    requires left_good { IsGood left.now }
+    requires right_good { IsGood right.now }
+    ensures { IfOk result (AreCompared left.now right.now) }
+{
+    if !left.same_type(right) || left.len() != right.len() {
+        return Err(Refused::Types);
+    }
+    compare(alloc, left, right)
+}
+
+/// Compares two lent arrays, row by row.
+fn compare_parts(alloc: Global, left: &[Part<'_>], right: &[Part<'_>]) -> Result<Compared, Refused>
+    ensures { IfOk result (IsComparison (rows_of_parts left.now) (rows_of_parts right.now)) }
+{
+    let left = build(alloc, left)?;
+    let right = build(alloc, right)?;
+    compare_arrays(alloc, &left, &right)
+}
+
+/// Sets bit `i` of `out` if rows `i` of two lent arrays are the same tree, where null is the same as
+/// null alone, and all bits behind the last row to 0. The first of `comparisons` becomes the number
+/// of leaves that were compared, at most the greatest `u64`.
+///
+/// On an error both slices are unchanged. It is `Parts` if one of the arrays cannot be made, `Types`
+/// if the two are not of one type and length, `Room` if `out` has fewer bits than rows or
+/// `comparisons` is empty, and `Memory` if an allocation fails.
+pub fn equal_rows(
+    alloc: Global,
+    left: &[Part<'_>],
+    right: &[Part<'_>],
+    out: &mut [u64],
+    comparisons: &mut [u64],
+) -> Result<(), Refused>
+    ensures same { OnOk result (AreEqualIn left.now right.now out.new) }
+    ensures count { OnOk result (IsCountIn left.now right.now comparisons.new) }
+    ensures kept { OnErr result (out.new ≡ out.old) }
+    ensures count_kept { OnErr result (comparisons.new ≡ comparisons.old) }
+{
+    let compared = compare_parts(alloc, left, right)?;
+    write(&compared, out, comparisons)
+}
