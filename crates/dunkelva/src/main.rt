@@ -8,6 +8,7 @@ mod files;
 mod keys;
 mod kinds;
 mod options;
+mod outputs;
 mod parts;
 mod progress;
 mod rules;
@@ -20,6 +21,7 @@ use crate::command::command;
 use crate::config::{Config, config_for, joined, named_file};
 use crate::keys::keys_of;
 use crate::kinds::{hold_documents, refuse_document_options, refuse_table_options};
+use crate::outputs::refuse_own_target;
 use crate::parts::part_of;
 use crate::rules::rules_of;
 use crate::schema::{compare_schemas, show_schema};
@@ -104,6 +106,7 @@ fn diff(rt: &HostRuntime, matches: &ArgMatches<'_>, config: &Config) -> Result<u
         return compare_schemas(rt, matches, left, right);
     }
     let target = target_of(rt, matches)?;
+    refuse_own_target(rt, &[left, right], target)?;
     if hold_documents(matches, left, right)? {
         return diff_documents(rt, matches, left, right, target);
     }

@@ -4,6 +4,7 @@ use crate::command::arg_of;
 use crate::files::open;
 use crate::kinds::names_documents;
 use crate::options::{Takes, options};
+use crate::outputs::refuse_own_output;
 use crate::words::csv_options;
 use anyhow::{Result, anyhow};
 use clap::{Arg, ArgMatches, Command};
@@ -111,6 +112,7 @@ fn print_text(rt: &HostRuntime, text: &[u8], status: u8) -> Result<u8> {
 /// Says what the columns of the file are that the words name, and returns the status.
 pub(crate) fn show_schema(rt: &HostRuntime, matches: &ArgMatches<'_>) -> Result<u8> {
     let file = matches.get_str("file").unwrap_or("-");
+    refuse_own_output(rt, &[file])?;
     let options = csv_options(matches, file, file)?;
     let schema = schema_in(rt, matches, file, options, false)?;
     let mut text = Vec::new(rt.alloc());
@@ -162,6 +164,7 @@ pub(crate) fn compare_schemas(
     if left == "-" && right == "-" {
         return Err(anyhow!("only one of the two can be standard input"));
     }
+    refuse_own_output(rt, &[left, right])?;
     let has_standard = left == "-" || right == "-";
     let options = csv_options(matches, left, right)?;
     let before = schema_in(rt, matches, left, options, has_standard)?;
