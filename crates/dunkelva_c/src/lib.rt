@@ -14,3 +14,4 @@ mod columns;
 mod fault;
 mod number;
 mod number_comparisons;
+mod trees;
