@@ -1,3 +1,4 @@
 pub mod Examples
 pub mod OffsetWindows
+pub mod WholeTexts
 pub mod Windows

@@ -110,7 +110,7 @@ told_not says holds = let told = says holds in cc
 pub ruleset faults = (bad_start, bad_row, bad_not_good)
 
 -- a place that was read is the place in the list of all
-place_read : {A : Type 0} (value : A → ℤ) (offsets : List A) (i : ℕ) (x : A) → x ≡ get_or offsets i x → i < length offsets → place_at (places value offsets) i ≡ natural_of (value x)
+pub place_read : {A : Type 0} (value : A → ℤ) (offsets : List A) (i : ℕ) (x : A) → x ≡ get_or offsets i x → i < length offsets → place_at (places value offsets) i ≡ natural_of (value x)
 place_read value offsets i x is below = place_of value offsets i x below ∙ ap (λ (z : _). natural_of (value z)) (sym is)
 
 -- both ends of a good row are there

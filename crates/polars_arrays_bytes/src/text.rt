@@ -1,12 +1,12 @@
 //! Arrays of texts between offsets.
 
-ghost use Rattle.std.specs.Prelude.{◌≡◌, ◌+◌, ◌<◌, ◌≤◌, ◌↔◌, [], length, slice_index_or, IsTrue, IsOk, MatchResult, IfOk, IfErr, ⊤, refl};
+ghost use Rattle.std.specs.Prelude.{◌≡◌, ◌+◌, ◌<◌, ◌≤◌, ◌↔◌, Some, [], length, slice_index_or, IsTrue, IsOk, MatchResult, IfOk, IfErr, ⊤, refl};
 ghost use Rattle.std.specs.Option.{MatchOption};
 ghost use Rattle.std.specs.Result.{OkIff};
 ghost use Rattle.std.specs.Str.{IsUtf8};
 ghost use Rattle.polars_arrays_bits.specs.Errors.{IsMemory};
-ghost use Rattle.polars_arrays_bytes.specs.OffsetStrings.{AreGood, offset_rows, offset_strings, places, row_count, strings_between};
-ghost use Rattle.polars_arrays_bytes.specs.Texts.{AreTextParts, AreTexts, IsFirstOther, IsFirstTextFault};
+ghost use Rattle.polars_arrays_bytes.specs.OffsetStrings.{AreGood, offset_rows, offset_strings, place_at, places, row_count, strings_between};
+ghost use Rattle.polars_arrays_bytes.specs.Texts.{AreBegun, AreTextParts, AreTexts, IsBegun, IsFirstOther, IsFirstTextFault};
 ghost use Rattle.polars_arrays_flat.specs.DataType.{kind_of};
 ghost use Rattle.polars_arrays_flat.specs.SlotLaws.{byte_slots-present};
 ghost use Rattle.polars_arrays_flat.specs.StoredRows.{rows_under, byte_slots};
@@ -15,6 +15,7 @@ ghost use Rattle.polars_arrays_flat.specs.Validity.{masked_count, validity_windo
 use crate::binary::BinaryArray;
 use crate::lent_strings::LentStrings;
 use crate::offset_type::OffsetType;
+use crate::offsets::row_count;
 use polars_arrays_bits::bitmap::Bitmap;
 use polars_arrays_bits::buffer::Buffer;
 use polars_arrays_bits::error::{ArrayError, ComputeError};
@@ -178,16 +179,70 @@ impl<O: Offset> ByteRows for Utf8Array<O> {
     ghost slots_law = { λ a. refl };
 }
 
-// Returns the first byte string that is not UTF-8.
-fn first_bad_text<R: ByteRows>(rows: &R) -> Option<usize>
-    ensures { MatchOption result (AreTexts (R.strings rows.now)) (IsFirstOther (R.strings rows.now)) }
+// Returns the first byte string that is not UTF-8. All bytes are read at once, and row by row only
+// where they do not show by themselves that each row is a text.
+fn first_bad_text<O: Offset>(binary: &BinaryArray<O>) -> Option<usize>
+    ensures { MatchOption result (AreTexts (offset_strings O.value binary.now)) (IsFirstOther (offset_strings O.value binary.now)) }
 {
-    for row in 0..rows.count() {
-        if !is_text(rows.bytes(row)) {
+    if show_texts(binary.offsets(), binary.values()) {
+        return None;
+    }
+    for row in 0..binary.count() {
+        if !is_text(binary.bytes(row)) {
             return Some(row);
         }
     }
     None
+}
+
+// Returns whether the bytes as a whole show that each row is a text: they are ASCII, or they are
+// UTF-8 and no row begins inside a character.
+fn show_texts<O: Offset>(offsets: &[O], values: &[u8]) -> bool
+    requires { AreGood (length values.now) (places O.value offsets.now) }
+    ensures { IsTrue result → AreTexts (strings_between (places O.value offsets.now) values.now) }
+{
+    let (from, to) = ends(offsets, values);
+    let bytes = &values[from..to];
+    if bytes.is_ascii() {
+        return true;
+    }
+    is_text(bytes) && begin_characters(offsets, values, to)
+}
+
+// Returns the first and the last offset.
+fn ends<O: Offset>(offsets: &[O], values: &[u8]) -> (usize, usize)
+    requires { AreGood (length values.now) (places O.value offsets.now) }
+    ensures from { place_at (places O.value offsets.now) 0 ≡ Some result.0 }
+    ensures to { place_at (places O.value offsets.now) (row_count offsets.now) ≡ Some result.1 }
+    ensures within { (result.0 ≤ result.1) × (result.1 ≤ length values.now) }
+{
+    (offsets[0].place(), offsets[row_count(offsets)].place())
+}
+
+// Returns whether no row begins with a byte that continues a character.
+fn begin_characters<O: Offset>(offsets: &[O], values: &[u8], end: usize) -> bool
+    requires good { AreGood (length values.now) (places O.value offsets.now) }
+    requires within { end ≤ length values.now }
+    ensures { IsTrue result → AreBegun (places O.value offsets.now) values.now end }
+{
+    for row in 0..row_count(offsets) {
+        if !begins_character(values, offsets[row].place(), end) {
+            return false;
+        }
+    }
+    true
+}
+
+// Returns whether a place below `end` has a byte that does not continue a character.
+fn begins_character(values: &[u8], at: usize, end: usize) -> bool
+    requires { end ≤ length values.now }
+    ensures { IsTrue result → IsBegun values.now end at }
+{
+    if at >= end {
+        return true;
+    }
+    let byte = values[at];
+    byte < 128 || byte >= 192
 }
 
 // Returns whether bytes are UTF-8.
