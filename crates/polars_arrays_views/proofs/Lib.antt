@@ -6,4 +6,5 @@ pub mod LessRows
 pub mod Padding
 pub mod SameBytes
 pub mod Strings
+pub mod WholeTexts
 pub mod Words

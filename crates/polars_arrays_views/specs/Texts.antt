@@ -1,16 +1,22 @@
 -- Rows that are texts, and the first fault of parts that do not make an array of texts.
-use Rattle.std.specs.Prelude.{◌<◌, ℕ, List, [], length, slice_index_or}
+use Rattle.std.specs.Prelude.{◌<◌, ◌+◌, ℕ, List, [], length, slice_index_or}
 use Rattle.std.specs.List.{All}
-use Rattle.std.specs.Str.{IsUtf8}
+use Rattle.std.specs.Str.{IsCharBoundary, IsUtf8}
 use Rattle.polars_arrays_bits.specs.declared.error.ArrayError.{ArrayError}
 use Rattle.polars_arrays_bits.specs.declared.error.ArrayError.TheVariants.{Length, Offsets, Field, View, NotUtf8, Key}
 use Rattle.polars_arrays_flat.specs.Validity.{HasBits}
 use Rattle.polars_arrays_views.specs.Faults.{IsFirstBadView}
 use Rattle.polars_arrays_views.specs.Parts.{ViewParts, view_strings, GoodParts}
+use Rattle.polars_arrays_views.specs.Views.{buffer_at, view_buffer, view_len, view_offset}
 
 -- the bytes of each row alone are UTF-8, also of masked rows
 abbrev pub AllText : ViewParts → Type 0
 AllText a = All IsUtf8 (view_strings a)
+
+-- a row in a buffer begins and ends between two characters of it
+pub record LiesBetween (buffers : List (List ℕ)) (v : List ℕ) : Type 0 where
+  pub begins : IsCharBoundary (buffer_at buffers (view_buffer v)) (view_offset v)
+  pub ends : IsCharBoundary (buffer_at buffers (view_buffer v)) (view_offset v + view_len v)
 
 -- row `row` is the first whose bytes alone are not UTF-8
 abbrev pub IsFirstNotText : List (List ℕ) → ℕ → Type 0

@@ -3,7 +3,7 @@
 ghost use Rattle.std.specs.Prelude.{◌≡◌, ◌↔◌, ◌<◌, ◌≤◌, ◌+◌, [], length, slice_index_or, IfOk, IfErr, IsTrue, MatchOption, IsOk, MatchResult, ⊤, refl};
 ghost use Rattle.std.specs.List.{All};
 ghost use Rattle.std.specs.Result.{OkIff};
-ghost use Rattle.std.specs.Str.{IsUtf8};
+ghost use Rattle.std.specs.Str.{IsCharBoundary, IsUtf8};
 ghost use Rattle.polars_arrays_bits.specs.Errors.{IsMemory};
 ghost use Rattle.polars_arrays_flat.specs.DataType.{kind_of};
 ghost use Rattle.polars_arrays_flat.specs.Kind.{Utf8ViewKind};
@@ -11,8 +11,8 @@ ghost use Rattle.polars_arrays_flat.specs.SlotLaws.{byte_slots-present};
 ghost use Rattle.polars_arrays_flat.specs.StoredRows.{rows_under, byte_slots};
 ghost use Rattle.polars_arrays_flat.specs.Validity.{masked_count, validity_window, window};
 ghost use Rattle.polars_arrays_views.specs.Parts.{contents, strings_of, view_rows, view_strings, GoodParts};
-ghost use Rattle.polars_arrays_views.specs.Texts.{AllText, IsFirstNotText, IsFirstTextFault};
-ghost use Rattle.polars_arrays_views.specs.Views.{GoodView};
+ghost use Rattle.polars_arrays_views.specs.Texts.{AllText, IsFirstNotText, IsFirstTextFault, LiesBetween};
+ghost use Rattle.polars_arrays_views.specs.Views.{GoodView, InBuffer, row_bytes};
 
 use crate::binary_view::BinaryViewArray;
 use crate::view::View;
@@ -168,12 +168,76 @@ impl ByteRows for Utf8ViewArray {
 fn first_not_text(array: &BinaryViewArray) -> Option<usize>
     ensures { MatchOption result (AllText array.now) (IsFirstNotText (view_strings array.now)) }
 {
+    let whole = hold_texts(array.buffers(), array.len());
     for row in 0..array.len() {
-        if !is_text(array.value(row)) {
+        if !is_text_row(array, row, whole) {
             return Some(row);
         }
     }
     None
+}
+
+// Returns whether each buffer as a whole is UTF-8. Buffers of more than 64 bytes a row are not
+// read, since most of their bytes may belong to other arrays.
+fn hold_texts(buffers: &[Buffer<u8>], rows: usize) -> bool
+    ensures { IsTrue result → All IsUtf8 (contents buffers.now) }
+{
+    let mut room = rows.saturating_mul(64);
+    for i in 0..buffers.len() {
+        let bytes = buffers[i].as_slice();
+        if bytes.len() > room || !is_text(bytes) {
+            return false;
+        }
+        room -= bytes.len();
+    }
+    true
+}
+
+// Returns whether the bytes of row `row` are UTF-8. If `whole`, each buffer is.
+fn is_text_row(array: &BinaryViewArray, row: usize, whole: bool) -> bool
+    requires row { row < length array.now.views }
+    requires whole { IsTrue whole → All IsUtf8 array.now.buffers }
+    ensures { IsTrue result ↔ IsUtf8 (slice_index_or (view_strings array.now) row []) }
+{
+    if shows_text(array.view(row), array.buffers(), whole) {
+        return true;
+    }
+    is_text(array.value(row))
+}
+
+// Returns whether a row is seen to be UTF-8 without reading all of it: in a view of ASCII, or
+// between characters of a buffer that is UTF-8.
+fn shows_text(view: &View, buffers: &[Buffer<u8>], whole: bool) -> bool
+    requires good { GoodView (contents buffers.now) view.now }
+    requires whole { IsTrue whole → All IsUtf8 (contents buffers.now) }
+    ensures { IsTrue result → IsUtf8 (row_bytes (contents buffers.now) view.now) }
+{
+    if view.is_short() {
+        return view.is_ascii();
+    }
+    whole && lies_between_characters(view, buffers)
+}
+
+// Returns whether a row begins and ends between two characters of its buffer.
+fn lies_between_characters(view: &View, buffers: &[Buffer<u8>]) -> bool
+    requires { InBuffer (contents buffers.now) view.now }
+    ensures { IsTrue result → LiesBetween (contents buffers.now) view.now }
+{
+    let bytes = buffers[view.buffer()].as_slice();
+    let at = view.offset();
+    begins_character(bytes, at) && begins_character(bytes, at + view.len())
+}
+
+// Returns whether a byte does not continue a character, or the bytes end before it.
+fn begins_character(bytes: &[u8], at: usize) -> bool
+    requires { at ≤ length bytes.now }
+    ensures { IsTrue result → IsCharBoundary bytes.now at }
+{
+    if at == bytes.len() {
+        return true;
+    }
+    let byte = bytes[at];
+    byte < 128 || byte >= 192
 }
 
 // Returns whether bytes are UTF-8.

@@ -2,6 +2,7 @@
 
 ghost use Rattle.std.specs.Prelude.{◌≡◌, ◌≤◌, ◌<◌, ◌+◌, ◌↔◌, ℕ, List, IsTrue, length, take, drop};
 ghost use Rattle.std.specs.Int.{w32, w64, w128, from_le_bytes, from_be_bytes};
+ghost use Rattle.std.specs.Str.{IsAscii};
 ghost use Rattle.polars_arrays_flat.specs.ByteOrder.{bytes_lt};
 ghost use Rattle.polars_arrays_views.specs.Parts.{contents};
 ghost use Rattle.polars_arrays_views.specs.Views.{short_view, is_short, IsView, GoodView, InBuffer, AllZero, buffer_at, row_bytes, view_len, view_buffer, view_offset, view_prefix};
@@ -75,6 +76,14 @@ impl View {
         ensures { result ≡ is_short self.now }
     {
         self.len() <= 12
+    }
+
+    /// Returns whether all sixteen bytes are ASCII. Then a row of at most 12 bytes is ASCII too.
+    #[inline]
+    pub fn is_ascii(&self) -> bool
+        ensures { IsTrue result → IsAscii self.now }
+    {
+        self.bytes.is_ascii()
     }
 
     /// Returns the index of the buffer that holds a row of more than 12 bytes.
