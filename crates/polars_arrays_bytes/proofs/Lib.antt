@@ -1,4 +1,5 @@
 pub mod Examples
 pub mod OffsetWindows
+pub mod RisingOffsets
 pub mod WholeTexts
 pub mod Windows

@@ -1,5 +1,5 @@
 -- Byte strings between offsets.
-use Rattle.std.specs.Prelude.{◌+◌, ◌-◌, ◌≤◌, ◌<◌, ℕ, ℤ, Bool, List, [], Option, Some, None, length, map, slice_index_or, refl}
+use Rattle.std.specs.Prelude.{◌+◌, ◌-◌, ◌≤◌, ◌<◌, ℕ, ℤ, Bool, List, [], Option, Some, None, length, map, slice_index_or, int_le, IsTrue, refl}
 use Rattle.std.specs.Coded.{Coded, code_by, coded×, coded_bool, coded_list, coded_ℕ, coded_option}
 use Rattle.std.specs.List.{range_with_len}
 use Rattle.polars_arrays_flat.specs.Row.{Row}
@@ -69,6 +69,11 @@ IsGoodRow n all i = Bounds n (place_at all i) (place_at all (i + 1))
 pub record AreGood (n : ℕ) (all : List (Option ℕ)) : Type 0 where
   pub first : IsWithin n (place_at all 0)
   pub rows : (i : ℕ) → i < row_count all → IsGoodRow n all i
+
+-- no offset is less than the one before it
+abbrev pub AreRising : {A : Type 0} → (A → ℤ) → List A → Type 0
+AreRising value offsets =
+    (i : ℕ) → i < row_count offsets → (d : _) → IsTrue (int_le (value (slice_index_or offsets i d)) (value (slice_index_or offsets (i + 1) d)))
 
 -- the parts make an array: a validity has a bit for each row, and the offsets are good
 pub record AreBounded {A : Type 0} (value : A → ℤ) (a : OffsetStrings A) : Type 0 where

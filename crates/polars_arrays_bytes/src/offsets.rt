@@ -3,7 +3,7 @@
 ghost use Rattle.std.specs.Prelude.{◌≡◌, ◌+◌, ◌<◌, ◌≤◌, ◌↔◌, IsTrue, length, take};
 ghost use Rattle.std.specs.Option.{MatchOption};
 ghost use Rattle.polars_arrays_bytes.specs.Faults.{IsFirstBad};
-ghost use Rattle.polars_arrays_bytes.specs.OffsetStrings.{AreGood, between, Bounds, IsGoodRow, IsWithin, place_at, places, row_count, string_between};
+ghost use Rattle.polars_arrays_bytes.specs.OffsetStrings.{AreGood, AreRising, between, Bounds, IsGoodRow, IsWithin, place_at, places, row_count, string_between};
 ghost use Rattle.polars_arrays_flat.specs.Validity.{window};
 ghost use Rattle.polars_arrays_numbers.specs.Naturals.{natural_of};
 
@@ -25,6 +25,9 @@ pub fn first_bad_row<O: Offset>(offsets: &[O], n: usize) -> Option<usize>
     if !starts_within(offsets, n) {
         return Some(0);
     }
+    if ends_within(offsets, n) && are_rising(offsets) {
+        return None;
+    }
     for row in 0..row_count(offsets) {
         if !is_good_row(offsets, n, row) {
             return Some(row);
@@ -41,6 +44,27 @@ fn starts_within<O: Offset>(offsets: &[O], n: usize) -> bool
         Some(first) => is_within(*first, n),
         None => false,
     }
+}
+
+// Returns whether the last offset is at most `n`.
+fn ends_within<O: Offset>(offsets: &[O], n: usize) -> bool
+    ensures { IsTrue result → IsWithin n (place_at (places O.value offsets.now) (row_count offsets.now)) }
+{
+    match offsets.last() {
+        Some(last) => is_within(*last, n),
+        None => false,
+    }
+}
+
+// Returns whether no offset is less than the one before it. The loop has no branch.
+fn are_rising<O: Offset>(offsets: &[O]) -> bool
+    ensures { IsTrue result → AreRising O.value offsets.now }
+{
+    let mut rising = true;
+    for row in 0..row_count(offsets) {
+        rising &= offsets[row] <= offsets[row + 1];
+    }
+    rising
 }
 
 // Returns whether an offset is in `0..=n`.

@@ -219,18 +219,18 @@ fn ends<O: Offset>(offsets: &[O], values: &[u8]) -> (usize, usize)
     (offsets[0].place(), offsets[row_count(offsets)].place())
 }
 
-// Returns whether no row begins with a byte that continues a character.
+// Returns whether no row begins with a byte that continues a character. No branch depends on the
+// bytes.
 fn begin_characters<O: Offset>(offsets: &[O], values: &[u8], end: usize) -> bool
     requires good { AreGood (length values.now) (places O.value offsets.now) }
     requires within { end ≤ length values.now }
     ensures { IsTrue result → AreBegun (places O.value offsets.now) values.now end }
 {
+    let mut begun = true;
     for row in 0..row_count(offsets) {
-        if !begins_character(values, offsets[row].place(), end) {
-            return false;
-        }
+        begun &= begins_character(values, offsets[row].place(), end);
     }
-    true
+    begun
 }
 
 // Returns whether a place below `end` has a byte that does not continue a character.
@@ -242,7 +242,7 @@ fn begins_character(values: &[u8], at: usize, end: usize) -> bool
         return true;
     }
     let byte = values[at];
-    byte < 128 || byte >= 192
+    (byte < 128) | (byte >= 192)
 }
 
 // Returns whether bytes are UTF-8.

@@ -1,11 +1,16 @@
 use Rattle.std.proofs.Common.{refl, arith, below_more}
 use Rattle.polars_arrays_bytes.specs.OffsetStrings.{places}
 use Rattle.polars_arrays_bytes.proofs.OffsetWindows.{bad_row, bad_start, length-places, told_not}
+use Rattle.polars_arrays_bytes.proofs.RisingOffsets.{rising_good}
 use Rattle.polars_arrays_bytes.proofs.offsets.first_bad_row.Goals as goal
 
 pub returns-then-not-starts_within : goal.returns-then-not-starts_within
 returns-then-not-starts_within g c =
     bad_start c.args.n (places g.O.Number.value c.args.offsets.now) (told_not c.if-not-starts_within.ensures.1)
+
+pub returns-then-are_rising : goal.returns-then-are_rising
+returns-then-are_rising g c =
+    rising_good g.O.Number.value c.args.n c.args.offsets.now (c.if-not-starts_within.ensures.0 refl) (c.ends_within.ensures c.if-ends_within.true) (c.are_rising.ensures c.if-are_rising.true)
 
 pub returns-then-not-is_good_row : goal.returns-then-not-is_good_row
 returns-then-not-is_good_row g c = record {

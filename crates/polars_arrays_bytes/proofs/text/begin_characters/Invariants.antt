@@ -1,9 +1,9 @@
 use Rattle.std.proofs.Common.{ℕ, ◌≡◌, ◌<◌}
-use Rattle.std.specs.Prelude.{Some}
+use Rattle.std.specs.Prelude.{IsTrue, Some}
 use Rattle.polars_arrays_bytes.specs.OffsetStrings.{place_at, places}
 use Rattle.polars_arrays_bytes.specs.Texts.{IsBegun}
 use Rattle.polars_arrays_bytes.proofs.text.begin_characters.Given as goal
 
 abbrev pub invariant-loop-row : goal.invariant-loop-row
 invariant-loop-row g l =
-    (i : ℕ) → i < l.row → (at : ℕ) → place_at (places g.O.Number.value l.offsets) i ≡ Some at → IsBegun l.values l.end at
+    IsTrue l.begun → (i : ℕ) → i < l.row → (at : ℕ) → place_at (places g.O.Number.value l.offsets) i ≡ Some at → IsBegun l.values l.end at
