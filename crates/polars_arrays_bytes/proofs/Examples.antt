@@ -1,6 +1,6 @@
 -- Worked examples of the definitions: the check computes both sides of each.
-use Rattle.std.specs.Prelude.{◌≡◌, ◌^◌, ℕ, ℤ, pos, negsuc, true, false, [], ◌∷◌, Some, None, slice_index_or, refl}
-use Rattle.std.proofs.Common.{◌<◌, zero, suc, arith}
+use Rattle.std.specs.Prelude.{◌≡◌, ◌^◌, ℕ, ℤ, pos, negsuc, true, false, [], ◌∷◌, Option, Some, None, slice_index_or, refl}
+use Rattle.std.proofs.Common.{◌<◌, zero, suc, ap, subst, arith}
 use Rattle.std.proofs.lemmas.List.Elements.{All-from_get_or}
 use Rattle.std.proofs.lemmas.Str.{is_utf8-from_IsUtf8}
 use Rattle.std.specs.Str.{IsUtf8, chars, is_utf8}
@@ -8,9 +8,9 @@ use lib.Utf8.{encode}
 use Rattle.polars_arrays_bits.specs.declared.error.ArrayError.TheVariants.{Offsets, NotUtf8}
 use Rattle.polars_arrays_flat.specs.Row.{Null, Bytes}
 use Rattle.polars_arrays_bytes.specs.Faults.{IsBadRow, IsFirstBad, IsFirstFault}
-use Rattle.polars_arrays_bytes.specs.OffsetStrings.{places, place_at, row_count, between, string_between, strings_between, offset_strings, offset_rows, IsWithin, Bounds, IsGoodRow, AreGood, AreBounded}
+use Rattle.polars_arrays_bytes.specs.OffsetStrings.{places, place_at, row_count, between, string_between, strings_between, offset_strings, offset_rows, IsWithin, Bounds, IsGoodRow, AreGood, AreBounded, AreRising}
 use Rattle.polars_arrays_bytes.specs.SizedStrings.{IsSized, sized_string, sized_strings, sized_rows}
-use Rattle.polars_arrays_bytes.specs.Texts.{AreTexts, IsFirstOther, AreTextParts, IsFirstTextFault}
+use Rattle.polars_arrays_bytes.specs.Texts.{AreBegun, AreTexts, IsBegun, IsFirstOther, AreTextParts, IsFirstTextFault}
 
 places-negative : places (λ x. x) (negsuc 0 ∷ pos 4 ∷ []) ≡ None ∷ Some 4 ∷ []
 places-negative = refl
@@ -129,6 +129,34 @@ IsFirstTextFault-split =
     rows zero below = (omega arith, omega arith)
     rows (suc zero) below = (omega arith, omega arith)
     rows (suc (suc i)) below = absurd (omega (arith, below))
+
+-- offsets may stay and may be negative
+AreRising-three : AreRising (λ x. x) (negsuc 0 ∷ pos 2 ∷ pos 2 ∷ [])
+AreRising-three zero below d = refl
+AreRising-three (suc zero) below d = refl
+AreRising-three (suc (suc i)) below d = absurd (omega (arith, below))
+
+AreRising-falling : ¬ (AreRising (λ x. x) (pos 1 ∷ pos 0 ∷ []))
+AreRising-falling rising = let told = rising 0 (omega arith) (pos 0) in cc
+
+-- `é` begins at its first byte alone
+IsBegun-first : IsBegun (195 ∷ 169 ∷ []) 2 0
+IsBegun-first below wide = omega arith
+
+IsBegun-second : ¬ (IsBegun (195 ∷ 169 ∷ []) 2 1)
+IsBegun-second begun = absurd (omega (arith, begun (omega arith) (omega arith)))
+
+-- a row may begin where the bytes end
+IsBegun-end : IsBegun (195 ∷ 169 ∷ []) 2 2
+IsBegun-end below wide = absurd (omega (arith, below))
+
+AreBegun-joined : AreBegun (Some 0 ∷ Some 2 ∷ []) (195 ∷ 169 ∷ []) 2
+AreBegun-joined zero below at is = subst (IsBegun (195 ∷ 169 ∷ []) 2) (ap held is) IsBegun-first
+  where
+    held : Option ℕ → ℕ
+    held (Some at) = at
+    held None = 0
+AreBegun-joined (suc i) below at is = absurd (omega (arith, below))
 
 sized_string-second : sized_string 2 (5 ∷ 6 ∷ 7 ∷ 8 ∷ []) 1 ≡ 7 ∷ 8 ∷ []
 sized_string-second = refl

@@ -10,7 +10,7 @@ use Rattle.polars_arrays_bits.specs.declared.error.ArrayError.TheVariants.{Lengt
 use Rattle.polars_arrays_flat.specs.Row.{Null, Bytes}
 use Rattle.polars_arrays_views.specs.Faults.{IsFirstBadView, IsFirstFault}
 use Rattle.polars_arrays_views.specs.Parts.{ViewParts, contents, strings_of, view_strings, view_rows, GoodParts}
-use Rattle.polars_arrays_views.specs.Texts.{AllText, IsFirstNotText, IsFirstTextFault}
+use Rattle.polars_arrays_views.specs.Texts.{AllText, IsFirstNotText, IsFirstTextFault, LiesBetween}
 use Rattle.polars_arrays_views.specs.Views.{IsView, GoodView, is_short, InBuffer, AllZero, u32_at, view_len, view_buffer, view_offset, view_prefix, buffer_at, row_bytes, padded, short_view, followed_eq, followed_lt}
 
 -- whether each number is below m
@@ -268,6 +268,14 @@ AllText-two = All-from_get_or IsUtf8 (view_strings two_rows) [] row_is_text
     row_is_text zero within = IsUtf8-from_ascii (97 ∷ []) (tested 128 (97 ∷ []) (omega arith) refl)
     row_is_text (suc zero) within = IsUtf8-from_ascii thirteen (tested 128 thirteen (omega arith) refl)
     row_is_text (suc (suc k)) within = absurd (omega arith)
+
+-- all of a buffer of thirteen letters
+LiesBetween-thirteen : LiesBetween (thirteen ∷ []) thirteen_view
+unfolding view_len view_buffer view_offset
+LiesBetween-thirteen = record {
+  begins = (omega arith, λ below wide. absurd (omega arith));
+  ends = (omega arith, λ below. absurd (omega arith));
+}
 
 -- `a`, and the byte 255, which stands in no UTF-8
 IsFirstNotText-byte_255 : (IsUtf8 (255 ∷ []) → ⊥) → IsFirstNotText ((97 ∷ []) ∷ (255 ∷ []) ∷ []) 1
