@@ -13,7 +13,7 @@ SHARE = $(DESTDIR)$(PREFIX)/share
 LIBRARY = out/library
 
 .PHONY: help quick program prove test bench site install install-files uninstall deb library \
-    install-library uninstall-library
+    install-library uninstall-library wheel
 
 help: ## List what can be made
 	@sed -n 's/^\([a-z-]*\):.*## /  \1\t/p' Makefile | expand -t 20
@@ -53,6 +53,9 @@ deb: $(if $(QUICK),quick,program) ## Make a Debian package in out/; QUICK=1: wit
 
 library: ## Prove the kernels and make the library for C (out/library)
 	packaging/make_library
+
+wheel: library ## Prove the kernels and make a wheel for Python (out/wheel)
+	packaging/make_wheel
 
 # Installs a library that is made.
 install-library: ## Install the library for C, which is made, below PREFIX

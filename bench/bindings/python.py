@@ -1,0 +1,102 @@
+#!/usr/bin/python3
+"""Times the package for Python beside numpy and pandas.
+
+usage: python.py [ROWS ..]
+
+Prints nanoseconds a row, each the best of many runs, for columns of 16,384, 1,000,000 and 8,000,000
+rows or as asked. DUNKELVA_LIBRARY names the library where the package is not installed. A column
+that the library does not serve is left out. Calls of one line compute the same.
+"""
+from __future__ import annotations
+
+import pathlib
+import sys
+import time
+from typing import Any, Callable, Dict, Iterator, List, Tuple
+
+import numpy as np
+import pandas as pd
+
+sys.path.insert(0, str(pathlib.Path(__file__).resolve().parents[2] / "bindings/python"))
+
+import dunkelva  # noqa: E402
+
+Line = Tuple[str, Dict[str, Callable[[], Any]]]
+
+
+def lines(rows: int) -> Iterator[Line]:
+    """Makes what is timed: what is computed, and the calls that compute it."""
+    left = np.arange(rows)
+    right = left.copy()
+    right[::7] += 1
+    yield "int64, equal", {"dunkelva": lambda: dunkelva.equal(left, right),
+                           "numpy": lambda: left == right}
+    small = left.astype(np.int32), right.astype(np.int32)
+    yield "int32, equal", {"dunkelva": lambda: dunkelva.equal(*small),
+                           "numpy": lambda: small[0] == small[1]}
+    nulls = [pd.Series(pd.arrays.IntegerArray(side.copy(), left % step == 0))
+             for side, step in ((left, 3), (right, 5))]
+    yield "Int64 with nulls, equal", {
+        "dunkelva": lambda: dunkelva.equal(*nulls),
+        "numpy": lambda: _equal_masked(nulls), "pandas": lambda: nulls[0] == nulls[1]}
+    yield "Int64 with nulls, less", {
+        "dunkelva": lambda: dunkelva.compare(nulls[0], "<", nulls[1]),
+        "pandas": lambda: nulls[0] < nulls[1]}
+    yield "Int64 with nulls, sum", {"dunkelva": lambda: dunkelva.sum(nulls[0]),
+                                    "pandas": lambda: nulls[0].sum()}
+    if rows > 1_000_000:
+        return
+    texts = [pd.Series((side % 1000).astype(str)) for side in (left, right)]
+    yield "texts in objects, equal", {"dunkelva": lambda: dunkelva.equal(*texts),
+                                      "pandas": lambda: texts[0] == texts[1]}
+    words = pd.Categorical.from_codes(left % 3, ["a", "b", "c"])
+    kinds = [pd.Series(words), pd.Series(words).shift(1)]
+    yield "category, equal", {"dunkelva": lambda: dunkelva.equal(*kinds),
+                              "pandas": lambda: kinds[0] == kinds[1]}
+    frames = [pd.DataFrame({"id": left, "n": one}) for one in nulls]
+    turned = frames[1].sample(frac=1, random_state=1, ignore_index=True)
+    yield "two columns by key", {
+        "dunkelva": lambda: dunkelva.diff(frames[0], turned, on="id", limit=0),
+        "pandas": lambda: _differences(frames[0], turned)}
+
+
+def _equal_masked(sides: List[Any]) -> Any:
+    """Compares by numpy, null equal to null alone."""
+    left, right = (side.array for side in sides)
+    return np.where(left._mask | right._mask, left._mask & right._mask, left._data == right._data)
+
+
+def _differences(left: Any, right: Any) -> int:
+    """Joins by pandas, and counts the rows that differ."""
+    both = left.merge(right, on="id", how="outer", indicator=True)
+    same = (both["n_x"] == both["n_y"]).fillna(False) | both["n_x"].isna() & both["n_y"].isna()
+    return int((~same | (both["_merge"] != "both")).sum())
+
+
+def best(call: Callable[[], Any]) -> float:
+    """Returns the shortest of the times of many runs, in seconds."""
+    times: List[float] = []
+    end = time.perf_counter() + 1
+    while len(times) < 3 or time.perf_counter() < end and len(times) < 1000:
+        start = time.perf_counter()
+        call()
+        times.append(time.perf_counter() - start)
+    return min(times)
+
+
+def main() -> None:
+    """Times all calls, and prints a table."""
+    print(f"{'ns a row':26}{'rows':>10}{'dunkelva':>10}{'numpy':>10}{'pandas':>10}")
+    for rows in [int(text) for text in sys.argv[1:]] or [16_384, 1_000_000, 8_000_000]:
+        for what, calls in lines(rows):
+            try:
+                found = {name: f"{best(call) / rows * 1e9:.2f}" for name, call in calls.items()}
+            except dunkelva.NotServed:
+                continue
+            cells = "".join(f"{found.get(name, '-'):>10}" for name in ("dunkelva", "numpy",
+                                                                       "pandas"))
+            print(f"{what:26}{rows:>10}{cells}", flush=True)
+
+
+if __name__ == "__main__":
+    main()

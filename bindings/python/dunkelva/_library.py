@@ -1,0 +1,156 @@
+"""The library itself, through ctypes, which lets other threads run while a call computes."""
+from __future__ import annotations
+
+import ctypes
+import os
+from typing import Any, Iterator, Optional, Tuple
+
+import numpy as np
+import numpy.typing as npt
+
+from ._structs import ArrowArray, ArrowSchema, Chunk, Column
+from ._types import Type
+
+FLOATS_BY_BITS = 1
+CHECK_TEXTS = 2
+
+_BAD_ARRAY, _TYPES_DIFFER, _, _NO_MEMORY, _NOT_SERVED, _BAD_STRUCTS, _BAD_ARGUMENT = range(1, 8)
+
+
+class DunkelvaError(ValueError):
+    """A comparison that has no result."""
+
+
+class TypesDiffer(DunkelvaError, TypeError):
+    """The two sides are not of one type or length."""
+
+
+class BadArray(DunkelvaError):
+    """An array of Arrow that breaks the rules of its format."""
+
+
+class NotServed(DunkelvaError, TypeError):
+    """A type that can't be compared."""
+
+
+for _error in (DunkelvaError, TypesDiffer, BadArray, NotServed):
+    _error.__module__ = "dunkelva"
+
+
+def _load() -> ctypes.CDLL:
+    here = os.path.dirname(os.path.abspath(__file__))
+    path = os.environ.get("DUNKELVA_LIBRARY") or os.path.join(here, "libdunkelva.so")
+    try:
+        library = ctypes.CDLL(path)
+    except OSError as error:
+        raise ImportError(f"dunkelva: {error}. The library is part of the wheel; in a checkout "
+                          "DUNKELVA_LIBRARY names the one that `make library` made.") from error
+    library.dunkelva_status_text.restype = ctypes.c_char_p
+    library.dunkelva_status_text.argtypes = [ctypes.c_int32]
+    library.dunkelva_version.restype = ctypes.c_char_p
+    return library
+
+
+def declare(name: str, *parts: Any) -> Any:
+    """Returns a call of the library that returns a status."""
+    call = getattr(LIBRARY, name)
+    call.restype, call.argtypes = ctypes.c_int32, parts
+    return call
+
+
+LIBRARY = _load()
+COLUMN = (ctypes.POINTER(ArrowSchema), ctypes.POINTER(ArrowArray))
+BITS = (ctypes.c_void_p, ctypes.c_size_t)
+_equal_rows = declare("dunkelva_equal_rows", *COLUMN, ctypes.c_int64, *COLUMN, ctypes.c_int64,
+                      ctypes.c_int64, ctypes.c_uint32, *BITS, ctypes.c_void_p)
+VERSION: str = LIBRARY.dunkelva_version().decode()
+
+
+def _status(left: Chunk, left_first: int, right: Chunk, right_first: int, rows: int, flags: int,
+            out: npt.NDArray[np.uint8]) -> int:
+    return int(_equal_rows(
+        left.schema, left.array, left_first, right.schema, right.array, right_first, rows, flags,
+        out.ctypes.data, out.size, None))
+
+
+def _said(status: int) -> str:
+    text: Optional[bytes] = LIBRARY.dunkelva_status_text(status)
+    return (text or b"").decode()
+
+
+def refusal(status: int, what: str, type: Type) -> Exception:
+    """Returns the exception of a status other than 0 of a call on one column."""
+    if status == _NO_MEMORY:
+        return MemoryError("dunkelva: an allocation failed")
+    if status == _NOT_SERVED:
+        return NotServed(f"{what} is {type}, which is not served here")
+    if status in (_BAD_ARRAY, _BAD_STRUCTS, _BAD_ARGUMENT):
+        return BadArray(f"{what}, {type}: {_said(status)}")
+    return DunkelvaError(f"{what}, {type}: {_said(status)}")
+
+
+def _explained(status: int, left: Chunk, right: Chunk, flags: int, what: str) -> Exception:
+    """Returns the exception of a status, which says which side was refused and why."""
+    if status == _TYPES_DIFFER:
+        return TypesDiffer(what + _said(status))
+    for side, chunk in (("left", left), ("right", right)):
+        again = _status(chunk, 0, chunk, 0, len(chunk), flags, bits_for(len(chunk)))
+        if again == _NOT_SERVED and chunk.type.has_floats() and not flags & FLOATS_BY_BITS:
+            return NotServed(
+                f"{what}{side} is {chunk.type}: floats are compared with floats_by_bits=True alone "
+                "(a NaN is then equal to a NaN of the same bits, and -0.0 is not equal to 0.0)")
+        if again:
+            return refusal(again, what + side, chunk.type)
+    return refusal(status, what + "left", left.type)
+
+
+def compare_rows(left: Chunk, left_first: int, right: Chunk, right_first: int, rows: int,
+                 flags: int, what: str) -> npt.NDArray[np.bool_]:
+    """Compares rows of two arrays. `what` begins the message of an exception."""
+    out = bits_for(rows)
+    status = _status(left, left_first, right, right_first, rows, flags, out)
+    if status:
+        raise _explained(status, left, right, flags, what)
+    return unpacked(out, rows)
+
+
+def bits_for(rows: int) -> npt.NDArray[np.uint8]:
+    """Returns room for a bit for each row."""
+    return np.empty((rows + 7) // 8, np.uint8)
+
+
+def unpacked(bits: npt.NDArray[np.uint8], rows: int) -> npt.NDArray[np.bool_]:
+    """Returns bits as truth values."""
+    return np.unpackbits(bits, count=rows, bitorder="little").view(np.bool_)
+
+
+def compare(left: Column, right: Column, flags: int, what: str = "") -> npt.NDArray[np.bool_]:
+    """Compares two columns of one length, whose chunks may end at different rows."""
+    if len(left) != len(right):
+        raise TypesDiffer(f"{what}left has {len(left)} rows, right has {len(right)}")
+    if left.type != right.type:  # but for names of items, which are not compared
+        difference = left.type.difference(right.type)
+        if difference is not None:
+            raise TypesDiffer(what + difference)
+    parts = [compare_rows(one, first, other, second, rows, flags, what)
+             for one, first, other, second, rows in windows(left, right)]
+    return parts[0] if len(parts) == 1 else np.concatenate(parts)
+
+
+def windows(left: Column, right: Column) -> Iterator[Tuple[Chunk, int, Chunk, int, int]]:
+    """Cuts two columns of one length where a chunk of one of them ends.
+
+    Gives for each window its chunk and its first row of both sides, and its rows. There is at least
+    one window, of no rows where the columns have none.
+    """
+    columns, places, first = (left, right), [0, 0], [0, 0]
+    while True:
+        one, other = (column.chunks[place] for column, place in zip(columns, places))
+        rows = min(len(one) - first[0], len(other) - first[1])
+        yield one, first[0], other, first[1], rows
+        for side, chunk in enumerate((one, other)):
+            first[side] += rows
+            if first[side] == len(chunk):
+                places[side], first[side] = places[side] + 1, 0
+        if any(place == len(column.chunks) for place, column in zip(places, columns)):
+            return

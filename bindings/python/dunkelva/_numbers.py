@@ -1,0 +1,333 @@
+"""Calls for columns that are kept as whole numbers: numbers, dates, times, spans, some decimals."""
+from __future__ import annotations
+
+import builtins
+import ctypes
+from typing import TYPE_CHECKING, Any, Callable, List, Optional, Tuple
+
+import numpy as np
+import numpy.typing as npt
+
+from ._library import (BITS, COLUMN, NotServed, TypesDiffer, bits_for, declare, refusal, unpacked,
+                       windows)
+from ._rows import Unfit, build
+from ._sources import Table, pair, read, typed
+from ._structs import Chunk, Column, part_of
+from ._types import Type
+from ._values import named, numbers_of, present_rows
+
+__all__ = ["is_null", "compare", "sum", "min", "max", "min_max", "reduce_and", "reduce_or",
+           "reduce_xor", "count_ones", "count_zeros", "leading_ones", "leading_zeros",
+           "trailing_ones", "trailing_zeros"]
+
+
+class _Number(ctypes.Structure):
+    """A number of 128 bits, or none."""
+
+    _fields_ = [("low", ctypes.c_uint64), ("high", ctypes.c_uint64), ("exists", ctypes.c_uint64)]
+
+
+_NUMBER = ctypes.POINTER(_Number)
+_is_null = declare("dunkelva_is_null", *COLUMN, *BITS, ctypes.POINTER(ctypes.c_uint64))
+_compare = declare("dunkelva_compare", ctypes.c_int, *COLUMN, *COLUMN, *BITS)
+_compare_number = declare("dunkelva_compare_number", ctypes.c_int, *COLUMN, _NUMBER, *BITS)
+_sum = declare("dunkelva_sum", *COLUMN, _NUMBER)
+_min_max = declare("dunkelva_min_max", *COLUMN, _NUMBER, _NUMBER)
+_reduce_bits = declare("dunkelva_reduce_bits", ctypes.c_int, *COLUMN, _NUMBER)
+_count_bits = declare("dunkelva_count_bits", ctypes.c_int, *COLUMN, ctypes.c_void_p,
+                      ctypes.c_size_t)
+
+_TESTS = ("==", "!=", "<", "<=", ">", ">=")
+_AND, _OR, _XOR = range(3)
+
+if TYPE_CHECKING:
+    Counts = np.ma.MaskedArray[Any, np.dtype[np.uint32]]
+else:
+    Counts = np.ma.MaskedArray
+
+
+def _column(value: object) -> Column:
+    source = read(value, "column")
+    if isinstance(source, Table):
+        raise NotServed("column: it is a table")
+    return typed(source, None, "column")
+
+
+def is_null(column: object) -> npt.NDArray[np.bool_]:
+    """Returns a truth value for each row: True where the row is null. Serves no dictionaries.
+
+    >>> is_null(["a", None, "c"])
+    array([False,  True, False])
+    """
+    masks = []
+    held = _column(column)
+    for chunk in held.chunks:
+        out = bits_for(len(chunk))
+        status = _is_null(chunk.schema, chunk.array, out.ctypes.data, out.size, None)
+        if status:
+            raise refusal(status, "column", held.type)
+        masks.append(unpacked(out, len(chunk)))
+    return np.concatenate(masks)
+
+
+def compare(left: object, test: str, right: object) -> npt.NDArray[np.bool_]:
+    """Returns a truth value for each row: True where the test holds of the rows of both sides.
+
+    The tests are "==", "!=", "<", "<=", ">" and ">=". For the first two a null is equal to a null
+    alone; the others hold of no null. `right` is a column, or one value for all rows. Serves
+    columns that are kept as whole numbers of 8 to 64 bits: numbers, dates, times, spans, points in
+    time, decimals of 32 and 64 bits. For other columns there is `equal`.
+
+    Raises TypesDiffer where the sides differ in type or length, and where the type of left has no
+    such value.
+
+    >>> compare([1, None, 3], "<", [2, 2, 2])
+    array([ True, False, False])
+    >>> compare(np.array([1, 2, 3], np.uint8), ">=", 2)
+    array([False,  True,  True])
+    >>> compare(np.array([1, 2, 3], np.uint8), "<", 300)
+    Traceback (most recent call last):
+        ...
+    dunkelva.TypesDiffer: right: 300 is no uint8
+    """
+    if test not in _TESTS:
+        raise ValueError(f"{test!r} is none of the tests {' '.join(_TESTS)}")
+    number = _TESTS.index(test)
+    if not hasattr(right, "__len__") and not hasattr(right, "__arrow_c_array__") and not hasattr(
+            right, "__arrow_c_stream__") and not hasattr(right, "__dataframe__"):
+        return _compare_value(_column(left), number, right)
+    sides = read(left, "left"), read(right, "right")
+    if isinstance(sides[0], Table) or isinstance(sides[1], Table):
+        raise NotServed(f"{'left' if isinstance(sides[0], Table) else 'right'} is a table")
+    lefts, rights = pair(sides[0], sides[1])
+    if lefts.type != rights.type:
+        raise TypesDiffer(lefts.type.difference(rights.type) or "the sides differ in type")
+    if len(lefts) != len(rights):
+        raise TypesDiffer(f"left has {len(lefts)} rows, right has {len(rights)}")
+    masks = []
+    for one, first, other, second, rows in windows(lefts, rights):
+        out, parts = bits_for(rows), (part_of(one, first, rows), part_of(other, second, rows))
+        status = _compare(number, parts[0].schema, parts[0].array, parts[1].schema, parts[1].array,
+                          out.ctypes.data, out.size)
+        if status:
+            raise refusal(status, "left and right", lefts.type)
+        masks.append(unpacked(out, rows))
+    return np.concatenate(masks)
+
+
+def _compare_value(column: Column, test: int, value: object) -> npt.NDArray[np.bool_]:
+    """Compares each row with one value."""
+    try:
+        kept = build([value], column.type)
+    except Unfit as error:
+        raise TypesDiffer(f"right: {error}") from None
+    numbers = numbers_of(kept)
+    if numbers is None or column.type.entries is not None or column.type.has_floats():
+        raise NotServed(f"left is {column.type}, which is not served here")
+    if not present_rows(kept)[0]:
+        raise TypesDiffer("right: a value for all rows is no null")
+    number = int(numbers[0])
+    right = _Number(number & 2 ** 64 - 1, number >> 64 & 2 ** 64 - 1, 1)
+    masks = []
+    for chunk in column.chunks:
+        out = bits_for(len(chunk))
+        status = _compare_number(test, chunk.schema, chunk.array, ctypes.byref(right),
+                                 out.ctypes.data, out.size)
+        if status:
+            raise refusal(status, "left", column.type)
+        masks.append(unpacked(out, len(chunk)))
+    return np.concatenate(masks)
+
+
+def _reduced(value: object, call: Any, join: Callable[[int, int], int],
+             *before: int) -> Tuple[Type, Optional[int]]:
+    """Calls for each chunk, and joins what the chunks with a row that is present give."""
+    column = _column(value)
+    found: Optional[int] = None
+    for chunk in column.chunks:
+        number = _Number()
+        status = call(*before, chunk.schema, chunk.array, ctypes.byref(number))
+        if status:
+            raise refusal(status, "column", column.type)
+        if number.exists:
+            new = _as_int(number, column.type)
+            found = new if found is None else _wrapped(join(found, new), column.type)
+    return column.type, found
+
+
+def _as_int(number: _Number, type: Type) -> int:
+    is_unsigned = np.dtype(type.number() or "i8").kind == "u"
+    low = int(number.low)
+    return low if is_unsigned or low < 2 ** 63 else low - 2 ** 64
+
+
+def _wrapped(number: int, type: Type) -> int:
+    dtype = np.dtype(type.number() or "i8")
+    bits: int = 8 * dtype.itemsize
+    number %= 1 << bits
+    return number if dtype.kind == "u" or number < 1 << bits - 1 else number - (1 << bits)
+
+
+def sum(column: object) -> Any:
+    """Returns the sum of all rows that are no nulls, or None where there is no such row.
+
+    The sum is wrapped to the type of the column, so that 100 and 100 are -56 in a column of int8.
+    Serves numbers, spans of time and decimals of 32 and 64 bits.
+
+    >>> sum([1, None, 3])
+    4
+    >>> sum(np.array([100, 100], np.int8))
+    -56
+    """
+    kind, total = _reduced(column, _sum, lambda one, other: one + other)
+    if kind.format[:2] in ("td", "tt", "ts"):
+        raise NotServed(f"column is {kind}, which has no sum")
+    return None if total is None else named(total, kind.format)
+
+
+def min_max(column: object) -> Tuple[Any, Any]:
+    """Returns the least and the greatest row that is no null, or None twice where all are nulls.
+
+    Serves the columns that `compare` serves. Numbers are those of Python, dates and points in time
+    are those of numpy.
+
+    >>> min_max([3, None, 1])
+    (1, 3)
+    >>> min_max(np.array(["2024-02-01", "2024-01-01"], "M8[s]"))[0]
+    numpy.datetime64('2024-01-01T00:00:00')
+    """
+    held = _column(column)
+    lows: List[int] = []
+    highs: List[int] = []
+    for chunk in held.chunks:
+        least, greatest = _Number(), _Number()
+        status = _min_max(chunk.schema, chunk.array, ctypes.byref(least), ctypes.byref(greatest))
+        if status:
+            raise refusal(status, "column", held.type)
+        if least.exists:
+            lows.append(_as_int(least, held.type))
+            highs.append(_as_int(greatest, held.type))
+    if not lows:
+        return None, None
+    form = held.type.format
+    return named(builtins.min(lows), form), named(builtins.max(highs), form)
+
+
+def min(column: object) -> Any:
+    """Returns the least row that is no null, or None where all are nulls. See `min_max`.
+
+    >>> min([3, None, 1])
+    1
+    """
+    return min_max(column)[0]
+
+
+def max(column: object) -> Any:
+    """Returns the greatest row that is no null, or None where all are nulls. See `min_max`.
+
+    >>> max([3, None, 1])
+    3
+    """
+    return min_max(column)[1]
+
+
+def _bits_of(column: object, join: int, by: Callable[[int, int], int]) -> Optional[int]:
+    return _reduced(column, _reduce_bits, by, join)[1]
+
+
+def reduce_and(column: object) -> Optional[int]:
+    """Returns the bits that are 1 in all rows that are no nulls, or None where all are nulls.
+
+    >>> reduce_and([6, None, 3])
+    2
+    """
+    return _bits_of(column, _AND, lambda one, other: one & other)
+
+
+def reduce_or(column: object) -> Optional[int]:
+    """Returns the bits that are 1 in a row that is no null, or None where all are nulls.
+
+    >>> reduce_or([6, None, 3])
+    7
+    """
+    return _bits_of(column, _OR, lambda one, other: one | other)
+
+
+def reduce_xor(column: object) -> Optional[int]:
+    """Returns the bits that are 1 in an odd number of rows that are no nulls, or None.
+
+    >>> reduce_xor([6, None, 3])
+    5
+    """
+    return _bits_of(column, _XOR, lambda one, other: one ^ other)
+
+
+def _counted(value: object, which: int) -> Counts:
+    """Counts bits of each row. Null rows are masked."""
+    column, counts, nulls = _column(value), [], []
+    for chunk in column.chunks:
+        out = np.zeros(len(chunk), np.uint32)
+        status = _count_bits(which, chunk.schema, chunk.array, out.ctypes.data, out.size)
+        if status:
+            raise refusal(status, "column", column.type)
+        counts.append(out)
+        nulls.append(~present_rows(chunk))
+    masked: Any = np.ma.MaskedArray
+    array: Counts = masked(np.concatenate(counts), mask=np.concatenate(nulls))
+    return array
+
+
+def count_ones(column: object) -> Counts:
+    """Returns how many bits of each row are 1, as a masked array: null rows are masked.
+
+    >>> count_ones(np.array([0, 7, -1], np.int8)).tolist()
+    [0, 3, 8]
+    >>> count_ones([5, None]).tolist()
+    [2, None]
+    """
+    return _counted(column, 0)
+
+
+def count_zeros(column: object) -> Counts:
+    """Returns how many bits of each row are 0, as a masked array: null rows are masked.
+
+    >>> count_zeros(np.array([0, 7, -1], np.int8)).tolist()
+    [8, 5, 0]
+    """
+    return _counted(column, 1)
+
+
+def leading_ones(column: object) -> Counts:
+    """Returns how many of the upper bits of each row are 1 before one is 0, as a masked array.
+
+    >>> leading_ones(np.array([0, 7, -4], np.int8)).tolist()
+    [0, 0, 6]
+    """
+    return _counted(column, 2)
+
+
+def leading_zeros(column: object) -> Counts:
+    """Returns how many of the upper bits of each row are 0 before one is 1, as a masked array.
+
+    >>> leading_zeros(np.array([0, 7, -4], np.int8)).tolist()
+    [8, 5, 0]
+    """
+    return _counted(column, 3)
+
+
+def trailing_ones(column: object) -> Counts:
+    """Returns how many of the lower bits of each row are 1 before one is 0, as a masked array.
+
+    >>> trailing_ones(np.array([0, 7, -4], np.int8)).tolist()
+    [0, 3, 0]
+    """
+    return _counted(column, 4)
+
+
+def trailing_zeros(column: object) -> Counts:
+    """Returns how many of the lower bits of each row are 0 before one is 1, as a masked array.
+
+    >>> trailing_zeros(np.array([0, 7, -4], np.int8)).tolist()
+    [8, 0, 2]
+    """
+    return _counted(column, 5)

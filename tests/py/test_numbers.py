@@ -1,0 +1,79 @@
+"""Columns and tables of numbers alone, which every library serves."""
+from __future__ import annotations
+
+import datetime
+import decimal
+from typing import Any
+
+import numpy as np
+import pandas as pd
+import pytest
+
+import dunkelva
+from exported import Exported, Streamed, column, masked
+
+
+def test_equal() -> None:
+    left, right = np.arange(100_003), np.arange(100_003)
+    right[::7] += 1
+    assert (dunkelva.equal(left, right) == (left == right)).all()
+    assert (dunkelva.not_equal(left[::3], right[::3]) == (left != right)[::3]).all()
+    hidden = masked([1, 2, 3, 4], mask=[0, 1, 1, 0])
+    assert dunkelva.equal(hidden, [1, 2, None, 5]).tolist() == [True, False, True, False]
+    frame = pd.DataFrame({"a": [1, 2], "b": pd.array([None, 2], dtype="Int8")})
+    other = frame.assign(a=[1, 3])[["b", "a"]]
+    assert dunkelva.equal(frame, other).tolist() == [True, False]
+
+
+def test_compare() -> None:
+    days = np.array(["2024-01-01", "NaT", "2024-01-03"], "M8[D]")
+    assert dunkelva.compare(days, ">", datetime.date(2024, 1, 2)).tolist() == [False, False, True]
+    assert dunkelva.compare(days, "==", days).tolist() == [True, True, True]
+    times = days.astype("M8[us]")
+    assert dunkelva.compare(times, "<=", datetime.datetime(2024, 1, 1)).tolist() == [
+        True, False, False]
+    prices = Exported(column("d:9,2,64", [150, None, 250], 1))
+    assert dunkelva.compare(prices, "<", decimal.Decimal("1.51")).tolist() == [True, False, False]
+    parts: Any = ([1, 2], [3])
+    stream = Streamed([column("s", rows, 2) for rows in parts])
+    assert dunkelva.compare(stream, "!=", np.array([1, 3, 3], "i2")).tolist() == [
+        False, True, False]
+    assert dunkelva.compare([2 ** 64 - 1, 1], ">", 2 ** 63).tolist() == [True, False]
+    with pytest.raises(dunkelva.TypesDiffer, match="right: -1 is no uint64"):
+        dunkelva.compare([2 ** 64 - 1, 1], ">", -1)
+
+
+def test_sums() -> None:
+    assert dunkelva.sum(np.array([2 ** 62, 2 ** 62])) == -2 ** 63
+    assert dunkelva.sum(np.array([2 ** 63, 2 ** 63], "u8")) == 0
+    assert dunkelva.sum(np.array([], "i4")) is None
+    assert dunkelva.sum(masked([1, 2], mask=[1, 1])) is None
+    assert dunkelva.sum(np.array([1, 2], "m8[s]")) == np.timedelta64(3, "s")
+    assert dunkelva.sum(Exported(column("d:9,2,32", [150, None, 25], 1))) == decimal.Decimal("1.75")
+    parts: Any = ([200, 50], [], [None], [50])
+    chunks = Streamed([column("C", rows, 3) for rows in parts])
+    assert dunkelva.sum(chunks) == 44
+    assert dunkelva.reduce_xor(Streamed([column("c", [row], 3) for row in (-1, 5)])) == -6
+
+
+def test_extremes() -> None:
+    assert dunkelva.min_max(np.array([-128, 127, 0], "i1")) == (-128, 127)
+    assert dunkelva.max([2 ** 64 - 1, 1]) == 2 ** 64 - 1
+    assert dunkelva.min_max(masked([1, 2], mask=[1, 1])) == (None, None)
+    assert dunkelva.min(np.array(["2024-01-02", "NaT"], "M8[D]")) == np.datetime64("2024-01-02")
+    parts: Any = ([], [5, None], [None], [-7, 9])
+    chunks = Streamed([column("s", rows, 3) for rows in parts])
+    assert dunkelva.min_max(chunks) == (-7, 9)
+    assert dunkelva.min(Exported(column("d:9,1,32", [15, None], 1))) == decimal.Decimal("1.5")
+
+
+def test_tables() -> None:
+    rng = np.random.default_rng(1)
+    left = pd.DataFrame({"id": np.arange(20_000), "n": rng.integers(0, 9, 20_000)})
+    right = left.sample(frac=1, random_state=1)[5:]
+    right.iloc[7, 1] += 1
+    found = dunkelva.diff(left, right, on="id")
+    assert (found.same, found.changed, found.removed, found.added) == (19_994, 1, 5, 0)
+    one = next(each for each in found.differences if each.kind == "changed")
+    assert one.key == (right.iloc[7, 0],) and one.right_row == 7 and one.left_row == one.key[0]
+    dunkelva.assert_equal(left, left[::-1], key="id")

@@ -1,0 +1,196 @@
+"""Columns and tables of each source."""
+from __future__ import annotations
+
+import datetime
+import decimal
+from typing import Any, List
+
+import numpy as np
+import pandas as pd
+import pytest
+
+import dunkelva
+from exported import Exported, Streamed, column, has_views, masked
+
+
+def equal(left: Any, right: Any, **options: Any) -> List[bool]:
+    """Returns the rows that are equal, as a list."""
+    same: Any = dunkelva.equal(left, right, **options)
+    assert same.dtype == np.bool_
+    return list(same.tolist())
+
+
+@pytest.mark.parametrize("dtype", ["i1", "i2", "i4", "i8", "u1", "u2", "u4", "u8", ">i4", ">u8"])
+def test_numbers_of_numpy(dtype: str) -> None:
+    left, right = np.array([1, 2, 3], dtype), np.array([1, 0, 3], dtype)
+    assert equal(left, right) == [True, False, True]
+    assert equal(left[::2], right[::2]) == [True, True]
+    assert equal(left[::-1], [3, 2, None]) == [True, True, False]
+
+
+def test_arrays_of_numpy() -> None:
+    assert equal(np.array([True, False]), np.array([True, True])) == [True, False]
+    assert equal(np.array(["a", "bé", ""]), ["a", "be", ""]) == [True, False, True]
+    assert equal(np.array([b"ab", b"cd"]), np.array([b"ab", b"ce"])) == [True, False]
+    assert equal(np.arange(6).reshape(3, 2), np.array([[0, 1], [2, 9], [4, 5]])) == [
+        True, False, True]
+    assert equal(np.array([], np.int8), np.array([], np.int8)) == []
+    days = np.array(["2024-01-01", "NaT", "1969-12-31"], "M8[D]")
+    assert equal(days, [datetime.date(2024, 1, 1), None, datetime.date(1970, 1, 1)]) == [
+        True, True, False]
+    for unit in ("s", "ms", "us", "ns"):
+        times = days.astype(f"M8[{unit}]")
+        assert equal(times, times[[0, 0, 2]]) == [True, False, True]
+    assert equal(np.array([1, 2], "m8[h]"), np.array([3600, 7201], "m8[s]")) == [True, False]
+
+
+def test_structured_arrays() -> None:
+    kind = [("x", "i4"), ("y", "S2"), ("z", "f8")]
+    left = np.array([(1, b"ab", 0.5), (2, b"cd", np.nan)], kind)
+    right = np.array([(1, b"ab", 0.5), (2, b"cd", 1)], kind)
+    assert equal(left, right, floats_by_bits=True) == [True, False]
+    hidden = masked(left, mask=[(0, 1, 0), (0, 0, 1)])
+    assert equal(hidden, hidden, floats_by_bits=True) == [True, True]
+    assert equal(hidden, left, floats_by_bits=True) == [False, False]
+
+
+def test_masked_arrays() -> None:
+    left = masked([1, 2, 3], mask=[0, 1, 1])
+    assert equal(left, masked([1, 9, 3], mask=[0, 1, 0])) == [True, True, False]
+    assert equal(left, [1, None, None]) == [True, True, True]
+    assert equal(masked(["a", "b"], mask=[0, 1]), ["a", None]) == [True, True]
+    assert equal(masked([[1, 2], [3, 4]], mask=[[0, 1], [0, 0]]), [[1, None], [3, 4]]) == [
+        True, True]
+
+
+def test_floats() -> None:
+    left, right = np.array([1.0, np.nan, 0.0]), np.array([1.0, np.nan, -0.0])
+    assert equal(left, right, floats_by_bits=True) == [True, True, False]
+    for dtype in ("f2", "f4"):
+        sides = left.astype(dtype), right.astype(dtype)
+        assert equal(*sides, floats_by_bits=True) == [True, True, False]
+    assert equal([1, 2.5], [1.0, 2], floats_by_bits=True) == [True, False]
+
+
+def test_series_of_pandas() -> None:
+    na = pd.NA
+    assert equal(pd.Series(["a", None, "é", np.nan]), pd.Series(["a", None, "e", None])) == [
+        True, True, False, True]
+    assert equal(pd.Series([1, None, 3], dtype="Int64"), pd.Series([1, na, na], dtype="Int64")) == [
+        True, True, False]
+    assert equal(pd.Series([True, None], dtype="boolean"), [True, False]) == [True, False]
+    assert equal(pd.Series(["a", None], dtype="string"), pd.Series(["a", None])) == [True, True]
+    assert equal(pd.Series([1.5, None], dtype="Float64"), [1.5, None], floats_by_bits=True) == [
+        True, True]
+    categories = pd.Series(pd.Categorical(["a", "b", None]))
+    assert equal(categories, pd.Series(pd.Categorical(["a", "c", None]))) == [True, False, True]
+    assert equal(categories, ["a", "b", "c"]) == [True, True, False]
+    assert equal(pd.Categorical([1, 2]), pd.Series(pd.Categorical([1, 3, 2])[:2])) == [True, False]
+    zoned = pd.Series(pd.to_datetime(["2024-01-01", None]).tz_localize("Europe/Oslo"))
+    assert equal(zoned, zoned[::-1]) == [False, False]
+    assert equal(zoned, zoned) == [True, True]
+    assert equal(pd.to_timedelta(["1s", None]), pd.Series(pd.to_timedelta(["1s", "2s"]))) == [
+        True, False]
+    assert equal(pd.Index([1, 2]), np.array([1, 3])) == [True, False]
+    assert equal(pd.Series([decimal.Decimal("1.50"), None]), [decimal.Decimal("1.5"), None]) == [
+        True, True]
+    assert equal(pd.Series([[1], None]), pd.Series([[1], [2]])) == [True, False]
+    assert equal(pd.arrays.SparseArray([0, 1, 0]), [0, 1, 1]) == [True, True, False]
+    assert equal(pd.Series([], dtype=object), pd.Series([], dtype="string")) == []
+
+
+def test_data_frames() -> None:
+    left = pd.DataFrame({"a": [1, 2], "b": ["x", "y"]}, index=[7, 8])
+    right = pd.DataFrame({"b": ["x", "z"], "a": [1, 2]})
+    assert equal(left, right) == [True, False]
+    assert equal(left, [{"a": 1, "b": "x"}, {"a": 2, "b": None}]) == [True, False]
+    assert equal(left, {"a": [1, 3], "b": np.array(["x", "y"])}) == [True, False]
+    assert equal(pd.DataFrame(index=[1, 2]), pd.DataFrame(index=[3, 4])) == [True, True]
+    assert equal(pd.DataFrame({0: [1]}), {"0": [1]}) == [True]
+
+
+class Interchanged:
+    """A DataFrame that has `__dataframe__` alone."""
+
+    def __init__(self, frame: Any):
+        self.frame = frame
+
+    def __dataframe__(self, **options: Any) -> Any:
+        return self.frame.__dataframe__(**options)
+
+
+def test_interchange() -> None:
+    frame = pd.DataFrame({
+        "n": [1, 2, 3], "f": [0.5, np.nan, 1], "t": ["a", np.nan, "é"], "b": [True, False, True],
+        "c": pd.Categorical(["x", None, "y"]), "u": np.array([1, 2, 3], np.uint8),
+        "d": pd.to_datetime(["2024-01-01", None, "2024-01-03"])})
+    other = frame.copy()
+    other.loc[1, "t"] = "b"
+    other.loc[2, "c"] = "x"
+    assert equal(Interchanged(frame), Interchanged(frame), floats_by_bits=True) == [True] * 3
+    assert equal(Interchanged(frame), frame, floats_by_bits=True) == [True] * 3
+    assert equal(Interchanged(frame), Interchanged(other), floats_by_bits=True) == [
+        True, False, False]
+    assert equal(Interchanged(frame[1:]), frame[1:], floats_by_bits=True) == [True] * 2
+    nothing = frame[["n", "f", "c", "d"]][:0]  # pandas 1.5 has no texts of no rows
+    assert equal(Interchanged(nothing), nothing, floats_by_bits=True) == []
+
+
+def test_capsules() -> None:
+    rows: Any = [(1, b"x"), None, (2, None)]
+    kind = ("+s", [("a", "i"), ("b", "u")])
+    assert equal(Exported(column(kind, rows, 1)), Exported(column(kind, rows, 2))) == [True] * 3
+    assert equal(Exported(column(kind, rows[:1], 1)), [{"a": 1, "b": "x"}]) == [True]
+    table: Any = [(1, b"x"), (2, b"y")]
+    turned = ("+s", [("b", "u"), ("a", "i")])
+    assert equal(Exported(column(kind, table, 1)),
+                 Exported(column(turned, [(b"x", 1), (b"z", 2)], 2))) == [True, False]
+    frame = pd.DataFrame({"b": ["x", "y"], "a": np.array([1, 2], np.int32)})
+    assert equal(Exported(column(("+s", [("a", "i"), ("b", "U")]), table, 1)), frame) == [True] * 2
+    for form in ("z", "Z", "vz") if has_views() else ("z", "Z"):
+        assert equal(Exported(column(form, [b"a", None, b"thirteen bytes"], 3)),
+                     [b"a", None, b"thirteen bytez"]) == [True, True, False]
+
+
+CHUNKS: Any = ([1, 2], [], [None, 4, 5])
+
+
+def test_streams() -> None:
+    stream = Streamed([column("i", rows, 1) for rows in CHUNKS])
+    assert equal(stream, masked([1, 3, 0, 4, 5], mask=[0, 0, 1, 0, 0], dtype="i4")) == [
+        True, False, True, True, True]
+    assert stream.handed == stream.released == 4
+    empty = Streamed([], column(("+l", ("+s", [("a", "u")])), [], 1).schema)
+    assert equal(empty, []) == []
+    assert empty.handed == empty.released == 1
+
+
+def test_lists() -> None:
+    assert equal([], []) == []
+    assert equal([None, None], [None, 1]) == [True, False]
+    assert equal([[], [None], None], [[], [], None]) == [True, False, True]
+    assert equal([{"a": 1}, {}], [{"a": 1, "b": None}, {"b": 2}]) == [True, False]
+    assert equal([2 ** 63, 1], [2 ** 64 - 1, 1]) == [False, True]
+    assert equal([2 ** 64, -1], [2 ** 64, 1]) == [True, False]
+    assert equal(["\ud800"], ["\ud801"]) == [False]
+    when = datetime.datetime(2024, 1, 1, 12, tzinfo=datetime.timezone.utc)
+    oslo = when.astimezone(datetime.timezone(datetime.timedelta(hours=1)))
+    assert equal([when, when], [oslo, oslo + datetime.timedelta(microseconds=1)]) == [True, False]
+    assert equal([datetime.time(1, 2, 3)], [datetime.time(1, 2, 4)]) == [False]
+    assert equal([np.int8(1), 2], (1, np.int64(3))) == [True, False]
+
+
+def test_many_rows() -> None:
+    rows = 100_003
+    left = np.arange(rows, dtype=np.int32)
+    right = left.copy()
+    right[::7] += 1
+    assert (dunkelva.equal(left, right) == (left == right)).all()
+    hidden = [masked(side, mask=np.arange(rows) % step == 0)
+              for side, step in ((left, 3), (right, 5))]
+    nulls = [side.mask for side in hidden]
+    wanted = np.where(nulls[0] | nulls[1], nulls[0] == nulls[1], left == right)
+    assert (dunkelva.equal(*hidden) == wanted).all()
+    lists = [[place, None] if place % 3 else None for place in range(40_000)]
+    others = [row if place % 4 else [1] for place, row in enumerate(lists)]
+    assert equal(lists, others) == [one == other for one, other in zip(lists, others)]
