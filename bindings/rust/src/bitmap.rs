@@ -1,0 +1,118 @@
+//! Bits of a caller, one a row.
+#![forbid(unsafe_code)]
+
+use crate::Error;
+
+/// Bits of a borrowed slice, one a row, as in a validity of Arrow: from the lowest bit of the first
+/// byte on.
+///
+/// ```
+/// use dunkelva::{Bitmap, Error};
+///
+/// let bits = Bitmap::new(&[0b0110_0000, 0b1], 5, 4)?;
+/// assert_eq!(bits.iter().collect::<Vec<_>>(), [true, true, false, true]);
+/// assert_eq!(Bitmap::new(&[0xff], 5, 4).unwrap_err().to_string(),
+///     "the bits have length 8, and 9 is needed");
+/// # Ok::<(), Error>(())
+/// ```
+#[derive(Clone, Copy, Debug)]
+pub struct Bitmap<'a> {
+    bytes: &'a [u8],
+    first: usize,
+    rows: usize,
+}
+
+impl<'a> Bitmap<'a> {
+    /// Takes the bits of `rows` rows, from bit `first` of the slice on.
+    ///
+    /// # Errors
+    ///
+    /// [`Error::Length`], if the slice has less bits.
+    pub fn new(bytes: &'a [u8], first: usize, rows: usize) -> Result<Self, Error> {
+        let has = bytes.len().saturating_mul(8);
+        let needs = first.saturating_add(rows);
+        if needs > has {
+            return Err(Error::Length {
+                what: "bits",
+                has,
+                needs,
+            });
+        }
+        Ok(Bitmap {
+            bytes: &bytes[first / 8..],
+            first: first % 8,
+            rows,
+        })
+    }
+
+    /// Returns the number of rows.
+    pub fn len(&self) -> usize {
+        self.rows
+    }
+
+    /// Returns `true` if there is no row.
+    pub fn is_empty(&self) -> bool {
+        self.rows == 0
+    }
+
+    /// Returns the bit of a row, or `None` if there is no such row.
+    pub fn get(&self, row: usize) -> Option<bool> {
+        (row < self.rows).then(|| {
+            let place = self.first + row;
+            self.bytes[place / 8] >> (place % 8) & 1 == 1
+        })
+    }
+
+    /// Returns the bits, row by row.
+    pub fn iter(self) -> impl ExactSizeIterator<Item = bool> + 'a {
+        (0..self.rows).map(move |row| self.get(row) == Some(true))
+    }
+
+    /// Returns the bit of the first byte in which the rows begin, and the bytes.
+    pub(crate) fn parts(self) -> (usize, &'a [u8]) {
+        (self.first, self.bytes)
+    }
+
+    /// Returns a copy in which the rows begin at bit `first`.
+    pub(crate) fn moved(self, first: usize) -> Vec<u8> {
+        let mut moved = vec![0; (first + self.rows) / 8 + 2];
+        for row in (0..self.rows).step_by(8) {
+            let at = (first + row) / 8;
+            let [low, high] = (u16::from(self.byte(row)) << (first % 8)).to_le_bytes();
+            moved[at] |= low;
+            moved[at + 1] |= high;
+        }
+        moved
+    }
+
+    /// Returns the bits of eight rows, those from `row` on, a multiple of 8. The bits of rows that
+    /// are not there mean nothing.
+    fn byte(self, row: usize) -> u8 {
+        let at = row / 8;
+        let above = self.bytes.get(at + 1).copied().unwrap_or(0);
+        let pair = u16::from_le_bytes([self.bytes[at], above]);
+        (pair >> self.first).to_le_bytes()[0]
+    }
+}
+
+#[cfg(test)]
+mod tests {
+    use super::Bitmap;
+
+    #[test]
+    fn bits_move_to_any_place() {
+        let bytes: Vec<u8> = (0_u32..40)
+            .map(|it| it.wrapping_mul(2_654_435_761).to_be_bytes()[0])
+            .collect();
+        for first in 0..9 {
+            for rows in [0, 1, 7, 8, 9, 63, 64, 65, 300] {
+                let bits = Bitmap::new(&bytes, first, rows).unwrap();
+                for to in [0, 1, 5, 7, 8, 17] {
+                    let moved = bits.moved(to);
+                    let again = Bitmap::new(&moved, to, rows).unwrap();
+                    assert!(bits.iter().eq(again.iter()), "{first} {rows} {to}");
+                }
+            }
+        }
+    }
+}

@@ -1,0 +1,382 @@
+//! Calls on arrays.
+#![forbid(unsafe_code)]
+
+use crate::mask::zeros;
+use crate::structs::Structs;
+use crate::sys::{self, Wide};
+use crate::{Array, Error, Mask};
+use std::os::raw::c_uint;
+
+/// How rows are compared by [`equal_with`].
+#[derive(Clone, Copy, Debug, Default, PartialEq, Eq)]
+pub struct Options {
+    /// Serves floats too, and compares their bits: a NaN is equal to a NaN of the same bits, and
+    /// -0 is not equal to 0.
+    pub floats_by_bits: bool,
+    /// Checks that texts are UTF-8, which takes several times as long as the comparison. Without
+    /// it texts are compared as the bytes that they are.
+    pub check_texts: bool,
+}
+
+impl Options {
+    fn flags(self) -> u32 {
+        u32::from(self.floats_by_bits) | u32::from(self.check_texts) << 1
+    }
+}
+
+/// A comparison of two numbers.
+#[derive(Clone, Copy, Debug, PartialEq, Eq, Hash)]
+pub enum Test {
+    /// Both are the same number, or both are null.
+    Equal,
+    /// They differ, or one of them is null.
+    Unequal,
+    /// The left one is less. This and those below hold of no null.
+    Less,
+    /// The left one is not greater.
+    LessOrEqual,
+    /// The left one is greater.
+    Greater,
+    /// The left one is not less.
+    GreaterOrEqual,
+}
+
+/// A way to join the bits of numbers, place by place.
+#[derive(Clone, Copy, Debug, PartialEq, Eq, Hash)]
+pub enum Join {
+    /// A bit is 1 where it is 1 in all numbers.
+    And,
+    /// A bit is 1 where it is 1 in a number.
+    Or,
+    /// A bit is 1 where it is 1 in an odd count of numbers.
+    Xor,
+}
+
+/// Compares two arrays of one type and one length, row by row: `true` where both rows are the same.
+///
+/// Null is the same as null alone. Nested rows are compared as trees: lists item by item, structs
+/// field by field, dictionaries by the entries that their keys name. Types are the same where their
+/// formats are, letter for letter, and the names of the fields of structs.
+///
+/// # Errors
+///
+/// [`Error::TypesDiffer`], if the arrays differ in type or length; [`Error::NotServed`] for floats,
+/// for which there is [`equal_with`], and other types that the library does not serve;
+/// [`Error::BadArray`] for a key that names no entry; [`Error::NoMemory`].
+///
+/// # Examples
+///
+/// ```
+/// use dunkelva::{equal, Array, Error};
+///
+/// let old: Array = [Some(1), None, Some(3), None].into_iter().collect();
+/// let new: Array = [Some(1), None, Some(4), Some(5)].into_iter().collect();
+/// let same = equal(&old, &new)?;
+/// assert_eq!(same.iter().collect::<Vec<_>>(), [true, true, false, false]);
+/// # Ok::<(), Error>(())
+/// ```
+pub fn equal(left: &Array<'_>, right: &Array<'_>) -> Result<Mask, Error> {
+    equal_with(left, right, Options::default())
+}
+
+/// Compares as [`equal`] does: `true` where rows differ.
+///
+/// # Errors
+///
+/// Those of [`equal`].
+pub fn not_equal(left: &Array<'_>, right: &Array<'_>) -> Result<Mask, Error> {
+    Ok(!equal(left, right)?)
+}
+
+/// Compares as [`equal`] does, with options.
+///
+/// # Errors
+///
+/// Those of [`equal`]; with [`Options::check_texts`] also [`Error::BadArray`], if a text is not
+/// UTF-8.
+///
+/// # Examples
+///
+/// ```
+/// use dunkelva::{equal_with, Array, Error, Options};
+///
+/// let left = Array::numbers(&[0.5, f64::NAN, 0.0]);
+/// let right = Array::numbers(&[0.5, f64::NAN, -0.0]);
+/// let same = equal_with(&left, &right, Options { floats_by_bits: true, ..Options::default() })?;
+/// assert_eq!(same.iter().collect::<Vec<_>>(), [true, true, false]);
+/// # Ok::<(), Error>(())
+/// ```
+pub fn equal_with(left: &Array<'_>, right: &Array<'_>, options: Options) -> Result<Mask, Error> {
+    let (one, other) = (Structs::of(left), Structs::of(right));
+    Mask::written(left.len(), |out| {
+        sys::equal(&one, &other, options.flags(), out)
+    })
+}
+
+/// Compares as [`equal_with`] does, and counts the leaf values that were compared.
+///
+/// # Errors
+///
+/// Those of [`equal_with`].
+///
+/// # Examples
+///
+/// ```
+/// use dunkelva::{equal_counted, Array, Error, Options};
+///
+/// let lists = Array::list(&[0, 2, 3], Array::numbers(&[1, 2, 3]))?;
+/// let (same, comparisons) = equal_counted(&lists, &lists, Options::default())?;
+/// assert!(same.all());
+/// assert_eq!(comparisons, 3);
+/// # Ok::<(), Error>(())
+/// ```
+pub fn equal_counted(
+    left: &Array<'_>,
+    right: &Array<'_>,
+    options: Options,
+) -> Result<(Mask, u64), Error> {
+    if left.len() != right.len() {
+        return Err(Error::TypesDiffer);
+    }
+    let (one, other) = (Structs::of(left), Structs::of(right));
+    let (flags, mut count) = (options.flags(), 0);
+    let same = Mask::written(left.len(), |out| {
+        sys::equal_rows(&one, &other, flags, out, &mut count)
+    })?;
+    Ok((same, count))
+}
+
+/// Finds the rows that are null.
+///
+/// # Errors
+///
+/// [`Error::NotServed`] for dictionaries and types that the library does not serve;
+/// [`Error::NoMemory`].
+///
+/// # Examples
+///
+/// ```
+/// use dunkelva::{is_null, Array, Error};
+///
+/// let words = Array::from_texts([Some("a"), None, Some("b")])?;
+/// assert_eq!(is_null(&words)?.places().collect::<Vec<_>>(), [1]);
+/// # Ok::<(), Error>(())
+/// ```
+pub fn is_null(array: &Array<'_>) -> Result<Mask, Error> {
+    let structs = Structs::of(array);
+    Mask::written(array.len(), |out| sys::is_null(&structs, out))
+}
+
+/// Compares two arrays of numbers of one type and one length, row by row.
+///
+/// This call and those below serve whole numbers of 8 to 64 bits, and what is kept as such: dates,
+/// times, points in time, spans, decimals of 32 and 64 bits.
+///
+/// # Errors
+///
+/// [`Error::TypesDiffer`], if the arrays differ in type or length; [`Error::NotServed`] for other
+/// types than numbers; [`Error::NoMemory`].
+///
+/// # Examples
+///
+/// ```
+/// use dunkelva::{compare, Array, Error, Test};
+///
+/// let old: Array = [Some(1), Some(2), None].into_iter().collect();
+/// let less = compare(&old, Test::Less, &Array::numbers(&[2, 2, 2]))?;
+/// assert_eq!(less.iter().collect::<Vec<_>>(), [true, false, false]);
+/// # Ok::<(), Error>(())
+/// ```
+pub fn compare(left: &Array<'_>, test: Test, right: &Array<'_>) -> Result<Mask, Error> {
+    let (one, other) = (Structs::of(left), Structs::of(right));
+    Mask::written(left.len(), |out| {
+        sys::compare(test as c_uint, &one, &other, out)
+    })
+}
+
+/// Compares each row with one number, on the right.
+///
+/// # Errors
+///
+/// [`Error::TypesDiffer`], if the array's type has no such number; [`Error::NotServed`] for other
+/// types than numbers; [`Error::NoMemory`].
+///
+/// # Examples
+///
+/// ```
+/// use dunkelva::{compare_number, Array, Error, Test};
+///
+/// let bytes = Array::numbers(&[7_u8, 200]);
+/// assert_eq!(compare_number(&bytes, Test::Greater, 100)?.places().collect::<Vec<_>>(), [1]);
+/// assert_eq!(compare_number(&bytes, Test::Greater, 256), Err(Error::TypesDiffer));
+/// # Ok::<(), Error>(())
+/// ```
+pub fn compare_number(
+    array: &Array<'_>,
+    test: Test,
+    number: impl Into<i128>,
+) -> Result<Mask, Error> {
+    let structs = Structs::of(array);
+    let number = Wide::of(number.into());
+    Mask::written(array.len(), |out| {
+        sys::compare_number(test as c_uint, &structs, &number, out)
+    })
+}
+
+/// Adds the rows that are present. The sum is wrapped to the type of the array: in `i8` 100 and 100
+/// are -56. It is `None` where no row is present.
+///
+/// # Errors
+///
+/// [`Error::NotServed`] for other types than numbers; [`Error::NoMemory`].
+///
+/// # Examples
+///
+/// ```
+/// use dunkelva::{sum, Array, Error};
+///
+/// assert_eq!(sum(&Array::numbers(&[1_u64, 2, u64::MAX - 3]))?, Some(u64::MAX.into()));
+/// assert_eq!(sum(&Array::numbers(&[100_i8, 100]))?, Some(-56));
+/// assert_eq!(sum(&Array::numbers::<i8>(&[]))?, None);
+/// # Ok::<(), Error>(())
+/// ```
+pub fn sum(array: &Array<'_>) -> Result<Option<i128>, Error> {
+    let mut sum = Wide::default();
+    Error::check(sys::sum(&Structs::of(array), &mut sum))?;
+    Ok(sum.number())
+}
+
+/// Finds the least and the greatest row that is present, if one is.
+///
+/// # Errors
+///
+/// Those of [`sum`].
+///
+/// # Examples
+///
+/// ```
+/// use dunkelva::{min_max, Array, Error};
+///
+/// let rows: Array = [Some(3), None, Some(-1)].into_iter().collect();
+/// assert_eq!(min_max(&rows)?, Some((-1, 3)));
+/// # Ok::<(), Error>(())
+/// ```
+pub fn min_max(array: &Array<'_>) -> Result<Option<(i128, i128)>, Error> {
+    let (mut least, mut greatest) = (Wide::default(), Wide::default());
+    Error::check(sys::min_max(&Structs::of(array), &mut least, &mut greatest))?;
+    Ok(least.number().zip(greatest.number()))
+}
+
+/// Finds the least row that is present, if one is.
+///
+/// # Errors
+///
+/// Those of [`sum`].
+pub fn min(array: &Array<'_>) -> Result<Option<i128>, Error> {
+    Ok(min_max(array)?.map(|(least, _)| least))
+}
+
+/// Finds the greatest row that is present, if one is.
+///
+/// # Errors
+///
+/// Those of [`sum`].
+pub fn max(array: &Array<'_>) -> Result<Option<i128>, Error> {
+    Ok(min_max(array)?.map(|(_, greatest)| greatest))
+}
+
+/// Joins the bits of all rows that are present, if one is.
+///
+/// # Errors
+///
+/// Those of [`sum`].
+///
+/// # Examples
+///
+/// ```
+/// use dunkelva::{reduce, Array, Error, Join};
+///
+/// let rows = Array::numbers(&[0b1100_u8, 0b0110]);
+/// assert_eq!(reduce(Join::And, &rows)?, Some(0b0100));
+/// assert_eq!(reduce(Join::Or, &rows)?, Some(0b1110));
+/// assert_eq!(reduce(Join::Xor, &rows)?, Some(0b1010));
+/// # Ok::<(), Error>(())
+/// ```
+pub fn reduce(join: Join, array: &Array<'_>) -> Result<Option<i128>, Error> {
+    let mut result = Wide::default();
+    Error::check(sys::reduce_bits(
+        join as c_uint,
+        &Structs::of(array),
+        &mut result,
+    ))?;
+    Ok(result.number())
+}
+
+macro_rules! counts {
+    ($($name:ident: $bits:literal, $what:literal, $result:literal;)*) => {
+        $(
+            #[doc = concat!("Counts the ", $what, " of each row. Of null rows there is no count.")]
+            ///
+            /// # Errors
+            ///
+            /// Those of [`sum`].
+            ///
+            /// # Examples
+            ///
+            /// ```
+            #[doc = concat!("use dunkelva::{", stringify!($name), ", Array, Error};")]
+            ///
+            /// let rows: Array = [Some(0b1110_0001_u8), None].into_iter().collect();
+            #[doc = concat!("let counts = ", stringify!($name), "(&rows)?;")]
+            #[doc = concat!("assert_eq!(counts, [Some(", $result, "), None]);")]
+            /// # Ok::<(), Error>(())
+            /// ```
+            pub fn $name(array: &Array<'_>) -> Result<Vec<Option<u32>>, Error> {
+                count_bits($bits, array)
+            }
+        )*
+    };
+}
+
+counts! {
+    count_ones: 0, "bits that are 1", "4";
+    count_zeros: 1, "bits that are 0", "4";
+    leading_ones: 2, "highest bits that are 1", "3";
+    leading_zeros: 3, "highest bits that are 0", "0";
+    trailing_ones: 4, "lowest bits that are 1", "1";
+    trailing_zeros: 5, "lowest bits that are 0", "0";
+}
+
+fn count_bits(bits: c_uint, array: &Array<'_>) -> Result<Vec<Option<u32>>, Error> {
+    let mut counts = zeros(array.len())?;
+    Error::check(sys::count_bits(bits, &Structs::of(array), &mut counts))?;
+    let nulls = is_null(array)?;
+    let mut present = zeros(array.len())?;
+    for ((to, count), is_null) in present.iter_mut().zip(counts).zip(nulls.iter()) {
+        *to = Some(count).filter(|_| !is_null);
+    }
+    Ok(present)
+}
+
+/// Returns the version of libdunkelva.
+pub fn version() -> &'static str {
+    sys::version()
+}
+
+impl Wide {
+    /// Returns a number in two halves.
+    fn of(number: i128) -> Wide {
+        let [low, high] = [number, number >> 64].map(|it| (it & i128::from(u64::MAX)) as u64);
+        Wide {
+            low,
+            high,
+            exists: 1,
+        }
+    }
+
+    /// Returns the number, if it exists.
+    fn number(&self) -> Option<i128> {
+        let whole = u128::from(self.high) << 64 | u128::from(self.low);
+        (self.exists != 0).then_some(whole as i128)
+    }
+}

@@ -1,0 +1,151 @@
+//! Formats of types, and the Rust types that go with them.
+//!
+//! A format ends with a byte 0, as C asks.
+#![forbid(unsafe_code)]
+
+mod sealed {
+    pub trait Sealed {}
+}
+
+/// A type of numbers that an array keeps: `i8` to `i64`, `u8` to `u64`, `f32`, `f64`.
+///
+/// Floats are compared by [`equal_with`](crate::equal_with) alone, with
+/// [`Options::floats_by_bits`](crate::Options::floats_by_bits).
+pub trait Number: sealed::Sealed + Copy + Default + Send + Sync + 'static {
+    #[doc(hidden)]
+    const FORMAT: &'static [u8];
+}
+
+/// A type of keys of a dictionary: `i8` to `i64`, `u8` to `u64`.
+pub trait Key: Number {}
+
+/// A type of offsets of texts, byte strings and lists: `i32` or `i64`.
+pub trait Offset: Number + Ord {
+    #[doc(hidden)]
+    const TEXTS: &'static [u8];
+    #[doc(hidden)]
+    const BINARY: &'static [u8];
+    #[doc(hidden)]
+    const LIST: &'static [u8];
+    #[doc(hidden)]
+    fn place(self) -> Option<usize>;
+}
+
+macro_rules! numbers {
+    ($($number:ty = $format:literal),*) => {
+        $(
+            impl sealed::Sealed for $number {}
+            impl Number for $number {
+                const FORMAT: &'static [u8] = $format;
+            }
+        )*
+    };
+}
+
+macro_rules! keys {
+    ($($number:ty = $format:literal),*) => {
+        numbers!($($number = $format),*);
+        $(impl Key for $number {})*
+    };
+}
+
+keys!(i8 = b"c\0", i16 = b"s\0", i32 = b"i\0", i64 = b"l\0");
+keys!(u8 = b"C\0", u16 = b"S\0", u32 = b"I\0", u64 = b"L\0");
+numbers!(f32 = b"f\0", f64 = b"g\0");
+
+impl Offset for i32 {
+    const TEXTS: &'static [u8] = b"u\0";
+    const BINARY: &'static [u8] = b"z\0";
+    const LIST: &'static [u8] = b"+l\0";
+    fn place(self) -> Option<usize> {
+        usize::try_from(self).ok()
+    }
+}
+
+impl Offset for i64 {
+    const TEXTS: &'static [u8] = b"U\0";
+    const BINARY: &'static [u8] = b"Z\0";
+    const LIST: &'static [u8] = b"+L\0";
+    fn place(self) -> Option<usize> {
+        usize::try_from(self).ok()
+    }
+}
+
+/// Says whether a format stands for numbers that are kept as those of a plain format, `i` or `l`:
+/// dates, times, points in time, spans, decimals.
+pub(crate) fn is_kept_as(format: &str, plain: &[u8]) -> bool {
+    let bits = match format {
+        "tdD" | "tts" | "ttm" | "tiM" => 32,
+        "tdm" | "ttu" | "ttn" | "tDs" | "tDm" | "tDu" | "tDn" | "tiD" => 64,
+        _ if ["tss:", "tsm:", "tsu:", "tsn:"]
+            .iter()
+            .any(|it| format.starts_with(it)) =>
+        {
+            64
+        }
+        _ => decimal_bits(format),
+    };
+    matches!((bits, plain), (32, b"i\0") | (64, b"l\0"))
+}
+
+/// Returns how many bits a decimal of a format such as `d:9,2,32` has, if they are 32 or 64.
+fn decimal_bits(format: &str) -> u32 {
+    let parts: Vec<_> = format
+        .strip_prefix("d:")
+        .unwrap_or_default()
+        .split(',')
+        .collect();
+    match parts[..] {
+        [_, _, "32"] => 32,
+        [_, _, "64"] => 64,
+        _ => 0,
+    }
+}
+
+#[cfg(test)]
+mod tests {
+    use super::is_kept_as;
+
+    #[test]
+    fn formats_fit_the_width_of_their_numbers() {
+        for format in ["tdD", "tts", "ttm", "tiM", "d:9,2,32", "d:9,-2,32"] {
+            assert!(
+                is_kept_as(format, b"i\0") && !is_kept_as(format, b"l\0"),
+                "{format}"
+            );
+        }
+        for format in [
+            "tdm",
+            "ttn",
+            "tDu",
+            "tiD",
+            "tss:",
+            "tsn:Europe/Oslo",
+            "d:18,4,64",
+        ] {
+            assert!(
+                is_kept_as(format, b"l\0") && !is_kept_as(format, b"i\0"),
+                "{format}"
+            );
+        }
+        // "d:9,32" is a decimal of 128 bits with the scale 32.
+        for format in [
+            "",
+            "i",
+            "l",
+            "u",
+            "tin",
+            "d:9,32",
+            "d:9,2",
+            "d:9,2,128",
+            "d:9,2,32,",
+            "+s",
+        ] {
+            assert!(
+                !is_kept_as(format, b"i\0") && !is_kept_as(format, b"l\0"),
+                "{format}"
+            );
+        }
+        assert!(!is_kept_as("tdD", b"I\0"));
+    }
+}

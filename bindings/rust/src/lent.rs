@@ -1,0 +1,71 @@
+//! What an array lends.
+#![forbid(unsafe_code)]
+
+use crate::sys::Foreign;
+use crate::Array;
+use std::borrow::Cow;
+use std::ffi::{c_void, CString};
+use std::sync::Arc;
+
+/// Elements that are borrowed or owned, and whose address stays the same.
+pub(crate) trait Elements: Send + Sync {
+    fn start(&self) -> *const c_void;
+}
+
+impl<T: Send + Sync> Elements for &[T] {
+    fn start(&self) -> *const c_void {
+        self.as_ptr().cast()
+    }
+}
+
+impl<T: Send + Sync> Elements for Vec<T> {
+    fn start(&self) -> *const c_void {
+        self.as_ptr().cast()
+    }
+}
+
+pub(crate) type Buffer<'a> = Arc<dyn Elements + 'a>;
+
+#[derive(Clone)]
+pub(crate) enum Content<'a> {
+    Lent(Arc<Lent<'a>>),
+    #[cfg_attr(not(feature = "ffi"), allow(dead_code))] // nothing else makes one
+    Foreign(Foreign<'a>),
+}
+
+/// What the structs of an array point to.
+#[derive(Clone)]
+pub(crate) struct Lent<'a> {
+    /// The format, with a byte 0 behind it.
+    pub(crate) format: Cow<'static, [u8]>,
+    pub(crate) validity: Option<Buffer<'a>>,
+    /// The buffers behind the validity.
+    pub(crate) buffers: Vec<Buffer<'a>>,
+    pub(crate) fields: Vec<Field<'a>>,
+    /// The entries of a dictionary.
+    pub(crate) entries: Option<Box<Array<'a>>>,
+}
+
+impl Lent<'_> {
+    /// Says whether rows of the type can be null by a validity.
+    pub(crate) fn has_validity(&self) -> bool {
+        *self.format != *b"n\0"
+    }
+}
+
+/// An array inside another.
+#[derive(Clone)]
+pub(crate) struct Field<'a> {
+    pub(crate) name: CString,
+    pub(crate) array: Array<'a>,
+}
+
+impl<'a> Field<'a> {
+    /// Names the items of lists, whose name nothing reads.
+    pub(crate) fn items(array: Array<'a>) -> Vec<Field<'a>> {
+        vec![Field {
+            name: CString::default(),
+            array,
+        }]
+    }
+}

@@ -1,0 +1,31 @@
+#![doc = include_str!("../README.md")]
+#![deny(missing_docs, unsafe_code, unsafe_op_in_unsafe_fn)]
+#![warn(missing_debug_implementations)]
+
+mod array;
+mod bitmap;
+mod calls;
+mod error;
+mod format;
+mod lent;
+mod mask;
+mod structs;
+#[allow(unsafe_code)]
+mod sys;
+
+pub use crate::array::Array;
+pub use crate::bitmap::Bitmap;
+pub use crate::calls::{
+    compare, compare_number, count_ones, count_zeros, equal, equal_counted, equal_with, is_null,
+    leading_ones, leading_zeros, max, min, min_max, not_equal, reduce, sum, trailing_ones,
+    trailing_zeros, version, Join, Options, Test,
+};
+pub use crate::error::Error;
+pub use crate::format::{Key, Number, Offset};
+pub use crate::mask::Mask;
+
+/// The structs of the Arrow C data interface, which [`Array::from_raw`] takes.
+#[cfg(feature = "ffi")]
+pub mod ffi {
+    pub use crate::structs::{ArrowArray, ArrowSchema};
+}

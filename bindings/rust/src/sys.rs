@@ -1,0 +1,154 @@
+//! The calls of libdunkelva: all that the compiler can't check.
+//!
+//! The library reads the structs and what they point to, which is as long as the interface asks
+//! ([`Structs`]). It writes to what it is lent for results alone, no more than their length, and
+//! keeps nothing. So the functions of this module are safe, but for `from_raw`.
+
+use crate::structs::{ArrowArray, ArrowSchema, Structs};
+use std::ffi::CStr;
+use std::os::raw::{c_char, c_uint};
+
+/// A number of 128 bits, or none.
+#[repr(C)]
+#[derive(Default)]
+pub(crate) struct Wide {
+    pub(crate) low: u64,
+    pub(crate) high: u64,
+    pub(crate) exists: u64,
+}
+
+#[rustfmt::skip]
+extern "C" {
+    fn dunkelva_equal(lt: &ArrowSchema, l: &ArrowArray, rt: &ArrowSchema, r: &ArrowArray,
+        flags: u32, out: *mut u8, out_bytes: usize) -> i32;
+    fn dunkelva_equal_rows(lt: &ArrowSchema, l: &ArrowArray, l_first: i64, rt: &ArrowSchema,
+        r: &ArrowArray, r_first: i64, rows: i64, flags: u32, out: *mut u8, out_bytes: usize,
+        comparisons: &mut u64) -> i32;
+    fn dunkelva_is_null(t: &ArrowSchema, a: &ArrowArray, out: *mut u8, out_bytes: usize,
+        count: *mut u64) -> i32;
+    fn dunkelva_compare(test: c_uint, lt: &ArrowSchema, l: &ArrowArray, rt: &ArrowSchema,
+        r: &ArrowArray, out: *mut u8, out_bytes: usize) -> i32;
+    fn dunkelva_compare_number(test: c_uint, t: &ArrowSchema, a: &ArrowArray, number: &Wide,
+        out: *mut u8, out_bytes: usize) -> i32;
+    fn dunkelva_sum(t: &ArrowSchema, a: &ArrowArray, sum: &mut Wide) -> i32;
+    fn dunkelva_min_max(t: &ArrowSchema, a: &ArrowArray, least: &mut Wide,
+        greatest: &mut Wide) -> i32;
+    fn dunkelva_reduce_bits(join: c_uint, t: &ArrowSchema, a: &ArrowArray,
+        result: &mut Wide) -> i32;
+    fn dunkelva_count_bits(bits: c_uint, t: &ArrowSchema, a: &ArrowArray, counts: *mut u32,
+        counts_len: usize) -> i32;
+    fn dunkelva_version() -> *const c_char;
+}
+
+// SAFETY, of each call below: see the module's comment. A slice that is lent for a result has the
+// length that is passed with it.
+
+pub(crate) fn equal(l: &Structs<'_>, r: &Structs<'_>, flags: u32, out: &mut [u8]) -> i32 {
+    let (at, len) = (out.as_mut_ptr(), out.len());
+    unsafe { dunkelva_equal(&l.schema, &l.array, &r.schema, &r.array, flags, at, len) }
+}
+
+/// Compares all rows of the left array with as many of the right one.
+pub(crate) fn equal_rows(
+    l: &Structs<'_>,
+    r: &Structs<'_>,
+    flags: u32,
+    out: &mut [u8],
+    count: &mut u64,
+) -> i32 {
+    let (ls, la, rs, ra) = (&l.schema, &l.array, &r.schema, &r.array);
+    let (at, len) = (out.as_mut_ptr(), out.len());
+    unsafe { dunkelva_equal_rows(ls, la, 0, rs, ra, 0, la.length, flags, at, len, count) }
+}
+
+pub(crate) fn is_null(a: &Structs<'_>, out: &mut [u8]) -> i32 {
+    let (at, len) = (out.as_mut_ptr(), out.len());
+    unsafe { dunkelva_is_null(&a.schema, &a.array, at, len, std::ptr::null_mut()) }
+}
+
+pub(crate) fn compare(test: c_uint, l: &Structs<'_>, r: &Structs<'_>, out: &mut [u8]) -> i32 {
+    let (at, len) = (out.as_mut_ptr(), out.len());
+    unsafe { dunkelva_compare(test, &l.schema, &l.array, &r.schema, &r.array, at, len) }
+}
+
+pub(crate) fn compare_number(test: c_uint, a: &Structs<'_>, number: &Wide, out: &mut [u8]) -> i32 {
+    let (at, len) = (out.as_mut_ptr(), out.len());
+    unsafe { dunkelva_compare_number(test, &a.schema, &a.array, number, at, len) }
+}
+
+pub(crate) fn sum(a: &Structs<'_>, sum: &mut Wide) -> i32 {
+    unsafe { dunkelva_sum(&a.schema, &a.array, sum) }
+}
+
+pub(crate) fn min_max(a: &Structs<'_>, least: &mut Wide, greatest: &mut Wide) -> i32 {
+    unsafe { dunkelva_min_max(&a.schema, &a.array, least, greatest) }
+}
+
+pub(crate) fn reduce_bits(join: c_uint, a: &Structs<'_>, result: &mut Wide) -> i32 {
+    unsafe { dunkelva_reduce_bits(join, &a.schema, &a.array, result) }
+}
+
+pub(crate) fn count_bits(bits: c_uint, a: &Structs<'_>, counts: &mut [u32]) -> i32 {
+    let (at, len) = (counts.as_mut_ptr(), counts.len());
+    unsafe { dunkelva_count_bits(bits, &a.schema, &a.array, at, len) }
+}
+
+pub(crate) fn version() -> &'static str {
+    // SAFETY: the library returns a constant text.
+    unsafe { CStr::from_ptr(dunkelva_version()) }
+        .to_str()
+        .unwrap_or_default()
+}
+
+/// Structs of another crate, which `from_raw` alone makes.
+#[derive(Clone, Copy)]
+pub(crate) struct Foreign<'a> {
+    schema: &'a ArrowSchema,
+    array: &'a ArrowArray,
+}
+
+// SAFETY: `from_raw` asks that nothing writes to the structs, or to what they point to, for 'a.
+unsafe impl Send for Foreign<'_> {}
+unsafe impl Sync for Foreign<'_> {}
+
+impl<'a> Foreign<'a> {
+    pub(crate) fn schema(&self) -> &'a ArrowSchema {
+        self.schema
+    }
+
+    pub(crate) fn array(&self) -> &'a ArrowArray {
+        self.array
+    }
+}
+
+/// Arrays of other crates.
+#[cfg(feature = "ffi")]
+impl<'a> crate::Array<'a> {
+    /// Lends a column that another crate has exported, such as an `FFI_ArrowSchema` and an
+    /// `FFI_ArrowArray` of arrow-rs, whose pointers are cast.
+    ///
+    /// Nothing is released. Types that the library does not serve are refused by its calls.
+    ///
+    /// # Safety
+    ///
+    /// Each pointer is null, or points to a struct that keeps the rules of the
+    /// [Arrow C data interface](https://arrow.apache.org/docs/format/CDataInterface.html), and has
+    /// buffers as long as these ask. For `'a` nothing releases the structs or writes to them or to
+    /// what they point to, in this thread or another.
+    ///
+    /// # Errors
+    ///
+    /// [`Error::BadStructs`](crate::Error::BadStructs), if a pointer is null, or if the length or
+    /// the offset is below 0.
+    pub unsafe fn from_raw(
+        schema: *const ArrowSchema,
+        array: *const ArrowArray,
+    ) -> Result<Self, crate::Error> {
+        // SAFETY: the caller promises it.
+        let structs = unsafe { schema.as_ref().zip(array.as_ref()) };
+        let (schema, array) = structs.ok_or(crate::Error::BadStructs)?;
+        let place = |it| usize::try_from(it).map_err(|_| crate::Error::BadStructs);
+        let (rows, offset) = (place(array.length)?, place(array.offset)?);
+        Ok(Self::foreign(Foreign { schema, array }, rows, offset))
+    }
+}

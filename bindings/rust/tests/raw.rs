@@ -1,0 +1,162 @@
+//! Columns of other crates, by pointers to their structs.
+#![cfg(feature = "ffi")]
+
+mod common;
+
+use common::digits;
+use dunkelva::ffi::{ArrowArray, ArrowSchema};
+use dunkelva::{compare_number, equal, is_null, sum, Array, Bitmap, Error, Test};
+use std::os::raw::{c_char, c_void};
+use std::ptr;
+
+/// A struct as another crate declares it, with members that this crate does not see.
+#[repr(C)]
+struct OtherSchema {
+    format: *const c_char,
+    name: *const c_char,
+    metadata: *const c_char,
+    flags: i64,
+    n_children: i64,
+    children: *mut *mut OtherSchema,
+    dictionary: *mut OtherSchema,
+    release: Option<unsafe extern "C" fn(*mut OtherSchema)>,
+    private_data: *mut c_void,
+}
+
+#[repr(C)]
+struct OtherArray {
+    length: i64,
+    null_count: i64,
+    offset: i64,
+    n_buffers: i64,
+    n_children: i64,
+    buffers: *mut *const c_void,
+    children: *mut *mut OtherArray,
+    dictionary: *mut OtherArray,
+    release: Option<unsafe extern "C" fn(*mut OtherArray)>,
+    private_data: *mut c_void,
+}
+
+unsafe extern "C" fn never_schema(_: *mut OtherSchema) {
+    panic!("a lent schema is not released");
+}
+
+unsafe extern "C" fn never_array(_: *mut OtherArray) {
+    panic!("a lent array is not released");
+}
+
+/// An exported column of numbers, which keeps its buffers.
+struct Exported {
+    schema: OtherSchema,
+    array: OtherArray,
+    _buffers: Vec<*const c_void>,
+}
+
+impl Exported {
+    /// Exports `rows` numbers of a slice, those behind `offset` others.
+    fn new(format: &'static [u8], values: &[i32], present: &[u8], offset: i64, rows: i64) -> Self {
+        let mut buffers = vec![present.as_ptr().cast(), values.as_ptr().cast()];
+        let schema = OtherSchema {
+            format: format.as_ptr().cast(),
+            name: ptr::null(),
+            metadata: ptr::null(),
+            flags: 0,
+            n_children: 0,
+            children: ptr::null_mut(),
+            dictionary: ptr::null_mut(),
+            release: Some(never_schema),
+            private_data: ptr::null_mut(),
+        };
+        let array = OtherArray {
+            length: rows,
+            null_count: -1,
+            offset,
+            n_buffers: 2,
+            n_children: 0,
+            buffers: buffers.as_mut_ptr(),
+            children: ptr::null_mut(),
+            dictionary: ptr::null_mut(),
+            release: Some(never_array),
+            private_data: ptr::null_mut(),
+        };
+        Exported {
+            schema,
+            array,
+            _buffers: buffers,
+        }
+    }
+
+    fn array(&self) -> Result<Array<'_>, Error> {
+        let schema: *const ArrowSchema = ptr::addr_of!(self.schema).cast();
+        let array: *const ArrowArray = ptr::addr_of!(self.array).cast();
+        // SAFETY: the structs are good, and are borrowed as long as the array lives.
+        unsafe { Array::from_raw(schema, array) }
+    }
+}
+
+const VALUES: [i32; 6] = [9, 1, 2, 3, 4, 9];
+
+#[test]
+fn a_column_of_another_crate() -> Result<(), Error> {
+    let present = [0b11_0111];
+    let exported = Exported::new(b"i\0", &VALUES, &present, 1, 4); // 1 2 null 4
+    let array = exported.array()?;
+    assert_eq!(array.len(), 4);
+    let own: Array<'_> = [Some(1), Some(2), None, Some(4)].into_iter().collect();
+    assert_eq!(digits(&equal(&array, &own)?), "1111");
+    assert_eq!(digits(&is_null(&array)?), "0010");
+    assert_eq!(sum(&array)?, Some(7));
+    let window = array.slice(1, 3)?; // 2 null 4
+    assert_eq!(digits(&compare_number(&window, Test::Greater, 2)?), "001");
+    assert_eq!(array.slice(1, 4).map(drop), Err(Error::BadArgument));
+    Ok(())
+}
+
+#[test]
+fn a_column_of_another_crate_in_lists_and_structs() -> Result<(), Error> {
+    let exported = Exported::new(b"i\0", &VALUES, &[0xff], 1, 4); // 1 2 3 4
+    let lists = Array::list(&[0, 1, 4], exported.array()?)?;
+    let own = Array::list(&[0, 1, 4], Array::numbers(&[1, 2, 0, 4]))?;
+    assert_eq!(digits(&equal(&lists, &own)?), "10");
+    let rows = Array::structs(3, [("a", exported.array()?.slice(1, 3)?)])?;
+    let own = Array::structs(3, [("a", Array::numbers(&[2, 3, 0]))])?;
+    assert_eq!(digits(&equal(&rows, &own)?), "110");
+    let told = Array::list(&[0, 5], exported.array()?)
+        .unwrap_err()
+        .to_string();
+    assert_eq!(told, "the items have length 4, and 5 is needed");
+    Ok(())
+}
+
+#[test]
+fn structs_that_are_refused() -> Result<(), Error> {
+    // SAFETY: null pointers are allowed.
+    let nothing = unsafe { Array::from_raw(ptr::null(), ptr::null()) };
+    assert_eq!(nothing.map(drop), Err(Error::BadStructs));
+    for (offset, rows) in [(0, -1), (-1, 0)] {
+        let exported = Exported::new(b"i\0", &VALUES, &[0xff], offset, rows);
+        assert_eq!(exported.array().map(drop), Err(Error::BadStructs));
+    }
+    let mut exported = Exported::new(b"i\0", &VALUES, &[0xff], 0, 6);
+    exported.schema.release = None;
+    let array = exported.array()?;
+    assert_eq!(equal(&array, &array), Err(Error::BadStructs));
+    let exported = Exported::new(b"+us:0\0", &VALUES, &[0xff], 0, 6);
+    let array = exported.array()?;
+    assert_eq!(equal(&array, &array), Err(Error::NotServed));
+    let present = Bitmap::new(&[0xff], 0, 6)?;
+    assert_eq!(
+        array.with_validity(present).map(drop),
+        Err(Error::BadArgument)
+    );
+    Ok(())
+}
+
+#[test]
+fn a_column_can_be_sent() -> Result<(), Error> {
+    let exported = Exported::new(b"i\0", &VALUES, &[0xff], 0, 6);
+    let array = exported.array()?;
+    let total = std::thread::scope(|scope| scope.spawn(|| sum(&array)).join().unwrap());
+    assert_eq!(total, Ok(Some(28)));
+    Ok(())
+}

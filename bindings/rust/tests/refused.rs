@@ -1,0 +1,242 @@
+//! Lies about lengths, and what else is refused.
+
+mod common;
+
+use dunkelva::{
+    compare, compare_number, equal, equal_counted, is_null, min_max, sum, Array, Bitmap, Error,
+    Options, Test,
+};
+
+/// Returns the message of an error.
+fn message<T: std::fmt::Debug>(result: Result<T, Error>) -> String {
+    result.unwrap_err().to_string()
+}
+
+#[test]
+fn bits_that_are_too_few() {
+    assert!(Bitmap::new(&[0; 2], 3, 13).is_ok());
+    assert_eq!(
+        message(Bitmap::new(&[0; 2], 3, 14)),
+        "the bits have length 16, and 17 is needed"
+    );
+    for (first, rows) in [(usize::MAX, 1), (1, usize::MAX), (17, 0)] {
+        assert!(matches!(
+            Bitmap::new(&[0; 2], first, rows),
+            Err(Error::Length { .. })
+        ));
+    }
+    assert_eq!(Bitmap::new(&[0xff], 0, 8).unwrap().get(8), None);
+    assert_eq!(Bitmap::new(&[0xff], 3, 5).unwrap().get(usize::MAX), None);
+}
+
+#[test]
+fn validities_of_another_length() {
+    for rows in [2, 4] {
+        let present = Bitmap::new(&[0xff], 0, rows).unwrap();
+        let what = "bits of the validity";
+        let refused = Err(Error::Length {
+            what,
+            has: rows,
+            needs: 3,
+        });
+        assert_eq!(
+            Array::numbers(&[1, 2, 3]).with_validity(present).map(drop),
+            refused
+        );
+    }
+    let present = Bitmap::new(&[0xff], 0, 2).unwrap();
+    assert_eq!(
+        Array::nulls(2).with_validity(present).map(drop),
+        Err(Error::BadArgument)
+    );
+}
+
+#[test]
+fn offsets_that_lie() {
+    let told = "the bytes have length 3, and 4 is needed";
+    assert_eq!(message(Array::texts(&[0, 1, 4], b"abc")), told);
+    assert_eq!(message(Array::binary(&[0_i64, 4], b"abc")), told);
+    assert_eq!(message(Array::texts(&[4_i64], b"abc")), told);
+    let told = "the items have length 2, and 3 is needed";
+    assert_eq!(
+        message(Array::list(&[0, 1, 3], Array::numbers(&[1, 2]))),
+        told
+    );
+    for offsets in [
+        [0, 2, 1],
+        [-1, 0, 1],
+        [0, -1, 1],
+        [i32::MAX, 0, 1],
+        [0, 9, 1],
+    ] {
+        assert_eq!(
+            Array::texts(&offsets, b"abc").map(drop),
+            Err(Error::BadArray)
+        );
+        let large = offsets.map(i64::from);
+        assert_eq!(
+            Array::binary(&large, b"abc").map(drop),
+            Err(Error::BadArray)
+        );
+        assert_eq!(
+            Array::list(&large, Array::nulls(9)).map(drop),
+            Err(Error::BadArray)
+        );
+    }
+}
+
+#[test]
+fn sizes_that_lie() {
+    assert!(Array::fixed_size_binary(3, 2, b"abcdef").is_ok());
+    assert_eq!(
+        message(Array::fixed_size_binary(3, 2, b"abcde")),
+        "the bytes have length 5, and 6 is needed"
+    );
+    assert!(Array::fixed_size_binary(usize::MAX, 2, b"abcde").is_err());
+    assert_eq!(
+        message(Array::fixed_size_list(
+            2,
+            3,
+            Array::numbers(&[1, 2, 3, 4, 5])
+        )),
+        "the items have length 5, and 6 is needed"
+    );
+}
+
+#[test]
+fn fields_of_other_lengths() {
+    for count in [1, 3] {
+        let fields = [("a", Array::nulls(2)), ("b", Array::nulls(count))];
+        assert_eq!(
+            message(Array::structs(2, fields)),
+            format!("the rows of a field have length {count}, and 2 is needed")
+        );
+    }
+    let named = Array::structs(1, [("a\0b", Array::nulls(1))]);
+    assert_eq!(named.map(drop), Err(Error::BadArgument));
+}
+
+#[test]
+fn windows_outside() {
+    let array = Array::numbers(&[1, 2, 3]);
+    assert_eq!(array.slice(3, 0).map(|it| it.len()), Ok(0));
+    for (first, rows) in [(0, 4), (4, 0), (2, 2), (usize::MAX, 1), (1, usize::MAX)] {
+        assert_eq!(array.slice(first, rows).map(drop), Err(Error::BadArgument));
+    }
+}
+
+#[test]
+fn formats_that_do_not_fit() {
+    let formats = [
+        "tdm", "l", "", "d:9,32", "d:9,2", "tdD\0", "tdDx", "+s", "w:4",
+    ];
+    for format in formats {
+        let array = Array::numbers(&[1, 2]).with_format(format);
+        assert_eq!(array.map(drop), Err(Error::BadArgument), "{format:?}");
+    }
+    let days = Array::numbers(&[1, 2]).with_format("tdD").unwrap();
+    assert_eq!(days.with_format("tts").map(drop), Err(Error::BadArgument));
+    let keys = Array::dictionary(&[0_i32], Array::nulls(1)).unwrap();
+    assert_eq!(keys.with_format("tdD").map(drop), Err(Error::BadArgument));
+    // a format that the library can't read
+    let odd = Array::numbers(&[1_i64]).with_format("d:x,2,64").unwrap();
+    assert_eq!(equal(&odd, &odd), Err(Error::NotServed));
+}
+
+#[test]
+fn keys_that_name_no_entry() {
+    for key in [2_i16, -1, i16::MAX] {
+        let keys = [0, key];
+        let array = Array::dictionary(&keys, Array::numbers(&[5, 6])).unwrap();
+        assert_eq!(equal(&array, &array), Err(Error::BadArray));
+        // under a null a key may be anything
+        let present = Bitmap::new(&[0b01], 0, 2).unwrap();
+        let array = array.with_validity(present).unwrap();
+        assert!(equal(&array, &array).unwrap().all());
+    }
+}
+
+#[test]
+fn types_and_lengths_that_differ() {
+    let (short, long) = (Array::numbers(&[1]), Array::numbers(&[1, 2]));
+    let wide = Array::numbers(&[1_i64]);
+    for other in [&long, &wide] {
+        assert_eq!(equal(&short, other), Err(Error::TypesDiffer));
+        assert_eq!(equal(other, &short), Err(Error::TypesDiffer));
+        assert_eq!(compare(&short, Test::Less, other), Err(Error::TypesDiffer));
+        let counted = equal_counted(&short, other, Options::default());
+        assert_eq!(counted, Err(Error::TypesDiffer));
+    }
+}
+
+#[test]
+fn types_that_a_call_does_not_take() {
+    let bytes = Array::binary(&[0, 1], b"a").unwrap();
+    assert_eq!(sum(&bytes), Err(Error::NotServed));
+    assert_eq!(min_max(&Array::numbers(&[1.5])), Err(Error::NotServed));
+    assert_eq!(compare_number(&bytes, Test::Less, 1), Err(Error::NotServed));
+    assert_eq!(sum(&Array::decimals(&[1], 38, 0)), Err(Error::NotServed));
+    assert_eq!(compare(&bytes, Test::Less, &bytes), Err(Error::NotServed));
+}
+
+#[test]
+fn types_that_are_too_many() {
+    let mut array = Array::numbers(&[1]);
+    for _ in 1..64 {
+        array = Array::list(&[0, 1], array).unwrap();
+    }
+    assert!(equal(&array, &array).unwrap().all());
+    assert_eq!(
+        Array::list(&[0, 1], array).map(drop),
+        Err(Error::BadStructs)
+    );
+    let mut array = Array::numbers(&[1]);
+    for _ in 0..19 {
+        array = Array::structs(1, [("a", array.clone()), ("b", array)]).unwrap();
+    }
+    let twice = [("a", array.clone()), ("b", array)];
+    assert_eq!(Array::structs(1, twice).map(drop), Err(Error::BadStructs));
+}
+
+#[test]
+fn rows_that_are_too_many() {
+    let array = Array::nulls(usize::MAX);
+    assert!(matches!(
+        is_null(&array),
+        Err(Error::NoMemory | Error::BadStructs)
+    ));
+    assert!(matches!(
+        equal(&array, &array),
+        Err(Error::NoMemory | Error::BadStructs)
+    ));
+    let array = Array::structs::<&str>(usize::MAX / 2, []).unwrap();
+    assert!(equal(&array, &array).is_err());
+}
+
+#[test]
+fn each_error_has_a_message() {
+    let errors = [
+        Error::BadArray,
+        Error::TypesDiffer,
+        Error::NoRoom,
+        Error::NoMemory,
+        Error::NotServed,
+        Error::BadStructs,
+        Error::BadArgument,
+        Error::Length {
+            what: "bits",
+            has: 1,
+            needs: 2,
+        },
+        Error::Unknown(99),
+    ];
+    let mut messages: Vec<_> = errors.iter().map(ToString::to_string).collect();
+    messages.sort();
+    messages.dedup();
+    assert_eq!(messages.len(), errors.len());
+    assert_eq!(
+        Error::Unknown(99).to_string(),
+        "unknown status 99 of libdunkelva"
+    );
+    let _: Box<dyn std::error::Error + Send + Sync> = Error::NotServed.into();
+}

@@ -1,0 +1,317 @@
+//! Rows worked out by hand.
+
+mod common;
+
+use common::digits;
+use dunkelva::{
+    compare, compare_number, count_ones, equal, equal_counted, equal_with, is_null, leading_zeros,
+    max, min, min_max, not_equal, reduce, sum, trailing_ones, version, Array, Bitmap, Error, Join,
+    Options, Test,
+};
+
+const FLOATS: Options = Options {
+    floats_by_bits: true,
+    check_texts: false,
+};
+const CHECKED: Options = Options {
+    floats_by_bits: false,
+    check_texts: true,
+};
+
+fn same(left: &Array<'_>, right: &Array<'_>) -> Result<String, Error> {
+    equal(left, right).map(|it| digits(&it))
+}
+
+#[test]
+fn numbers_of_each_type() -> Result<(), Error> {
+    macro_rules! each {
+        ($($number:ty),*) => {
+            $(
+                let left = [0, 1, <$number>::MAX, <$number>::MIN, 7];
+                let right = [0, 2, <$number>::MAX, <$number>::MIN, 8];
+                assert_eq!(same(&Array::numbers(&left), &Array::numbers(&right))?, "10110");
+                assert_eq!(same(&Array::from(&left[..]), &Array::from(right.to_vec()))?, "10110");
+            )*
+        };
+    }
+    each!(i8, i16, i32, i64, u8, u16, u32, u64);
+    let decimals = [i128::MAX, i128::MIN, 1 << 64, 1];
+    let others = [i128::MAX, i128::MIN, 0, 1];
+    assert_eq!(
+        same(
+            &Array::decimals(&decimals, 38, 2),
+            &Array::decimals(&others, 38, 2)
+        )?,
+        "1101"
+    );
+    Ok(())
+}
+
+#[test]
+fn null_is_equal_to_null_alone() -> Result<(), Error> {
+    // 1 null 3 null and 1 null 0 4, with other numbers under the nulls
+    let left = Array::numbers(&[1, 2, 3, 4]).with_validity(Bitmap::new(&[0b0101], 0, 4)?)?;
+    let right = Array::numbers(&[1, 9, 0, 4]).with_validity(Bitmap::new(&[0b1101], 0, 4)?)?;
+    assert_eq!(same(&left, &right)?, "1100");
+    assert_eq!(digits(&not_equal(&left, &right)?), "0011");
+    assert_eq!(digits(&is_null(&left)?), "0101");
+    // no validity: all rows are present
+    assert_eq!(same(&left, &Array::numbers(&[1, 2, 3, 4]))?, "1010");
+    assert_eq!(same(&Array::nulls(3), &Array::nulls(3))?, "111");
+    Ok(())
+}
+
+#[test]
+fn validities_begin_at_any_bit() -> Result<(), Error> {
+    for first in 0..20 {
+        // the third of four rows is null; bits before and behind are 1
+        let bytes = (!(0b100_u32 << first)).to_le_bytes();
+        let present = Bitmap::new(&bytes, first, 4)?;
+        let array = Array::numbers(&[5_u8, 6, 7, 8]).with_validity(present)?;
+        assert_eq!(digits(&is_null(&array)?), "0010", "{first}");
+        let late = Array::numbers(&[0_u8, 0, 5, 6, 7, 8])
+            .slice(2, 4)?
+            .with_validity(present)?;
+        assert_eq!(same(&array, &late)?, "1111", "{first}");
+        let truths = Array::booleans(present).with_validity(Bitmap::new(&[0b10110], 1, 4)?)?;
+        assert_eq!(digits(&is_null(&truths)?), "0010", "{first}");
+        assert_eq!(
+            same(&truths, &Array::booleans(Bitmap::new(&[0b1011], 0, 4)?))?,
+            "1101"
+        );
+    }
+    Ok(())
+}
+
+#[test]
+fn texts_and_byte_strings() -> Result<(), Error> {
+    let texts = Array::from_texts([Some(""), Some("ab"), None, Some("c")])?;
+    // "xab" begins behind a byte, and row 2 has a text under its null
+    let lent = Array::texts(&[1, 1, 3, 4, 5], b"xab?d")?;
+    let lent = lent.with_validity(Bitmap::new(&[0b1011], 0, 4)?)?;
+    assert_eq!(same(&texts, &lent)?, "1110");
+    let large = Array::texts(&[0_i64, 1, 3], b"abc")?;
+    assert_eq!(same(&large, &Array::texts(&[0_i64, 2, 3], b"abc")?)?, "00");
+    assert_eq!(
+        same(&large, &Array::texts(&[0_i32, 1, 3], b"abc")?),
+        Err(Error::TypesDiffer)
+    );
+    let binary = Array::binary(&[0, 1, 3], &[0, 1, 2])?;
+    assert_eq!(
+        same(&binary, &Array::binary(&[0, 1, 3], &[0, 1, 3])?)?,
+        "10"
+    );
+    let sized = Array::fixed_size_binary(2, 2, b"abcd")?;
+    assert_eq!(
+        same(&sized, &Array::fixed_size_binary(2, 2, b"abcx")?)?,
+        "10"
+    );
+    assert_eq!(
+        same(
+            &Array::fixed_size_binary(2, 0, b"")?,
+            &Array::fixed_size_binary(2, 0, b"")?
+        )?,
+        "11"
+    );
+    Ok(())
+}
+
+#[test]
+fn texts_are_checked_if_asked() -> Result<(), Error> {
+    let bad = Array::texts(&[0, 1, 2], b"a\xff")?;
+    assert_eq!(same(&bad, &bad)?, "11");
+    assert_eq!(equal_with(&bad, &bad, CHECKED), Err(Error::BadArray));
+    assert_eq!(
+        digits(&equal_with(&bad.slice(0, 1)?, &bad.slice(0, 1)?, CHECKED)?),
+        "1"
+    );
+    Ok(())
+}
+
+#[test]
+fn floats_are_compared_by_their_bits_if_asked() -> Result<(), Error> {
+    let left = Array::numbers(&[1.5, f64::NAN, 0.0]);
+    let right = Array::numbers(&[1.5, f64::NAN, -0.0]);
+    assert_eq!(same(&left, &right), Err(Error::NotServed));
+    assert_eq!(digits(&equal_with(&left, &right, FLOATS)?), "110");
+    let halves = Array::numbers(&[0.5_f32]);
+    assert_eq!(digits(&equal_with(&halves, &halves, FLOATS)?), "1");
+    assert_eq!(digits(&is_null(&left)?), "000");
+    Ok(())
+}
+
+#[test]
+fn lists() -> Result<(), Error> {
+    // [1, 2] [] null [3] and [1, 2] null null [4]
+    let left = Array::list(&[0, 2, 2, 2, 3], Array::numbers(&[1, 2, 3]))?
+        .with_validity(Bitmap::new(&[0b1011], 0, 4)?)?;
+    let right = Array::list(&[1, 3, 3, 4, 5], Array::numbers(&[0, 1, 2, 9, 4]))?
+        .with_validity(Bitmap::new(&[0b1001], 0, 4)?)?;
+    assert_eq!(same(&left, &right)?, "1010");
+    assert_eq!(same(&left.slice(1, 2)?, &right.slice(1, 2)?)?, "01");
+    let large = Array::list(&[0_i64, 1, 3], Array::numbers(&[1, 2, 3]))?;
+    assert_eq!(same(&large, &large)?, "11");
+    assert_eq!(same(&large, &left.slice(0, 2)?), Err(Error::TypesDiffer));
+    // [1, 2] [3, 4] and [1, 2] [3, null]
+    let whole = Array::fixed_size_list(2, 2, Array::numbers(&[1, 2, 3, 4]))?;
+    let items: Array<'_> = [Some(1), Some(2), Some(3), None].into_iter().collect();
+    let other = Array::fixed_size_list(2, 2, items)?;
+    assert_eq!(same(&whole, &other)?, "10");
+    assert_eq!(same(&whole.slice(1, 1)?, &other.slice(0, 1)?)?, "0");
+    Ok(())
+}
+
+#[test]
+fn structs() -> Result<(), Error> {
+    let row = |ids: &'static [i64], names| {
+        Array::structs(3, [("id", Array::numbers(ids)), ("name", names)])
+    };
+    let left = row(&[1, 2, 3], Array::from_texts([Some("a"), Some("b"), None])?)?;
+    let right = row(&[1, 0, 3], Array::from_texts([Some("x"), Some("b"), None])?)?;
+    assert_eq!(same(&left, &right)?, "001");
+    let left = left.with_validity(Bitmap::new(&[0b110], 0, 3)?)?;
+    assert_eq!(same(&left, &right)?, "001");
+    let right = right.with_validity(Bitmap::new(&[0b100], 0, 3)?)?;
+    assert_eq!(same(&left, &right)?, "101");
+    assert_eq!(same(&left.slice(2, 1)?, &right.slice(2, 1)?)?, "1");
+    let named = |name: &str| Array::structs(1, [(name, Array::numbers(&[1]))]);
+    assert_eq!(same(&named("a")?, &named("b")?), Err(Error::TypesDiffer));
+    let empty = Array::structs::<&str>(2, [])?;
+    assert_eq!(same(&empty, &empty)?, "11");
+    Ok(())
+}
+
+#[test]
+fn dictionaries() -> Result<(), Error> {
+    // b a null b, by other keys of other entries
+    let left = Array::dictionary(
+        &[1_u8, 0, 200, 1],
+        Array::from_texts([Some("a"), Some("b")])?,
+    )?
+    .with_validity(Bitmap::new(&[0b1011], 0, 4)?)?;
+    let entries = Array::from_texts([Some("b"), None, Some("a"), Some("c")])?;
+    let right = Array::dictionary(&[0_u8, 2, 1, 3], entries)?;
+    assert_eq!(same(&left, &right)?, "1110");
+    assert_eq!(is_null(&left), Err(Error::NotServed));
+    let other = Array::dictionary(&[0_i8, 0, 0, 0], Array::from_texts([Some("a")])?)?;
+    assert_eq!(same(&left, &other), Err(Error::TypesDiffer));
+    Ok(())
+}
+
+#[test]
+fn comparisons_are_counted() -> Result<(), Error> {
+    let left = Array::list(&[0, 2, 3], Array::numbers(&[1, 2, 3]))?;
+    let right = Array::list(&[0, 2, 3], Array::numbers(&[1, 5, 3]))?;
+    let (found, comparisons) = equal_counted(&left, &right, Options::default())?;
+    assert_eq!((digits(&found).as_str(), comparisons), ("01", 3));
+    Ok(())
+}
+
+#[test]
+fn comparisons_of_numbers() -> Result<(), Error> {
+    let left: Array<'_> = [Some(1), Some(2), Some(3), None, None]
+        .into_iter()
+        .collect();
+    let right: Array<'_> = [Some(2), Some(2), Some(2), Some(2), None]
+        .into_iter()
+        .collect();
+    let by_arrays = [
+        (Test::Equal, "01001", "01000"),
+        (Test::Unequal, "10110", "10111"),
+        (Test::Less, "10000", "10000"),
+        (Test::LessOrEqual, "11000", "11000"),
+        (Test::Greater, "00100", "00100"),
+        (Test::GreaterOrEqual, "01100", "01100"),
+    ];
+    for (test, with_array, with_number) in by_arrays {
+        assert_eq!(
+            digits(&compare(&left, test, &right)?),
+            with_array,
+            "{test:?}"
+        );
+        assert_eq!(
+            digits(&compare_number(&left, test, 2)?),
+            with_number,
+            "{test:?}"
+        );
+    }
+    let days = Array::numbers(&[19_000, 19_001]).with_format("tdD")?;
+    assert_eq!(digits(&compare_number(&days, Test::Less, 19_001)?), "10");
+    Ok(())
+}
+
+#[test]
+fn reductions() -> Result<(), Error> {
+    let rows: Array<'_> = [Some(100_i8), None, Some(100), Some(-3)]
+        .into_iter()
+        .collect();
+    assert_eq!(sum(&rows)?, Some(-59)); // 197 - 256
+    assert_eq!(min_max(&rows)?, Some((-3, 100)));
+    assert_eq!((min(&rows)?, max(&rows)?), (Some(-3), Some(100)));
+    assert_eq!(reduce(Join::And, &rows)?, Some(100)); // 100 is 0b0110_0100, -3 is 0b1111_1101
+    assert_eq!(reduce(Join::Or, &rows)?, Some(-3));
+    assert_eq!(reduce(Join::Xor, &rows)?, Some(-3));
+    let greatest = Array::numbers(&[u64::MAX, 0]);
+    assert_eq!(sum(&greatest)?, Some(i128::from(u64::MAX)));
+    assert_eq!(min_max(&greatest)?, Some((0, i128::from(u64::MAX))));
+    let none: Array<'_> = [None::<i64>, None].into_iter().collect();
+    assert_eq!(
+        (sum(&none)?, min_max(&none)?, reduce(Join::Or, &none)?),
+        (None, None, None)
+    );
+    assert_eq!((min(&none)?, max(&none)?), (None, None));
+    Ok(())
+}
+
+#[test]
+fn counts_of_bits() -> Result<(), Error> {
+    let rows: Array<'_> = [Some(0b0001_0111_u8), None, Some(0)].into_iter().collect();
+    assert_eq!(count_ones(&rows)?, [Some(4), None, Some(0)]);
+    assert_eq!(leading_zeros(&rows)?, [Some(3), None, Some(8)]);
+    assert_eq!(trailing_ones(&rows)?, [Some(3), None, Some(0)]);
+    Ok(())
+}
+
+#[test]
+fn no_rows() -> Result<(), Error> {
+    for array in [
+        Array::numbers::<i32>(&[]),
+        Array::texts::<i64>(&[], b"")?,
+        Array::list::<i32>(&[], Array::numbers(&[1]))?,
+        Array::nulls(0),
+        Array::booleans(Bitmap::new(&[], 0, 0)?),
+        Array::dictionary::<u8>(&[], Array::numbers(&[1]))?,
+    ] {
+        assert!(array.is_empty());
+        let found = equal(&array, &array)?;
+        assert!(found.is_empty() && found.as_bytes().is_empty() && found.all() && !found.any());
+    }
+    Ok(())
+}
+
+#[test]
+fn masks() -> Result<(), Error> {
+    let numbers: Vec<u16> = (0..20).collect();
+    let big = compare_number(&Array::numbers(&numbers), Test::GreaterOrEqual, 17)?;
+    assert_eq!(
+        (big.len(), big.count(), big.any(), big.all()),
+        (20, 3, true, false)
+    );
+    assert_eq!(
+        (big.get(16), big.get(17), big.get(20)),
+        (Some(false), Some(true), None)
+    );
+    assert_eq!(big.as_bytes(), [0, 0, 0b1110]);
+    assert_eq!(big.places().collect::<Vec<_>>(), [17, 18, 19]);
+    let truths = Array::booleans(big.bitmap());
+    assert_eq!(same(&truths, &truths.clone())?, "1".repeat(20));
+    let small = !big.clone();
+    assert_eq!(small.clone().into_bytes(), [255, 255, 0b0001]);
+    assert_eq!(!small, big);
+    Ok(())
+}
+
+#[test]
+fn the_version_is_that_of_the_package() {
+    assert_eq!(version(), env!("CARGO_PKG_VERSION"));
+}
