@@ -114,53 +114,20 @@ static int32_t lend_strings(struct walk *walk, struct part *part, const struct A
   return lend(walk, &part->u8s, array->buffers[2], (int64_t)part->base, length, 1);
 }
 
-/* Returns a number of 32 bits of a view. */
-static uint32_t view_word(const uint8_t *view, size_t place) {
-  uint32_t word = 0;
-  memcpy(&word, view + 4 * place, sizeof word);
-  return word;
-}
-
-/* Finds how far the buffers are used by views: up to the last byte that one of them names. Views
- * that name no bytes of a buffer are left to the proved library, which refuses them. */
-static void find_used(struct walk *walk, struct slice *used, const struct ArrowArray *array,
-                      const uint8_t *views, int64_t count) {
-  for (int64_t i = 0; i < count; i++) {
-    const uint8_t *view = views + 16 * i;
-    int64_t length = view_word(view, 0);
-    int64_t buffer = view_word(view, 2);
-    int64_t end = length + view_word(view, 3);
-    if (length > 12 && buffer < array->n_buffers - 3 &&
-        end <= dunkelva_view_length(array, buffer)) {
-      walk->column->view_bytes_used += length;
-      if ((int64_t)used[buffer].len < end) {
-        used[buffer].len = (size_t)end;
-      }
-    }
-  }
-}
-
-/* Lends views, and the buffers that they can name, each up to the last byte that is used. */
+/* Lends views, and the buffers that they can name. Only the proved library reads views. */
 static int32_t lend_views(struct walk *walk, struct part *part, const struct ArrowArray *array,
                           int64_t first, int64_t count) {
   size_t buffers = (size_t)(array->n_buffers - 3);
-  struct slice *used = walk->slice;
   TRY(lend(walk, &part->u8s, array->buffers[1], 16 * first, 16 * count, 1));
-  for (size_t i = 0; i < buffers; i++) {
-    used[i] = empty_slice();
-  }
-  find_used(walk, used, array, part->u8s.data, count);
-  for (size_t i = 0; i < buffers; i++) {
-    if (used[i].len > 0) {
-      used[i].data = array->buffers[2 + i];
-      walk->column->view_bytes_lent += (int64_t)used[i].len;
-    }
-  }
   if (buffers > 0) {
-    part->buffers.data = used;
+    part->buffers.data = walk->slice;
     part->buffers.len = buffers;
   }
-  walk->slice += buffers;
+  for (size_t i = 0; i < buffers; i++) {
+    struct slice *slice = walk->slice++;
+    *slice = empty_slice();
+    TRY(lend(walk, slice, array->buffers[2 + i], 0, dunkelva_view_length(array, (int64_t)i), 1));
+  }
   return DUNKELVA_OK;
 }
 
@@ -345,7 +312,6 @@ void dunkelva_close(struct column *column) {
 int32_t dunkelva_describe(struct column *column, int64_t first, int64_t rows) {
   struct walk walk = {column, column->parts, column->slices};
   drop_copies(column);
-  column->view_bytes_lent = column->view_bytes_used = 0;
   return describe(&walk, column->type, column->array, first, rows);
 }
 
@@ -358,8 +324,4 @@ int64_t dunkelva_window(const struct column *column) {
   /* A dictionary is handed over whole each time. */
   int64_t rows = column->extent.entries < WINDOW_ROWS ? WINDOW_ROWS : column->extent.entries;
   return 64 * words_for_bits(rows);
-}
-
-bool dunkelva_wants_more(const struct column *column, int64_t rows) {
-  return column->view_bytes_lent / 2 - column->view_bytes_used > 32 * rows;
 }

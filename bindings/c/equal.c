@@ -20,21 +20,10 @@ static bool has_rows(const struct ArrowArray *array, int64_t first, int64_t rows
   return first >= 0 && rows >= 0 && first <= array->length && rows <= array->length - first;
 }
 
-/* Describes the next rows of both columns, and returns by `count` how many they are. */
-static int32_t describe_window(struct pair *pair, int64_t done, int64_t *count) {
-  int64_t left = pair->rows - done;
-  if (*count > left) {
-    *count = left;
-  }
-  for (;;) {
-    TRY(dunkelva_describe(&pair->left, pair->left_first + done, *count));
-    TRY(dunkelva_describe(&pair->right, pair->right_first + done, *count));
-    if (*count == left ||
-        !(dunkelva_wants_more(&pair->left, *count) || dunkelva_wants_more(&pair->right, *count))) {
-      return DUNKELVA_OK;
-    }
-    *count = *count < left / 2 ? 2 * *count : left;
-  }
+/* Describes `count` rows of both columns, those behind the rows that are done. */
+static int32_t describe_window(struct pair *pair, int64_t done, int64_t count) {
+  TRY(dunkelva_describe(&pair->left, pair->left_first + done, count));
+  return dunkelva_describe(&pair->right, pair->right_first + done, count);
 }
 
 /* Compares the rows that were described. Numbers are not copied, unless comparisons are counted.
@@ -62,10 +51,11 @@ static int32_t compare_parts(struct pair *pair, uint64_t *out, int64_t count) {
 static int32_t compare_windows(struct pair *pair) {
   int64_t left_window = dunkelva_window(&pair->left);
   int64_t right_window = dunkelva_window(&pair->right);
+  int64_t window = left_window < right_window ? right_window : left_window;
   int64_t done = 0;
   do { /* a window of no rows is one too: the types are compared */
-    int64_t count = left_window < right_window ? right_window : left_window;
-    TRY(describe_window(pair, done, &count));
+    int64_t count = window < pair->rows - done ? window : pair->rows - done;
+    TRY(describe_window(pair, done, count));
     TRY(compare_parts(pair, pair->words + done / 64, count));
     done += count;
   } while (done < pair->rows);

@@ -44,10 +44,8 @@ static const struct known_format whole_formats[] = {
     {"+l", KIND_LIST, 0},
     {"+L", KIND_LARGE_LIST, 0},
     {"+s", KIND_STRUCT, 0},
-#ifndef DUNKELVA_WITHOUT_VIEWS
     {"vz", KIND_BINARY_VIEW, 0},
     {"vu", KIND_UTF8_VIEW, 0},
-#endif
     /* a map is the list of its entries, in their order */
     {"+m", KIND_LIST, 0},
 };

@@ -84,8 +84,6 @@ struct column {
   struct part *parts;
   struct slice *slices;
   struct copy *copies;
-  int64_t view_bytes_lent; /* of the rows that were described last: bytes of the buffers of views */
-  int64_t view_bytes_used; /* and those that views name */
 };
 
 /* Checks a column and takes memory for its parts. Each opened column is closed, also where this
@@ -104,9 +102,5 @@ bool dunkelva_is_numbers(const struct column *column);
 
 /* Returns how many rows of a column are handed over at a time, a multiple of 64. */
 int64_t dunkelva_window(const struct column *column);
-
-/* Says whether more rows at a time would save work: buffers of views are lent from their beginning
- * on, and much of what is lent is used by no row. */
-bool dunkelva_wants_more(const struct column *column, int64_t rows);
 
 #endif

@@ -80,7 +80,7 @@ static struct made *column(size_t shift) {
   seen->buffers[3] = lengths;
   struct made *outer =
       put(make("+s", ROWS, 1, bits, NULL, NULL), "b", make("b", ROWS, 2, NULL, bits, NULL));
-  return WITH_VIEWS ? put(put(outer, "lists", lists), "views", seen) : put(outer, "lists", lists);
+  return put(put(outer, "lists", lists), "views", seen);
 }
 
 /* A column of numbers with nulls. `shift` moves the numbers to an odd address. */

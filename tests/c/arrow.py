@@ -206,10 +206,16 @@ def fixed_row(kind, row):
 
 
 def add_views(buffers, rows, chance):
-    """Adds the views of rows and what they point to: buffers of which some are used by no row."""
+    """Adds the views of rows and what they point to: buffers of which some are used by no row.
+
+    The view of a null row is that of another row, or any sixteen bytes."""
     data = [bytearray(chance.choice((b"", b"unused"))) for _ in range(chance.randrange(1, 4))]
     views = b""
     for row in rows:
+        if row is None and chance.random() < 0.5:
+            views += chance.randbytes(16)
+            continue
+        row = b"a string under a null" if row is None else row
         length = len(row).to_bytes(4, "little")
         if len(row) <= 12:
             views += length + row.ljust(12, b"\0")
@@ -221,7 +227,8 @@ def add_views(buffers, rows, chance):
             data[number] += row
         views += length + row[:4] + number.to_bytes(4, "little") + place.to_bytes(4, "little")
     buffers.add(views)
-    used = data if any(len(row) > 12 for row in rows) or chance.random() < 0.5 else []
+    is_long = any(row is None or len(row) > 12 for row in rows)
+    used = data if is_long or chance.random() < 0.5 else []
     for content in used:
         buffers.add(bytes(content), is_missing=not content and chance.random() < 0.5)
     lengths = b"".join(len(content).to_bytes(8, "little") for content in used)
@@ -303,11 +310,12 @@ def add_rows(buffers, kind, rows, chance):
 
 def add_flat(buffers, kind, rows, chance):
     """Adds the buffers of an array of one level, which keeps something under nulls too."""
+    if kind in ("vz", "vu"):
+        add_views(buffers, rows, chance)
+        return
     full = filled(rows, lambda: some_value(kind, chance, 0))
     if kind == "b":
         buffers.add(bits(full))
-    elif kind in ("vz", "vu"):
-        add_views(buffers, full, chance)
     elif kind in STRINGS:
         first = chance.randrange(3)
         add_offsets(buffers, map(len, full), STRINGS[kind], first)

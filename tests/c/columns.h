@@ -13,13 +13,6 @@ enum { NUMBERS_ONLY = 1 };
 enum { NUMBERS_ONLY = 0 };
 #endif
 
-/* Says whether the library compares views. */
-#ifdef DUNKELVA_WITHOUT_VIEWS
-enum { WITH_VIEWS = 0 };
-#else
-enum { WITH_VIEWS = 1 };
-#endif
-
 /* A column with up to four others inside it. */
 struct made {
   struct ArrowSchema type;

@@ -158,11 +158,6 @@ static struct ArrowSchema *make_type(int depth) {
   static const char *const names[] = {"a", "b", "", NULL, "\xC3\xA9", "\xC3"};
   struct ArrowSchema *type = block(sizeof *type);
   const struct form *form = &forms[depth > 3 ? below(LEAVES) : below(FORMS)];
-#ifdef DUNKELVA_WITHOUT_VIEWS
-  if (form->way == 'v') {
-    form = &forms[0];
-  }
-#endif
   type->format = seldom(200) ? strange[below(sizeof strange / sizeof *strange)] : form->format;
   type->name = names[seldom(100) ? 5 : below(5)];
   type->release = seldom(250) ? NULL : release_schema;

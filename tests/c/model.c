@@ -166,7 +166,8 @@ static bool good_view(const struct part *p, size_t row) {
   const struct slice *buffers = p->buffers.data;
   uint64_t number = word_at(view + 8);
   uint64_t start = word_at(view + 12);
-  return number < p->buffers.len && start + len <= buffers[number].len &&
+  return (len | number | start) <= INT32_MAX && number < p->buffers.len &&
+         start + len <= buffers[number].len &&
          memcmp((const uint8_t *)buffers[number].data + start, view + 4, 4) == 0;
 }
 
@@ -212,6 +213,11 @@ static bool is_utf8(struct bytes text) {
   return true;
 }
 
+static bool is_present(const struct part *p, size_t row) {
+  return p->kind != KIND_NULL && (p->present.len == 0 || bit(&p->present, p->first_bit + row));
+}
+
+/* Says whether all strings are good, those of views where their rows are present. */
 static bool good_strings(const struct part *p) {
   bool views = p->kind == KIND_BINARY_VIEW || p->kind == KIND_UTF8_VIEW;
   bool text = p->kind == KIND_UTF8 || p->kind == KIND_LARGE_UTF8 || p->kind == KIND_UTF8_VIEW;
@@ -219,15 +225,14 @@ static bool good_strings(const struct part *p) {
     return false;
   }
   for (size_t row = 0; row < p->rows; row++) {
+    if (views && !is_present(p, row)) {
+      continue;
+    }
     if ((views && !good_view(p, row)) || (text && !is_utf8(string_row(p, row)))) {
       return false;
     }
   }
   return true;
-}
-
-static bool is_present(const struct part *p, size_t row) {
-  return p->kind != KIND_NULL && (p->present.len == 0 || bit(&p->present, p->first_bit + row));
 }
 
 static bool good_keys(const struct tree *tree, size_t at) {

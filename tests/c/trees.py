@@ -1,12 +1,11 @@
 #!/usr/bin/env python3
 """Compares random columns of all types, and looks at each row by Python's own ==.
 
-usage: trees.py LIBRARY [--number 400] [--seed 1] [--numbers] [--no-views]
+usage: trees.py LIBRARY [--number 400] [--seed 1] [--numbers]
 
 A column has a random type, up to four levels, and up to 200 rows; a few have 20,000 to 40,000,
 which takes several windows. Each pair is compared whole, with sides exchanged, and in a window at
-random rows of each side. With --numbers all types are numbers, with --no-views none has views. Ends
-with `N passed, M failed`.
+random rows of each side. With --numbers all types are numbers. Ends with `N passed, M failed`.
 """
 import argparse
 import ctypes
@@ -90,11 +89,7 @@ def main():
     asked.add_argument("--number", type=int, default=400)
     asked.add_argument("--seed", type=int, default=1)
     asked.add_argument("--numbers", action="store_true")
-    asked.add_argument("--no-views", action="store_true")
     chosen = asked.parse_args()
-    if chosen.no_views:
-        FLAT[:] = [form for form in FLAT if form not in ("vz", "vu")]
-        KEYS.remove("vu")
     library = arrow.load(chosen.library)
     failed = rows = same = 0
     for number in range(chosen.number):

@@ -191,14 +191,56 @@ static void try_views(void) {
   equal("a window of views", window, other, "1");
   struct made *shorts = make("vz", 1, 3, NULL, left + 32, NULL);
   equal("views without buffers", shorts, shorts, "1");
-  struct made *lost = make("vz", 1, 3, NULL, left + 16, NULL);
-  refused("a view into no buffer", lost, lost, DUNKELVA_BAD_ARRAY);
   const int64_t below[] = {-1};
   struct made *short_buffer = make("vz", 1, 4, NULL, left + 32, text);
   short_buffer->buffers[3] = below;
   refused("a buffer of views with a length below 0", short_buffer, shorts, DUNKELVA_BAD_STRUCTS);
-  left[8 + 5] = 1;
-  refused("a short view with a byte too many", one, two, DUNKELVA_BAD_ARRAY);
+}
+
+/* Compares two rows, of which the second has this view over a buffer of 14 bytes, with themselves:
+ * present, and under a null. */
+static void try_bad_view(const char *what, const uint8_t *bad) {
+  static const int64_t lengths[] = {14};
+  uint8_t views[32];
+  view(views, "good", 0, 0);
+  memcpy(views + 16, bad, 16);
+  struct made *seen = make("vz", 2, 4, NULL, views, "fourteen bytes");
+  struct made *hidden = make("vz", 2, 4, BITS(0x1), views, "fourteen bytes");
+  seen->buffers[3] = hidden->buffers[3] = lengths;
+  refused(what, seen, seen, DUNKELVA_BAD_ARRAY);
+  refused(what, hidden, seen, DUNKELVA_BAD_ARRAY);
+  equal(what, hidden, hidden, "11");
+}
+
+static void try_bad_views(void) {
+  uint8_t bad[16];
+  view(bad, "fourteen bytes", 0, 0);
+  bad[12] = 1;
+  try_bad_view("a view past its buffer", bad);
+  view(bad, "fourteen bytes", 1, 0);
+  try_bad_view("a view into no buffer", bad);
+  view(bad, "fourteen bytes", 0, 0);
+  bad[4] = 'F';
+  try_bad_view("a view with another prefix", bad);
+  view(bad, "fourteen bytes", 0, 0);
+  bad[3] = 0x80;
+  try_bad_view("a view with a length below 0", bad);
+  view(bad, "fourteen bytes", 0, 0);
+  bad[11] = 0xFF;
+  try_bad_view("a view with a buffer below 0", bad);
+  view(bad, "fourteen bytes", 0, 0);
+  bad[15] = 0xFF;
+  try_bad_view("a view with an offset below 0", bad);
+  view(bad, "short", 0, 0);
+  bad[4 + 5] = 1;
+  try_bad_view("a short view with a byte too many", bad);
+  view(bad, "\xFF", 0, 0);
+  struct made *no_text = make("vu", 1, 3, NULL, bad, NULL);
+  struct made *no_row = make("vu", 1, 3, BITS(0x0), bad, NULL);
+  equal_by("a view of bytes that are no text", no_text, no_text, "1", 0);
+  count(status_of(no_text, no_text, DUNKELVA_CHECK_TEXTS) == DUNKELVA_BAD_ARRAY,
+        "a view of no UTF-8");
+  equal("a view of no UTF-8 under a null", no_row, no_row, "1");
 }
 
 static void try_lists(void) {
@@ -558,11 +600,10 @@ int main(void) {
     try_floats();
     try_truth_values();
     try_texts();
-    if (WITH_VIEWS) {
-      try_views();
-      try_columns_of_views();
-      try_many_views();
-    }
+    try_views();
+    try_bad_views();
+    try_columns_of_views();
+    try_many_views();
     try_lists();
     try_structs_and_maps();
     try_dictionaries();

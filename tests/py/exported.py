@@ -12,10 +12,9 @@ import numpy as np
 sys.path.insert(0, str(pathlib.Path(__file__).resolve().parent.parent / "c"))
 
 import arrow  # noqa: E402
-import dunkelva  # noqa: E402
 import trees  # noqa: E402
 
-__all__ = ["Exported", "Streamed", "arrow", "trees", "column", "has_views", "masked"]
+__all__ = ["Exported", "Streamed", "arrow", "trees", "column", "masked"]
 
 masked: Any = np.ma.array  # which has no types
 
@@ -26,15 +25,6 @@ _new.argtypes = [ctypes.c_void_p, ctypes.c_char_p, ctypes.c_void_p]
 _GET = ctypes.CFUNCTYPE(ctypes.c_int, ctypes.c_void_p, ctypes.c_void_p)
 _ERROR = ctypes.CFUNCTYPE(ctypes.c_void_p, ctypes.c_void_p)
 _RELEASE = ctypes.CFUNCTYPE(None, ctypes.c_void_p)
-
-
-def has_views() -> bool:
-    """Says whether the library compares views of strings."""
-    view = Exported(column("vu", [b"a"], 1))
-    try:
-        return bool(dunkelva.equal(view, view).all())
-    except dunkelva.NotServed:
-        return False
 
 
 def column(kind: Any, rows: Sequence[Any], seed: int) -> Any:

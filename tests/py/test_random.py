@@ -12,11 +12,7 @@ import numpy as np
 from hypothesis import given, strategies as st
 
 import dunkelva
-from exported import Exported, Streamed, arrow, column, has_views, trees
-
-if not has_views():
-    trees.FLAT[:] = [form for form in trees.FLAT if form not in ("vz", "vu")]
-    trees.KEYS.remove("vu")
+from exported import Exported, Streamed, arrow, column, trees
 
 _LEAVES: List[st.SearchStrategy[Any]] = [
     st.booleans(), st.integers(-2 ** 63, 2 ** 63 - 1), st.integers(0, 2 ** 64 - 1),

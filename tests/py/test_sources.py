@@ -10,7 +10,7 @@ import pandas as pd
 import pytest
 
 import dunkelva
-from exported import Exported, Streamed, column, has_views, masked
+from exported import Exported, Streamed, column, masked
 
 
 def equal(left: Any, right: Any, **options: Any) -> List[bool]:
@@ -147,7 +147,7 @@ def test_capsules() -> None:
                  Exported(column(turned, [(b"x", 1), (b"z", 2)], 2))) == [True, False]
     frame = pd.DataFrame({"b": ["x", "y"], "a": np.array([1, 2], np.int32)})
     assert equal(Exported(column(("+s", [("a", "i"), ("b", "U")]), table, 1)), frame) == [True] * 2
-    for form in ("z", "Z", "vz") if has_views() else ("z", "Z"):
+    for form in ("z", "Z", "vz"):
         assert equal(Exported(column(form, [b"a", None, b"thirteen bytes"], 3)),
                      [b"a", None, b"thirteen bytez"]) == [True, True, False]
 

@@ -1,9 +1,12 @@
 -- Worked examples of the definitions.
-use Rattle.std.specs.Prelude.{◌≡◌, pos, [], ◌∷◌, Some, refl}
+use Rattle.std.specs.Prelude.{◌≡◌, pos, true, false, [], ◌∷◌, Some, refl}
+use Rattle.std.proofs.Common.{arith}
 use Rattle.polars_arrays_flat.specs.Row.{Int, Entry, Rows, Null, no_rows, more_rows}
 use Rattle.polars_arrays_flat.specs.StoredRows.{number_slots}
 use Rattle.polars_arrays_flat.specs.StoredRows.{row as row_at}
+use Rattle.polars_arrays_views.specs.Views.{view_buffer, view_len, view_offset}
 use Rattle.arrow_arrays.specs.Columns.{Column, across, entries, fixed_lists, lists, no_column, only}
+use Rattle.arrow_arrays.specs.Views.{NotNegative, bytes_if}
 
 -- the rows 7, 8, 9
 abbrev three : Column
@@ -35,3 +38,20 @@ named = refl
 -- two columns are not one
 two-columns : only (three ∷ three ∷ []) ≡ no_column
 two-columns = refl
+
+-- 13 bytes that begin with `abcd`, in buffer 0 from byte 1 on
+not-negative : NotNegative (13 ∷ 0 ∷ 0 ∷ 0 ∷ 97 ∷ 98 ∷ 99 ∷ 100 ∷ 0 ∷ 0 ∷ 0 ∷ 0 ∷ 1 ∷ 0 ∷ 0 ∷ 0 ∷ [])
+unfolding view_len view_buffer view_offset
+not-negative = record { length = omega arith; buffer = omega arith; offset = omega arith }
+
+-- the highest bit of the offset is its sign
+below-zero : NotNegative (13 ∷ 0 ∷ 0 ∷ 0 ∷ 97 ∷ 98 ∷ 99 ∷ 100 ∷ 0 ∷ 0 ∷ 0 ∷ 0 ∷ 1 ∷ 0 ∷ 0 ∷ 128 ∷ []) → ⊥
+unfolding view_offset
+below-zero signed = let low = signed.offset in absurd (omega arith)
+
+-- a null row has no bytes
+null-row : bytes_if false (97 ∷ []) ≡ []
+null-row = refl
+
+present-row : bytes_if true (97 ∷ []) ≡ 97 ∷ []
+present-row = refl

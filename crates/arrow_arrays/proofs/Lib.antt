@@ -3,3 +3,5 @@ pub mod Examples
 pub mod MaskedRows
 pub mod Stacks
 pub mod Standing
+pub mod ViewRows
+pub mod ViewStanding

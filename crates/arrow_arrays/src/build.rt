@@ -149,8 +149,8 @@ fn shapes_of(alloc: Global, parts: &[Part<'_>]) -> Result<Vec<Shape>, Refused>
 
 /// Returns the array that parts in pre-order describe. Its rows are copies, so nothing stays lent.
 ///
-/// The error is `Parts` if the parts make no array or have views, and `Memory` if an allocation
-/// fails. A text, masked or not, has to be UTF-8; keys of masked rows are arbitrary.
+/// The error is `Parts` if the parts make no array, and `Memory` if an allocation fails. A text
+/// between offsets, masked or not, has to be UTF-8; keys and views of masked rows are arbitrary.
 pub fn build(alloc: Global, parts: &[Part<'_>]) -> Result<AnyArray, Refused>
     ensures { IfOk result (λ a. Stands a (rows_of_parts parts.now)) }
 {

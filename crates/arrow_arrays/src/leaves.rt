@@ -6,6 +6,7 @@ ghost use Rattle.arrow_arrays.specs.Stands.{StandsFor};
 ghost use Rattle.arrow_parts.specs.declared.part.PartKind.TheVariants as kinds;
 
 use crate::slots::{numbers, sized_strings, strings, texts, truths};
+use crate::views::{viewed_strings, viewed_texts};
 use crate::wide::{signed_numbers, unsigned_numbers};
 use arrow_parts::part::{Part, PartKind};
 use arrow_parts::refused::Refused;
@@ -141,8 +142,24 @@ fn fixed_size_binary(alloc: Global, part: &Part<'_>) -> Result<AnyArray, Refused
     Ok(AnyArray::FixedSizeBinary(array))
 }
 
-/// Returns a part of one level as an array. The error is `Parts` if it is none, makes none or has
-/// views, and `Memory` if an allocation fails.
+/// Returns byte strings that views lead to as an array.
+fn binary_view(alloc: Global, part: &Part<'_>) -> Result<AnyArray, Refused>
+    ensures { IfOk result (StandsFor kinds.BinaryView part.now) }
+{
+    let array = viewed_strings(alloc, part)?;
+    Ok(AnyArray::LargeBinary(array))
+}
+
+/// Returns texts that views lead to as an array.
+fn utf8_view(alloc: Global, part: &Part<'_>) -> Result<AnyArray, Refused>
+    ensures { IfOk result (StandsFor kinds.Utf8View part.now) }
+{
+    let array = viewed_texts(alloc, part)?;
+    Ok(AnyArray::LargeUtf8(array))
+}
+
+/// Returns a part of one level as an array. The error is `Parts` if it is none or makes none, and
+/// `Memory` if an allocation fails.
 pub fn leaf(alloc: Global, kind: PartKind, part: &Part<'_>) -> Result<AnyArray, Refused>
     ensures { IfOk result (StandsFor kind part.now) }
 {
@@ -164,6 +181,8 @@ pub fn leaf(alloc: Global, kind: PartKind, part: &Part<'_>) -> Result<AnyArray, 
         PartKind::Utf8 => utf8(alloc, part),
         PartKind::LargeUtf8 => large_utf8(alloc, part),
         PartKind::FixedSizeBinary => fixed_size_binary(alloc, part),
+        PartKind::BinaryView => binary_view(alloc, part),
+        PartKind::Utf8View => utf8_view(alloc, part),
         _ => Err(Refused::Parts),
     }
 }

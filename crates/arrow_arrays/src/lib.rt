@@ -8,4 +8,5 @@ mod leaves;
 mod nested;
 mod shapes;
 mod slots;
+mod views;
 mod wide;

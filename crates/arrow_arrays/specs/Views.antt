@@ -1,0 +1,52 @@
+-- Views of a part, and the byte strings that they lead to (the Arrow layout).
+use Rattle.std.specs.Prelude.{◌≡◌, ◌+◌, ◌*◌, ◌^◌, ◌<◌, ℕ, Bool, true, false, List, [], Option, Some, length}
+use Rattle.polars_arrays_bytes.specs.OffsetStrings.{AreGood, place_at, string_between}
+use Rattle.polars_arrays_bytes.specs.SizedStrings.{sized_string}
+use Rattle.polars_arrays_flat.specs.Validity.{is_present}
+use Rattle.polars_arrays_views.specs.Views.{GoodView, row_bytes, view_buffer, view_len, view_offset}
+use Rattle.arrow_parts.specs.ByteBits.{HoldPresence}
+use Rattle.arrow_parts.specs.Lent.{buffers_in, present_in}
+use Rattle.arrow_parts.specs.declared.part.Part.{Part}
+
+-- the sixteen bytes of view i
+abbrev pub view_in : Part → ℕ → List ℕ
+view_in p i = sized_string 16 p.u8s.now i
+
+-- whether row i is present
+abbrev pub has_row : Part → ℕ → Bool
+has_row p i = is_present (present_in p) i
+
+-- the bytes that view i leads to
+abbrev pub viewed_row : Part → ℕ → List ℕ
+viewed_row p i = row_bytes (buffers_in p) (view_in p i)
+
+-- the length, the buffer and the offset are not negative: in Arrow they are signed, of 32 bits
+pub record NotNegative (v : List ℕ) : Type 0 where
+  pub length : view_len v < 2 ^ 31
+  pub buffer : view_buffer v < 2 ^ 31
+  pub offset : view_offset v < 2 ^ 31
+
+-- a view leads to a row: one of more than 12 bytes lies in its buffer and begins with the prefix, a
+-- shorter one has zeros behind it
+pub record LeadsToRow (buffers : List (List ℕ)) (v : List ℕ) : Type 0 where
+  pub good : GoodView buffers v
+  pub long : 12 < view_len v → NotNegative v
+
+-- there are sixteen bytes for each row, and the view of each present row leads to it; those of the
+-- other rows are arbitrary
+pub record AreViews (p : Part) : Type 0 where
+  pub present : HoldPresence p.first_bit p.rows p.present.now
+  pub size : length p.u8s.now ≡ 16 * p.rows
+  pub each : (i : ℕ) → i < p.rows → has_row p i ≡ true → LeadsToRow (buffers_in p) (view_in p i)
+
+-- bytes, or none
+abbrev pub bytes_if : Bool → List ℕ → List ℕ
+bytes_if true bytes = bytes
+bytes_if false bytes = []
+
+-- between places lie the first n rows of views, with no bytes for a null row
+pub record AreGathered (p : Part) (n : ℕ) (all : List (Option ℕ)) (bytes : List ℕ) : Type 0 where
+  pub count : length all ≡ n + 1
+  pub last : place_at all n ≡ Some (length bytes)
+  pub good : AreGood (length bytes) all
+  pub each : (i : ℕ) → i < n → string_between all bytes i ≡ bytes_if (has_row p i) (viewed_row p i)
