@@ -1,5 +1,7 @@
 pub mod EndLemmas
 pub mod Examples
+pub mod GatheredRows
+pub mod Honest
 pub mod MaskedRows
 pub mod Stacks
 pub mod Standing

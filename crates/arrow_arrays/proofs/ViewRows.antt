@@ -1,5 +1,5 @@
 -- Rows of views, gathered between places.
-use Rattle.std.proofs.Common.{◌≡◌, ℕ, ◌+◌, ◌-◌, ◌≤◌, ◌<◌, List, [], ◌∷◌, ◌++◌, length, get_or, take, drop, refl, sym, ap, subst, ◌∙◌, inl, inr, arith}
+use Rattle.std.proofs.Common.{◌≡◌, ℕ, ◌+◌, ◌-◌, ◌≤◌, ◌<◌, true, List, [], ◌∷◌, ◌++◌, length, get_or, take, drop, refl, sym, ap, subst, ◌∙◌, inl, inr, arith}
 use Rattle.std.specs.Prelude.{Option, Some, None, ℤ, pos}
 use Rattle.std.proofs.lemmas.Bool.{cases_lt}
 use Rattle.std.proofs.lemmas.Bool.Decides.{nat_tests}
@@ -7,10 +7,10 @@ use Rattle.std.proofs.lemmas.List.{drop-append-le, drop_at, get_or-map, get_or_a
 use Rattle.polars_arrays_bytes.specs.OffsetStrings.{Bounds, IsWithin, between, place_at, places, row_count, string_between}
 use Rattle.polars_arrays_numbers.specs.Naturals.{natural_of}
 use Rattle.polars_arrays_views.specs.Views.{AllZero, InBuffer, IsView, buffer_at, row_bytes, view_buffer, view_len, view_offset}
-use Rattle.arrow_parts.specs.Lent.{lent_buffers}
+use Rattle.arrow_parts.specs.Lent.{buffers_in, lent_buffers}
 use Rattle.arrow_parts.specs.declared.part.Bytes.{Bytes}
 use Rattle.arrow_parts.specs.declared.part.Part.{Part}
-use Rattle.arrow_arrays.specs.Views.{AreGathered, LeadsToRow, NotNegative, bytes_if, has_row, viewed_row}
+use Rattle.arrow_arrays.specs.Views.{AllLead, AreGathered, LeadsToRow, NotNegative, bytes_if, has_row, view_in, viewed_row}
 
 -- ---- one view
 
@@ -135,4 +135,16 @@ one-gathered p n ends new_ends bytes new_bytes end appended is pushed was =
     let placed : places (λ x. x) new_ends ≡ places (λ x. x) ends ++ Some (length (bytes ++ more)) ∷ [] = ap (places (λ x. x)) pushed ∙ map-append natural_of ends (end ∷ []) ∙ ap (λ e. places (λ x. x) ends ++ natural_of e ∷ []) is ∙ ap (λ xs. places (λ x. x) ends ++ Some (length xs) ∷ []) appended in
     subst (λ all. AreGathered p (n + 1) all new_bytes) (sym placed) (subst (AreGathered p (n + 1) (places (λ x. x) ends ++ Some (length (bytes ++ more)) ∷ [])) (sym appended) (row-gathered p n (places (λ x. x) ends) bytes more refl was))
 
-pub ruleset views = (short-leads, long-leads)
+pub lead-more : (p : Part) (n : ℕ) → AllLead p n → (has_row p n ≡ true → LeadsToRow (buffers_in p) (view_in p n)) → AllLead p (n + 1)
+lead-more p n was new i low = elim (cases_lt i n) [
+  | inl old ↦ was i old
+  | inr past ↦
+      let here : n ≡ i = omega arith in
+      subst (λ k. has_row p k ≡ true → LeadsToRow (buffers_in p) (view_in p k)) here new
+]
+
+-- a present row whose view leads to none
+pub none-leads : (p : Part) (i : ℕ) → ¬ (LeadsToRow (buffers_in p) (view_in p i)) → i < p.rows → has_row p i ≡ true → ¬ (AllLead p p.rows)
+none-leads p i none low present all = none (all i low present)
+
+pub ruleset views = (short-leads, long-leads, none-leads)

@@ -1,5 +1,6 @@
 -- Views of a part, and the byte strings that they lead to (the Arrow layout).
 use Rattle.std.specs.Prelude.{◌≡◌, ◌+◌, ◌*◌, ◌^◌, ◌<◌, ℕ, Bool, true, false, List, [], Option, Some, length}
+use Rattle.std.specs.Str.{IsUtf8}
 use Rattle.polars_arrays_bytes.specs.OffsetStrings.{AreGood, place_at, string_between}
 use Rattle.polars_arrays_bytes.specs.SizedStrings.{sized_string}
 use Rattle.polars_arrays_flat.specs.Validity.{is_present}
@@ -32,12 +33,20 @@ pub record LeadsToRow (buffers : List (List ℕ)) (v : List ℕ) : Type 0 where
   pub good : GoodView buffers v
   pub long : 12 < view_len v → NotNegative v
 
--- there are sixteen bytes for each row, and the view of each present row leads to it; those of the
--- other rows are arbitrary
+-- of the first n rows the view of each present one leads to it; the others are arbitrary
+abbrev pub AllLead : Part → ℕ → Type 0
+AllLead p n = (i : ℕ) → i < n → has_row p i ≡ true → LeadsToRow (buffers_in p) (view_in p i)
+
+-- a validity has a bit for each row, there are sixteen bytes for each row, and views lead to rows
 pub record AreViews (p : Part) : Type 0 where
   pub present : HoldPresence p.first_bit p.rows p.present.now
   pub size : length p.u8s.now ≡ 16 * p.rows
-  pub each : (i : ℕ) → i < p.rows → has_row p i ≡ true → LeadsToRow (buffers_in p) (view_in p i)
+  pub rows : AllLead p p.rows
+
+-- and each present row alone is UTF-8
+pub record AreTextViews (p : Part) : Type 0 where
+  pub views : AreViews p
+  pub texts : (i : ℕ) → i < p.rows → has_row p i ≡ true → IsUtf8 (viewed_row p i)
 
 -- bytes, or none
 abbrev pub bytes_if : Bool → List ℕ → List ℕ

@@ -1,9 +1,10 @@
 //! Validity, numbers, truth values and byte strings of a part, copied into arrays.
 
-ghost use Rattle.std.specs.Prelude.{◌≡◌, length, IfOk};
+ghost use Rattle.std.specs.Prelude.{◌≡◌, length, IfOk, IfErr};
 ghost use Rattle.polars_arrays_bytes.specs.OffsetStrings.{places, row_count};
-ghost use Rattle.arrow_parts.specs.ByteBits.{byte_window};
+ghost use Rattle.arrow_parts.specs.ByteBits.{HoldPresence, byte_window};
 ghost use Rattle.arrow_parts.specs.Lent.{places_from, present_in};
+ghost use Rattle.arrow_parts.specs.Refusals.{IsHonest};
 
 use crate::ends::ends_from;
 use arrow_parts::bits::{bits_of, validity};
@@ -20,9 +21,12 @@ use polars_arrays_numbers::native_type::NativeType;
 use polars_arrays_numbers::offset::Offset;
 use std::alloc::Global;
 
-/// Returns which rows of a part are present, or None if all are.
+/// Returns which rows of a part are present, or None if all are. The error is `Parts` if there are
+/// fewer bits than rows, and `Memory` if an allocation fails.
 pub fn present(alloc: Global, part: &Part<'_>) -> Result<Option<Bitmap>, Refused>
-    ensures { IfOk result (λ bits. bits ≡ present_in part.now) }
+    ensures mask { IfOk result (λ bits. bits ≡ present_in part.now) }
+    ensures held { IfOk result (λ _. HoldPresence part.now.first_bit part.now.rows part.now.present.now) }
+    ensures refused { IfErr result (IsHonest (HoldPresence part.now.first_bit part.now.rows part.now.present.now)) }
 {
     validity(alloc, part.present, part.first_bit, part.rows)
 }

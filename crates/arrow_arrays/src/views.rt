@@ -7,7 +7,7 @@ ghost use Rattle.polars_arrays_flat.specs.Validity.{is_present};
 ghost use Rattle.polars_arrays_views.specs.Views.{AllZero, InBuffer, IsView, row_bytes, view_len, view_prefix};
 ghost use Rattle.arrow_parts.specs.Lent.{buffers_in, lent_buffers, present_in};
 ghost use Rattle.arrow_parts.specs.Refusals.{IsHonest};
-ghost use Rattle.arrow_arrays.specs.Views.{AreGathered, AreViews, LeadsToRow, NotNegative, bytes_if, has_row, view_in, viewed_row};
+ghost use Rattle.arrow_arrays.specs.Views.{AllLead, AreGathered, AreTextViews, AreViews, LeadsToRow, NotNegative, bytes_if, has_row, view_in, viewed_row};
 
 use crate::slots::present;
 use arrow_parts::part::{Bytes, Part};
@@ -121,10 +121,11 @@ fn append_row(
     bytes: &mut Vec<u8>,
 ) -> Result<(), Refused>
     requires present { present.now ≡ present_in part.now }
+    requires row { i < part.now.rows }
     requires within { 16 * i + 16 ≤ length part.now.u8s.now }
     ensures appended { OnOk result (bytes.new.items ≡ bytes.old.items ++ bytes_if (has_row part.now i) (viewed_row part.now i)) }
     ensures good { OnOk result (has_row part.now i ≡ true → LeadsToRow (buffers_in part.now) (view_in part.now i)) }
-    ensures refused { IfErr result (IsHonest (has_row part.now i ≡ true → LeadsToRow (buffers_in part.now) (view_in part.now i))) }
+    ensures refused { IfErr result (IsHonest (AllLead part.now part.now.rows)) }
 {
     if !is_row(present, i) {
         return Ok(());
@@ -145,11 +146,14 @@ struct Strings {
     bytes: Buffer<u8>,
 }
 
-/// Returns the rows of views, with no bytes for a null row.
+/// Returns the rows of views, with no bytes for a null row. The error is `Parts` if the view of a
+/// present row leads to no row, and `Memory` if an allocation fails.
 fn gathered(alloc: Global, part: &Part<'_>, present: &Option<Bitmap>) -> Result<Strings, Refused>
     requires present { present.now ≡ present_in part.now }
     requires size { length part.now.u8s.now ≡ 16 * part.now.rows }
-    ensures { IfOk result (λ s. AreGathered part.now part.now.rows (places (λ x. x) s.ends.items) s.bytes.items) }
+    ensures rows { IfOk result (λ s. AreGathered part.now part.now.rows (places (λ x. x) s.ends.items) s.bytes.items) }
+    ensures good { IfOk result (λ _. AllLead part.now part.now.rows) }
+    ensures refused { IfErr result (IsHonest (AllLead part.now part.now.rows)) }
 {
     let mut ends: Vec<i64> = Vec::with_capacity(alloc, part.rows + 1)?;
     let mut bytes: Vec<u8> = Vec::new(alloc);
@@ -181,9 +185,12 @@ fn has_views(part: &Part<'_>) -> bool
 /// Returns the array of a part's rows, which are byte strings that views lead to. The error is
 /// `Parts` if there are not sixteen bytes for each row, or if the view of a present row leads to no
 /// row, and `Memory` if an allocation fails.
+#[tactic(auto, using(crate::proofs::GatheredRows::arrays))]
 pub fn viewed_strings(alloc: Global, part: &Part<'_>) -> Result<BinaryArray<i64>, Refused>
     ensures rows { IfOk result (λ a. AreGathered part.now part.now.rows (places (λ x. x) a.offsets) a.values) }
     ensures mask { IfOk result (λ a. a.validity ≡ present_in part.now) }
+    ensures good { IfOk result (λ _. AreViews part.now) }
+    ensures refused { IfErr result (IsHonest (AreViews part.now)) }
 {
     if !has_views(part) {
         return Err(Refused::Parts);
@@ -196,9 +203,11 @@ pub fn viewed_strings(alloc: Global, part: &Part<'_>) -> Result<BinaryArray<i64>
 
 /// Returns the array of a part's rows, which are texts that views lead to. The error is also `Parts`
 /// if the text of a present row is not UTF-8.
+#[tactic(auto, using(crate::proofs::GatheredRows::arrays))]
 pub fn viewed_texts(alloc: Global, part: &Part<'_>) -> Result<Utf8Array<i64>, Refused>
     ensures rows { IfOk result (λ a. AreGathered part.now part.now.rows (places (λ x. x) a.offsets) a.values) }
     ensures mask { IfOk result (λ a. a.validity ≡ present_in part.now) }
+    ensures refused { IfErr result (IsHonest (AreTextViews part.now)) }
 {
     if !has_views(part) {
         return Err(Refused::Parts);
