@@ -269,8 +269,9 @@ impl<'a> Array<'a> {
     ///
     /// # Errors
     ///
-    /// [`Error::Length`], if the bits are not as many as the rows, and [`Error::BadArgument`] for
-    /// [`nulls`](Array::nulls) and arrays of other crates, which have their own.
+    /// [`Error::Length`], if the bits are not as many as the rows; [`Error::BadArgument`] for
+    /// [`nulls`](Array::nulls) and for columns of other crates, which have their own validity;
+    /// [`Error::NoMemory`].
     pub fn with_validity(mut self, present: Bitmap<'a>) -> Result<Self, Error> {
         if present.len() != self.rows {
             let what = "bits of the validity";
@@ -284,7 +285,7 @@ impl<'a> Array<'a> {
         let validity: Buffer<'a> = if first == self.offset {
             Arc::new(bytes)
         } else {
-            Arc::new(present.moved(self.offset))
+            Arc::new(present.moved(self.offset)?)
         };
         self.lent()
             .filter(|it| it.has_validity())

@@ -1,6 +1,7 @@
 //! Bits of a caller, one a row.
 #![forbid(unsafe_code)]
 
+use crate::mask::zeros;
 use crate::Error;
 
 /// Bits of a borrowed slice, one a row, as in a validity of Arrow: from the lowest bit of the first
@@ -73,16 +74,16 @@ impl<'a> Bitmap<'a> {
         (self.first, self.bytes)
     }
 
-    /// Returns a copy in which the rows begin at bit `first`.
-    pub(crate) fn moved(self, first: usize) -> Vec<u8> {
-        let mut moved = vec![0; (first + self.rows) / 8 + 2];
+    /// Returns a copy in which the rows begin at bit `first`, if there is memory for it.
+    pub(crate) fn moved(self, first: usize) -> Result<Vec<u8>, Error> {
+        let mut moved = zeros((first + self.rows) / 8 + 2)?;
         for row in (0..self.rows).step_by(8) {
             let at = (first + row) / 8;
             let [low, high] = (u16::from(self.byte(row)) << (first % 8)).to_le_bytes();
             moved[at] |= low;
             moved[at + 1] |= high;
         }
-        moved
+        Ok(moved)
     }
 
     /// Returns the bits of eight rows, those from `row` on, a multiple of 8. The bits of rows that
@@ -108,7 +109,7 @@ mod tests {
             for rows in [0, 1, 7, 8, 9, 63, 64, 65, 300] {
                 let bits = Bitmap::new(&bytes, first, rows).unwrap();
                 for to in [0, 1, 5, 7, 8, 17] {
-                    let moved = bits.moved(to);
+                    let moved = bits.moved(to).unwrap();
                     let again = Bitmap::new(&moved, to, rows).unwrap();
                     assert!(bits.iter().eq(again.iter()), "{first} {rows} {to}");
                 }

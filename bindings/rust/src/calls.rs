@@ -28,28 +28,28 @@ impl Options {
 #[derive(Clone, Copy, Debug, PartialEq, Eq, Hash)]
 pub enum Test {
     /// Both are the same number, or both are null.
-    Equal,
+    Equal = 0,
     /// They differ, or one of them is null.
-    Unequal,
+    Unequal = 1,
     /// The left one is less. This and those below hold of no null.
-    Less,
+    Less = 2,
     /// The left one is not greater.
-    LessOrEqual,
+    LessOrEqual = 3,
     /// The left one is greater.
-    Greater,
+    Greater = 4,
     /// The left one is not less.
-    GreaterOrEqual,
+    GreaterOrEqual = 5,
 }
 
 /// A way to join the bits of numbers, place by place.
 #[derive(Clone, Copy, Debug, PartialEq, Eq, Hash)]
 pub enum Join {
     /// A bit is 1 where it is 1 in all numbers.
-    And,
+    And = 0,
     /// A bit is 1 where it is 1 in a number.
-    Or,
+    Or = 1,
     /// A bit is 1 where it is 1 in an odd count of numbers.
-    Xor,
+    Xor = 2,
 }
 
 /// Compares two arrays of one type and one length, row by row: `true` where both rows are the same.

@@ -211,6 +211,9 @@ fn rows_that_are_too_many() {
     ));
     let array = Array::structs::<&str>(usize::MAX / 2, []).unwrap();
     assert!(equal(&array, &array).is_err());
+    let last = array.slice(usize::MAX / 2 - 1, 1).unwrap();
+    let validity = last.with_validity(Bitmap::new(&[1], 0, 1).unwrap());
+    assert_eq!(validity.map(drop), Err(Error::NoMemory));
 }
 
 #[test]
