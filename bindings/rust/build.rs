@@ -54,7 +54,6 @@ fn find() -> Result<(PathBuf, &'static str), String> {
 /// Returns the folders to look in, in their order.
 fn folders() -> Vec<PathBuf> {
     if let Some(named) = env::var_os("DUNKELVA_LIB_DIR").filter(|it| !it.is_empty()) {
-        // A relative name would be taken as one in the folder of this package.
         return vec![PathBuf::from(named)];
     }
     let here = PathBuf::from(env::var_os("CARGO_MANIFEST_DIR").unwrap_or_default());

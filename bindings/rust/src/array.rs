@@ -17,10 +17,10 @@ const MOST_TYPES: usize = 1 << 20;
 
 /// A column: rows of one type, in the layout of Arrow, in slices that are borrowed.
 ///
-/// Nothing of a slice is copied, but for a validity or truth values that do not begin where the
-/// rows do. What a call would read is checked when an array is made, so that no call reads behind
-/// the end of a slice: offsets rise and end within their bytes or items, a validity has a bit for
-/// each row, the fields of a struct have its rows.
+/// Nothing is copied, but for a validity that begins at another bit of its byte than the rows do.
+/// What a call would read is checked when an array is made, so that no call reads behind the end of
+/// a slice: offsets rise and end within their bytes or items, a validity has a bit for each row,
+/// the fields of a struct have its rows.
 ///
 /// An array can be cloned at little cost, sent to other threads and used by many at once. It cannot
 /// outlive what it borrows:
