@@ -365,7 +365,7 @@ pub fn version() -> &'static str {
 
 impl Wide {
     /// Returns a number in two halves.
-    fn of(number: i128) -> Wide {
+    pub(crate) fn of(number: i128) -> Wide {
         let [low, high] = [number, number >> 64].map(|it| (it & i128::from(u64::MAX)) as u64);
         Wide {
             low,
