@@ -61,8 +61,8 @@ fn join<T: NativeType, E: RowComparison<T>>(
     join_masks(alloc, relation, &pairs, left.mask(), right.mask())
 }
 
-// Sets the bits of masked rows to 0.
-fn keep_present(bits: &mut MutableBitmap, mask: Option<BitMask<'_>>)
+/// Sets the bits of masked rows to 0.
+pub fn keep_present(bits: &mut MutableBitmap, mask: Option<BitMask<'_>>)
     requires { HasBits (length bits.old) mask }
     ensures { bits.new ≡ under mask.entry bits.old }
 {

@@ -5,4 +5,4 @@ pub mod column;
 pub mod comparing;
 pub mod counting;
 pub mod reducing;
-mod writing;
+pub mod writing;

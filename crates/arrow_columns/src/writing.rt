@@ -5,7 +5,7 @@ ghost use Rattle.std.specs.Prelude.{◌≡◌, ◌<◌, ℤ, List, length, map, 
 use polars_arrays_numbers::native_type::NativeType;
 
 /// Numbers that are computed place by place.
-pub(crate) trait Computed<T: NativeType> {
+pub trait Computed<T: NativeType> {
     // The numbers, the first one first.
     ghost numbers: { Self → List ℤ };
 
@@ -20,7 +20,7 @@ pub(crate) trait Computed<T: NativeType> {
 }
 
 /// Writes numbers into a slice of the same length.
-pub(crate) fn write<T: NativeType, C: Computed<T>>(computed: &C, out: &mut [T])
+pub fn write<T: NativeType, C: Computed<T>>(computed: &C, out: &mut [T])
     requires { length out.old ≡ length (C.numbers computed.now) }
     ensures { map T.value out.new ≡ C.numbers computed.now }
 {

@@ -1,0 +1,4 @@
+pub mod Results
+pub mod Paired
+pub mod PresentBits
+mod Examples

@@ -1,0 +1,37 @@
+-- The numbers for which an operation has a result.
+use Rattle.std.specs.Prelude.{ℤ, Bool, true, false, Option, Some, None}
+use Rattle.arrow_arithmetic.specs.declared.calculating.Arithmetic.{Arithmetic}
+use Rattle.arrow_arithmetic.specs.declared.calculating.Arithmetic.TheVariants.{Add, Subtract, Multiply, FloorDivide, TruncatingDivide, Modulo}
+use Rattle.arrow_arithmetic.specs.declared.present.Answered.{Answered}
+use Rattle.arrow_arithmetic.specs.declared.present.Answered.TheVariants.{Each, Nonzero, Nothing}
+use Rattle.polars_compute_arithmetic.specs.Zeros.{is_nonzero}
+
+-- there is a result
+abbrev pub has_result : Option ℤ → Bool
+has_result None = false
+has_result (Some a) = true
+
+-- there is a result for the number
+abbrev pub is_answered : Answered → ℤ → Bool
+is_answered Each a = true
+is_answered Nonzero a = is_nonzero a
+is_answered Nothing a = false
+
+-- the right numbers for which there is a result
+abbrev pub rights_of : Arithmetic → Answered
+rights_of FloorDivide = Nonzero
+rights_of TruncatingDivide = Nonzero
+rights_of Modulo = Nonzero
+rights_of Add = Each
+rights_of Subtract = Each
+rights_of Multiply = Each
+
+-- the left numbers for which there is a result, if the right number is 0 or is not
+abbrev pub lefts_of : Bool → Arithmetic → Answered
+lefts_of false _ = Each
+lefts_of true FloorDivide = Nothing
+lefts_of true TruncatingDivide = Nothing
+lefts_of true Modulo = Nothing
+lefts_of true Add = Each
+lefts_of true Subtract = Each
+lefts_of true Multiply = Each

@@ -1,0 +1,222 @@
+//! The numbers of results, written into the caller's memory.
+
+ghost use Rattle.std.specs.Prelude.{◌≡◌, ℤ, List, length, map};
+ghost use Rattle.std.specs.Simd.Lanes.{zip2};
+ghost use Rattle.num_traits.specs.Laws.{bit_len};
+ghost use Rattle.arrow_arithmetic.specs.Arithmetic.{function_of, operation_of};
+ghost use Rattle.polars_arrays_numbers.specs.Wrapping.{wrapped};
+ghost use Rattle.polars_compute_arithmetic.specs.Operations.{or_zero};
+
+use crate::calculating::{Arithmetic, Sign};
+use crate::functions::{Magnitude, Negation, NumberFunction, WithLeft, WithRight};
+use crate::operations::{
+    Difference, FloorQuotient, Modulus, NumberOperation, Product, Sum, TruncatedQuotient,
+};
+use arrow_columns::writing::{Computed, write};
+use polars_arrays_numbers::native_type::NativeType;
+use polars_compute_arithmetic::arithmetic::pl_num::PlNumArithmetic;
+
+// The results for the numbers at each place of two slices.
+#[derive(Drop)]
+struct Pairs<'a, T, O> {
+    left: &'a [T],
+    right: &'a [T],
+    operation: O,
+    ghost one_length: { length right.now ≡ length left.now },
+}
+
+// The results for the numbers of a slice.
+#[derive(Drop)]
+struct Each<'a, T, F> {
+    values: &'a [T],
+    function: F,
+}
+
+impl<'a, T: NativeType, O: NumberOperation<T>> Computed<T> for Pairs<'a, T, O> {
+    ghost use Rattle.std.specs.Simd.Lanes.{zip2};
+    ghost use Rattle.num_traits.specs.Laws.{bit_len};
+    ghost use Rattle.polars_arrays_numbers.specs.Wrapping.{wrapped};
+    ghost use Rattle.polars_compute_arithmetic.specs.Operations.{or_zero};
+
+    ghost numbers = { λ pairs. zip2 (λ x y. wrapped T.low (bit_len T.width)
+        (or_zero (O.meaning (T.value x) (T.value y)))) pairs.left.now pairs.right.now };
+
+    #[inline(always)]
+    fn count(&self) -> usize {
+        self.left.len()
+    }
+
+    #[inline(always)]
+    fn number(&self, i: usize) -> T {
+        let left = self.left;
+        let right = self.right;
+        self.operation.apply(left[i], right[i])
+    }
+}
+
+impl<'a, T: NativeType, F: NumberFunction<T>> Computed<T> for Each<'a, T, F> {
+    ghost use Rattle.std.specs.Prelude.{map};
+    ghost use Rattle.num_traits.specs.Laws.{bit_len};
+    ghost use Rattle.polars_arrays_numbers.specs.Wrapping.{wrapped};
+    ghost use Rattle.polars_compute_arithmetic.specs.Operations.{or_zero};
+
+    ghost numbers = { λ each. map (λ x. wrapped T.low (bit_len T.width)
+        (or_zero (F.meaning each.function (T.value x)))) each.values.now };
+
+    #[inline(always)]
+    fn count(&self) -> usize {
+        self.values.len()
+    }
+
+    #[inline(always)]
+    fn number(&self, i: usize) -> T {
+        self.function.apply(self.values[i])
+    }
+}
+
+// Writes the results of an operation on the numbers at each place.
+fn write_operation<T: NativeType, O: NumberOperation<T> + Drop>(
+    operation: O,
+    left: &[T],
+    right: &[T],
+    out: &mut [T],
+)
+    requires same_length { length right.now ≡ length left.now }
+    requires room { length out.old ≡ length left.now }
+    ensures { map T.value out.new ≡ zip2 (λ x y. wrapped T.low (bit_len T.width)
+        (or_zero (O.meaning (T.value x) (T.value y)))) left.now right.now }
+{
+    write(
+        &Pairs {
+            left,
+            right,
+            operation,
+        },
+        out,
+    );
+}
+
+// Writes the results of a function of each number.
+fn write_function<T: NativeType, F: NumberFunction<T> + Drop>(
+    function: F,
+    values: &[T],
+    out: &mut [T],
+)
+    requires { length out.old ≡ length values.now }
+    ensures { map T.value out.new ≡ map (λ x. wrapped T.low (bit_len T.width)
+        (or_zero (F.meaning function (T.value x)))) values.now }
+{
+    write(&Each { values, function }, out);
+}
+
+/// Writes the results for the numbers at each place of two slices.
+pub(crate) fn write_pairs<T: PlNumArithmetic>(
+    arithmetic: Arithmetic,
+    left: &[T],
+    right: &[T],
+    out: &mut [T],
+)
+    requires same_length { length right.now ≡ length left.now }
+    requires room { length out.old ≡ length left.now }
+    ensures { map T.value out.new ≡ zip2 (λ x y. wrapped T.low (bit_len T.width)
+        (or_zero (operation_of arithmetic (T.value x) (T.value y)))) left.now right.now }
+{
+    match arithmetic {
+        Arithmetic::Add => write_operation(Sum, left, right, out),
+        Arithmetic::Subtract => write_operation(Difference, left, right, out),
+        Arithmetic::Multiply => write_operation(Product, left, right, out),
+        Arithmetic::FloorDivide => write_operation(FloorQuotient, left, right, out),
+        Arithmetic::TruncatingDivide => write_operation(TruncatedQuotient, left, right, out),
+        Arithmetic::Modulo => write_operation(Modulus, left, right, out),
+    }
+}
+
+/// Writes the results for each number and a right one.
+pub(crate) fn write_rights<T: PlNumArithmetic>(
+    arithmetic: Arithmetic,
+    left: &[T],
+    right: T,
+    out: &mut [T],
+)
+    requires { length out.old ≡ length left.now }
+    ensures { map T.value out.new ≡ map (λ x. wrapped T.low (bit_len T.width)
+        (or_zero (operation_of arithmetic (T.value x) (T.value right)))) left.now }
+{
+    match arithmetic {
+        Arithmetic::Add => {
+            let operation = Sum;
+            write_function(WithRight { operation, right }, left, out)
+        }
+        Arithmetic::Subtract => {
+            let operation = Difference;
+            write_function(WithRight { operation, right }, left, out)
+        }
+        Arithmetic::Multiply => {
+            let operation = Product;
+            write_function(WithRight { operation, right }, left, out)
+        }
+        Arithmetic::FloorDivide => {
+            let operation = FloorQuotient;
+            write_function(WithRight { operation, right }, left, out)
+        }
+        Arithmetic::TruncatingDivide => {
+            let operation = TruncatedQuotient;
+            write_function(WithRight { operation, right }, left, out)
+        }
+        Arithmetic::Modulo => {
+            let operation = Modulus;
+            write_function(WithRight { operation, right }, left, out)
+        }
+    }
+}
+
+/// Writes the results for a left number and each one.
+pub(crate) fn write_lefts<T: PlNumArithmetic>(
+    arithmetic: Arithmetic,
+    left: T,
+    right: &[T],
+    out: &mut [T],
+)
+    requires { length out.old ≡ length right.now }
+    ensures { map T.value out.new ≡ map (λ y. wrapped T.low (bit_len T.width)
+        (or_zero (operation_of arithmetic (T.value left) (T.value y)))) right.now }
+{
+    match arithmetic {
+        Arithmetic::Add => {
+            let operation = Sum;
+            write_function(WithLeft { operation, left }, right, out)
+        }
+        Arithmetic::Subtract => {
+            let operation = Difference;
+            write_function(WithLeft { operation, left }, right, out)
+        }
+        Arithmetic::Multiply => {
+            let operation = Product;
+            write_function(WithLeft { operation, left }, right, out)
+        }
+        Arithmetic::FloorDivide => {
+            let operation = FloorQuotient;
+            write_function(WithLeft { operation, left }, right, out)
+        }
+        Arithmetic::TruncatingDivide => {
+            let operation = TruncatedQuotient;
+            write_function(WithLeft { operation, left }, right, out)
+        }
+        Arithmetic::Modulo => {
+            let operation = Modulus;
+            write_function(WithLeft { operation, left }, right, out)
+        }
+    }
+}
+
+/// Writes the results of a function of each number.
+pub(crate) fn write_signs<T: PlNumArithmetic>(sign: Sign, values: &[T], out: &mut [T])
+    requires { length out.old ≡ length values.now }
+    ensures { map T.value out.new ≡ map (λ x. wrapped T.low (bit_len T.width)
+        (or_zero (function_of sign (T.value x)))) values.now }
+{
+    match sign {
+        Sign::Negate => write_function(Negation, values, out),
+        Sign::Absolute => write_function(Magnitude, values, out),
+    }
+}
