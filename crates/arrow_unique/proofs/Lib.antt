@@ -1,0 +1,4 @@
+mod Examples
+mod Joined
+mod Listed
+mod Marked
