@@ -1,6 +1,6 @@
 //! Ranges of states.
 
-ghost use Rattle.std.specs.Prelude.{◌≡◌, ◌^◌, ◌≤ℤ◌, ◌-ℤ◌, ◌+ℤ◌, pos, unsigned_abs, IfSome, IsNone};
+ghost use Rattle.std.specs.Prelude.{◌≡◌, ◌+◌, ◌<◌, ◌^◌, ◌≤ℤ◌, ◌-ℤ◌, ◌+ℤ◌, pos, unsigned_abs, IfSome, IsNone};
 ghost use Rattle.polars_compute_slots.specs.State.{RangeFits};
 
 /// Returns the number of whole numbers from `least` to `greatest`, or `None` if there is no state of
@@ -8,6 +8,7 @@ ghost use Rattle.polars_compute_slots.specs.State.{RangeFits};
 pub fn count_between(least: i128, greatest: i128) -> Option<usize>
     ensures count { IfSome result (λ n. n ≡ unsigned_abs (greatest -ℤ least +ℤ pos 1)) }
     ensures fits { IfSome result (λ _. RangeFits least greatest) }
+    ensures few { IfSome result (λ n. n + 1 < 2 ^ 64) }
     ensures end { IfSome result (λ n. (least +ℤ pos n) ≤ℤ pos (2 ^ 127)) }
     ensures none { IsNone result → ¬ RangeFits least greatest }
 {
