@@ -1,13 +1,16 @@
-use Rattle.std.proofs.Common.{◌≡◌, ◌+◌, ◌<◌, [], ◌∷◌, ◌++◌, length, get_or, drop, sym, ap, ◌∙◌, subst, arith, rules, Global}
+use Rattle.std.proofs.Common.{◌≡◌, ℕ, List, Bool, ◌+◌, ◌<◌, [], ◌∷◌, ◌++◌, length, get_or, drop, sym, ap, ◌∙◌, subst, arith, rules, Global}
 use Rattle.std.proofs.lemmas.List.{drop_more, append_assoc}
 use Rattle.std.proofs.lemmas.Result.{on_ok_weaker}
 use Rattle.std.specs.Bool.{⊤}
+use Rattle.std.specs.Borrow.{Bor}
 use Rattle.json.proofs.Trees.{item_smaller, view-Array, view-Object}
-use Rattle.json.specs.Json.{object}
+use Rattle.json.specs.Json.{null, boolean, number, string, array, object}
 use Rattle.json.specs.Strict.{keys, AreDistinct, HasUniqueKeys, ItemsHaveUniqueKeys, MembersHaveUniqueKeys}
 use Rattle.json.specs.Token.{begin_array, begin_object}
 use Rattle.json.specs.Tree.{json_tokens, items_tokens, members_tokens}
 use Rattle.json.specs.Value.{value_view, items_view, members_view}
+use Rattle.json.specs.declared.value.Value as values
+use Rattle.json.specs.declared.value.Value.{the_lemmas}
 use Rattle.json_decimals.specs.declared.error.NumberError.{NumberError}
 use Rattle.json_decimals.specs.declared.error.NumberError.TheVariants.{WideExponent}
 use Rattle.json_normal.specs.Narrow.{HasNarrowNumbers, ItemsHaveNarrowNumbers, MembersHaveNarrowNumbers}
@@ -16,6 +19,18 @@ use Rattle.json_normal.proofs.MemberLemmas.{IsGood, good_refs}
 use Rattle.json_normal.proofs.NarrowLemmas.{tells_alike, narrow_refs, narrow_members}
 use Rattle.json_normal.proofs.SortedLemmas.{Ref}
 use Rattle.json_normal.proofs.write.+normal.Goals as goal
+
+view-Null : value_view {A = Global} values.Null ≡ null
+view-Null = search (rules, the_lemmas)
+
+view-Bool : (b : Bool) → value_view {A = Global} (values.Bool b) ≡ boolean b
+view-Bool b = search (rules, the_lemmas)
+
+view-Number : (s : Bor (List ℕ)) → value_view {A = Global} (values.Number s) ≡ number s.now
+view-Number s = search (rules, the_lemmas)
+
+view-String : (s : Bor (List ℕ)) → value_view {A = Global} (values.String s) ≡ string s.now
+view-String s = search (rules, the_lemmas)
 
 pub write_items-write_normal-requires : goal.write_items-write_normal-requires
 write_items-write_normal-requires t c =
@@ -93,3 +108,55 @@ write_items-returns-in_err-write_normal-clause-narrow t c =
     λ h. (subst (λ ys. ItemsHaveNarrowNumbers (items_view ys)) here (l.invariant.4 (subst (λ ys. ItemsHaveNarrowNumbers (items_view ys)) (sym c.deref-item-items.ensures.value) h))).0 in
     let told : c.in_err-write_normal.field-0.0 ≡ WideExponent → ¬ ItemsHaveNarrowNumbers (items_view c.args.items.now.items) = λ wide h. c.in_err-write_normal.ensures.narrow wide (part h) in
     search rules
+
+pub write_normal-returns-in-Null-clause-ok : goal.write_normal-returns-in-Null-clause-ok
+write_normal-returns-in-Null-clause-ok t c =
+    let seen : value_view c.args.value.now ≡ null = ap value_view c.in-Null.is ∙ view-Null in
+    rw seen c.write_token.ensures.ok
+
+pub write_normal-returns-in-Null-clause-narrow : goal.write_normal-returns-in-Null-clause-narrow
+write_normal-returns-in-Null-clause-narrow t c =
+    let seen : value_view c.args.value.now ≡ null = ap value_view c.in-Null.is ∙ view-Null in
+    rw seen c.write_token.ensures.narrow
+
+pub write_normal-returns-in-Bool-clause-ok : goal.write_normal-returns-in-Bool-clause-ok
+write_normal-returns-in-Bool-clause-ok t c =
+    let seen : value_view c.args.value.now ≡ boolean c.in-Bool.b = ap value_view c.in-Bool.is ∙ view-Bool c.in-Bool.b in
+    rw seen c.write_token-in-Bool.ensures.ok
+
+pub write_normal-returns-in-Bool-clause-narrow : goal.write_normal-returns-in-Bool-clause-narrow
+write_normal-returns-in-Bool-clause-narrow t c =
+    let seen : value_view c.args.value.now ≡ boolean c.in-Bool.b = ap value_view c.in-Bool.is ∙ view-Bool c.in-Bool.b in
+    rw seen c.write_token-in-Bool.ensures.narrow
+
+pub write_normal-returns-in-Number-clause-ok : goal.write_normal-returns-in-Number-clause-ok
+write_normal-returns-in-Number-clause-ok t c =
+    let seen : value_view c.args.value.now ≡ number c.in-Number.text.now = ap value_view c.in-Number.is ∙ view-Number c.in-Number.text in
+    rw seen c.write_number.ensures.ok
+
+pub write_normal-returns-in-Number-clause-narrow : goal.write_normal-returns-in-Number-clause-narrow
+write_normal-returns-in-Number-clause-narrow t c =
+    let seen : value_view c.args.value.now ≡ number c.in-Number.text.now = ap value_view c.in-Number.is ∙ view-Number c.in-Number.text in
+    rw seen c.write_number.ensures.narrow
+
+pub write_normal-returns-in-String-clause-ok : goal.write_normal-returns-in-String-clause-ok
+write_normal-returns-in-String-clause-ok t c =
+    let seen : value_view c.args.value.now ≡ string c.in-String.text.now = ap value_view c.in-String.is ∙ view-String c.in-String.text in
+    rw seen c.write_token-in-String.ensures.ok
+
+pub write_normal-returns-in-String-clause-narrow : goal.write_normal-returns-in-String-clause-narrow
+write_normal-returns-in-String-clause-narrow t c =
+    let seen : value_view c.args.value.now ≡ string c.in-String.text.now = ap value_view c.in-String.is ∙ view-String c.in-String.text in
+    rw seen c.write_token-in-String.ensures.narrow
+
+pub write_normal-returns-in_ok-write_token-in-Array-clause-narrow :
+    goal.write_normal-returns-in_ok-write_token-in-Array-clause-narrow
+write_normal-returns-in_ok-write_token-in-Array-clause-narrow t c =
+    let seen : value_view c.args.value.now ≡ array (items_view c.in-Array.items.items) = ap value_view c.in-Array.is ∙ view-Array c.in-Array.items in
+    rw seen c.write_items.ensures.narrow
+
+pub write_normal-returns-in_ok-write_token-in-Object-clause-narrow :
+    goal.write_normal-returns-in_ok-write_token-in-Object-clause-narrow
+write_normal-returns-in_ok-write_token-in-Object-clause-narrow t c =
+    let seen : value_view c.args.value.now ≡ object (members_view c.in-Object.members.items) = ap value_view c.in-Object.is ∙ view-Object c.in-Object.members in
+    rw seen c.write_members.ensures.narrow
