@@ -1,6 +1,7 @@
 //! Looking up many members by their names.
 
-ghost use Rattle.std.specs.Prelude.{◌≡◌, IfOk, map};
+ghost use Rattle.std.specs.Prelude.{◌≡◌, ◌<◌, IfOk, length, map};
+ghost use Rattle.json.specs.Find.{get_member};
 ghost use Rattle.json.specs.Value.{members_view};
 ghost use Rattle.json_changes.specs.Names.{FindsMembers, at_name, found_values, seen};
 
@@ -12,14 +13,18 @@ use std::collections::BTreeMap;
 /// The number of members that are looked through one by one.
 const FEW: usize = 16;
 
-/// Returns the values of members by their names.
+/// Returns the values of members by their names, where the members are many.
 fn by_name<'v, 'a>(
     alloc: Global,
     members: &'v Vec<(&'a str, Value<'a>)>,
 ) -> Result<BTreeMap<&'a str, &'v Value<'a>>, AllocError>
-    ensures { IfOk result (λ names. FindsMembers names (members_view members.now.items)) }
+    ensures { IfOk result (λ names. FEW < length members.now.items
+        → FindsMembers names (members_view members.now.items)) }
 {
     let mut names = BTreeMap::new(alloc);
+    if members.len() <= FEW {
+        return Ok(names);
+    }
     for i in 0..members.len() {
         let member = &members[i];
         names.insert(member.0, &member.1)?;
@@ -34,37 +39,21 @@ fn look_up<'v, 'a>(names: &BTreeMap<&'a str, &'v Value<'a>>, name: &str) -> Opti
     names.get(name).copied()
 }
 
-/// Returns the values that other members, which are few, have at the members' names.
-fn find_among_few<'v, 'a, 'b>(
-    alloc: Global,
-    members: &Vec<(&'a str, Value<'a>)>,
-    among: &'v Vec<(&'b str, Value<'b>)>,
-) -> Result<Vec<Option<&'v Value<'b>>>, AllocError>
-    ensures { IfOk result (λ found. map seen found.items
-        ≡ found_values members.now.items (members_view among.now.items)) }
+/// Returns the value of the member of a name, which is looked up where the members are many.
+fn find_in<'v, 'a>(
+    members: &'v Vec<(&'a str, Value<'a>)>,
+    names: &BTreeMap<&'a str, &'v Value<'a>>,
+    name: &str,
+) -> Option<&'v Value<'a>>
+    requires { FEW < length members.now.items
+        → FindsMembers names.now (members_view members.now.items) }
+    ensures { seen result ≡ get_member name.now (members_view members.now.items) }
 {
-    let mut found = Vec::with_capacity(alloc, members.len())?;
-    for i in 0..members.len() {
-        found.push(find_member(among, members[i].0))?;
+    if members.len() <= FEW {
+        find_member(members, name)
+    } else {
+        look_up(names, name)
     }
-    Ok(found)
-}
-
-/// Returns the values that other members, of any number, have at the members' names.
-fn find_among_many<'v, 'a, 'b>(
-    alloc: Global,
-    members: &Vec<(&'a str, Value<'a>)>,
-    among: &'v Vec<(&'b str, Value<'b>)>,
-) -> Result<Vec<Option<&'v Value<'b>>>, AllocError>
-    ensures { IfOk result (λ found. map seen found.items
-        ≡ found_values members.now.items (members_view among.now.items)) }
-{
-    let names = by_name(alloc, among)?;
-    let mut found = Vec::with_capacity(alloc, members.len())?;
-    for i in 0..members.len() {
-        found.push(look_up(&names, members[i].0))?;
-    }
-    Ok(found)
 }
 
 /// Returns the values that other members have at the members' names: one for each, or none.
@@ -76,9 +65,10 @@ pub(crate) fn find_all<'v, 'a, 'b>(
     ensures { IfOk result (λ found. map seen found.items
         ≡ found_values members.now.items (members_view among.now.items)) }
 {
-    if among.len() <= FEW {
-        find_among_few(alloc, members, among)
-    } else {
-        find_among_many(alloc, members, among)
+    let names = by_name(alloc, among)?;
+    let mut found = Vec::with_capacity(alloc, members.len())?;
+    for i in 0..members.len() {
+        found.push(find_in(among, &names, members[i].0))?;
     }
+    Ok(found)
 }

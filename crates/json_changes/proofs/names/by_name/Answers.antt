@@ -13,3 +13,6 @@ loop-i-preserved c =
     let m = c.index-member.result.now in
     let front : take (i + 1) ms ≡ take i ms ++ m ∷ [] = take_more ms i m (omega arith) ∙ ap (λ (n : Pair Global). take i ms ++ n ∷ []) (sym c.index-member.ensures) in
     subst (λ (ns : List (Pair Global)). FindsMembers c.insert.new.self (members_view ns)) (sym front) (one_more c.loop-i.names c.insert.new.self m.0 _ (take i ms) c.loop-i.invariant c.in_ok-insert.ensures.updates.0)
+
+pub returns-then-len-le-FEW : goal.returns-then-len-le-FEW
+returns-then-len-le-FEW c = λ many. absurd (omega arith)
