@@ -32,7 +32,7 @@ fn taking<'a>(arg: Arg<'a>, takes: Takes) -> Arg<'a> {
 }
 
 /// Returns the argument that an option is.
-pub(crate) fn arg_of<'a>(alloc: Global, option: CliOption) -> Result<Arg<'a>, AllocError> {
+fn arg_of<'a>(alloc: Global, option: CliOption) -> Result<Arg<'a>, AllocError> {
     let mut arg = taking(Arg::new(alloc, option.id), option.takes)
         .long(option.id)
         .help(option.help);
@@ -61,6 +61,26 @@ fn input<'a>(
         .required_unless_present("config")
 }
 
+/// Adds an input to a command.
+fn with_input<'a>(
+    alloc: Global,
+    command: Command<'a>,
+    id: &'a str,
+    name: &'a str,
+    help: &'a str,
+) -> Result<Command<'a>, AllocError> {
+    command.arg(input(alloc, id, name, help)?)
+}
+
+/// Adds an option to a command.
+pub(crate) fn with_option<'a>(
+    alloc: Global,
+    command: Command<'a>,
+    option: CliOption,
+) -> Result<Command<'a>, AllocError> {
+    command.arg(arg_of(alloc, option)?)
+}
+
 /// Adds options to a command.
 fn with_options<'a>(
     alloc: Global,
@@ -69,7 +89,7 @@ fn with_options<'a>(
 ) -> Result<Command<'a>, AllocError> {
     let mut command = command;
     for option in options {
-        command = command.arg(arg_of(alloc, *option)?)?;
+        command = with_option(alloc, command, *option)?;
     }
     Ok(command)
 }
@@ -78,29 +98,27 @@ fn with_options<'a>(
 fn diff<'a>(alloc: Global) -> Result<Command<'a>, AllocError> {
     let command = Command::new(alloc, "diff")
         .about("Compares two CSV or NDJSON files by key, and prints what differs")
-        .after_help(NOTES)
-        .arg(input(
-            alloc,
-            "left",
-            "LEFT",
-            "The first file, or - for standard input",
-        )?)?
-        .arg(input(
-            alloc,
-            "right",
-            "RIGHT",
-            "The second file, or - for standard input",
-        )?)?;
+        .after_help(NOTES);
+    let first = "The first file, or - for standard input";
+    let command = with_input(alloc, command, "left", "LEFT", first)?;
+    let second = "The second file, or - for standard input";
+    let command = with_input(alloc, command, "right", "RIGHT", second)?;
     with_options(alloc, command, options())
+}
+
+/// Adds the command that says what the columns of a file are.
+fn with_schema<'a>(alloc: Global, command: Command<'a>) -> Result<Command<'a>, AllocError> {
+    command.subcommand(schema_command(alloc)?)
 }
 
 /// Returns the command line of the program.
 pub(crate) fn command<'a>(alloc: Global) -> Result<Command<'a>, AllocError> {
-    Command::new(alloc, "dunkelva")
+    let diff = diff(alloc)?;
+    let command = Command::new(alloc, "dunkelva")
         .version(VERSION)
         .about("Compares tables and documents exactly")
         .subcommand_required(true)
         .arg_required_else_help(true)
-        .subcommand(diff(alloc)?)?
-        .subcommand(schema_command(alloc)?)
+        .subcommand(diff)?;
+    with_schema(alloc, command)
 }

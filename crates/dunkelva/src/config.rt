@@ -118,10 +118,12 @@ const CONFIG: &str = "config";
 
 /// Returns whether a file may set what has this name.
 fn is_known(name: &str) -> bool {
-    if name == "left" || name == "right" {
-        return true;
+    for option in options() {
+        if option.id == name {
+            return name != CONFIG;
+        }
     }
-    options().iter().any(|option| option.id == name) && name != CONFIG
+    name == "left" || name == "right"
 }
 
 /// Refuses names that no option has.

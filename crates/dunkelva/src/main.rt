@@ -68,7 +68,7 @@ fn diff_tables(
         format: format_of(matches),
         colored: is_colored(rt, matches),
     };
-    compare_named(rt, left, right, &Task::Tables(&options), target)
+    compare_named(rt, left, right, Task::Tables(&options), target)
 }
 
 /// Compares two files of documents.
@@ -95,7 +95,7 @@ fn diff_documents(
         format: format_of(matches),
         colored: is_colored(rt, matches),
     };
-    compare_named(rt, left, right, &Task::Documents(&options), target)
+    compare_named(rt, left, right, Task::Documents(&options), target)
 }
 
 /// Compares the two files that the words name.
@@ -113,24 +113,37 @@ fn diff(rt: &HostRuntime, matches: &ArgMatches<'_>, config: &Config) -> Result<u
     diff_tables(rt, matches, left, right, target)
 }
 
+/// Does what the command line asks for, and returns the status.
+fn run_matches(rt: &HostRuntime, matches: &ArgMatches<'_>, config: &Config) -> Result<u8> {
+    match matches.subcommand() {
+        Some(("diff", matches)) => diff(rt, matches, config),
+        Some(("schema", matches)) => show_schema(rt, matches),
+        _ => Err(anyhow!("no command is given")),
+    }
+}
+
+/// Prints what is said of words that are refused, or help, and returns the status.
+fn print_refusal(rt: &HostRuntime, error: &clap::Error) -> Result<u8> {
+    error.print(rt)?;
+    Ok(error.exit_code() as u8)
+}
+
+/// Does what the words of a command line ask for, and returns the status.
+fn run_command(rt: &HostRuntime, words: &[&str], config: &Config) -> Result<u8> {
+    let command = command(rt.alloc())?;
+    match command.try_get_matches_from(words) {
+        Ok(matches) => run_matches(rt, &matches, config),
+        Err(error) => print_refusal(rt, &error),
+    }
+}
+
 /// Does what the words of the command line ask for, and returns the status.
 fn run_words(rt: &HostRuntime) -> Result<u8> {
     let alloc = rt.alloc();
     let words: Vec<String> = env::args(rt)?.collect(alloc)?;
     let config = config_for(rt, &words)?;
     let all = joined(alloc, &words, &config.words)?;
-    let matches = match command(alloc)?.try_get_matches_from(all.as_slice()) {
-        Ok(matches) => matches,
-        Err(error) => {
-            error.print(rt)?;
-            return Ok(error.exit_code() as u8);
-        }
-    };
-    match matches.subcommand() {
-        Some(("diff", matches)) => diff(rt, matches, &config),
-        Some(("schema", matches)) => show_schema(rt, matches),
-        _ => Err(anyhow!("no command is given")),
-    }
+    run_command(rt, &all, &config)
 }
 
 fn main(rt: HostRuntime) -> ExitCode {

@@ -1,6 +1,6 @@
 //! What the columns of files are: `dunkelva schema FILE`, and `dunkelva diff --schema-only LEFT RIGHT`.
 
-use crate::command::arg_of;
+use crate::command::with_option;
 use crate::files::open;
 use crate::kinds::names_documents;
 use crate::options::{Takes, options};
@@ -55,20 +55,23 @@ const OTHER_FLAGS: [&str; 8] = [
 /// The status where the file can't be read, or nobody reads what is said of it.
 const TROUBLE: u8 = 2;
 
+/// Returns the file whose columns are asked for.
+fn file_arg<'a>(alloc: Global) -> Arg<'a> {
+    Arg::new(alloc, "file")
+        .value_name("FILE")
+        .help("The file, or - for standard input")
+        .required(true)
+}
+
 /// Returns the command that says what the columns of a file are.
 pub(crate) fn schema_command<'a>(alloc: Global) -> Result<Command<'a>, AllocError> {
     let mut command = Command::new(alloc, "schema")
         .about("Says what the columns of a CSV file are")
         .after_help(NOTES)
-        .arg(
-            Arg::new(alloc, "file")
-                .value_name("FILE")
-                .help("The file, or - for standard input")
-                .required(true),
-        )?;
+        .arg(file_arg(alloc))?;
     for option in options() {
         if SHARED.contains(&option.id) {
-            command = command.arg(arg_of(alloc, *option)?)?;
+            command = with_option(alloc, command, *option)?;
         }
     }
     Ok(command)
@@ -109,24 +112,30 @@ fn print_text(rt: &HostRuntime, text: &[u8], status: u8) -> Result<u8> {
     }
 }
 
+/// Returns what is said of the columns of a file of this name.
+fn schema_text(
+    alloc: Global,
+    matches: &ArgMatches<'_>,
+    file: &str,
+    schema: &TableSchema,
+) -> Result<Vec<u8>> {
+    let mut text = Vec::new(alloc);
+    if is_json(matches) {
+        push_schema_json(&mut text, &schema.columns)?;
+        return Ok(text);
+    }
+    let (rows, columns) = (schema.rows, &schema.columns);
+    push_schema(alloc, &mut text, file.as_bytes(), rows, columns)?;
+    Ok(text)
+}
+
 /// Says what the columns of the file are that the words name, and returns the status.
 pub(crate) fn show_schema(rt: &HostRuntime, matches: &ArgMatches<'_>) -> Result<u8> {
     let file = matches.get_str("file").unwrap_or("-");
     refuse_own_output(rt, &[file])?;
     let options = csv_options(matches, file, file)?;
     let schema = schema_in(rt, matches, file, options, false)?;
-    let mut text = Vec::new(rt.alloc());
-    if is_json(matches) {
-        push_schema_json(&mut text, &schema.columns)?;
-    } else {
-        push_schema(
-            rt.alloc(),
-            &mut text,
-            file.as_bytes(),
-            schema.rows,
-            &schema.columns,
-        )?;
-    }
+    let text = schema_text(rt.alloc(), matches, file, &schema)?;
     print_text(rt, &text, 0)
 }
 
@@ -153,6 +162,36 @@ fn status_of(counts: SchemaCounts) -> u8 {
     }
 }
 
+/// Returns what is said of the differences of the columns of two files of these names.
+fn changes_text(
+    alloc: Global,
+    matches: &ArgMatches<'_>,
+    files: (&[u8], &[u8]),
+    before: &TableSchema,
+    after: &TableSchema,
+) -> Result<Vec<u8>> {
+    let mut text = Vec::new(alloc);
+    if is_json(matches) {
+        push_changes_json(&mut text, &before.columns, &after.columns)?;
+        return Ok(text);
+    }
+    push_changes(&mut text, files, &before.columns, &after.columns)?;
+    Ok(text)
+}
+
+/// Prints what the columns of two files of these names differ in, and returns the status.
+fn print_changes(
+    rt: &HostRuntime,
+    matches: &ArgMatches<'_>,
+    files: (&[u8], &[u8]),
+    before: &TableSchema,
+    after: &TableSchema,
+) -> Result<u8> {
+    let text = changes_text(rt.alloc(), matches, files, before, after)?;
+    let status = status_of(counts_of(&before.columns, &after.columns));
+    print_text(rt, &text, status)
+}
+
 /// Says what the columns of two files differ in, and returns the status.
 pub(crate) fn compare_schemas(
     rt: &HostRuntime,
@@ -169,16 +208,6 @@ pub(crate) fn compare_schemas(
     let options = csv_options(matches, left, right)?;
     let before = schema_in(rt, matches, left, options, has_standard)?;
     let after = schema_in(rt, matches, right, options, has_standard)?;
-    let mut text = Vec::new(rt.alloc());
-    if is_json(matches) {
-        push_changes_json(&mut text, &before.columns, &after.columns)?;
-    } else {
-        let files = (left.as_bytes(), right.as_bytes());
-        push_changes(&mut text, files, &before.columns, &after.columns)?;
-    }
-    print_text(
-        rt,
-        &text,
-        status_of(counts_of(&before.columns, &after.columns)),
-    )
+    let files = (left.as_bytes(), right.as_bytes());
+    print_changes(rt, matches, files, &before, &after)
 }

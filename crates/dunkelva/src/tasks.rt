@@ -14,6 +14,7 @@ use diff_run::run::{Input, run};
 use document_run::error::DocumentError;
 use document_run::options::DocumentOptions;
 use document_run::run::run_documents;
+use std::alloc::Global;
 use std::io::{ErrorKind, Write};
 use std::{fs, io};
 
@@ -89,30 +90,88 @@ fn unwritten(cause: io::Error) -> Result<Ending> {
     Err(anyhow!("{cause}").context("standard output"))
 }
 
+/// Returns how a comparison of tables ended that came to this.
+fn tables_ending(
+    came_to: Result<Outcome, RunError>,
+    files: (&[u8], &[u8]),
+    options: &Options<'_>,
+) -> Result<Ending> {
+    match came_to {
+        Ok(outcome) => Ok(Ending::from(outcome)),
+        Err(RunError::Write { cause }) => unwritten(cause),
+        Err(error) => Err(table_trouble(error, files, options)),
+    }
+}
+
+/// Returns how a comparison of documents ended that came to this.
+fn documents_ending(
+    came_to: Result<Outcome, DocumentError>,
+    files: (&[u8], &[u8]),
+    options: &DocumentOptions<'_>,
+) -> Result<Ending> {
+    match came_to {
+        Ok(outcome) => Ok(Ending::from(outcome)),
+        Err(DocumentError::Write { cause }) => unwritten(cause),
+        Err(error) => Err(document_trouble(error, files, options)),
+    }
+}
+
 /// Compares two inputs, and writes the report to `out`.
 fn report_to<W: Write>(
     rt: &HostRuntime,
     left: Input<'_, Source>,
     right: Input<'_, Source>,
     progress: &Progress<'_>,
-    task: &Task<'_>,
+    task: Task<'_>,
     out: &mut W,
 ) -> Result<Ending> {
     let files = (left.name, right.name);
     let left = counted(left, progress);
     let right = counted(right, progress);
     match task {
-        Task::Tables(options) => match run(rt.alloc(), left, right, out, options) {
-            Ok(outcome) => Ok(Ending::from(outcome)),
-            Err(RunError::Write { cause }) => unwritten(cause),
-            Err(error) => Err(table_trouble(error, files, options)),
-        },
-        Task::Documents(options) => match run_documents(rt.alloc(), left, right, out, options) {
-            Ok(outcome) => Ok(Ending::from(outcome)),
-            Err(DocumentError::Write { cause }) => unwritten(cause),
-            Err(error) => Err(document_trouble(error, files, options)),
-        },
+        Task::Tables(options) => {
+            tables_ending(run(rt.alloc(), left, right, out, options), files, options)
+        }
+        Task::Documents(options) => {
+            let came_to = run_documents(rt.alloc(), left, right, out, options);
+            documents_ending(came_to, files, options)
+        }
     }
+}
+
+/// A report, and how its comparison ended.
+#[derive(Drop)]
+struct Made {
+    report: Vec<u8>,
+    ending: Ending,
+}
+
+/// Compares two inputs, and returns the report.
+fn report_of(
+    rt: &HostRuntime,
+    left: Input<'_, Source>,
+    right: Input<'_, Source>,
+    progress: &Progress<'_>,
+    task: Task<'_>,
+) -> Result<Made> {
+    let mut report = Vec::new(rt.alloc());
+    let ending = report_to(rt, left, right, progress, task, &mut report)?;
+    Ok(Made { report, ending })
+}
+
+/// Compares two inputs, and prints the report.
+fn print_report(
+    rt: &HostRuntime,
+    left: Input<'_, Source>,
+    right: Input<'_, Source>,
+    progress: &Progress<'_>,
+    task: Task<'_>,
+) -> Result<Ending> {
+    let mut out = Cleared {
+        writer: io::writer(rt),
+        progress,
+    };
+    report_to(rt, left, right, progress, task, &mut out)
 }
 
 /// Prints a text that is made of a report.
@@ -132,56 +191,70 @@ fn print_text(
     }
 }
 
-/// Compares two inputs of these names, and prints the report as Markdown.
-fn print_markdown(
+/// Writes a page to a file.
+fn write_page(rt: &HostRuntime, page: &[u8], path: &str, ending: Ending) -> Result<Ending> {
+    match fs::write(rt, path, page) {
+        Ok(()) => Ok(ending),
+        Err(error) => Err(anyhow!("{error}").context(path)),
+    }
+}
+
+/// Appends what the target takes of a report of two files of these names.
+fn push_form(
+    alloc: Global,
+    text: &mut Vec<u8>,
+    names: (&str, &str),
+    target: Target<'_>,
+    report: &[u8],
+) -> Result<()> {
+    match target {
+        Target::Output => text.extend_from_slice(report)?,
+        Target::Markdown => push_markdown(alloc, text, names.0, names.1, report)?,
+        Target::Aligned(width, colored) => {
+            let sheet = Sheet {
+                width,
+                colored,
+                left: names.0,
+                right: names.1,
+            };
+            push_aligned(alloc, text, &sheet, report)?;
+        }
+        Target::Page(_) => push_page(text, names.0.as_bytes(), names.1.as_bytes(), report)?,
+    }
+    Ok(())
+}
+
+/// Shows a report of two files of these names in the form that the target takes.
+fn show(
+    rt: &HostRuntime,
+    made: &Made,
+    names: (&str, &str),
+    progress: &Progress<'_>,
+    target: Target<'_>,
+) -> Result<Ending> {
+    let mut text = Vec::new(rt.alloc());
+    push_form(rt.alloc(), &mut text, names, target, &made.report)?;
+    match target {
+        Target::Page(path) => write_page(rt, &text, path, made.ending),
+        _ => print_text(rt, &text, progress, made.ending),
+    }
+}
+
+/// Compares two inputs of these names, and shows the report.
+fn compared(
     rt: &HostRuntime,
     left: Input<'_, Source>,
     right: Input<'_, Source>,
     names: (&str, &str),
     progress: &Progress<'_>,
-    task: &Task<'_>,
+    task: Task<'_>,
+    target: Target<'_>,
 ) -> Result<Ending> {
-    let mut report = Vec::new(rt.alloc());
-    let ending = report_to(rt, left, right, progress, task, &mut report)?;
-    let mut text = Vec::new(rt.alloc());
-    push_markdown(rt.alloc(), &mut text, names.0, names.1, &report)?;
-    print_text(rt, &text, progress, ending)
-}
-
-/// Compares two inputs, and prints the report in aligned columns.
-fn print_aligned(
-    rt: &HostRuntime,
-    left: Input<'_, Source>,
-    right: Input<'_, Source>,
-    sheet: &Sheet<'_>,
-    progress: &Progress<'_>,
-    task: &Task<'_>,
-) -> Result<Ending> {
-    let mut report = Vec::new(rt.alloc());
-    let ending = report_to(rt, left, right, progress, task, &mut report)?;
-    let mut text = Vec::new(rt.alloc());
-    push_aligned(rt.alloc(), &mut text, sheet, &report)?;
-    print_text(rt, &text, progress, ending)
-}
-
-/// Compares two inputs, and writes the page of the report to a file.
-fn write_page(
-    rt: &HostRuntime,
-    left: Input<'_, Source>,
-    right: Input<'_, Source>,
-    progress: &Progress<'_>,
-    task: &Task<'_>,
-    path: &str,
-) -> Result<Ending> {
-    let files = (left.name, right.name);
-    let mut report = Vec::new(rt.alloc());
-    let ending = report_to(rt, left, right, progress, task, &mut report)?;
-    let mut page = Vec::new(rt.alloc());
-    push_page(&mut page, files.0, files.1, &report)?;
-    match fs::write(rt, path, page.as_slice()) {
-        Ok(()) => Ok(ending),
-        Err(error) => Err(anyhow!("{error}").context(path)),
+    if let Target::Output = target {
+        return print_report(rt, left, right, progress, task);
     }
+    let made = report_of(rt, left, right, progress, task)?;
+    show(rt, &made, names, progress, target)
 }
 
 /// Compares two inputs of these names, and returns the status.
@@ -190,29 +263,11 @@ fn compare(
     left: Input<'_, Source>,
     right: Input<'_, Source>,
     names: (&str, &str),
-    task: &Task<'_>,
+    task: Task<'_>,
     target: Target<'_>,
 ) -> Result<u8> {
     let progress = Progress::new(rt, total_of(&left.reader, &right.reader));
-    let ending = match target {
-        Target::Output => {
-            let writer = io::writer(rt);
-            let progress = &progress;
-            let mut out = Cleared { writer, progress };
-            report_to(rt, left, right, progress, task, &mut out)
-        }
-        Target::Markdown => print_markdown(rt, left, right, names, &progress, task),
-        Target::Aligned(width, colored) => {
-            let sheet = Sheet {
-                width,
-                colored,
-                left: names.0,
-                right: names.1,
-            };
-            print_aligned(rt, left, right, &sheet, &progress, task)
-        }
-        Target::Page(path) => write_page(rt, left, right, &progress, task, path),
-    };
+    let ending = compared(rt, left, right, names, &progress, task, target);
     progress.erase();
     match ending {
         Ok(ending) => Ok(ending.status()),
@@ -225,7 +280,7 @@ pub(crate) fn compare_named(
     rt: &HostRuntime,
     left: &str,
     right: &str,
-    task: &Task<'_>,
+    task: Task<'_>,
     target: Target<'_>,
 ) -> Result<u8> {
     if left == "-" && right == "-" {
