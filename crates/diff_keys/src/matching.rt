@@ -37,12 +37,13 @@ fn match_few<L: ByteRows, R: ByteRows>(
     ensures { IfOk result (IsMatching (L.strings left.now) (R.strings right.now)) }
 {
     let found = partners(alloc, left, right)?;
+    let pairs = pairs_found(alloc, &found)?;
+    let removed = rows_alone(alloc, &found)?;
+    let added = other_rows(alloc, right.count(), &pairs.right_rows)?;
     let Pairs {
         left_rows,
         right_rows,
-    } = pairs_found(alloc, &found)?;
-    let removed = rows_alone(alloc, &found)?;
-    let added = other_rows(alloc, right.count(), &right_rows)?;
+    } = pairs;
     Ok(Matching {
         left_rows,
         right_rows,

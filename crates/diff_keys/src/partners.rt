@@ -127,6 +127,26 @@ fn push_block<L: ByteRows, R: ByteRows>(
     push_partners(found, left, start, end, right, waiting, &classes, &guesses)
 }
 
+/// Appends the partners of all left rows, block by block.
+fn push_all<L: ByteRows, R: ByteRows>(
+    alloc: Global,
+    found: &mut Vec<Option<u32>>,
+    left: &L,
+    right: &R,
+    waiting: &mut Waiting,
+) -> Result<(), AllocError>
+    requires { HaveFound (L.strings left.now) (R.strings right.now) 0 waiting.old found.old.items }
+    ensures { IfOk result (λ _. HaveFound (L.strings left.now) (R.strings right.now) (length (L.strings left.now)) waiting.new found.new.items) }
+{
+    let mut start = 0;
+    while start < left.count() {
+        let end = block_end(start, left.count());
+        push_block(alloc, found, left, start, end, right, waiting)?;
+        start = end;
+    }
+    Ok(())
+}
+
 /// Returns for each left row its partner among the right rows, or `None`.
 pub(crate) fn partners<L: ByteRows, R: ByteRows>(
     alloc: Global,
@@ -139,11 +159,6 @@ pub(crate) fn partners<L: ByteRows, R: ByteRows>(
 {
     let mut waiting = all_waiting(alloc, right)?;
     let mut found = Vec::with_capacity(alloc, left.count())?;
-    let mut start = 0;
-    while start < left.count() {
-        let end = block_end(start, left.count());
-        push_block(alloc, &mut found, left, start, end, right, &mut waiting)?;
-        start = end;
-    }
+    push_all(alloc, &mut found, left, right, &mut waiting)?;
     Ok(found)
 }

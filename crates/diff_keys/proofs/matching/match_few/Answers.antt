@@ -15,7 +15,7 @@ other_rows-requires g c =
     record {
       few = omega (arith, c.count.ensures, c.requires.1);
       within = rw (c.deref-3.ensures.value, c.count.ensures)
-          (found_within (g.L.ByteRows.strings c.args.left.now) (g.R.ByteRows.strings c.args.right.now) found _ _ one_each c.in_ok-found.ensures.partners (rw c.deref.ensures.value at c.in_ok-left_rows.ensures));
+          (found_within (g.L.ByteRows.strings c.args.left.now) (g.R.ByteRows.strings c.args.right.now) found _ _ one_each c.in_ok-found.ensures.partners (rw c.deref.ensures.value at c.in_ok-pairs.ensures));
     }
 
 pub returns : goal.returns
@@ -24,6 +24,6 @@ returns g c =
     let one_each : length found ≡ length (g.L.ByteRows.strings c.args.left.now) = omega (arith, c.in_ok-found.found.ok, c.in_ok-found.ensures.one_each) in
     matching_is (g.L.ByteRows.strings c.args.left.now) (g.R.ByteRows.strings c.args.right.now) found _ one_each
     c.in_ok-found.ensures.partners
-    (rw c.deref.ensures.value at c.in_ok-left_rows.ensures)
+    (rw c.deref.ensures.value at c.in_ok-pairs.ensures)
     (rw c.deref-2.ensures.value at c.in_ok-removed.ensures)
     (rw (c.deref-3.ensures.value, c.count.ensures) at c.in_ok-added.ensures)

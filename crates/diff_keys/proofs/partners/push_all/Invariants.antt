@@ -1,6 +1,6 @@
 use Rattle.std.proofs.Common.{◌≤◌, ◌-◌, length}
 use Rattle.diff_keys.specs.Found.{HaveFound}
-use Rattle.diff_keys.proofs.partners.partners.Given as goal
+use Rattle.diff_keys.proofs.partners.push_all.Given as goal
 
 abbrev pub invariant-loop-start : goal.invariant-loop-start
 invariant-loop-start g l = record {
