@@ -15,7 +15,7 @@ use Rattle.diff_pairs.specs.Pairs.{NameRows}
 use Rattle.diff_pairs.specs.Rows.{HaveOtherCells, row_cells}
 use Rattle.diff_pairs.specs.declared.rows.LentRows.{LentRows}
 use Rattle.diff_tables.specs.Comparison.{ArePairs, IsDifferent}
-use Rattle.diff_tables.specs.Errors.{IsCompareFault}
+use Rattle.diff_tables.specs.Errors.{IsCompareFault, IsKeysFault}
 use Rattle.diff_tables.specs.Keys.{row_key, row_keys}
 use Rattle.diff_tables.specs.Tables.{Lends, TableRows}
 use Rattle.diff_tables.proofs.TableLemmas.{length_cut, row_cut}
@@ -57,7 +57,11 @@ pairs_within columns left right m h = record {
 }
 
 -- why rows are not matched by their keys is why tables are not compared
-pub compare_fault : (columns : List ℕ) (left right : List (List (List ℕ))) (lk rk : Keys) (error : MatchError) → lk ≡ row_keys columns left → rk ≡ row_keys columns right
-    → IsMatchFault lk rk error → IsCompareFault columns left right error
-compare_fault columns left right lk rk Memory el er h = tt
-compare_fault columns left right lk rk TooManyRows el er h = rw (el, er) at h
+pub keys_fault : (lk rk keys : Keys) (error : MatchError) → rk ≡ keys → IsMatchFault lk rk error → IsKeysFault lk keys error
+keys_fault lk rk keys Memory e h = tt
+keys_fault lk rk keys TooManyRows e h = rw e at h
+
+pub compare_fault : (columns : List ℕ) (left right : List (List (List ℕ))) (lk : Keys) (error : MatchError) → lk ≡ row_keys columns left
+    → IsKeysFault lk (row_keys columns right) error → IsCompareFault columns left right error
+compare_fault columns left right lk Memory e h = tt
+compare_fault columns left right lk TooManyRows e h = rw e at h

@@ -2,13 +2,14 @@
 
 ghost use Rattle.std.specs.Prelude.{◌≡◌, ◌<◌, All, length, map, slice_index, IfOk, MatchResult};
 ghost use Rattle.polars_arrays_bits.specs.Errors.{IsMemory};
+ghost use Rattle.polars_arrays_bytes.specs.OffsetStrings.{offset_strings};
 ghost use Rattle.diff_keys.specs.Matching.{IsMatching};
 ghost use Rattle.diff_keys.specs.Errors.{IsMemory as IsMatchMemory};
 ghost use Rattle.diff_keys.specs.Rising.{ListsRising};
 ghost use Rattle.diff_keys.specs.Unique.{TellsFirstTwice};
 ghost use Rattle.diff_tables.specs.Alike.{ArePlaces};
 ghost use Rattle.diff_tables.specs.Comparison.{ArePairs, IsComparison, IsDifferent};
-ghost use Rattle.diff_tables.specs.Errors.{IsCompareFault};
+ghost use Rattle.diff_tables.specs.Errors.{IsCompareFault, IsKeysFault};
 ghost use Rattle.diff_tables.specs.Keys.{row_keys};
 
 use crate::keys::keys_of;
@@ -18,6 +19,7 @@ use diff_keys::matching::{Matching, match_rows};
 use diff_keys::unique::{Twice, first_twice};
 use diff_pairs::rows;
 use polars_arrays_bits::error::ComputeError;
+use polars_arrays_bytes::binary::BinaryArray;
 use std::alloc::{AllocError, Global};
 
 /// The rows of two tables, matched and compared.
@@ -88,6 +90,27 @@ fn changed_places(
     Ok(changed)
 }
 
+/// Matches rows that have these keys with the rows of a table that have them in the key columns.
+fn matched_with(
+    alloc: Global,
+    left_keys: &BinaryArray<i64>,
+    right: &Table,
+    columns: &[usize],
+) -> Result<Matching, MatchError>
+    requires { All (λ c. c < right.now.width) columns.now }
+    ensures { MatchResult result
+        (IsMatching (offset_strings (λ x. x) left_keys.now) (row_keys columns.now right.now.rows))
+        (IsKeysFault (offset_strings (λ x. x) left_keys.now) (row_keys columns.now right.now.rows)) }
+{
+    let Ok(right_keys) = keys_of(alloc, right, columns) else {
+        return Err(MatchError::Memory);
+    };
+    match match_rows(alloc, left_keys, &right_keys) {
+        Ok(matching) => Ok(matching),
+        Err(error) => Err(error),
+    }
+}
+
 /// Matches the rows of two tables that have the same cells in the key columns.
 fn matched(
     alloc: Global,
@@ -102,10 +125,7 @@ fn matched(
     let Ok(left_keys) = keys_of(alloc, left, columns) else {
         return Err(MatchError::Memory);
     };
-    let Ok(right_keys) = keys_of(alloc, right, columns) else {
-        return Err(MatchError::Memory);
-    };
-    match match_rows(alloc, &left_keys, &right_keys) {
+    match matched_with(alloc, &left_keys, right, columns) {
         Ok(matching) => Ok(matching),
         Err(error) => Err(error),
     }
