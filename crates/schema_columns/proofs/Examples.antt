@@ -2,9 +2,8 @@
 use Rattle.std.specs.List.{count_by}
 use Rattle.std.specs.Ordering.{int_eq}
 use Rattle.std.specs.Prelude.{◌≡◌, [], ◌∷◌, pos, Some, codes, refl}
-use Rattle.std.specs.Str.{bytes_eq}
 use Rattle.polars_arrays_flat.specs.Row.{Bytes}
-use Rattle.schema_columns.specs.Distinct.{distinct_total}
+use Rattle.schema_values.specs.Distinct.{distinct_total}
 use Rattle.schema_columns.specs.Ends.{row_text}
 use Rattle.schema_columns.specs.Present.{cells_of, is_missing, is_null, present}
 
@@ -26,12 +25,9 @@ missing-cells = refl
 empty-is-null : count_by (is_missing (Some [])) (codes "7" ∷ [] ∷ []) ≡ 0
 empty-is-null = refl
 
--- two numbers of three differ, and two strings of two
+-- two numbers of three differ
 numbers-differ : distinct_total int_eq (pos 7 ∷ pos 3 ∷ pos 7 ∷ []) ≡ 2
 numbers-differ = refl
-
-strings-differ : distinct_total bytes_eq (codes "7" ∷ codes "07" ∷ []) ≡ 2
-strings-differ = refl
 
 text-of-bytes : row_text (Bytes (codes "Oslo")) ≡ codes "Oslo"
 text-of-bytes = refl

@@ -3,7 +3,8 @@ use Rattle.std.proofs.Common.{◌≡◌, ◌<◌, ℕ, List, [], arith}
 use Rattle.std.specs.List.{All}
 use Rattle.schema_columns.specs.declared.kind.Kind.{Kind}
 use Rattle.schema_columns.specs.declared.kind.Kind.TheVariants.{Empty, Truth, Whole, Number, Text}
-use Rattle.schema_columns.specs.Kinds.{AreOf, IsNarrowest, IsNumber, IsTruth, IsWhole, width}
+use Rattle.schema_columns.specs.Kinds.{AreOf, IsNarrowest, IsTruth, IsWhole, width}
+use Rattle.schema_values.specs.Numbers.{IsNumber}
 
 pub empty_narrowest : (cells : List (List ℕ)) → cells ≡ [] → IsNarrowest cells Empty
 empty_narrowest cells none = record { all = none; none_narrower = λ other low. absurd (omega (arith, low)) }

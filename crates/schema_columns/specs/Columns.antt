@@ -4,24 +4,19 @@
 -- and the greatest 12.
 use Rattle.std.specs.List.{count_by}
 use Rattle.std.specs.Ordering.{int_eq}
-use Rattle.std.specs.Prelude.{◌≡◌, ℕ, List, length, map, Option, None, Some, option_map}
+use Rattle.std.specs.Prelude.{◌≡◌, ℕ, List, length, map, Option, Some, option_map}
 use Rattle.std.specs.Str.{bytes_eq}
 use Rattle.polars_arrays_flat.specs.Row.{Int}
 use Rattle.polars_arrays_flat.specs.StoredRows.{byte_slots}
-use Rattle.schema_columns.specs.Distinct.{distinct_total}
 use Rattle.schema_columns.specs.Ends.{TellsEnds}
 use Rattle.schema_columns.specs.Kinds.{IsNarrowest, whole_of}
 use Rattle.schema_columns.specs.Present.{is_missing, is_null, present}
 use Rattle.schema_columns.specs.declared.column.ColumnSchema.{ColumnSchema}
-use Rattle.schema_columns.specs.declared.column.Values.{Values}
 use Rattle.schema_columns.specs.declared.kind.Kind.{Kind}
 use Rattle.schema_columns.specs.declared.kind.Kind.TheVariants.{Empty, Truth, Whole, Number, Text}
-
--- how many values differ, and the texts of the least and the greatest, where there are any
-pub record Told : Type 0 where
-  pub distinct : Option ℕ
-  pub least : Option (List ℕ)
-  pub greatest : Option (List ℕ)
+use Rattle.schema_values.specs.Distinct.{distinct_total}
+use Rattle.schema_values.specs.Numbers.{TellsNumbers}
+use Rattle.schema_values.specs.Told.{Told}
 
 -- what is told of byte strings
 pub record TellsStrings (cells : List (List ℕ)) (t : Told) : Type 0 where
@@ -33,27 +28,13 @@ pub record TellsWholes (cells : List (List ℕ)) (t : Told) : Type 0 where
   pub distinct : t.distinct ≡ Some (distinct_total int_eq (map whole_of cells))
   pub ends : TellsEnds (map Int (map whole_of cells)) t.least t.greatest
 
--- nothing is told
-pub record TellsNothing (t : Told) : Type 0 where
-  pub distinct : t.distinct ≡ None
-  pub least : t.least ≡ None
-  pub greatest : t.greatest ≡ None
-
 -- what is told of cells of a kind
 abbrev pub TellsValues : Kind → List (List ℕ) → Told → Type 0
 TellsValues Empty = TellsStrings
 TellsValues Truth = TellsStrings
 TellsValues Whole = TellsWholes
-TellsValues Number = λ cells. TellsNothing
+TellsValues Number = TellsNumbers
 TellsValues Text = TellsStrings
-
--- what is told of values
-abbrev pub told_of : Values → Told
-told_of v = record {
-  distinct = v.distinct;
-  least = option_map (λ t. t.items) v.ends.least;
-  greatest = option_map (λ t. t.items) v.ends.greatest;
-}
 
 -- what is told in a schema
 abbrev pub told_in : ColumnSchema → Told

@@ -3,21 +3,17 @@
 -- The cells 12 and -7 are whole numbers, with 1.5 among them all are numbers, and with 007 among them all are texts. The cells
 -- true and false are truth values.
 use Rattle.std.specs.List.{All}
-use Rattle.std.specs.Prelude.{◌≡◌, ◌<◌, ◌⊎◌, ⊤, ℕ, ℤ, ◌==◌, Bool, true, List, [], FitsSigned, codes}
+use Rattle.std.specs.Prelude.{◌≡◌, ◌<◌, ◌⊎◌, ⊤, ℕ, ℤ, ◌==◌, Bool, List, [], FitsSigned, codes}
 use Rattle.std.specs.Int.{w64}
 use Rattle.fast_float.specs.Text.{IsInteger, digits_of, with_sign}
-use Rattle.diff_numbers.specs.Cells.{is_number}
 use Rattle.json_decimals.specs.Decimals.{is_negative, parts_of}
 use Rattle.schema_columns.specs.declared.kind.Kind.{Kind}
 use Rattle.schema_columns.specs.declared.kind.Kind.TheVariants.{Empty, Truth, Whole, Number, Text}
+use Rattle.schema_values.specs.Numbers.{IsNumber}
 
 -- the cell is the word true or the word false
 abbrev pub IsTruth : List ℕ → Type 0
 IsTruth cell = (cell ≡ codes "true") ⊎ (cell ≡ codes "false")
-
--- the cell is a number, as JSON writes numbers
-abbrev pub IsNumber : List ℕ → Type 0
-IsNumber cell = is_number cell ≡ true
 
 -- the number that the digits of a cell write, with its sign
 abbrev pub whole_of : List ℕ → ℤ

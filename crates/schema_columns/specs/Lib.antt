@@ -1,5 +1,4 @@
 pub mod Columns
-pub mod Distinct
 pub mod Ends
 pub mod Kinds
 pub mod Present

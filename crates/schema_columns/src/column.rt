@@ -5,12 +5,13 @@ ghost use Rattle.std.specs.Option.{option_copied};
 ghost use Rattle.std.specs.Prelude.{◌≡◌, ◌<◌, None, MatchResult};
 ghost use Rattle.polars_arrays_bits.specs.Errors.{IsMemory};
 ghost use Rattle.polars_arrays_bytes.specs.OffsetStrings.{offset_strings};
-ghost use Rattle.schema_columns.specs.Columns.{IsSchemaOf, TellsStrings, TellsValues, TellsWholes, told_of};
+ghost use Rattle.schema_columns.specs.Columns.{IsSchemaOf, TellsStrings, TellsValues, TellsWholes};
 ghost use Rattle.schema_columns.specs.Kinds.{AreOf, IsWhole};
 ghost use Rattle.schema_columns.specs.Present.{cells_of};
+ghost use Rattle.schema_values.specs.Told.{told_of};
 
-use crate::distinct::{count_numbers, count_strings};
-use crate::extremes::{Ends, ends_of_numbers, ends_of_strings};
+use crate::distinct::count_numbers;
+use crate::extremes::{ends_of_numbers, ends_of_strings};
 use crate::kind::{Kind, kind_of};
 use crate::present::present_cells;
 use crate::wholes::wholes_of;
@@ -18,6 +19,8 @@ use diff_tables::table::Table;
 use polars_arrays_bits::error::ComputeError;
 use polars_arrays_bytes::binary::BinaryArray;
 use polars_compare_extremes::kernel::MinMaxKernel;
+use schema_values::distinct::count_strings;
+use schema_values::numbers::{Values, number_values};
 use std::alloc::Global;
 
 /// What the cells of a column are. A cell is null where it is the word that stands for no value, and
@@ -33,20 +36,14 @@ pub struct ColumnSchema {
     pub nulls: usize,
     /// How many of them are missing.
     pub missing: usize,
-    /// How many values differ, unless the kind is `Number`.
+    /// How many values differ: numbers by what they are worth, and else byte strings. It is not told of
+    /// numbers of which one has an exponent of more than 30 digits.
     pub distinct: Option<usize>,
-    /// The least value: as a number where all are whole, and else as bytes. There is none where there
-    /// is no value, or the kind is `Number`.
+    /// The least value: as a number where all are numbers, and else as bytes. There is none where there
+    /// is no value, or `distinct` is not told.
     pub least: Option<Vec<u8>>,
     /// The greatest value, in the same way.
     pub greatest: Option<Vec<u8>>,
-}
-
-/// How many values differ, and the least and the greatest.
-#[derive(Drop)]
-struct Values {
-    distinct: Option<usize>,
-    ends: Ends,
 }
 
 /// Returns what is said of byte strings.
@@ -56,7 +53,11 @@ fn string_values(alloc: Global, cells: &BinaryArray<i64>) -> Result<Values, Comp
 {
     let distinct = Some(count_strings(alloc, cells)?);
     let ends = ends_of_strings(alloc, cells)?;
-    Ok(Values { distinct, ends })
+    Ok(Values {
+        distinct,
+        least: ends.least,
+        greatest: ends.greatest,
+    })
 }
 
 /// Returns what is said of whole numbers.
@@ -69,7 +70,11 @@ fn whole_values(alloc: Global, cells: &BinaryArray<i64>) -> Result<Values, Compu
     let pair = slice.min_max_ignore_nan_kernel();
     let ends = ends_of_numbers(alloc, pair)?;
     let distinct = Some(count_numbers(alloc, wholes, pair)?);
-    Ok(Values { distinct, ends })
+    Ok(Values {
+        distinct,
+        least: ends.least,
+        greatest: ends.greatest,
+    })
 }
 
 /// Returns what is said of cells of a kind.
@@ -80,13 +85,7 @@ fn values_of(alloc: Global, cells: &BinaryArray<i64>, kind: Kind) -> Result<Valu
 {
     match kind {
         Kind::Whole => whole_values(alloc, cells),
-        Kind::Number => Ok(Values {
-            distinct: None,
-            ends: Ends {
-                least: None,
-                greatest: None,
-            },
-        }),
+        Kind::Number => number_values(alloc, cells),
         Kind::Empty => string_values(alloc, cells),
         Kind::Truth => string_values(alloc, cells),
         Kind::Text => string_values(alloc, cells),
@@ -116,7 +115,7 @@ pub fn schema_of(
         nulls: present.nulls,
         missing: present.missing,
         distinct: values.distinct,
-        least: values.ends.least,
-        greatest: values.ends.greatest,
+        least: values.least,
+        greatest: values.greatest,
     })
 }

@@ -1,35 +1,17 @@
-//! How many cells differ.
+//! How many numbers differ.
 
 ghost use Rattle.std.specs.Ordering.{int_eq};
 ghost use Rattle.std.specs.Prelude.{◌≡◌, MatchResult};
-ghost use Rattle.std.specs.Str.{bytes_eq};
 ghost use Rattle.polars_arrays_bits.specs.Errors.{IsMemory};
-ghost use Rattle.polars_arrays_bytes.specs.OffsetStrings.{offset_strings};
 ghost use Rattle.polars_compute_slots.specs.State.{RangeFits};
-ghost use Rattle.schema_columns.specs.Distinct.{distinct_total};
+ghost use Rattle.schema_values.specs.Distinct.{distinct_total};
 
 use polars_arrays_bits::error::ComputeError;
-use polars_arrays_bytes::binary::BinaryArray;
-use polars_arrays_flat::byte_rows::ByteRows;
 use polars_arrays_flat::primitive::PrimitiveArray;
 use polars_compute_unique::kernel::RangedUniqueKernel;
 use polars_compute_unique::primitive::{PrimitiveRangedUniqueState, range_fits};
 use std::alloc::Global;
 use std::collections::HashMap;
-
-/// Returns how many different strings there are. The one error is `Memory`.
-pub(crate) fn count_strings(alloc: Global, cells: &BinaryArray<i64>) -> Result<usize, ComputeError>
-    ensures { MatchResult result (λ count. count ≡ distinct_total bytes_eq (offset_strings (λ x. x) cells.now)) IsMemory }
-{
-    let mut seen = HashMap::new(alloc);
-    let mut count: usize = 0;
-    let all = cells.count();
-    for k in 0..all {
-        let old = seen.insert(cells.bytes(all - 1 - k), k)?;
-        count += usize::from(old.is_none());
-    }
-    Ok(count)
-}
 
 /// Returns how many different numbers there are, by looking each up among those before. The one
 /// error is `Memory`.

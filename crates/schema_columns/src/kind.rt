@@ -85,7 +85,7 @@ impl CellTest for Wholes {
 }
 
 impl CellTest for Numbers {
-    ghost use Rattle.schema_columns.specs.Kinds.{IsNumber};
+    ghost use Rattle.schema_values.specs.Numbers.{IsNumber};
 
     ghost Passes = { IsNumber };
 

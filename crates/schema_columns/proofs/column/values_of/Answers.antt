@@ -1,7 +1,8 @@
-use Rattle.std.proofs.Common.{subst, sym, refl, MatchResult}
+use Rattle.std.proofs.Common.{subst, sym, MatchResult}
 use Rattle.polars_arrays_bits.specs.Errors.{IsMemory}
 use Rattle.polars_arrays_bytes.specs.OffsetStrings.{offset_strings}
-use Rattle.schema_columns.specs.Columns.{TellsValues, told_of}
+use Rattle.schema_columns.specs.Columns.{TellsValues}
+use Rattle.schema_values.specs.Told.{told_of}
 use Rattle.schema_columns.proofs.column.values_of.Goals as goal
 
 pub returns-in-Whole : goal.returns-in-Whole
@@ -10,7 +11,7 @@ returns-in-Whole c =
 
 pub returns-in-Number : goal.returns-in-Number
 returns-in-Number c =
-    subst (λ k. TellsValues k (offset_strings (λ x. x) c.args.cells.now) _) (sym c.in-Number.is) (record { distinct = refl; least = refl; greatest = refl })
+    subst (λ k. MatchResult c.number_values.result (λ values. TellsValues k (offset_strings (λ x. x) c.args.cells.now) (told_of values)) IsMemory) (sym c.in-Number.is) c.number_values.ensures
 
 pub returns-in-Empty : goal.returns-in-Empty
 returns-in-Empty c =

@@ -2,7 +2,7 @@ use Rattle.std.proofs.Common.{◌∙◌, ap, subst, map}
 use Rattle.std.specs.Ordering.{int_eq}
 use Rattle.std.specs.Prelude.{Some, option_map}
 use Rattle.polars_arrays_flat.specs.Row.{Int}
-use Rattle.schema_columns.specs.Distinct.{distinct_total}
+use Rattle.schema_values.specs.Distinct.{distinct_total}
 use Rattle.schema_columns.specs.Ends.{TellsEnds}
 use Rattle.schema_columns.proofs.EndLemmas.{ends_told}
 use Rattle.schema_columns.proofs.column.whole_values.Goals as goal

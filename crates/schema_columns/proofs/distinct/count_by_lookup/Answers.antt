@@ -4,7 +4,8 @@ use Rattle.std.proofs.Common.{rules, Some, if◌then◌else◌, ◌≡◌, ◌�
 use Rattle.std.proofs.lemmas.Int.{to_z-of_z}
 use Rattle.std.specs.HashMap.{get}
 use Rattle.std.specs.Ordering.{int_eq}
-use Rattle.schema_columns.proofs.DistinctLemmas.{AreCounted, added, byte_added, int_turned, last_more, one_at_most, one_counted}
+use Rattle.schema_columns.proofs.DistinctLemmas.{int_turned}
+use Rattle.schema_values.proofs.DistinctLemmas.{AreCounted, added, byte_added, last_more, one_at_most, one_counted}
 use Rattle.schema_columns.proofs.distinct.count_by_lookup.Goals as goal
 
 pub loop-k-preserved : goal.loop-k-preserved

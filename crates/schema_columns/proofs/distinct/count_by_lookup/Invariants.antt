@@ -1,7 +1,7 @@
 use Rattle.std.proofs.Common.{◌≤◌, ◌-◌, drop}
 use Rattle.std.specs.HashMap.{get}
 use Rattle.std.specs.Ordering.{int_eq}
-use Rattle.schema_columns.proofs.DistinctLemmas.{AreCounted}
+use Rattle.schema_values.proofs.DistinctLemmas.{AreCounted}
 use Rattle.schema_columns.proofs.distinct.count_by_lookup.Given as goal
 
 abbrev pub invariant-loop-k : goal.invariant-loop-k

@@ -2,8 +2,8 @@ use Rattle.std.proofs.Common.{◌≤◌, ◌-◌, drop}
 use Rattle.std.specs.HashMap.{get_by}
 use Rattle.std.specs.Str.{bytes_eq}
 use Rattle.polars_arrays_bytes.specs.OffsetStrings.{offset_strings}
-use Rattle.schema_columns.proofs.DistinctLemmas.{AreCounted}
-use Rattle.schema_columns.proofs.distinct.count_strings.Given as goal
+use Rattle.schema_values.proofs.DistinctLemmas.{AreCounted}
+use Rattle.schema_values.proofs.distinct.count_strings.Given as goal
 
 abbrev pub invariant-loop-k : goal.invariant-loop-k
 invariant-loop-k l =

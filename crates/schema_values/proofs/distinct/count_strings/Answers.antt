@@ -3,8 +3,8 @@ use Rattle.std.proofs.lemmas.Map.Text.{hash_map_updates_str}
 use Rattle.std.specs.HashMap.{get_by}
 use Rattle.std.specs.Str.{bytes_eq}
 use Rattle.polars_arrays_bytes.specs.OffsetStrings.{offset_strings}
-use Rattle.schema_columns.proofs.DistinctLemmas.{AreCounted, added, byte_added, bytes_turned, last_more, one_at_most, one_counted}
-use Rattle.schema_columns.proofs.distinct.count_strings.Goals as goal
+use Rattle.schema_values.proofs.DistinctLemmas.{AreCounted, added, byte_added, bytes_turned, last_more, one_at_most, one_counted}
+use Rattle.schema_values.proofs.distinct.count_strings.Goals as goal
 
 pub loop-k-preserved : goal.loop-k-preserved
 loop-k-preserved c =

@@ -1,0 +1,4 @@
+mod Examples
+pub mod DistinctLemmas
+pub mod NumberLemmas
+pub mod PlaceLemmas

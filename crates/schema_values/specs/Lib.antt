@@ -1,0 +1,4 @@
+pub mod Distinct
+pub mod Laws
+pub mod Numbers
+pub mod Told

@@ -1,0 +1,83 @@
+//! How many numbers differ, and the least and the greatest, as exact decimals.
+
+ghost use Rattle.std.specs.List.{All};
+ghost use Rattle.std.specs.Option.{option_map};
+ghost use Rattle.std.specs.Prelude.{◌≡◌, ◌<◌, length, IfOk, MatchResult, None};
+ghost use Rattle.polars_arrays_bits.specs.Errors.{IsMemory};
+ghost use Rattle.polars_arrays_bytes.specs.OffsetStrings.{offset_strings};
+ghost use Rattle.schema_values.specs.Numbers.{AreNormal, IsNarrow, IsNumber, TellsBest, TellsDecimals, TellsNumbers, better};
+ghost use Rattle.schema_values.specs.Told.{told_of};
+
+use crate::distinct::count_strings;
+use crate::normal::normal_texts;
+use crate::places::best_place;
+use diff_tables::strings::Strings;
+use json_decimals::error::NumberError;
+use polars_arrays_bits::error::ComputeError;
+use polars_arrays_bytes::binary::BinaryArray;
+use polars_arrays_flat::byte_rows::ByteRows;
+use std::alloc::{AllocError, Global};
+
+/// How many values differ, and the least and the greatest, where there are any that are told.
+#[derive(Drop)]
+pub struct Values {
+    pub distinct: Option<usize>,
+    pub least: Option<Vec<u8>>,
+    pub greatest: Option<Vec<u8>>,
+}
+
+/// Returns the first text of the least number, or of the greatest, if there is a number.
+fn best_text(
+    alloc: Global,
+    cells: &BinaryArray<i64>,
+    greatest: bool,
+) -> Result<Option<Vec<u8>>, AllocError>
+    requires { All IsNarrow (offset_strings (λ x. x) cells.now) }
+    ensures { IfOk result (λ text. TellsBest (better greatest) (offset_strings (λ x. x) cells.now) (option_map (λ t. t.items) text)) }
+{
+    if cells.count() == 0 {
+        return Ok(None);
+    }
+    let place = best_place(cells, greatest);
+    let text = Vec::from_slice(alloc, cells.bytes(place))?;
+    Ok(Some(text))
+}
+
+/// Returns what is said of numbers that have these normal texts.
+fn exact_values(
+    alloc: Global,
+    cells: &BinaryArray<i64>,
+    texts: Strings,
+) -> Result<Values, ComputeError>
+    requires normal { AreNormal (offset_strings (λ x. x) cells.now) texts }
+    requires narrow { All IsNarrow (offset_strings (λ x. x) cells.now) }
+    ensures { MatchResult result (λ values. TellsDecimals (offset_strings (λ x. x) cells.now) (told_of values)) IsMemory }
+{
+    let texts = texts.into_array(alloc)?;
+    let distinct = Some(count_strings(alloc, &texts)?);
+    let least = best_text(alloc, cells, false)?;
+    let greatest = best_text(alloc, cells, true)?;
+    Ok(Values {
+        distinct,
+        least,
+        greatest,
+    })
+}
+
+/// Returns what is said of numbers, as JSON writes them: how many differ, and the first texts of the
+/// least and of the greatest. Nothing is said where a number has an exponent of more than 30 digits,
+/// its leading zeros not counted. The one error is `Memory`.
+pub fn number_values(alloc: Global, cells: &BinaryArray<i64>) -> Result<Values, ComputeError>
+    requires { All IsNumber (offset_strings (λ x. x) cells.now) }
+    ensures { MatchResult result (λ values. TellsNumbers (offset_strings (λ x. x) cells.now) (told_of values)) IsMemory }
+{
+    match normal_texts(alloc, cells) {
+        Ok(texts) => exact_values(alloc, cells, texts),
+        Err(NumberError::WideExponent) => Ok(Values {
+            distinct: None,
+            least: None,
+            greatest: None,
+        }),
+        Err(NumberError::Memory) => Err(ComputeError::Memory(AllocError)),
+    }
+}
