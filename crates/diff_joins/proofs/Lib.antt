@@ -1,0 +1,6 @@
+pub mod CompareLemmas
+mod Examples
+pub mod JoinLemmas
+pub mod ListingLemmas
+pub mod MoreLemmas
+pub mod PlaceLemmas
