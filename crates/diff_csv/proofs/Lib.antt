@@ -1,4 +1,5 @@
 mod Examples
+pub mod GivenLemmas
 pub mod MarkLemmas
 pub mod NameLemmas
 pub mod ReadingLemmas

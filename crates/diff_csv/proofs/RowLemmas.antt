@@ -10,12 +10,11 @@ use Rattle.diff_parts.specs.Parts.{PartNumber, number_if, numbers_kept}
 use Rattle.diff_parts.specs.Rows.{has_row, numbers_in, rows_in}
 use Rattle.diff_tables.specs.Keys.{cells_at}
 use Rattle.diff_tables.specs.Tables.{cut_rows}
-use Rattle.diff_csv.specs.Reading.{IsReading}
-use Rattle.diff_csv.specs.Records.{HaveOneLength, data_rows}
+use Rattle.diff_csv.specs.Given.{HasGiven}
 use Rattle.diff_csv.specs.Rows.{HoldsRows, is_read, records_read}
 use Rattle.diff_csv.specs.Tables.{HasShape, IsTableWith}
 use Rattle.diff_csv.specs.declared.options.CsvOptions.{CsvOptions}
-use Rattle.diff_csv.specs.declared.reading.Records.{Records}
+use Rattle.diff_csv.specs.declared.row_reader.RowReader.{RowReader}
 use Rattle.diff_csv.specs.declared.rows.Rows.{Rows}
 use Rattle.diff_csv.specs.declared.source.CsvTable.{CsvTable}
 
@@ -44,30 +43,12 @@ cut_kept f w size (r ∷ rs) =
     ap (λ x. x ∷ cut_rows w (length rs) (drop w (f r ++ flat_map f rs))) row
     ∙ (ap (λ l. f r ∷ cut_rows w (length rs) l) others ∙ ap (λ l. f r ∷ l) (cut_kept f w size rs))
 
--- one row more
-pub data_push : (b : Bool) (first : List (List ℕ)) (more : List (List (List ℕ))) (r : List (List ℕ))
-    → data_rows b (first ∷ more) ++ r ∷ [] ≡ data_rows b (first ∷ (more ++ r ∷ []))
-data_push true first more r = refl
-data_push false first more r = refl
-
--- some records behind a first one are read, and those that are rows are kept
-pub record IsProgress {R : Type 0} (remaining : R → Option (List ℕ)) (has_header : Bool) (columns keys : List ℕ) (part : Option PartNumber) (start : Records R) (first : List (List ℕ)) (records : Records R) (r : Rows) (number : ℕ) : Type 0 where
-  pub more : List (List (List ℕ))
-  pub held : HoldsRows columns keys part r (data_rows has_header (first ∷ more))
-  pub one_length : HaveOneLength (first ∷ more)
-  pub count : number ≡ suc (length (data_rows has_header (first ∷ more)))
-  pub reading : (options : CsvOptions) (text : List ℕ) → IsReading remaining options text start (first ∷ []) → IsReading remaining options text records (first ∷ more)
-
--- the number of the row behind a first record
-pub second_number : (b : Bool) (first : List (List ℕ)) (n : ℕ) → n ≡ cond b 1 2 → n ≡ suc (length (data_rows b (first ∷ [])))
-second_number true first n is = is
-second_number false first n is = is
-
--- the number of the row behind one row more
-pub row_counted : (b : Bool) (first : List (List ℕ)) (more : List (List (List ℕ))) (r : List (List ℕ)) (n : ℕ) → n ≡ suc (length (data_rows b (first ∷ more)))
-    → n + 1 ≡ suc (length (data_rows b (first ∷ (more ++ r ∷ []))))
-row_counted true first more r n is = omega (arith, is, length_push more r)
-row_counted false first more r n is = omega (arith, is, length_push more r)
+-- some rows are given, and those that are read are kept
+pub record IsProgress {R : Type 0} (remaining : R → Option (List ℕ)) (columns keys : List ℕ) (part : Option PartNumber) (start reader : RowReader R) (r : Rows) (number : ℕ) : Type 0 where
+  pub given : List (List (List ℕ))
+  pub held : HoldsRows columns keys part r given
+  pub count : number ≡ suc (length given)
+  pub reading : (options : CsvOptions) (text : List ℕ) → HasGiven remaining options text start [] → HasGiven remaining options text reader given
 
 -- one row more, which is read or not
 pub row_read : (columns keys : List ℕ) (part : Option PartNumber) (records : List (List (List ℕ))) (r : List (List ℕ)) → is_read part keys (cells_at columns r) ≡ true

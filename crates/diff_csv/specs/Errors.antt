@@ -50,6 +50,14 @@ IsOtherLength line expected found error.Delimiter = ⊥
 IsOtherLength line expected found (error.Length l e f) = (l ≡ line) × (e ≡ expected) × (f ≡ found) × (expected ≢ found)
 IsOtherLength line expected found (error.OpenQuote l) = ⊥
 
+-- the error is not that of the byte between fields
+abbrev pub IsRowFault : CsvError → Type 0
+IsRowFault error.Memory = ⊤
+IsRowFault (error.Read cause) = ⊤
+IsRowFault error.Delimiter = ⊥
+IsRowFault (error.Length line expected found) = ⊤
+IsRowFault (error.OpenQuote line) = ⊤
+
 -- the error is that of the byte between fields exactly where this may not stand there
 abbrev pub TellsDelimiter : Bool → CsvError → Type 0
 TellsDelimiter able error.Memory = able ≡ true

@@ -1,4 +1,5 @@
 pub mod Errors
+pub mod Given
 pub mod Options
 pub mod Quotes
 pub mod Reading

@@ -3,16 +3,14 @@
 -- Of the records "7" "1" "x" and "8" "2" "y" the columns 2 and 0 are kept as the cells "x" "7" "y" "8", and two lines.
 -- Of the rows of a part the numbers are kept too.
 use Rattle.std.specs.List.{filter, flat_map}
-use Rattle.std.specs.Prelude.{◌≡◌, ℕ, Bool, true, false, List, [], ◌∷◌, Option, None, Some, IfSome, length, map}
+use Rattle.std.specs.Prelude.{◌≡◌, ℕ, Bool, true, List, [], Option, None, Some, IfSome, length, map}
 use Rattle.diff_parts.specs.Parts.{PartNumber}
 use Rattle.diff_parts.specs.Rows.{has_row, numbers_in}
 use Rattle.diff_tables.specs.Keys.{cells_at}
 use Rattle.diff_tables.specs.Strings.{AreStrings}
-use Rattle.diff_csv.specs.Quotes.{ends_open}
-use Rattle.diff_csv.specs.Reading.{IsReading}
-use Rattle.diff_csv.specs.Records.{AreRecordsOf, HaveOneLength, data_rows}
+use Rattle.diff_csv.specs.Given.{AreRowsOf, HasGiven}
 use Rattle.diff_csv.specs.declared.options.CsvOptions.{CsvOptions}
-use Rattle.diff_csv.specs.declared.reading.Records.{Records}
+use Rattle.diff_csv.specs.declared.row_reader.RowReader.{RowReader}
 use Rattle.diff_csv.specs.declared.rows.Rows.{Rows}
 
 -- whether a row is read: where it is in the part, if there is one
@@ -31,9 +29,8 @@ pub record HoldsRows (columns keys : List ℕ) (part : Option PartNumber) (r : R
   pub lines : length r.lines.items ≡ length (records_read columns keys part records)
   pub numbers : IfSome (numbers_in part keys (map (cells_at columns) records)) (λ ns. r.numbers.items ≡ ns)
 
--- the records of a text are read to the end, from a first one on, and those that are rows are kept
-pub record ReadsAll {R : Type 0} (remaining : R → Option (List ℕ)) (has_header : Bool) (columns keys : List ℕ) (part : Option PartNumber) (records : Records R) (first : List (List ℕ)) (r : Rows) : Type 0 where
-  pub more : List (List (List ℕ))
-  pub held : HoldsRows columns keys part r (data_rows has_header (first ∷ more))
-  pub one_length : HaveOneLength (first ∷ more)
-  pub all : (options : CsvOptions) (text : List ℕ) → IsReading remaining options text records (first ∷ []) → AreRecordsOf options text (first ∷ more) × (ends_open options text ≡ false)
+-- the rows of a text are read to the end, and those that are read are kept
+pub record ReadsAll {R : Type 0} (remaining : R → Option (List ℕ)) (columns keys : List ℕ) (part : Option PartNumber) (reader : RowReader R) (r : Rows) : Type 0 where
+  pub rows : List (List (List ℕ))
+  pub held : HoldsRows columns keys part r rows
+  pub all : (options : CsvOptions) (text : List ℕ) → HasGiven remaining options text reader [] → AreRowsOf options text rows

@@ -8,6 +8,7 @@ mod lines;
 mod names;
 pub mod options;
 mod reading;
+pub mod row_reader;
 mod rows;
 pub mod source;
 pub mod wanted;

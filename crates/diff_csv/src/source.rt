@@ -1,22 +1,22 @@
 //! A CSV text from its first record on.
 
-ghost use Rattle.std.specs.Prelude.{◌≡◌, [], ◌∷◌, if◌then◌else◌, ℕ, List, Some, true, length, option_map, IfErr, IfOk, MatchResult};
-ghost use Rattle.csv.specs.Records.{fields_of};
+ghost use Rattle.std.specs.Prelude.{◌≡◌, [], ℕ, List, Some, true, option_map, IfErr, IfOk, MatchResult};
 ghost use Rattle.polars_arrays_bits.specs.Errors.{IsMemory};
 ghost use Rattle.polars_arrays_bytes.specs.OffsetStrings.{offset_strings};
-ghost use Rattle.diff_csv.specs.Errors.{IsNotLength, IsOtherLength, IsOutOfMemory, TellsDelimiter};
+ghost use Rattle.diff_csv.specs.Errors.{IsNotLength, IsOutOfMemory, TellsDelimiter};
+ghost use Rattle.diff_csv.specs.Given.{HasGiven};
 ghost use Rattle.diff_csv.specs.Options.{is_delimiter};
-ghost use Rattle.diff_csv.specs.Reading.{IsOpen, IsReading};
-ghost use Rattle.diff_csv.specs.Records.{AreRecordsOf, IsReadFault, data_rows, names_of};
+ghost use Rattle.diff_csv.specs.Reading.{IsOpen};
+ghost use Rattle.diff_csv.specs.Records.{AreRecordsOf, IsReadFault, names_of};
 ghost use Rattle.diff_csv.specs.Rows.{HoldsRows, ReadsAll};
 ghost use Rattle.diff_csv.specs.Tables.{HasShape, IsTableOf, IsTableWith};
 ghost use Rattle.diff_csv.specs.declared.options.CsvOptions.{CsvOptions};
 
 use crate::error::CsvError;
-use crate::lines::line_at;
 use crate::names::{field_names, number_names};
 use crate::options::{CsvOptions, is_delimiter};
 use crate::reading::Records;
+use crate::row_reader::RowReader;
 use crate::rows::Rows;
 use crate::wanted::Wanted;
 use csv::ByteRecord;
@@ -24,7 +24,7 @@ use diff_parts::part::Part;
 use diff_tables::table::Table;
 use polars_arrays_bits::error::ComputeError;
 use polars_arrays_bytes::binary::BinaryArray;
-use std::alloc::{AllocError, Global};
+use std::alloc::Global;
 use std::io::Read;
 
 /// A table, and the line of the text at which each of its rows begins.
@@ -74,64 +74,21 @@ fn table_of(alloc: Global, rows: Rows, wanted: &Wanted<'_>) -> Result<CsvTable, 
     }
 }
 
-/// Returns the rows that a first record is: one where there is no header, else none.
-fn first_rows(
-    alloc: Global,
-    first: &ByteRecord,
-    has_header: bool,
-    wanted: &Wanted<'_>,
-) -> Result<Rows, AllocError>
-    ensures { IfOk result (λ rows. HoldsRows wanted.now.columns.now wanted.now.keys.now wanted.now.part rows (data_rows has_header (fields_of first.now ∷ []))) }
-{
-    let mut rows = Rows::new(alloc)?;
-    if has_header {
-        return Ok(rows);
-    }
-    rows.push(first, wanted, line_at(first.position(), 0), 1)?;
-    Ok(rows)
-}
-
-/// Returns the number of the row behind a first record.
-fn second_number(has_header: bool) -> u64
-    ensures { result ≡ (if has_header then 1 else 2) }
-{
-    if has_header { 1 } else { 2 }
-}
-
-/// Checks that a record has `width` fields. `line` is where it begins.
-fn check_length(row: &ByteRecord, width: usize, line: u64) -> Result<(), CsvError>
-    ensures { MatchResult result (λ _. length (fields_of row.now) ≡ width) (IsOtherLength line width (length (fields_of row.now))) }
-{
-    let found = row.len();
-    if found == width {
-        return Ok(());
-    }
-    Err(CsvError::Length {
-        line,
-        expected: width as u64,
-        found: found as u64,
-    })
-}
-
-/// Reads all rows from a first record on, which is a row itself where there is no header.
+/// Reads the rows that are wanted, from the first one on.
 fn read_rows<R: Read + Drop>(
     alloc: Global,
-    mut records: Records<R>,
-    first: ByteRecord,
-    has_header: bool,
+    mut reader: RowReader<R>,
     wanted: &Wanted<'_>,
 ) -> Result<Rows, CsvError>
-    ensures { MatchResult result (ReadsAll R.remaining has_header wanted.now.columns.now wanted.now.keys.now wanted.now.part records (fields_of first))
-        (λ error. (options : CsvOptions) (text : List ℕ) → IsReading R.remaining options text records (fields_of first ∷ []) → IsReadFault options text error) }
+    ensures { MatchResult result (ReadsAll R.remaining wanted.now.columns.now wanted.now.keys.now wanted.now.part reader)
+        (λ error. (options : CsvOptions) (text : List ℕ) → HasGiven R.remaining options text reader [] → IsReadFault options text error) }
 {
-    let width = first.len();
-    let mut rows = first_rows(alloc, &first, has_header, wanted)?;
-    let mut row = Box::new(alloc, first)?;
-    for number in second_number(has_header)..u64::MAX {
-        let Some(line) = records.read(&mut row)? else {
+    let mut rows = Rows::new(alloc)?;
+    let mut row = Box::new(alloc, ByteRecord::new(alloc))?;
+    for number in 1..u64::MAX {
+        let Some(line) = reader.read(&mut row)? else {
             return Ok(rows);
         };
-        check_length(&row, width, line)?;
         rows.push(&row, wanted, line, number)?;
     }
     // No memory holds so many rows.
@@ -195,6 +152,19 @@ impl<R: Read + Drop> Source<R> {
         Ok(numbers)
     }
 
+    /// Returns a reader that gives the rows one by one. The one error is `Memory`.
+    pub fn rows(self, alloc: Global) -> Result<RowReader<R>, CsvError>
+        ensures { MatchResult result (λ reader. (options : CsvOptions) (text : List ℕ) → IsOpen R.remaining options text self → HasGiven R.remaining options text reader []) IsOutOfMemory }
+    {
+        let Source {
+            records,
+            first,
+            has_header,
+        } = self;
+        let reader = RowReader::new(alloc, records, first, has_header)?;
+        Ok(reader)
+    }
+
     /// Reads the rows, or those of a part, each with its cells in some columns: an empty one where
     /// a record has no such column. Fails with `Length` only at a record of another length than the
     /// first one's, whether or not its row is wanted, with `OpenQuote` only where the text ends
@@ -205,17 +175,8 @@ impl<R: Read + Drop> Source<R> {
             (λ table. (options : CsvOptions) (text : List ℕ) → IsOpen R.remaining options text self → IsTableOf options text wanted.now.columns.now wanted.now.keys.now wanted.now.part table)
             (λ error. (options : CsvOptions) (text : List ℕ) → IsOpen R.remaining options text self → IsReadFault options text error) }
     {
-        let Source {
-            records,
-            first,
-            has_header,
-        } = self;
-        let Some(row) = first else {
-            let none = Rows::new(alloc)?;
-            let table = table_of(alloc, none, wanted)?;
-            return Ok(table);
-        };
-        let rows = read_rows(alloc, records, row, has_header, wanted)?;
+        let reader = self.rows(alloc)?;
+        let rows = read_rows(alloc, reader, wanted)?;
         let table = table_of(alloc, rows, wanted)?;
         Ok(table)
     }

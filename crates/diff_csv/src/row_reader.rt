@@ -1,0 +1,135 @@
+//! The rows of a CSV text, one after another.
+
+ghost use Rattle.std.specs.Prelude.{◌≡◌, [], ◌∷◌, if◌then◌else◌, ℕ, List, Option, Some, length, IfErr, MatchResult};
+ghost use Rattle.csv.specs.Records.{fields_of};
+ghost use Rattle.diff_csv.specs.Errors.{IsOtherLength, IsOutOfMemory, IsRowFault};
+ghost use Rattle.diff_csv.specs.Given.{GivesOne, HasGiven};
+ghost use Rattle.diff_csv.specs.Reading.{IsBegun};
+ghost use Rattle.diff_csv.specs.Records.{IsReadFault};
+ghost use Rattle.diff_csv.specs.declared.options.CsvOptions.{CsvOptions};
+ghost use Rattle.diff_csv.specs.declared.row_reader.Ahead.TheVariants.{First, Later};
+
+use crate::error::CsvError;
+use crate::lines::line_at;
+use crate::reading::Records;
+use csv::ByteRecord;
+use std::alloc::Global;
+use std::io::Read;
+use std::mem;
+
+/// The record that is given next as a row.
+#[derive(Clone, Copy)]
+pub(crate) enum Ahead {
+    /// The first one, which was read before any row was given.
+    First,
+    /// The one behind those that were read.
+    Later,
+    /// None: all rows are given.
+    End,
+}
+
+/// The rows of a CSV text that are given one after another.
+#[derive(Drop)]
+pub struct RowReader<R> {
+    records: Records<R>,
+    // The first record, until it is given where it is a row.
+    first: Box<ByteRecord>,
+    // How many fields the first record has.
+    width: usize,
+    ahead: Ahead,
+}
+
+/// Returns which record is the first row of a text that has a record.
+fn first_row(has_header: bool) -> Ahead
+    ensures { result ≡ (if has_header then Later else First) }
+{
+    if has_header {
+        Ahead::Later
+    } else {
+        Ahead::First
+    }
+}
+
+/// Checks that a record has `width` fields. `line` is where it begins.
+fn check_length(row: &ByteRecord, width: usize, line: u64) -> Result<(), CsvError>
+    ensures { MatchResult result (λ _. length (fields_of row.now) ≡ width) (IsOtherLength line width (length (fields_of row.now))) }
+{
+    let found = row.len();
+    if found == width {
+        return Ok(());
+    }
+    Err(CsvError::Length {
+        line,
+        expected: width as u64,
+        found: found as u64,
+    })
+}
+
+impl<R: Read + Drop> RowReader<R> {
+    /// Begins a text of which the first record is read, unless there is none. It is a row itself
+    /// where there is no header. The one error is `Memory`.
+    pub(crate) fn new(
+        alloc: Global,
+        records: Records<R>,
+        first: Option<ByteRecord>,
+        has_header: bool,
+    ) -> Result<RowReader<R>, CsvError>
+        ensures { MatchResult result (λ reader. (options : CsvOptions) (text : List ℕ) → has_header ≡ options.has_header → IsBegun R.remaining options text records first → HasGiven R.remaining options text reader []) IsOutOfMemory }
+    {
+        let Some(record) = first else {
+            let first = Box::new(alloc, ByteRecord::new(alloc))?;
+            return Ok(RowReader {
+                records,
+                first,
+                width: 0,
+                ahead: Ahead::End,
+            });
+        };
+        let width = record.len();
+        let first = Box::new(alloc, record)?;
+        let ahead = first_row(has_header);
+        Ok(RowReader {
+            records,
+            first,
+            width,
+            ahead,
+        })
+    }
+
+    /// Gives the row behind those that were read in `row`.
+    fn read_later(&mut self, row: &mut Box<ByteRecord>) -> Result<Option<u64>, CsvError>
+        requires { self.old.ahead ≡ Later }
+        ensures told { MatchResult result
+            (λ line. (options : CsvOptions) (text : List ℕ) (rows : List (List (List ℕ))) → HasGiven R.remaining options text self.old rows → GivesOne R.remaining options text self.new rows (fields_of row.new.value) line)
+            (λ error. (options : CsvOptions) (text : List ℕ) (rows : List (List (List ℕ))) → HasGiven R.remaining options text self.old rows → IsReadFault options text error) }
+        ensures fault { IfErr result IsRowFault }
+    {
+        let Some(line) = self.records.read(row)? else {
+            self.ahead = Ahead::End;
+            return Ok(None);
+        };
+        check_length(row, self.width, line)?;
+        Ok(Some(line))
+    }
+
+    /// Gives the next row in `row`. Returns the line at which it begins, or `None` where there is no
+    /// more row. Fails with `Length` only at a record of another length than the first one's, with
+    /// `OpenQuote` only where the text ends within quotes, and never with `Delimiter`. After an error
+    /// the rest of the text can't be read.
+    pub fn read(&mut self, row: &mut Box<ByteRecord>) -> Result<Option<u64>, CsvError>
+        ensures told { MatchResult result
+            (λ line. (options : CsvOptions) (text : List ℕ) (rows : List (List (List ℕ))) → HasGiven R.remaining options text self.old rows → GivesOne R.remaining options text self.new rows (fields_of row.new.value) line)
+            (λ error. (options : CsvOptions) (text : List ℕ) (rows : List (List (List ℕ))) → HasGiven R.remaining options text self.old rows → IsReadFault options text error) }
+        ensures fault { IfErr result IsRowFault }
+    {
+        match self.ahead {
+            Ahead::First => {
+                mem::swap(row, &mut self.first);
+                self.ahead = Ahead::Later;
+                Ok(Some(line_at(row.position(), 0)))
+            }
+            Ahead::Later => self.read_later(row),
+            Ahead::End => Ok(None),
+        }
+    }
+}
