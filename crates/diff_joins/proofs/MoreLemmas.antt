@@ -188,9 +188,9 @@ removed_more left right key xs few h =
 pub added_same : (left right : Keys) (key : List ℕ) (xs : List ℕ) → count_of key right ≤ count_of key left → ListsRising (IsAdded left right) (length right) xs
     → ListsRising (IsAdded (left ++ key ∷ []) right) (length right) xs
 added_same left right key xs few h = listed_as (IsAdded left right) (IsAdded (left ++ key ∷ []) right) (length right) xs (λ j within. (
-      λ none i pair. none i (no_pair_more left right key few i j pair),
-      λ none i pair. none i (left_before left right key i j pair),
-    )) h
+  λ none i pair. none i (no_pair_more left right key few i j pair),
+  λ none i pair. none i (left_before left right key i j pair),
+)) h
 
 -- rows that are added are removed from the right table
 pub turned : (left right : Keys) (n : ℕ) (xs : List ℕ) → ListsRising (IsAdded left right) n xs ↔ ListsRising (IsRemoved right left) n xs
