@@ -110,6 +110,48 @@ fn keep_line(
     }
 }
 
+/// Appends the rows of all lines to no rows. A `line`, `guesses` and `rooms` are used for them.
+fn read_lines<R: Read + Drop>(
+    alloc: Global,
+    reader: &mut BufReader<R>,
+    keys: &[Path],
+    reading: Reading,
+    known: &Known<'_>,
+    rows: &mut Rows,
+    line: &mut Vec<u8>,
+    guesses: &mut Guesses,
+    rooms: &mut Rooms,
+) -> Result<(), ReadError>
+    requires known { KnowsLines reading (paths_view keys.now) known.now }
+    requires none { HoldsRows reading (paths_view keys.now) [] rows.old }
+    ensures { MatchResult result
+        (λ _. ReadsAll (reader_remaining R.remaining) reading (paths_view keys.now) reader.old rows.new)
+        (λ error. (text : List ℕ) → reader_remaining R.remaining reader.old ≡ Some text → IsReadFault text reading (paths_view keys.now) error) }
+{
+    for before in 0..u64::MAX {
+        if guesses.are_spent() {
+            *guesses = known.guesses_for(alloc, reader.buffer())?;
+        }
+        if !next_line(reader, line)? {
+            return Ok(());
+        }
+        let guess = guesses.take();
+        keep_line(
+            alloc,
+            rows,
+            line,
+            before + 1,
+            keys,
+            reading,
+            known,
+            guess,
+            rooms,
+        )?;
+    }
+    // No memory holds so many rows.
+    Err(ReadError::Memory)
+}
+
 /// Reads the rows of all lines.
 fn read_rows<R: Read + Drop>(
     alloc: Global,
@@ -127,27 +169,20 @@ fn read_rows<R: Read + Drop>(
     let mut rooms = Rooms::new(alloc)?;
     let mut line = Vec::new(alloc);
     let mut guesses = Guesses::none(alloc);
-    for before in 0..u64::MAX {
-        if guesses.are_spent() {
-            guesses = known.guesses_for(alloc, reader.buffer())?;
-        }
-        if !next_line(&mut reader, &mut line)? {
-            return Ok(rows);
-        }
-        keep_line(
-            alloc,
-            &mut rows,
-            &line,
-            before + 1,
-            keys,
-            reading,
-            known,
-            guesses.take(),
-            &mut rooms,
-        )?;
+    match read_lines(
+        alloc,
+        &mut reader,
+        keys,
+        reading,
+        known,
+        &mut rows,
+        &mut line,
+        &mut guesses,
+        &mut rooms,
+    ) {
+        Ok(()) => Ok(rows),
+        Err(error) => Err(error),
     }
-    // No memory holds so many rows.
-    Err(ReadError::Memory)
 }
 
 /// Returns the table of rows, which have a cell for each key and one for the line.

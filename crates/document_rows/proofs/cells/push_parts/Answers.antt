@@ -1,4 +1,5 @@
 use Rattle.std.proofs.Common.{◌<◌, ◌≤◌, ◌++◌, length, arith, refl, subst}
+use Rattle.std.proofs.lemmas.List.{append-nil}
 use Rattle.diff_tables.specs.Strings.{AreStrings}
 use Rattle.json.specs.Value.{value_view}
 use Rattle.json_paths.specs.Paths.{part_at}
@@ -6,6 +7,9 @@ use Rattle.json_paths.specs.Views.{path_view, paths_view}
 use Rattle.document_rows.specs.Documents.{cell_of, key_cells}
 use Rattle.document_rows.proofs.RowLemmas.{all_cells_kept, one_cell}
 use Rattle.document_rows.proofs.cells.push_parts.Goals as goal
+
+pub loop-key-init : goal.loop-key-init
+loop-key-init c = λ all old. rw append-nil old
 
 pub loop-key-preserved : goal.loop-key-preserved
 loop-key-preserved c = λ all old.

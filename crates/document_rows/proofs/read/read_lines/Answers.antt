@@ -4,12 +4,12 @@ use Rattle.std.proofs.lemmas.Result.{err_from_is_err_and}
 use Rattle.json_paths.specs.Views.{paths_view}
 use Rattle.document_rows.specs.Lines.{lines_of}
 use Rattle.document_rows.proofs.RowLemmas.{line_fault, no_lines, stop_fault}
-use Rattle.document_rows.proofs.read.read_rows.Goals as goal
+use Rattle.document_rows.proofs.read.read_lines.Goals as goal
 
 pub loop-before-init : goal.loop-before-init
 loop-before-init g c = record {
   all = [];
-  held = c.in_ok-rows.ensures c.args.reading (paths_view c.args.keys.now);
+  held = c.requires.none;
   count = refl;
   so_far = λ text known. (text, known, refl);
 }
