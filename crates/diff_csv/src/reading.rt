@@ -63,7 +63,6 @@ fn read_record<R: Read>(reader: &mut Reader<R>, row: &mut ByteRecord) -> Result<
 }
 
 /// Records of a text that are given one after another.
-#[derive(Drop)]
 pub(crate) struct Records<R> {
     reader: Reader<Chain<R, &'static [u8]>>,
     // The record behind those that were given: the mark's, where the text has no more.
@@ -72,6 +71,20 @@ pub(crate) struct Records<R> {
     line: u64,
     // How far the reader's lines of later records are behind.
     lag: u64,
+}
+
+// By hand, so that each place where records go out of scope is one call.
+impl<R: Drop> Drop for Records<R> {
+    fn drop(self) {
+        let Records {
+            reader,
+            ahead,
+            line: _,
+            lag: _,
+        } = self;
+        drop(reader);
+        drop(ahead);
+    }
 }
 
 impl<R: Read + Drop> Records<R> {

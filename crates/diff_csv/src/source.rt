@@ -96,13 +96,25 @@ fn read_rows<R: Read + Drop>(
 }
 
 /// A CSV text whose first record is read.
-#[derive(Drop)]
 pub struct Source<R> {
     // The records behind the first one.
     records: Records<R>,
     // The first record, unless the text has none.
     first: Option<ByteRecord>,
     has_header: bool,
+}
+
+// By hand, so that each place where a source goes out of scope is one call.
+impl<R: Drop> Drop for Source<R> {
+    fn drop(self) {
+        let Source {
+            records,
+            first,
+            has_header: _,
+        } = self;
+        drop(records);
+        drop(first);
+    }
 }
 
 impl<R: Read + Drop> Source<R> {
