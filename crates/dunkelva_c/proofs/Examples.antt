@@ -1,9 +1,14 @@
 -- Worked examples of the definitions: the check computes both sides of each.
 use Rattle.std.specs.Prelude.{◌≡◌, ◌-◌, ◌^◌, pos, negsuc, true, false, [], ◌∷◌, Some, None, refl}
+use Rattle.arrow_arithmetic.specs.Arithmetic.{operation_of}
+use Rattle.arrow_arithmetic.specs.declared.calculating.Arithmetic.TheVariants as arithmetic
+use Rattle.arrow_arithmetic.specs.declared.calculating.Side.TheVariants as side
+use Rattle.arrow_arithmetic.specs.declared.calculating.Sign.TheVariants as sign
 use Rattle.arrow_columns.specs.declared.comparing.Test.TheVariants as test
 use Rattle.arrow_columns.specs.declared.counting.Counting.TheVariants as counting
 use Rattle.arrow_columns.specs.declared.reducing.BitOperator.TheVariants as operator
 use Rattle.arrow_parts.specs.Kinds.{kind_number}
+use Rattle.dunkelva_c.specs.Arithmetic.{arithmetic_number, results_at, side_number, sign_number}
 use Rattle.dunkelva_c.specs.ColumnBits.{operator_number}
 use Rattle.dunkelva_c.specs.ColumnCounts.{counting_number}
 use Rattle.dunkelva_c.specs.Columns.{number_type, sum_at}
@@ -26,6 +31,22 @@ counting_number-leading_zeros = refl
 
 operator_number-xor : operator_number 2 ≡ Some operator.Xor
 operator_number-xor = refl
+
+arithmetic_number-modulo : arithmetic_number 5 ≡ Some arithmetic.Modulo
+arithmetic_number-modulo = refl
+
+arithmetic_number-past_the_last : arithmetic_number 6 ≡ None
+arithmetic_number-past_the_last = refl
+
+side_number-right : side_number 1 ≡ Some side.Right
+side_number-right = refl
+
+sign_number-absolute : sign_number 1 ≡ Some sign.Absolute
+sign_number-absolute = refl
+
+-- kind 3 is the numbers of 8 bits with a sign: 100 + 100 is -56
+results_at-wraps : results_at (number_type (kind_number 3)) (operation_of arithmetic.Add) (Int (pos 100) ∷ Null ∷ []) (Int (pos 100) ∷ Int (pos 1) ∷ []) ≡ Int (negsuc 55) ∷ Null ∷ []
+results_at-wraps = refl
 
 status_of-room : status_of Room ≡ pos 3
 status_of-room = refl

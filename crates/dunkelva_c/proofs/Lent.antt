@@ -4,6 +4,10 @@ use Rattle.std.specs.Prelude.{ℤ, option_map}
 use Rattle.std.proofs.lemmas.List.{length-map}
 use Rattle.std.proofs.lemmas.List.FromFn.{length-map-range_with_len}
 use Rattle.arrow_parts.specs.ByteBits.{byte_bit, presence}
+use Rattle.arrow_parts.specs.declared.part.Part.{Part}
+use Rattle.dunkelva_c.specs.Columns.{Lends, rows_lent}
+use Rattle.polars_arrays_flat.specs.ArrayRows.{number_rows}
+use Rattle.polars_arrays_flat.specs.Numbers.{Numbers}
 use Rattle.polars_arrays_flat.specs.Row.{Row, Int}
 use Rattle.polars_arrays_flat.specs.StoredRows.{number_slots, rows_under}
 use Rattle.polars_arrays_flat.specs.Validity.{HasBits}
@@ -28,3 +32,8 @@ compared_bits value test bits m n v w xs ys e f g h =
     e
     ∙ ap₂ (λ (k : ℤ) (rows : List Row). map (λ row. test row (Int k)) rows) f
     (ap₂ (λ (u : Option (List Bool)) (zs : List _). rows_under u (number_slots value zs)) g h)
+
+-- the rows of a column that is lent are those of the part
+pub lent-rows : {A : Type 0} (value : A → ℤ) (p : Part) (xs : List A) (column : Numbers A) → Lends p xs column → number_rows value column ≡ rows_lent value p xs
+lent-rows value p xs column lends =
+    ap₂ (λ (v : Option (List Bool)) (ys : List _). rows_under v (number_slots value ys)) lends.validity lends.values

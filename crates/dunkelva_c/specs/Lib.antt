@@ -1,3 +1,4 @@
+pub mod Arithmetic
 pub mod ColumnBits
 pub mod ColumnCounts
 pub mod Columns

@@ -4,6 +4,7 @@
 //! caller's memory is unchanged.
 #![tactic(auto)]
 
+mod arithmetic;
 mod column_bits;
 mod column_comparisons;
 mod column_counts;
@@ -13,5 +14,8 @@ mod column_sums;
 mod columns;
 mod fault;
 mod number;
+mod number_arithmetic;
 mod number_comparisons;
+mod results;
+mod signs;
 mod trees;

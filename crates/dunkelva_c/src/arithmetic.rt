@@ -1,0 +1,162 @@
+//! Arithmetic on two columns of numbers.
+
+ghost use Rattle.std.specs.Prelude.{◌≡◌, ◌≢◌, length, pos, IfErr, OnErr, OnOk};
+ghost use Rattle.num_traits.specs.Laws.{bit_len};
+ghost use Rattle.arrow_arithmetic.specs.Arithmetic.{operation_of};
+ghost use Rattle.arrow_parts.specs.Kinds.{kind_number};
+ghost use Rattle.dunkelva_c.specs.Arithmetic.{AreNumberedResults, AreRows, AreRowsAt, IsTrueArithmeticFault, IsTruePartsFault, IsTrueResultFault, arithmetic_number, results_of, slices};
+ghost use Rattle.dunkelva_c.specs.Columns.{rows_lent};
+ghost use Rattle.dunkelva_c.specs.Comparisons.{AreAlike};
+ghost use Rattle.dunkelva_c.specs.Statuses.{IsTrueStatus};
+ghost use Rattle.polars_compute_arithmetic.specs.Operations.{result_rows};
+
+use crate::columns::column;
+use crate::fault::{Fault, status};
+use crate::results::{check_room, into_one_kind, write_present};
+use arrow_arithmetic::calculating::{Arithmetic, calculate};
+use arrow_parts::part::{Part, PartKind};
+use polars_compute_arithmetic::arithmetic::pl_num::PlNumArithmetic;
+use std::alloc::Global;
+
+/// Returns the operation with this number, if there is one.
+pub(crate) fn arithmetic_of(number: u32) -> Option<Arithmetic>
+    ensures { result ≡ arithmetic_number number }
+{
+    match number {
+        0 => Some(Arithmetic::Add),
+        1 => Some(Arithmetic::Subtract),
+        2 => Some(Arithmetic::Multiply),
+        3 => Some(Arithmetic::FloorDivide),
+        4 => Some(Arithmetic::TruncatingDivide),
+        5 => Some(Arithmetic::Modulo),
+        _ => None,
+    }
+}
+
+// Writes the results of an operation on the numbers of two parts.
+fn calculate_numbers<T: PlNumArithmetic>(
+    alloc: Global,
+    arithmetic: Arithmetic,
+    left: &Part<'_>,
+    right: &Part<'_>,
+    xs: &[T],
+    ys: &[T],
+    out: &mut [T],
+    present: &mut [u64],
+    nulls: &mut u64,
+) -> Result<(), Fault>
+    requires { right.now.rows ≡ left.now.rows }
+    ensures written { OnOk result (AreRows T.value (result_rows T.low (bit_len T.width)
+        (operation_of arithmetic) (rows_lent T.value left.now xs.now)
+        (rows_lent T.value right.now ys.now)) out.new present.new nulls.new) }
+    ensures kept { OnErr result ((out.new ≡ out.old) × (present.new ≡ present.old)
+        × (nulls.new ≡ nulls.old)) }
+    ensures refused { IfErr result (IsTrueResultFault (length xs.now) (length ys.now)
+        (length out.old) (length present.old) left.now right.now) }
+{
+    let lefts = column(alloc, left, xs)?;
+    let rights = column(alloc, right, ys)?;
+    check_room(left, out.len(), present.len())?;
+    let bits = calculate(alloc, arithmetic, &lefts, &rights, out)?;
+    write_present(&bits, present, nulls);
+    Ok(())
+}
+
+// Writes the results of an operation on two parts of numbers of one kind and length.
+fn calculate_parts(
+    alloc: Global,
+    arithmetic: Arithmetic,
+    left: &Part<'_>,
+    right: &Part<'_>,
+    i8s: &mut [i8],
+    i16s: &mut [i16],
+    i32s: &mut [i32],
+    i64s: &mut [i64],
+    u8s: &mut [u8],
+    u16s: &mut [u16],
+    u32s: &mut [u32],
+    u64s: &mut [u64],
+    present: &mut [u64],
+    nulls: &mut u64,
+) -> Result<(), Fault>
+    ensures alike { OnOk result (AreAlike left.now right.now) }
+    ensures written { OnOk result (AreRowsAt (kind_number left.now.kind)
+        (results_of arithmetic left.now right.now)
+        (slices i8s.new i16s.new i32s.new i64s.new u8s.new u16s.new u32s.new u64s.new)
+        present.new nulls.new) }
+    ensures kept { OnErr result (
+        (slices i8s.new i16s.new i32s.new i64s.new u8s.new u16s.new u32s.new u64s.new
+        ≡ slices i8s.old i16s.old i32s.old i64s.old u8s.old u16s.old u32s.old u64s.old)
+        × (present.new ≡ present.old) × (nulls.new ≡ nulls.old)) }
+    ensures refused { IfErr result (IsTruePartsFault
+        (slices i8s.old i16s.old i32s.old i64s.old u8s.old u16s.old u32s.old u64s.old)
+        (length present.old) left.now right.now) }
+{
+    if left.kind != right.kind || left.rows != right.rows {
+        return Err(Fault::Types);
+    }
+    into_one_kind!(
+        left,
+        right,
+        i8s,
+        i16s,
+        i32s,
+        i64s,
+        u8s,
+        u16s,
+        u32s,
+        u64s,
+        calculate_numbers(alloc, arithmetic, left, right),
+        present,
+        nulls
+    )
+}
+
+/// Writes the results of an operation on two columns of numbers of one kind and length, row by row,
+/// into the slice of their type, which has as many numbers as there are rows. Writes a bit for each
+/// row, 1 if the result is present, with zeros past the last, and the number of null results. A
+/// result is null if one of the two rows is, or if the divisor is 0; what is written for it is
+/// arbitrary. Other results are wrapped to the type.
+///
+/// `operation` is 0 for sums, 1 for differences, 2 for products, 3 for quotients that are rounded
+/// down, 4 for quotients that are rounded toward 0, and 5 for the remainders of those rounded down.
+#[unsafe(no_mangle)]
+pub extern "C" fn dunkelva_parts_arithmetic(
+    alloc: Global,
+    operation: u32,
+    left: &Part<'_>,
+    right: &Part<'_>,
+    i8s: &mut [i8],
+    i16s: &mut [i16],
+    i32s: &mut [i32],
+    i64s: &mut [i64],
+    u8s: &mut [u8],
+    u16s: &mut [u16],
+    u32s: &mut [u32],
+    u64s: &mut [u64],
+    present: &mut [u64],
+    nulls: &mut u64,
+) -> i32
+    ensures written { result ≡ pos 0 → AreNumberedResults (arithmetic_number operation)
+        left.now right.now
+        (slices i8s.new i16s.new i32s.new i64s.new u8s.new u16s.new u32s.new u64s.new)
+        present.new nulls.new }
+    ensures kept { result ≢ pos 0 →
+        (slices i8s.new i16s.new i32s.new i64s.new u8s.new u16s.new u32s.new u64s.new
+        ≡ slices i8s.old i16s.old i32s.old i64s.old u8s.old u16s.old u32s.old u64s.old)
+        × (present.new ≡ present.old) × (nulls.new ≡ nulls.old) }
+    ensures refused { IsTrueStatus (IsTrueArithmeticFault (arithmetic_number operation)
+        (slices i8s.old i16s.old i32s.old i64s.old u8s.old u16s.old u32s.old u64s.old)
+        (length present.old) left.now right.now) result }
+{
+    let Some(arithmetic) = arithmetic_of(operation) else {
+        return status(Fault::NotServed);
+    };
+    match calculate_parts(
+        alloc, arithmetic, left, right, i8s, i16s, i32s, i64s, u8s, u16s, u32s, u64s, present,
+        nulls,
+    ) {
+        Ok(()) => 0,
+        Err(fault) => status(fault),
+    }
+}

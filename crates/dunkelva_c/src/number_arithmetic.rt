@@ -1,0 +1,171 @@
+//! Arithmetic on a column of numbers and a number.
+
+ghost use Rattle.std.specs.Prelude.{◌≡◌, ◌≢◌, length, pos, IfErr, OnErr, OnOk};
+ghost use Rattle.num_traits.specs.Laws.{bit_len};
+ghost use Rattle.arrow_arithmetic.specs.Arithmetic.{operation_of, placed};
+ghost use Rattle.dunkelva_c.specs.Arithmetic.{AreAnswers, AreNumberedAnswers, AreRows, IsTrueSidedFault, IsTrueTypedFault, IsTrueWithFault, arithmetic_number, side_number, slices};
+ghost use Rattle.dunkelva_c.specs.Columns.{rows_lent};
+ghost use Rattle.dunkelva_c.specs.Numbers.{words_number};
+ghost use Rattle.dunkelva_c.specs.Statuses.{IsTrueStatus};
+ghost use Rattle.polars_compute_arithmetic.specs.Operations.{answer_rows};
+
+use crate::arithmetic::arithmetic_of;
+use crate::columns::column;
+use crate::fault::{Fault, status};
+use crate::number::{narrow, whole_of};
+use crate::results::{check_room, into_kind, write_present};
+use arrow_arithmetic::calculating::{Arithmetic, Side, calculate_number};
+use arrow_parts::part::{Part, PartKind};
+use polars_compute_arithmetic::arithmetic::pl_num::PlNumArithmetic;
+use polars_compute_slots::number::UniqueNumber;
+use std::alloc::Global;
+
+// Returns the side with this number, if there is one.
+fn side_of(number: u32) -> Option<Side>
+    ensures { result ≡ side_number number }
+{
+    match number {
+        0 => Some(Side::Left),
+        1 => Some(Side::Right),
+        _ => None,
+    }
+}
+
+// Writes the results of an operation on the numbers of a part and a number.
+fn calculate_numbers<T: PlNumArithmetic + UniqueNumber>(
+    alloc: Global,
+    arithmetic: Arithmetic,
+    side: Side,
+    number: i128,
+    part: &Part<'_>,
+    values: &[T],
+    out: &mut [T],
+    present: &mut [u64],
+    nulls: &mut u64,
+) -> Result<(), Fault>
+    ensures written { OnOk result (AreRows T.value (answer_rows T.low (bit_len T.width)
+        (placed side (operation_of arithmetic) number)
+        (rows_lent T.value part.now values.now)) out.new present.new nulls.new) }
+    ensures kept { OnErr result ((out.new ≡ out.old) × (present.new ≡ present.old)
+        × (nulls.new ≡ nulls.old)) }
+    ensures refused { IfErr result (IsTrueTypedFault T.low T.high number (length values.now)
+        (length out.old) (length present.old) part.now) }
+{
+    let Some(operand) = narrow::<T>(number) else {
+        return Err(Fault::Types);
+    };
+    let column = column(alloc, part, values)?;
+    check_room(part, out.len(), present.len())?;
+    let bits = calculate_number(alloc, arithmetic, side, operand, &column, out)?;
+    write_present(&bits, present, nulls);
+    Ok(())
+}
+
+// Writes the results of an operation on a part of numbers and a number.
+fn calculate_part(
+    alloc: Global,
+    arithmetic: Arithmetic,
+    side: Side,
+    number: i128,
+    part: &Part<'_>,
+    i8s: &mut [i8],
+    i16s: &mut [i16],
+    i32s: &mut [i32],
+    i64s: &mut [i64],
+    u8s: &mut [u8],
+    u16s: &mut [u16],
+    u32s: &mut [u32],
+    u64s: &mut [u64],
+    present: &mut [u64],
+    nulls: &mut u64,
+) -> Result<(), Fault>
+    ensures written { OnOk result (AreAnswers (placed side (operation_of arithmetic) number)
+        part.now (slices i8s.new i16s.new i32s.new i64s.new u8s.new u16s.new u32s.new u64s.new)
+        present.new nulls.new) }
+    ensures kept { OnErr result (
+        (slices i8s.new i16s.new i32s.new i64s.new u8s.new u16s.new u32s.new u64s.new
+        ≡ slices i8s.old i16s.old i32s.old i64s.old u8s.old u16s.old u32s.old u64s.old)
+        × (present.new ≡ present.old) × (nulls.new ≡ nulls.old)) }
+    ensures refused { IfErr result (IsTrueWithFault number
+        (slices i8s.old i16s.old i32s.old i64s.old u8s.old u16s.old u32s.old u64s.old)
+        (length present.old) part.now) }
+{
+    into_kind!(
+        part,
+        i8s,
+        i16s,
+        i32s,
+        i64s,
+        u8s,
+        u16s,
+        u32s,
+        u64s,
+        calculate_numbers(alloc, arithmetic, side, number, part),
+        present,
+        nulls
+    )
+}
+
+/// Writes the results of an operation on each row of a column of numbers and a number of its type,
+/// given as the low and the high word of 128 bits, as `dunkelva_parts_arithmetic` writes those of
+/// two columns. `side` is 0 if the number is on the left of the operation, and 1 if it is on the
+/// right.
+#[unsafe(no_mangle)]
+pub extern "C" fn dunkelva_part_arithmetic_number(
+    alloc: Global,
+    operation: u32,
+    side: u32,
+    low: u64,
+    high: u64,
+    part: &Part<'_>,
+    i8s: &mut [i8],
+    i16s: &mut [i16],
+    i32s: &mut [i32],
+    i64s: &mut [i64],
+    u8s: &mut [u8],
+    u16s: &mut [u16],
+    u32s: &mut [u32],
+    u64s: &mut [u64],
+    present: &mut [u64],
+    nulls: &mut u64,
+) -> i32
+    ensures written { result ≡ pos 0 → AreNumberedAnswers (arithmetic_number operation)
+        (side_number side) (words_number low high) part.now
+        (slices i8s.new i16s.new i32s.new i64s.new u8s.new u16s.new u32s.new u64s.new)
+        present.new nulls.new }
+    ensures kept { result ≢ pos 0 →
+        (slices i8s.new i16s.new i32s.new i64s.new u8s.new u16s.new u32s.new u64s.new
+        ≡ slices i8s.old i16s.old i32s.old i64s.old u8s.old u16s.old u32s.old u64s.old)
+        × (present.new ≡ present.old) × (nulls.new ≡ nulls.old) }
+    ensures refused { IsTrueStatus (IsTrueSidedFault (arithmetic_number operation)
+        (side_number side) (words_number low high)
+        (slices i8s.old i16s.old i32s.old i64s.old u8s.old u16s.old u32s.old u64s.old)
+        (length present.old) part.now) result }
+{
+    let Some(arithmetic) = arithmetic_of(operation) else {
+        return status(Fault::NotServed);
+    };
+    let Some(side) = side_of(side) else {
+        return status(Fault::NotServed);
+    };
+    match calculate_part(
+        alloc,
+        arithmetic,
+        side,
+        whole_of(low, high),
+        part,
+        i8s,
+        i16s,
+        i32s,
+        i64s,
+        u8s,
+        u16s,
+        u32s,
+        u64s,
+        present,
+        nulls,
+    ) {
+        Ok(()) => 0,
+        Err(fault) => status(fault),
+    }
+}

@@ -1,0 +1,137 @@
+//! Negation and absolute values of a column of numbers.
+
+ghost use Rattle.std.specs.Prelude.{◌≡◌, ◌≢◌, length, pos, IfErr, OnErr, OnOk};
+ghost use Rattle.num_traits.specs.Laws.{bit_len};
+ghost use Rattle.arrow_arithmetic.specs.Arithmetic.{function_of};
+ghost use Rattle.dunkelva_c.specs.Arithmetic.{AreAnswers, AreNumberedSigns, AreRows, IsTrueAnswerFault, IsTruePartFault, IsTrueSignFault, sign_number, slices};
+ghost use Rattle.dunkelva_c.specs.Columns.{rows_lent};
+ghost use Rattle.dunkelva_c.specs.Statuses.{IsTrueStatus};
+ghost use Rattle.polars_compute_arithmetic.specs.Operations.{answer_rows};
+
+use crate::columns::column;
+use crate::fault::{Fault, status};
+use crate::results::{check_room, into_kind, write_present};
+use arrow_arithmetic::calculating::{Sign, change_sign};
+use arrow_parts::part::{Part, PartKind};
+use polars_compute_arithmetic::arithmetic::pl_num::PlNumArithmetic;
+use std::alloc::Global;
+
+// Returns the function with this number, if there is one.
+fn sign_of(number: u32) -> Option<Sign>
+    ensures { result ≡ sign_number number }
+{
+    match number {
+        0 => Some(Sign::Negate),
+        1 => Some(Sign::Absolute),
+        _ => None,
+    }
+}
+
+// Writes the results of a function of the numbers of a part.
+fn change_numbers<T: PlNumArithmetic>(
+    alloc: Global,
+    sign: Sign,
+    part: &Part<'_>,
+    values: &[T],
+    out: &mut [T],
+    present: &mut [u64],
+    nulls: &mut u64,
+) -> Result<(), Fault>
+    ensures written { OnOk result (AreRows T.value (answer_rows T.low (bit_len T.width)
+        (function_of sign) (rows_lent T.value part.now values.now))
+        out.new present.new nulls.new) }
+    ensures kept { OnErr result ((out.new ≡ out.old) × (present.new ≡ present.old)
+        × (nulls.new ≡ nulls.old)) }
+    ensures refused { IfErr result (IsTrueAnswerFault (length values.now)
+        (length out.old) (length present.old) part.now) }
+{
+    let column = column(alloc, part, values)?;
+    check_room(part, out.len(), present.len())?;
+    let bits = change_sign(alloc, sign, &column, out)?;
+    write_present(&bits, present, nulls);
+    Ok(())
+}
+
+// Writes the results of a function of a part of numbers.
+fn change_part(
+    alloc: Global,
+    sign: Sign,
+    part: &Part<'_>,
+    i8s: &mut [i8],
+    i16s: &mut [i16],
+    i32s: &mut [i32],
+    i64s: &mut [i64],
+    u8s: &mut [u8],
+    u16s: &mut [u16],
+    u32s: &mut [u32],
+    u64s: &mut [u64],
+    present: &mut [u64],
+    nulls: &mut u64,
+) -> Result<(), Fault>
+    ensures written { OnOk result (AreAnswers (function_of sign) part.now
+        (slices i8s.new i16s.new i32s.new i64s.new u8s.new u16s.new u32s.new u64s.new)
+        present.new nulls.new) }
+    ensures kept { OnErr result (
+        (slices i8s.new i16s.new i32s.new i64s.new u8s.new u16s.new u32s.new u64s.new
+        ≡ slices i8s.old i16s.old i32s.old i64s.old u8s.old u16s.old u32s.old u64s.old)
+        × (present.new ≡ present.old) × (nulls.new ≡ nulls.old)) }
+    ensures refused { IfErr result (IsTruePartFault
+        (slices i8s.old i16s.old i32s.old i64s.old u8s.old u16s.old u32s.old u64s.old)
+        (length present.old) part.now) }
+{
+    into_kind!(
+        part,
+        i8s,
+        i16s,
+        i32s,
+        i64s,
+        u8s,
+        u16s,
+        u32s,
+        u64s,
+        change_numbers(alloc, sign, part),
+        present,
+        nulls
+    )
+}
+
+/// Writes the negated numbers or the absolute values of a column, wrapped to its type, as
+/// `dunkelva_parts_arithmetic` writes the results of two columns. Nulls stay null. `sign` is 0 for
+/// negation, and 1 for absolute values.
+#[unsafe(no_mangle)]
+pub extern "C" fn dunkelva_part_sign(
+    alloc: Global,
+    sign: u32,
+    part: &Part<'_>,
+    i8s: &mut [i8],
+    i16s: &mut [i16],
+    i32s: &mut [i32],
+    i64s: &mut [i64],
+    u8s: &mut [u8],
+    u16s: &mut [u16],
+    u32s: &mut [u32],
+    u64s: &mut [u64],
+    present: &mut [u64],
+    nulls: &mut u64,
+) -> i32
+    ensures written { result ≡ pos 0 → AreNumberedSigns (sign_number sign) part.now
+        (slices i8s.new i16s.new i32s.new i64s.new u8s.new u16s.new u32s.new u64s.new)
+        present.new nulls.new }
+    ensures kept { result ≢ pos 0 →
+        (slices i8s.new i16s.new i32s.new i64s.new u8s.new u16s.new u32s.new u64s.new
+        ≡ slices i8s.old i16s.old i32s.old i64s.old u8s.old u16s.old u32s.old u64s.old)
+        × (present.new ≡ present.old) × (nulls.new ≡ nulls.old) }
+    ensures refused { IsTrueStatus (IsTrueSignFault (sign_number sign)
+        (slices i8s.old i16s.old i32s.old i64s.old u8s.old u16s.old u32s.old u64s.old)
+        (length present.old) part.now) result }
+{
+    let Some(sign) = sign_of(sign) else {
+        return status(Fault::NotServed);
+    };
+    match change_part(
+        alloc, sign, part, i8s, i16s, i32s, i64s, u8s, u16s, u32s, u64s, present, nulls,
+    ) {
+        Ok(()) => 0,
+        Err(fault) => status(fault),
+    }
+}
