@@ -183,6 +183,54 @@ enum dunkelva_bits {
 int32_t dunkelva_count_bits(enum dunkelva_bits bits, const struct ArrowSchema *type,
                             const struct ArrowArray *array, uint32_t *counts, size_t counts_len);
 
+/* Operations on two numbers. */
+enum dunkelva_operation {
+  DUNKELVA_ADD = 0,
+  DUNKELVA_SUBTRACT = 1,
+  DUNKELVA_MULTIPLY = 2,
+  /* -7 by 2 is -4, rounded down, */
+  DUNKELVA_FLOOR_DIVIDE = 3,
+  /* or -3, rounded toward 0. */
+  DUNKELVA_TRUNCATING_DIVIDE = 4,
+  /* The remainder of the division that rounds down: 1. It has the sign of the divisor, or is 0. */
+  DUNKELVA_MODULO = 5
+};
+
+/* Calculates with the rows of two columns of one type and one length, row by row, on the numbers
+ * that are kept: of decimals without their scale. Results are wrapped to the type: in a column of 8
+ * bits 100 and 100 are -56, and -128 by -1 is -128. A result is null where one of the two rows is,
+ * or where the divisor is 0.
+ *
+ * `values` takes as many numbers of the type as there are rows. It lies at a multiple of their
+ * size, and none of it belongs to a column. What it gets for nulls means nothing. Bit i of
+ * `present`, as in a validity, is 1 where result i is no null; it takes (length + 7) / 8 bytes, and
+ * the bits behind the last row are 0. Where `nulls` is not null, it gets how many results are null.
+ */
+int32_t dunkelva_arithmetic(enum dunkelva_operation operation, const struct ArrowSchema *left_type,
+                            const struct ArrowArray *left, const struct ArrowSchema *right_type,
+                            const struct ArrowArray *right, void *values, size_t values_len,
+                            uint8_t *present, size_t present_bytes, uint64_t *nulls);
+
+/* The side of an operation on which a number stands. */
+enum dunkelva_side { DUNKELVA_LEFT = 0, DUNKELVA_RIGHT = 1 };
+
+/* Calculates with a number and each row of a column in the same way. The status is
+ * DUNKELVA_TYPES_DIFFER where the column's type has no such number. */
+int32_t dunkelva_arithmetic_number(enum dunkelva_operation operation, enum dunkelva_side side,
+                                   const struct dunkelva_number *number,
+                                   const struct ArrowSchema *type, const struct ArrowArray *array,
+                                   void *values, size_t values_len, uint8_t *present,
+                                   size_t present_bytes, uint64_t *nulls);
+
+/* Functions of a number. */
+enum dunkelva_sign_function { DUNKELVA_NEGATE = 0, DUNKELVA_ABSOLUTE = 1 };
+
+/* Negates each row of a column, or takes its distance from 0, in the same way: in a column of 8
+ * bits both are -128 for -128. */
+int32_t dunkelva_sign(enum dunkelva_sign_function sign, const struct ArrowSchema *type,
+                      const struct ArrowArray *array, void *values, size_t values_len,
+                      uint8_t *present, size_t present_bytes, uint64_t *nulls);
+
 /* Returns what a status means, in English. */
 const char *dunkelva_status_text(int32_t status);
 

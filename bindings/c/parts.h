@@ -89,4 +89,18 @@ int32_t dunkelva_part_reduce_bits(uint32_t join, const struct part *part,
 int32_t dunkelva_part_count_bits(uint32_t bits, const struct part *part, uint32_t *counts,
                                  size_t counts_len);
 
+/* Room for results: a slice for each type of numbers, bits of those that are present, and how many
+ * are not. */
+#define ROOM_FOR_NUMBERS                                                                       \
+  int8_t *i8s, size_t i8s_len, int16_t *i16s, size_t i16s_len, int32_t *i32s, size_t i32s_len, \
+      int64_t *i64s, size_t i64s_len, uint8_t *u8s, size_t u8s_len, uint16_t *u16s,            \
+      size_t u16s_len, uint32_t *u32s, size_t u32s_len, uint64_t *u64s, size_t u64s_len,       \
+      uint64_t *present, size_t present_len, uint64_t *nulls
+
+int32_t dunkelva_parts_arithmetic(uint32_t operation, const struct part *left,
+                                  const struct part *right, ROOM_FOR_NUMBERS);
+int32_t dunkelva_part_arithmetic_number(uint32_t operation, uint32_t side, uint64_t low,
+                                        uint64_t high, const struct part *part, ROOM_FOR_NUMBERS);
+int32_t dunkelva_part_sign(uint32_t sign, const struct part *part, ROOM_FOR_NUMBERS);
+
 #endif

@@ -145,6 +145,17 @@ static int32_t call_bits(const struct made *made, uint8_t out[ROOM]) {
   return status;
 }
 
+static int32_t call_arithmetic(const struct made *made, uint8_t out[ROOM]) {
+  int32_t values[ROWS];
+  uint8_t present[ROOM];
+  memset(values, 0xA5, sizeof values);
+  memset(present, 0xA5, sizeof present);
+  int32_t status = dunkelva_arithmetic(DUNKELVA_MODULO, &made->type, &made->array, &made->type,
+                                       &made->array, values, ROWS, present, ROOM, NULL);
+  memcpy(out, status == DUNKELVA_OK ? present : (const uint8_t *)values, ROOM);
+  return status;
+}
+
 /* Calls while some requests fail. */
 static int32_t run(call *called, const struct made *made, long first, long last,
                    uint8_t out[ROOM]) {
@@ -200,6 +211,7 @@ int main(void) {
     try_call("sum", call_sum, flat);
     try_call("min_max", call_min_max, flat);
     try_call("bits", call_bits, flat);
+    try_call("arithmetic", call_arithmetic, flat);
   }
   printf("%d passed, %d failed\n", passed, failed);
   return failed > 0;

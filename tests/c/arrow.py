@@ -87,6 +87,11 @@ def load(path):
     library.dunkelva_compare_number.argtypes = [ctypes.c_uint32, *column, number, *out[1:]]
     library.dunkelva_reduce_bits.argtypes = [ctypes.c_uint32, *column, number]
     library.dunkelva_count_bits.argtypes = [ctypes.c_uint32, *column, *out[1:]]
+    results = [ctypes.c_void_p, ctypes.c_size_t, *out[1:], ctypes.c_void_p]
+    library.dunkelva_arithmetic.argtypes = [ctypes.c_uint32, *column, *column, *results]
+    library.dunkelva_arithmetic_number.argtypes = [ctypes.c_uint32, ctypes.c_uint32, number,
+                                                   *column, *results]
+    library.dunkelva_sign.argtypes = [ctypes.c_uint32, *column, *results]
     library.dunkelva_status_text.restype = library.dunkelva_version.restype = ctypes.c_char_p
     return library
 

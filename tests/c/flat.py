@@ -3,8 +3,8 @@
 
 usage: flat.py LIBRARY [--number 400] [--seed 1]
 
-Comparisons, sums, extremes, bits and nulls of columns of each format of whole numbers, also as
-windows, with odd addresses and with numbers under nulls. Ends with `N passed, M failed`.
+Comparisons, sums, extremes, arithmetic, bits and nulls of columns of each format of whole numbers,
+also as windows, with odd addresses and with numbers under nulls. Ends with `N passed, M failed`.
 """
 import argparse
 import ctypes
@@ -97,6 +97,63 @@ def try_number(library, form, rows, column, number):
         yield f"{TESTS[test].__name__} {number}", got, wanted
 
 
+def quotient(one, other):
+    """Returns the quotient that is rounded toward 0."""
+    return abs(one) // abs(other) * (1 if (one < 0) == (other < 0) else -1)
+
+
+OPERATIONS = [operator.add, operator.sub, operator.mul, operator.floordiv, quotient, operator.mod]
+SIGNS = [operator.neg, abs]
+
+
+def wrapped(form, number):
+    """Returns a number, wrapped to a type."""
+    least, greatest = limits(form)
+    return (number - least) % (greatest - least + 1) + least
+
+
+def result(form, which, one, other):
+    """Returns the result of an operation on two rows, or None."""
+    if one is None or other is None or which > 2 and other == 0:
+        return None
+    return wrapped(form, OPERATIONS[which](one, other))
+
+
+def results_of(form, rows, call):
+    """Makes a call that writes results, and returns its status, the results and the nulls."""
+    size = arrow.width_of(form)
+    values, nulls = (ctypes.c_uint64 * (rows * size // 8 + 2))(), ctypes.c_uint64()
+    status, bits = bits_of(lambda *out: call(values, rows, *out, ctypes.byref(nulls)), rows)
+    kept, signed = bytes(values), form not in arrow.UNSIGNED
+    numbers = [int.from_bytes(kept[size * row:size * (row + 1)], "little", signed=signed)
+               for row in range(rows)]
+    return status, [number if bit else None for number, bit in zip(numbers, bits)], nulls.value
+
+
+def try_arithmetic(library, form, lefts, rights, left, right):
+    """Calculates with columns and numbers. Yields what each call gave, and what it should."""
+    count, one, two = len(lefts), (left.schema, left.array), (right.schema, right.array)
+    for which, name in enumerate(it.__name__ for it in OPERATIONS):
+        wanted = [result(form, which, *pair) for pair in zip(lefts, rights)]
+        yield name, results_of(form, count, lambda *out: library.dunkelva_arithmetic(
+            which, *one, *two, *out)), (arrow.OK, wanted, wanted.count(None))
+    least, greatest = limits(form)
+    for number in (least, greatest, -1, 0, 1, 3, 7, greatest + 1):
+        for which, side in ((which, side) for which in range(6) for side in range(2)):
+            got = results_of(form, count, lambda *out: library.dunkelva_arithmetic_number(
+                which, side, arrow.Number.of(number), *one, *out))
+            wanted = [result(form, which, *((number, row) if side == 0 else (row, number)))
+                      for row in lefts]
+            hoped = arrow.OK, wanted, wanted.count(None)
+            if not least <= number <= greatest:
+                hoped = arrow.TYPES_DIFFER, [None] * count, 0
+            yield f"{OPERATIONS[which].__name__} {number} {side}", got, hoped
+    for which, sign in enumerate(SIGNS):
+        wanted = [None if row is None else wrapped(form, sign(row)) for row in lefts]
+        yield sign.__name__, results_of(form, count, lambda *out: library.dunkelva_sign(
+            which, *one, *out)), (arrow.OK, wanted, wanted.count(None))
+
+
 def try_column(library, form, chance):
     """Makes all calls on two random columns, and returns what was wrong."""
     count = chance.choice((0, 1, 7, 64, 65, 200, 1000))
@@ -115,6 +172,7 @@ def try_column(library, form, chance):
         wanted = [holds(test, one, other) for one, other in zip(left_rows, right_rows)]
         tried.append((TESTS[test].__name__, got, (arrow.OK, wanted)))
     tried += try_reductions(library, form, left_rows, left)
+    tried += try_arithmetic(library, form, left_rows, right_rows, left, right)
     least, greatest = limits(form)
     for number in (least, greatest, 1, least - 1, greatest + 1, 2 ** 64 + 1):
         tried += try_number(library, form, left_rows, left, number)

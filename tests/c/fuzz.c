@@ -429,6 +429,28 @@ static void try_flat(struct side left, struct side right) {
   require(done || bits[0] == 0xA5, "no comparison is written");
 }
 
+/* Tries arithmetic on columns of numbers. */
+static void try_arithmetic(struct side left, struct side right) {
+  uint64_t values[8 * ROOM];
+  uint8_t bits[ROOM];
+  uint64_t nulls = 77;
+  const struct dunkelva_number number = {below(9), 0, 1};
+  memset(values, 0xA5, sizeof values);
+  memset(bits, 0xA5, ROOM);
+  int32_t status =
+      dunkelva_arithmetic((enum dunkelva_operation)below(7), left.type, left.array, right.type,
+                          right.array, values, 8 * ROOM, bits, ROOM, &nulls);
+  require(status == 0 || (values[0] == 0xA5A5A5A5A5A5A5A5U && bits[0] == 0xA5 && nulls == 77),
+          "no results are written");
+  status = dunkelva_arithmetic_number((enum dunkelva_operation)below(7),
+                                      (enum dunkelva_side)below(3), &number, left.type, left.array,
+                                      values, 8 * ROOM, bits, ROOM, NULL);
+  require(status >= 0 && status <= 7, "a status that is known");
+  status = dunkelva_sign((enum dunkelva_sign_function)below(3), left.type, left.array, values,
+                         8 * ROOM, bits, ROOM, NULL);
+  require(status >= 0 && status <= 7, "a status that is known");
+}
+
 /* Tries a pair of columns in several ways. */
 static void try_pair(struct side left, struct side right, uint32_t flags) {
   static uint8_t bits[ROOM];
@@ -486,6 +508,7 @@ int LLVMFuzzerTestOneInput(const uint8_t *data, size_t size) {
   right.array = make_array(right.type, rows);
   try_pair(left, right, flags);
   try_flat(left, right);
+  try_arithmetic(left, right);
   while (block_count > 0) {
     free(blocks[--block_count]);
   }

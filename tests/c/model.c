@@ -784,4 +784,140 @@ int32_t dunkelva_part_count_bits(uint32_t bits, const struct part *part, uint32_
   return DONE;
 }
 
+/* Room for results, of numbers of each size. */
+struct results {
+  void *signed_values[4];
+  void *values[4];
+  size_t signed_len[4];
+  size_t len[4];
+  uint64_t *present;
+  size_t present_len;
+  uint64_t *nulls;
+};
+
+#define RESULTS                                                                                \
+  {                                                                                            \
+    {i8s, i16s, i32s, i64s}, {u8s, u16s, u32s, u64s}, {i8s_len, i16s_len, i32s_len, i64s_len}, \
+        {u8s_len, u16s_len, u32s_len, u64s_len}, present, present_len, nulls                   \
+  }
+
+/* Says whether there is room for as many numbers as there are rows. */
+static bool has_room(const struct part *part, const struct results *results) {
+  int place = size_of(part) == 8 ? 3 : size_of(part) / 2;
+  size_t len = is_signed(part) ? results->signed_len[place] : results->len[place];
+  return len == part->rows && results->present_len >= (part->rows + 63) / 64;
+}
+
+/* Writes a result, cut to the size of the numbers, or that it is null. */
+static void write_result(const struct part *part, const struct results *results, size_t row,
+                         bool exists, uint64_t number) {
+  int place = size_of(part) == 8 ? 3 : size_of(part) / 2;
+  size_t size = (size_t)size_of(part);
+  uint8_t *values = is_signed(part) ? results->signed_values[place] : results->values[place];
+  memcpy(values + row * size, &number, size);
+  results->present[row / 64] |= (uint64_t)exists << (row % 64);
+  *results->nulls += !exists;
+}
+
+/* Divides, and returns the quotient that is rounded down, the one that is rounded toward 0, or the
+ * remainder of the former. */
+static uint64_t divide(uint32_t operation, uint64_t x, uint64_t y, bool with_sign) {
+  if (!with_sign) {
+    return operation == 5 ? x % y : x / y;
+  }
+  bool flips = (int64_t)y == -1; /* the least number by -1 is no number of C */
+  uint64_t quotient = flips ? 0 - x : (uint64_t)((int64_t)x / (int64_t)y);
+  uint64_t rest = x - quotient * y;
+  bool across = rest != 0 && ((int64_t)rest < 0) != ((int64_t)y < 0);
+  uint64_t results[] = {quotient - across, quotient, rest + (across ? y : 0)};
+  return results[operation - 3];
+}
+
+static uint64_t operate(uint32_t operation, uint64_t x, uint64_t y, bool with_sign) {
+  switch (operation) {
+  case 0:
+    return x + y;
+  case 1:
+    return x - y;
+  case 2:
+    return x * y;
+  default:
+    return y == 0 ? 0 : divide(operation, x, y, with_sign);
+  }
+}
+
+int32_t dunkelva_parts_arithmetic(uint32_t operation, const struct part *left,
+                                  const struct part *right, ROOM_FOR_NUMBERS) {
+  const struct results results = RESULTS;
+  if (operation > 5) {
+    return NOT_SERVED;
+  }
+  if (left->kind != right->kind || left->rows != right->rows) {
+    return OTHER_TYPES;
+  }
+  if (check_numbers(left) != DONE || check_numbers(right) != DONE) {
+    return check_numbers(left) != DONE ? check_numbers(left) : check_numbers(right);
+  }
+  if (!has_room(left, &results)) {
+    return NO_ROOM;
+  }
+  *nulls = 0;
+  memset(present, 0, present_len * sizeof *present);
+  for (size_t row = 0; row < left->rows; row++) {
+    uint64_t x = number_at(left, row);
+    uint64_t y = number_at(right, row);
+    bool exists = is_present(left, row) && is_present(right, row) && (operation < 3 || y != 0);
+    write_result(left, &results, row, exists, operate(operation, x, y, is_signed(left)));
+  }
+  return DONE;
+}
+
+int32_t dunkelva_part_arithmetic_number(uint32_t operation, uint32_t side, uint64_t low,
+                                        uint64_t high, const struct part *part, ROOM_FOR_NUMBERS) {
+  const struct results results = RESULTS;
+  if (operation > 5 || side > 1) {
+    return NOT_SERVED;
+  }
+  if (check_numbers(part) != DONE) {
+    return check_numbers(part);
+  }
+  if (!has_number(part, low, high)) {
+    return OTHER_TYPES;
+  }
+  if (!has_room(part, &results)) {
+    return NO_ROOM;
+  }
+  *nulls = 0;
+  memset(present, 0, present_len * sizeof *present);
+  for (size_t row = 0; row < part->rows; row++) {
+    uint64_t number = number_at(part, row);
+    uint64_t x = side == 0 ? low : number;
+    uint64_t y = side == 0 ? number : low;
+    bool exists = is_present(part, row) && (operation < 3 || y != 0);
+    write_result(part, &results, row, exists, operate(operation, x, y, is_signed(part)));
+  }
+  return DONE;
+}
+
+int32_t dunkelva_part_sign(uint32_t sign, const struct part *part, ROOM_FOR_NUMBERS) {
+  const struct results results = RESULTS;
+  if (sign > 1) {
+    return NOT_SERVED;
+  }
+  if (check_numbers(part) != DONE) {
+    return check_numbers(part);
+  }
+  if (!has_room(part, &results)) {
+    return NO_ROOM;
+  }
+  *nulls = 0;
+  memset(present, 0, present_len * sizeof *present);
+  for (size_t row = 0; row < part->rows; row++) {
+    uint64_t number = number_at(part, row);
+    bool flips = sign == 0 || (is_signed(part) && (int64_t)number < 0);
+    write_result(part, &results, row, is_present(part, row), flips ? 0 - number : number);
+  }
+  return DONE;
+}
+
 #endif

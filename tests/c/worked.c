@@ -590,8 +590,125 @@ static void try_nulls(void) {
         "no nulls of dictionaries");
 }
 
+/* Says whether three results of 8 bits and their bits are these. */
+static bool are(const int8_t *got, int8_t first, int8_t second, int8_t third, uint8_t present,
+                uint8_t wanted) {
+  return got[0] == first && got[1] == second && got[2] == third && present == wanted;
+}
+
+static void try_arithmetic(void) {
+  const int8_t lefts[] = {-128, 100, -7};
+  const int8_t rights[] = {-1, 100, 2};
+  struct made *left = make("c", 3, 2, NULL, lefts, NULL);
+  struct made *right = make("c", 3, 2, NULL, rights, NULL);
+  const int8_t wanted[6][3] = {{127, -56, -5}, {-127, 0, -9}, {-128, 16, -14},
+                               {-128, 1, -4},  {-128, 1, -3}, {0, 0, 1}};
+  for (int operation = 0; operation < 6; operation++) {
+    int8_t got[3] = {0};
+    uint8_t present = 0xFF;
+    uint64_t nulls = 7;
+    int32_t status =
+        dunkelva_arithmetic((enum dunkelva_operation)operation, &left->type, &left->array,
+                            &right->type, &right->array, got, 3, &present, 1, &nulls);
+    const int8_t *hoped = wanted[operation];
+    count(status == DUNKELVA_OK && nulls == 0 &&
+              are(got, hoped[0], hoped[1], hoped[2], present, 0x7),
+          "arithmetic");
+  }
+}
+
+static void try_arithmetic_with_nulls(void) {
+  const int8_t lefts[] = {9, 9, 7, 5};
+  const int8_t rights[] = {9, 3, 0, 0};
+  struct made *left = make("c", 3, 2, BITS(0xE), lefts, NULL);
+  struct made *right = make("c", 3, 2, BITS(0x6), rights, NULL);
+  left->array.offset = right->array.offset = 1; /* rows: 9 and 3, 7 and 0, 5 and null */
+  int8_t got[3] = {0};
+  uint8_t present = 0xFF;
+  uint64_t nulls = 7;
+  int32_t status = dunkelva_arithmetic(DUNKELVA_FLOOR_DIVIDE, &left->type, &left->array,
+                                       &right->type, &right->array, got, 3, &present, 1, &nulls);
+  count(status == DUNKELVA_OK && got[0] == 3 && present == 0x1 && nulls == 2, "division by 0");
+  status = dunkelva_arithmetic(DUNKELVA_SUBTRACT, &left->type, &left->array, &right->type,
+                               &right->array, got, 3, &present, 1, NULL);
+  count(status == DUNKELVA_OK && got[0] == 6 && got[1] == 7 && present == 0x3, "a null");
+}
+
+static void try_arithmetic_with_numbers(void) {
+  const int8_t values[] = {-128, 0, 7};
+  struct made *made = make("c", 3, 2, NULL, values, NULL);
+  const struct dunkelva_number two = {2, 0, 1};
+  const struct dunkelva_number zero = {0, 0, 1};
+  const struct dunkelva_number large = {128, 0, 1};
+  int8_t got[3] = {0};
+  uint8_t present = 0;
+  uint64_t nulls = 7;
+  int32_t status = dunkelva_arithmetic_number(DUNKELVA_SUBTRACT, DUNKELVA_LEFT, &two, &made->type,
+                                              &made->array, got, 3, &present, 1, &nulls);
+  count(status == DUNKELVA_OK && are(got, -126, 2, -5, present, 0x7) && nulls == 0, "2 less rows");
+  status = dunkelva_arithmetic_number(DUNKELVA_MULTIPLY, DUNKELVA_RIGHT, &two, &made->type,
+                                      &made->array, got, 3, &present, 1, &nulls);
+  count(status == DUNKELVA_OK && are(got, 0, 0, 14, present, 0x7), "twice the rows");
+  status = dunkelva_arithmetic_number(DUNKELVA_MODULO, DUNKELVA_LEFT, &two, &made->type,
+                                      &made->array, got, 3, &present, 1, &nulls);
+  count(status == DUNKELVA_OK && got[0] == -126 && got[2] == 2 && present == 0x5 && nulls == 1,
+        "2 by the rows");
+  status = dunkelva_arithmetic_number(DUNKELVA_TRUNCATING_DIVIDE, DUNKELVA_RIGHT, &zero,
+                                      &made->type, &made->array, got, 3, &present, 1, &nulls);
+  count(status == DUNKELVA_OK && present == 0 && nulls == 3, "rows by 0");
+  present = 0x55;
+  got[0] = 77;
+  status = dunkelva_arithmetic_number(DUNKELVA_ADD, DUNKELVA_RIGHT, &large, &made->type,
+                                      &made->array, got, 3, &present, 1, &nulls);
+  count(status == DUNKELVA_TYPES_DIFFER && got[0] == 77 && present == 0x55 && nulls == 3,
+        "a number of another type");
+  status = dunkelva_sign(DUNKELVA_ABSOLUTE, &made->type, &made->array, got, 3, &present, 1, NULL);
+  count(status == DUNKELVA_OK && are(got, -128, 0, 7, present, 0x7), "absolute values");
+  status = dunkelva_sign(DUNKELVA_NEGATE, &made->type, &made->array, got, 3, &present, 1, NULL);
+  count(status == DUNKELVA_OK && are(got, -128, 0, -7, present, 0x7), "negation");
+}
+
+/* Adds a column of 16 bits to itself. */
+static int32_t doubled(const struct made *made, void *values, size_t len, uint8_t *present,
+                       size_t bytes) {
+  return dunkelva_arithmetic(DUNKELVA_ADD, &made->type, &made->array, &made->type, &made->array,
+                             values, len, present, bytes, NULL);
+}
+
+static void try_room_for_arithmetic(void) {
+  static int16_t values[] = {1, 2, 3};
+  struct made *made = make("s", 3, 2, NULL, values, NULL);
+  struct made *other = make("S", 3, 2, NULL, values, NULL);
+  struct made *texts = make("u", 0, 3, NULL, NULL, NULL);
+  struct made *none = make("s", 0, 2, NULL, NULL, NULL);
+  int16_t got[4] = {7, 7, 7, 7};
+  uint8_t present = 0x55;
+  count(doubled(made, got, 2, &present, 1) == DUNKELVA_NO_ROOM, "room for two numbers");
+  count(doubled(made, got, 3, &present, 0) == DUNKELVA_NO_ROOM, "no room for bits");
+  count(doubled(made, NULL, 3, &present, 1) == DUNKELVA_BAD_ARGUMENT, "no numbers");
+  count(doubled(made, got, 3, NULL, 1) == DUNKELVA_BAD_ARGUMENT, "no bits");
+  count(doubled(made, (char *)got + 1, 3, &present, 1) == DUNKELVA_BAD_ARGUMENT, "an odd address");
+  count(doubled(made, values, 3, &present, 1) == DUNKELVA_BAD_ARGUMENT, "the column's own memory");
+  count(doubled(texts, got, 3, &present, 1) == DUNKELVA_NOT_SERVED, "no sums of texts");
+  count(dunkelva_arithmetic(DUNKELVA_ADD, &made->type, &made->array, &other->type, &other->array,
+                            got, 3, &present, 1, NULL) == DUNKELVA_TYPES_DIFFER,
+        "sums of two types");
+  count(dunkelva_arithmetic((enum dunkelva_operation)6, &made->type, &made->array, &made->type,
+                            &made->array, got, 3, &present, 1, NULL) == DUNKELVA_NOT_SERVED,
+        "an operation that does not exist");
+  count(doubled(none, NULL, 0, NULL, 0) == DUNKELVA_OK, "no rows");
+  count(got[0] == 7 && present == 0x55 && values[0] == 1, "nothing is written");
+  count(doubled(made, got, 4, &present, 1) == DUNKELVA_OK && got[2] == 6 && got[3] == 7 &&
+            present == 0x7,
+        "more room than rows");
+}
+
 int main(void) {
   try_numbers();
+  try_arithmetic();
+  try_arithmetic_with_nulls();
+  try_arithmetic_with_numbers();
+  try_room_for_arithmetic();
   try_sums();
   try_comparisons();
   try_nulls();
