@@ -13,6 +13,8 @@ from __future__ import annotations
 import numpy as np
 import numpy.typing as npt
 
+from ._arithmetic import (absolute, add, floor_divide, mod, multiply, negative, subtract,
+                          truncating_divide)
 from ._diff import Diff, Difference, assert_equal, diff
 from ._library import (CHECK_TEXTS, FLOATS_BY_BITS, VERSION, BadArray, DunkelvaError, NotServed,
                        TypesDiffer)
@@ -26,6 +28,8 @@ __all__ = ["equal", "not_equal", "assert_equal", "diff", "Diff", "Difference",
            "is_null", "compare", "sum", "min", "max", "min_max", "reduce_and", "reduce_or",
            "reduce_xor", "count_ones", "count_zeros", "leading_ones", "leading_zeros",
            "trailing_ones", "trailing_zeros",
+           "add", "subtract", "multiply", "floor_divide", "truncating_divide", "mod", "negative",
+           "absolute",
            "DunkelvaError", "TypesDiffer", "BadArray", "NotServed", "__version__"]
 __version__ = VERSION
 

@@ -21,19 +21,19 @@ __all__ = ["is_null", "compare", "sum", "min", "max", "min_max", "reduce_and", "
            "trailing_ones", "trailing_zeros"]
 
 
-class _Number(ctypes.Structure):
+class Number(ctypes.Structure):
     """A number of 128 bits, or none."""
 
     _fields_ = [("low", ctypes.c_uint64), ("high", ctypes.c_uint64), ("exists", ctypes.c_uint64)]
 
 
-_NUMBER = ctypes.POINTER(_Number)
+NUMBER = ctypes.POINTER(Number)
 _is_null = declare("dunkelva_is_null", *COLUMN, *BITS, ctypes.POINTER(ctypes.c_uint64))
 _compare = declare("dunkelva_compare", ctypes.c_int, *COLUMN, *COLUMN, *BITS)
-_compare_number = declare("dunkelva_compare_number", ctypes.c_int, *COLUMN, _NUMBER, *BITS)
-_sum = declare("dunkelva_sum", *COLUMN, _NUMBER)
-_min_max = declare("dunkelva_min_max", *COLUMN, _NUMBER, _NUMBER)
-_reduce_bits = declare("dunkelva_reduce_bits", ctypes.c_int, *COLUMN, _NUMBER)
+_compare_number = declare("dunkelva_compare_number", ctypes.c_int, *COLUMN, NUMBER, *BITS)
+_sum = declare("dunkelva_sum", *COLUMN, NUMBER)
+_min_max = declare("dunkelva_min_max", *COLUMN, NUMBER, NUMBER)
+_reduce_bits = declare("dunkelva_reduce_bits", ctypes.c_int, *COLUMN, NUMBER)
 _count_bits = declare("dunkelva_count_bits", ctypes.c_int, *COLUMN, ctypes.c_void_p,
                       ctypes.c_size_t)
 
@@ -46,11 +46,50 @@ else:
     Counts = np.ma.MaskedArray
 
 
-def _column(value: object) -> Column:
-    source = read(value, "column")
+def one_column(value: object, what: str) -> Column:
+    """Reads a column."""
+    source = read(value, what)
     if isinstance(source, Table):
-        raise NotServed("column: it is a table")
-    return typed(source, None, "column")
+        raise NotServed(f"{what}: it is a table")
+    return typed(source, None, what)
+
+
+def _column(value: object) -> Column:
+    return one_column(value, "column")
+
+
+def is_one_value(value: object) -> bool:
+    """Says whether an argument is one value for all rows, and no column."""
+    return not any(hasattr(value, name) for name in (
+        "__len__", "__arrow_c_array__", "__arrow_c_stream__", "__dataframe__"))
+
+
+def two_columns(left: object, right: object) -> Tuple[Column, Column]:
+    """Reads two columns of one type and one length."""
+    sides = read(left, "left"), read(right, "right")
+    if isinstance(sides[0], Table) or isinstance(sides[1], Table):
+        raise NotServed(f"{'left' if isinstance(sides[0], Table) else 'right'} is a table")
+    lefts, rights = pair(sides[0], sides[1])
+    if lefts.type != rights.type:
+        raise TypesDiffer(lefts.type.difference(rights.type) or "the sides differ in type")
+    if len(lefts) != len(rights):
+        raise TypesDiffer(f"left has {len(lefts)} rows, right has {len(rights)}")
+    return lefts, rights
+
+
+def number_of_value(column: Column, value: object, names: Tuple[str, str]) -> Number:
+    """Returns a value as a number of a column. `names` are those of the column and the value."""
+    try:
+        kept = build([value], column.type)
+    except Unfit as error:
+        raise TypesDiffer(f"{names[1]}: {error}") from None
+    numbers = numbers_of(kept)
+    if numbers is None or column.type.entries is not None or column.type.has_floats():
+        raise NotServed(f"{names[0]} is {column.type}, which is not served here")
+    if not present_rows(kept)[0]:
+        raise TypesDiffer(f"{names[1]}: a value for all rows is no null")
+    number = int(numbers[0])
+    return Number(number & 2 ** 64 - 1, number >> 64 & 2 ** 64 - 1, 1)
 
 
 def is_null(column: object) -> npt.NDArray[np.bool_]:
@@ -93,17 +132,9 @@ def compare(left: object, test: str, right: object) -> npt.NDArray[np.bool_]:
     if test not in _TESTS:
         raise ValueError(f"{test!r} is none of the tests {' '.join(_TESTS)}")
     number = _TESTS.index(test)
-    if not hasattr(right, "__len__") and not hasattr(right, "__arrow_c_array__") and not hasattr(
-            right, "__arrow_c_stream__") and not hasattr(right, "__dataframe__"):
+    if is_one_value(right):
         return _compare_value(_column(left), number, right)
-    sides = read(left, "left"), read(right, "right")
-    if isinstance(sides[0], Table) or isinstance(sides[1], Table):
-        raise NotServed(f"{'left' if isinstance(sides[0], Table) else 'right'} is a table")
-    lefts, rights = pair(sides[0], sides[1])
-    if lefts.type != rights.type:
-        raise TypesDiffer(lefts.type.difference(rights.type) or "the sides differ in type")
-    if len(lefts) != len(rights):
-        raise TypesDiffer(f"left has {len(lefts)} rows, right has {len(rights)}")
+    lefts, rights = two_columns(left, right)
     masks = []
     for one, first, other, second, rows in windows(lefts, rights):
         out, parts = bits_for(rows), (part_of(one, first, rows), part_of(other, second, rows))
@@ -117,17 +148,7 @@ def compare(left: object, test: str, right: object) -> npt.NDArray[np.bool_]:
 
 def _compare_value(column: Column, test: int, value: object) -> npt.NDArray[np.bool_]:
     """Compares each row with one value."""
-    try:
-        kept = build([value], column.type)
-    except Unfit as error:
-        raise TypesDiffer(f"right: {error}") from None
-    numbers = numbers_of(kept)
-    if numbers is None or column.type.entries is not None or column.type.has_floats():
-        raise NotServed(f"left is {column.type}, which is not served here")
-    if not present_rows(kept)[0]:
-        raise TypesDiffer("right: a value for all rows is no null")
-    number = int(numbers[0])
-    right = _Number(number & 2 ** 64 - 1, number >> 64 & 2 ** 64 - 1, 1)
+    right = number_of_value(column, value, ("left", "right"))
     masks = []
     for chunk in column.chunks:
         out = bits_for(len(chunk))
@@ -145,7 +166,7 @@ def _reduced(value: object, call: Any, join: Callable[[int, int], int],
     column = _column(value)
     found: Optional[int] = None
     for chunk in column.chunks:
-        number = _Number()
+        number = Number()
         status = call(*before, chunk.schema, chunk.array, ctypes.byref(number))
         if status:
             raise refusal(status, "column", column.type)
@@ -155,7 +176,7 @@ def _reduced(value: object, call: Any, join: Callable[[int, int], int],
     return column.type, found
 
 
-def _as_int(number: _Number, type: Type) -> int:
+def _as_int(number: Number, type: Type) -> int:
     is_unsigned = np.dtype(type.number() or "i8").kind == "u"
     low = int(number.low)
     return low if is_unsigned or low < 2 ** 63 else low - 2 ** 64
@@ -200,7 +221,7 @@ def min_max(column: object) -> Tuple[Any, Any]:
     lows: List[int] = []
     highs: List[int] = []
     for chunk in held.chunks:
-        least, greatest = _Number(), _Number()
+        least, greatest = Number(), Number()
         status = _min_max(chunk.schema, chunk.array, ctypes.byref(least), ctypes.byref(greatest))
         if status:
             raise refusal(status, "column", held.type)
