@@ -15,8 +15,10 @@ use Rattle.dunkelva_c.specs.Columns.{number_type, sum_at}
 use Rattle.dunkelva_c.specs.Comparisons.{test_number}
 use Rattle.dunkelva_c.specs.Nulls.{has_nulls, masked_bits}
 use Rattle.dunkelva_c.specs.Numbers.{number_words, words_number}
+use Rattle.dunkelva_c.specs.States.{count_in, state_status}
 use Rattle.dunkelva_c.specs.Statuses.{status_of}
 use Rattle.dunkelva_c.specs.declared.fault.Fault.TheVariants.{Room}
+use Rattle.dunkelva_c.specs.declared.states.StateFault.TheVariants.{Of, Outside}
 use Rattle.polars_arrays_flat.specs.Row.{Null, Int}
 
 -- the numbers of operations in C
@@ -77,3 +79,13 @@ number_words-none = refl
 
 words_number-below_zero : words_number (2 ^ 64 - 2) (2 ^ 64 - 1) ≡ negsuc 1
 words_number-below_zero = refl
+
+-- statuses of calls on states, and the three numbers from -1 to 1
+state_status-outside : state_status Outside ≡ pos 8
+state_status-outside = refl
+
+state_status-room : state_status (Of Room) ≡ pos 3
+state_status-room = refl
+
+count_in-three : count_in (record { low = 2 ^ 64 - 1; high = 2 ^ 64 - 1; exists = 1 }) (record { low = 1; high = 0; exists = 1 }) ≡ 3
+count_in-three = refl

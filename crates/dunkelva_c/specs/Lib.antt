@@ -7,4 +7,5 @@ pub mod Extremes
 pub mod Nulls
 pub mod NumberComparisons
 pub mod Numbers
+pub mod States
 pub mod Statuses

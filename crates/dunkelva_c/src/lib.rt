@@ -18,4 +18,5 @@ mod number_arithmetic;
 mod number_comparisons;
 mod results;
 mod signs;
+mod states;
 mod trees;
