@@ -75,8 +75,11 @@ enum dunkelva_status {
   DUNKELVA_NOT_SERVED = 5,
   /* The structs break the interface: counts, null pointers, structs that were released. */
   DUNKELVA_BAD_STRUCTS = 6,
-  /* A flag that does not exist, rows outside of a column, a null pointer in place of `out`. */
-  DUNKELVA_BAD_ARGUMENT = 7
+  /* A flag that does not exist, rows outside of a column, a null pointer in place of `out`, a range
+   * whose ends are not in order. */
+  DUNKELVA_BAD_ARGUMENT = 7,
+  /* A row lies outside of the range of a state. */
+  DUNKELVA_OUT_OF_RANGE = 8
 };
 
 /* Serves floats too, and compares their bits: a NaN is equal to a NaN of the same bits, and -0 is
@@ -230,6 +233,48 @@ enum dunkelva_sign_function { DUNKELVA_NEGATE = 0, DUNKELVA_ABSOLUTE = 1 };
 int32_t dunkelva_sign(enum dunkelva_sign_function sign, const struct ArrowSchema *type,
                       const struct ArrowArray *array, void *values, size_t values_len,
                       uint8_t *present, size_t present_bytes, uint64_t *nulls);
+
+/* A state of the distinct values of columns, all of whose rows are null or numbers of one range. It
+ * lies in the caller's memory and has no pointers but `bits`: it can be copied, stored and sent,
+ * and merged with others elsewhere. It says nothing of how often a value came, or where. */
+struct dunkelva_unique {
+  struct dunkelva_number least; /* the ends of the range; both exist */
+  struct dunkelva_number greatest;
+  uint64_t *bits;    /* bit i % 64 of bits[i / 64] is 1 where the number least + i was seen */
+  size_t words;      /* numbers in `bits` */
+  uint64_t has_null; /* not 0 where a null was seen */
+};
+
+/* Returns how many words of 64 bits a state of a range takes, or 0 where there is no such state:
+ * the ends are not in order, or there are 2^64 - 1 numbers or more. */
+size_t dunkelva_unique_words(const struct dunkelva_number *least,
+                             const struct dunkelva_number *greatest);
+
+/* Makes a state that has seen nothing. `bits` is memory of the caller, in which the state lies from
+ * then on. */
+int32_t dunkelva_unique_init(struct dunkelva_unique *state, const struct dunkelva_number *least,
+                             const struct dunkelva_number *greatest, uint64_t *bits, size_t words);
+
+/* Adds the rows of a column of whole numbers to a state. The status is DUNKELVA_OUT_OF_RANGE where
+ * a row is a number outside of the range, and DUNKELVA_TYPES_DIFFER where the column's type lacks
+ * one of the ends; the state is then as it was. */
+int32_t dunkelva_unique_append(struct dunkelva_unique *state, const struct ArrowSchema *type,
+                               const struct ArrowArray *array);
+
+/* Adds to a state what another one has seen. They need one range, or else the status is
+ * DUNKELVA_TYPES_DIFFER. */
+int32_t dunkelva_unique_merge(struct dunkelva_unique *state, const struct dunkelva_unique *other);
+
+/* Counts the values that a state has seen, and the rows, which are one more where a null was seen.
+ */
+int32_t dunkelva_unique_count(const struct dunkelva_unique *state, uint64_t *values,
+                              uint64_t *rows);
+
+/* Writes the values that a state has seen, ascending, and whether a null was: 1 or 0. A value of a
+ * signed type is (int64_t)values[i]. `values` takes as many numbers as were seen, and what lies
+ * behind the last one stays as it is. */
+int32_t dunkelva_unique_finish(const struct dunkelva_unique *state, uint64_t *values,
+                               size_t values_len, uint64_t *has_null);
 
 /* Returns what a status means, in English. */
 const char *dunkelva_status_text(int32_t status);

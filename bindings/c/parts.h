@@ -103,4 +103,21 @@ int32_t dunkelva_part_arithmetic_number(uint32_t operation, uint32_t side, uint6
                                         uint64_t high, const struct part *part, ROOM_FOR_NUMBERS);
 int32_t dunkelva_part_sign(uint32_t sign, const struct part *part, ROOM_FOR_NUMBERS);
 
+/* These take a state of distinct values: the ends of its range, its bits, and whether a null was
+ * seen. Status 7 is a range that is none, and status 8 a row outside of it. */
+int32_t dunkelva_state_append(const struct part *part, const struct dunkelva_number *least,
+                              const struct dunkelva_number *greatest, uint64_t *words,
+                              size_t words_len, uint64_t *has_null);
+int32_t dunkelva_state_merge(const struct dunkelva_number *least,
+                             const struct dunkelva_number *greatest, uint64_t *words,
+                             size_t words_len, uint64_t *has_null, const uint64_t *others,
+                             size_t others_len, uint64_t others_null);
+int32_t dunkelva_state_count(const struct dunkelva_number *least,
+                             const struct dunkelva_number *greatest, const uint64_t *words,
+                             size_t words_len, uint64_t has_null, uint64_t *values, uint64_t *rows);
+int32_t dunkelva_state_list(const struct dunkelva_number *least,
+                            const struct dunkelva_number *greatest, const uint64_t *words,
+                            size_t words_len, uint64_t has_null, uint64_t *values,
+                            size_t values_len, uint64_t *any_null);
+
 #endif

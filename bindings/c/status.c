@@ -23,7 +23,9 @@ const char *dunkelva_status_text(int32_t status) {
   case DUNKELVA_BAD_STRUCTS:
     return "the structs break the Arrow C data interface";
   case DUNKELVA_BAD_ARGUMENT:
-    return "an argument is wrong: a flag, the rows, or a null pointer";
+    return "an argument is wrong: a flag, the rows, a range, or a null pointer";
+  case DUNKELVA_OUT_OF_RANGE:
+    return "a row lies outside of the range";
   default:
     return "an unknown status";
   }

@@ -156,6 +156,23 @@ static int32_t call_arithmetic(const struct made *made, uint8_t out[ROOM]) {
   return status;
 }
 
+static int32_t call_append(const struct made *made, uint8_t out[ROOM]) {
+  const struct dunkelva_number least = {0, 0, 1};
+  const struct dunkelva_number greatest = {63, 0, 1};
+  uint64_t bits;
+  struct dunkelva_unique state;
+  int32_t status = dunkelva_unique_init(&state, &least, &greatest, &bits, 1);
+  if (status == DUNKELVA_OK) {
+    status = dunkelva_unique_append(&state, &made->type, &made->array);
+  }
+  if (status == DUNKELVA_OK) {
+    memcpy(out, &bits, sizeof bits);
+  } else if (bits != 0 || state.has_null != 0) {
+    out[0] = 0;
+  }
+  return status;
+}
+
 /* Calls while some requests fail. */
 static int32_t run(call *called, const struct made *made, long first, long last,
                    uint8_t out[ROOM]) {
@@ -212,6 +229,7 @@ int main(void) {
     try_call("min_max", call_min_max, flat);
     try_call("bits", call_bits, flat);
     try_call("arithmetic", call_arithmetic, flat);
+    try_call("unique_append", call_append, flat);
   }
   printf("%d passed, %d failed\n", passed, failed);
   return failed > 0;

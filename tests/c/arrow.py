@@ -22,6 +22,7 @@ UNSIGNED = "CSILefg"
 STRINGS = {"z": 4, "u": 4, "Z": 8, "U": 8}
 
 OK, BAD_ARRAY, TYPES_DIFFER, NO_ROOM, NO_MEMORY, NOT_SERVED, BAD_STRUCTS, BAD_ARGUMENT = range(8)
+OUT_OF_RANGE = 8
 FLOATS_BY_BITS, CHECK_TEXTS = 1, 2
 
 
@@ -66,6 +67,13 @@ class Number(ctypes.Structure):
         return (whole - (whole >> 127 << 128)) if self.exists else None
 
 
+class State(ctypes.Structure):
+    """A state of distinct values."""
+
+    _fields_ = [("least", Number), ("greatest", Number), ("bits", ctypes.POINTER(ctypes.c_uint64)),
+                ("words", ctypes.c_size_t), ("has_null", ctypes.c_uint64)]
+
+
 _release = ctypes.CFUNCTYPE(None, ctypes.c_void_p)(lambda _: None)
 RELEASE = ctypes.cast(_release, ctypes.c_void_p).value
 
@@ -92,6 +100,14 @@ def load(path):
     library.dunkelva_arithmetic_number.argtypes = [ctypes.c_uint32, ctypes.c_uint32, number,
                                                    *column, *results]
     library.dunkelva_sign.argtypes = [ctypes.c_uint32, *column, *results]
+    state, whole = ctypes.POINTER(State), ctypes.POINTER(ctypes.c_uint64)
+    library.dunkelva_unique_words.argtypes = [number, number]
+    library.dunkelva_unique_words.restype = ctypes.c_size_t
+    library.dunkelva_unique_init.argtypes = [state, number, number, whole, ctypes.c_size_t]
+    library.dunkelva_unique_append.argtypes = [state, *column]
+    library.dunkelva_unique_merge.argtypes = [state, state]
+    library.dunkelva_unique_count.argtypes = [state, whole, whole]
+    library.dunkelva_unique_finish.argtypes = [state, whole, ctypes.c_size_t, whole]
     library.dunkelva_status_text.restype = library.dunkelva_version.restype = ctypes.c_char_p
     return library
 

@@ -451,6 +451,26 @@ static void try_arithmetic(struct side left, struct side right) {
   require(status >= 0 && status <= 7, "a status that is known");
 }
 
+/* Tries a state of distinct values. */
+static void try_state(struct side side) {
+  struct dunkelva_number least = {below(100), 0, 1};
+  struct dunkelva_number greatest = {least.low + below(200), 0, 1};
+  uint64_t bits[6] = {0};
+  uint64_t before[6] = {0};
+  uint64_t values[300];
+  uint64_t null = 7;
+  struct dunkelva_unique state;
+  int32_t status = dunkelva_unique_init(&state, &least, &greatest, bits, 5);
+  require(status == DUNKELVA_OK, "a state is made");
+  bits[5] = before[5] = 7;
+  bool done = dunkelva_unique_append(&state, side.type, side.array) == DUNKELVA_OK;
+  require(bits[5] == 7, "nothing is written behind a state");
+  require(done || (memcmp(bits, before, sizeof bits) == 0 && state.has_null == 0),
+          "nothing is written to a state");
+  status = dunkelva_unique_finish(&state, values, 300, &null);
+  require(status == DUNKELVA_OK && null == state.has_null, "a state has values");
+}
+
 /* Tries a pair of columns in several ways. */
 static void try_pair(struct side left, struct side right, uint32_t flags) {
   static uint8_t bits[ROOM];
@@ -509,6 +529,7 @@ int LLVMFuzzerTestOneInput(const uint8_t *data, size_t size) {
   try_pair(left, right, flags);
   try_flat(left, right);
   try_arithmetic(left, right);
+  try_state(left);
   while (block_count > 0) {
     free(blocks[--block_count]);
   }

@@ -920,4 +920,114 @@ int32_t dunkelva_part_sign(uint32_t sign, const struct part *part, ROOM_FOR_NUMB
   return DONE;
 }
 
+/* Numbers of 128 bits in two's complement. */
+__extension__ typedef __int128 whole;
+
+static whole whole_of(const struct dunkelva_number *number) {
+  return (whole)(((unsigned __int128)number->high << 64) | number->low);
+}
+
+/* Finds how many numbers a range has. */
+static int32_t check_state(const struct dunkelva_number *least,
+                           const struct dunkelva_number *greatest, size_t words, uint64_t *count) {
+  if (whole_of(greatest) < whole_of(least)) {
+    return 7;
+  }
+  unsigned __int128 distance =
+      (unsigned __int128)whole_of(greatest) - (unsigned __int128)whole_of(least);
+  if (distance > UINT64_MAX - 2) {
+    return 7;
+  }
+  *count = (uint64_t)distance + 1;
+  return words < (*count - 1) / 64 + 1 ? NO_ROOM : DONE;
+}
+
+int32_t dunkelva_state_append(const struct part *part, const struct dunkelva_number *least,
+                              const struct dunkelva_number *greatest, uint64_t *words,
+                              size_t words_len, uint64_t *has_null) {
+  uint64_t count = 0;
+  int32_t status = check_state(least, greatest, words_len, &count);
+  if (status == DONE) {
+    status = check_numbers(part);
+  }
+  if (status == DONE && !(has_number(part, least->low, least->high) &&
+                          has_number(part, greatest->low, greatest->high))) {
+    status = OTHER_TYPES;
+  }
+  for (int turn = 0; status == DONE && turn < 2; turn++) {
+    for (size_t row = 0; row < part->rows; row++) {
+      struct dunkelva_number number = number_of(part, number_at(part, row));
+      whole place = whole_of(&number) - whole_of(least);
+      if (!is_present(part, row)) {
+        *has_null |= (uint64_t)turn;
+      } else if (place < 0 || place >= (whole)count) {
+        return 8;
+      } else {
+        words[place / 64] |= (uint64_t)turn << (place % 64);
+      }
+    }
+  }
+  return status;
+}
+
+static bool is_seen(const uint64_t *words, uint64_t place) {
+  return (words[place / 64] >> (place % 64) & 1) != 0;
+}
+
+int32_t dunkelva_state_merge(const struct dunkelva_number *least,
+                             const struct dunkelva_number *greatest, uint64_t *words,
+                             size_t words_len, uint64_t *has_null, const uint64_t *others,
+                             size_t others_len, uint64_t others_null) {
+  uint64_t count = 0;
+  int32_t status =
+      check_state(least, greatest, words_len < others_len ? words_len : others_len, &count);
+  for (uint64_t place = 0; status == DONE && place < count; place++) {
+    words[place / 64] |= (uint64_t)is_seen(others, place) << (place % 64);
+  }
+  if (status == DONE && others_null != 0) {
+    *has_null = 1;
+  }
+  return status;
+}
+
+int32_t dunkelva_state_count(const struct dunkelva_number *least,
+                             const struct dunkelva_number *greatest, const uint64_t *words,
+                             size_t words_len, uint64_t has_null, uint64_t *values,
+                             uint64_t *rows) {
+  uint64_t count = 0;
+  uint64_t seen = 0;
+  int32_t status = check_state(least, greatest, words_len, &count);
+  for (uint64_t place = 0; place < count; place++) {
+    seen += status == DONE && is_seen(words, place);
+  }
+  if (status == DONE) {
+    *values = seen;
+    *rows = seen + (has_null != 0);
+  }
+  return status;
+}
+
+int32_t dunkelva_state_list(const struct dunkelva_number *least,
+                            const struct dunkelva_number *greatest, const uint64_t *words,
+                            size_t words_len, uint64_t has_null, uint64_t *values,
+                            size_t values_len, uint64_t *any_null) {
+  uint64_t count = 0;
+  uint64_t seen = 0;
+  uint64_t rows = 0;
+  int32_t status = dunkelva_state_count(least, greatest, words, words_len, has_null, &seen, &rows);
+  if (status == DONE && values_len < seen) {
+    return NO_ROOM;
+  }
+  if (status != DONE || check_state(least, greatest, words_len, &count) != DONE) {
+    return status;
+  }
+  for (uint64_t place = 0; place < count; place++) {
+    if (is_seen(words, place)) {
+      *values++ = least->low + place;
+    }
+  }
+  *any_null = rows - seen;
+  return DONE;
+}
+
 #endif

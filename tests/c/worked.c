@@ -703,12 +703,81 @@ static void try_room_for_arithmetic(void) {
         "more room than rows");
 }
 
+static struct dunkelva_number number_of(int64_t value) {
+  struct dunkelva_number number = {(uint64_t)value, value < 0 ? UINT64_MAX : 0, 1};
+  return number;
+}
+
+/* States of -2 to 66: 69 numbers, which take two words. */
+static void try_states(void) {
+  const struct dunkelva_number least = number_of(-2);
+  const struct dunkelva_number greatest = number_of(66);
+  uint64_t bits[3] = {7, 7, 7};
+  uint64_t values[4] = {9, 9, 9, 9};
+  uint64_t null = 7;
+  struct dunkelva_unique state;
+  count(dunkelva_unique_words(&least, &greatest) == 2 &&
+            dunkelva_unique_words(&greatest, &least) == 0 &&
+            dunkelva_unique_words(&least, &least) == 1,
+        "words of a state");
+  count(dunkelva_unique_init(&state, &greatest, &least, bits, 3) == DUNKELVA_BAD_ARGUMENT &&
+            dunkelva_unique_init(&state, &least, &greatest, bits, 1) == DUNKELVA_NO_ROOM &&
+            bits[0] == 7,
+        "no state");
+  count(dunkelva_unique_init(&state, &least, &greatest, bits, 3) == DUNKELVA_OK && bits[0] == 0 &&
+            bits[1] == 0 && bits[2] == 7,
+        "a state that has seen nothing");
+  const int8_t rows[] = {5, 99, -2, 66, 5, 67}; /* 99 is under a null */
+  struct made *made = make("c", 5, 2, BITS(0x3D), rows, NULL);
+  count(dunkelva_unique_append(&state, &made->type, &made->array) == DUNKELVA_OK &&
+            bits[0] == ((uint64_t)1 << 7 | 1) && bits[1] == 1 << 4 && bits[2] == 7 &&
+            state.has_null == 1,
+        "rows that are appended");
+  made->array.length = 6;
+  count(dunkelva_unique_append(&state, &made->type, &made->array) == DUNKELVA_OUT_OF_RANGE &&
+            bits[0] == ((uint64_t)1 << 7 | 1) && bits[1] == 1 << 4,
+        "a row outside of the range");
+  struct made *unsigned_rows = make("C", 5, 2, NULL, rows, NULL);
+  count(dunkelva_unique_append(&state, &unsigned_rows->type, &unsigned_rows->array) ==
+            DUNKELVA_TYPES_DIFFER,
+        "a type that lacks an end");
+  struct made *texts = make("u", 0, 3, NULL, NULL, NULL);
+  count(dunkelva_unique_append(&state, &texts->type, &texts->array) == DUNKELVA_NOT_SERVED,
+        "a state of texts");
+  uint64_t others[2] = {4, UINT64_MAX << 5}; /* 0, and bits behind the range */
+  struct dunkelva_unique other = {least, greatest, others, 2, 0};
+  count(dunkelva_unique_merge(&other, &state) == DUNKELVA_OK &&
+            others[0] == ((uint64_t)1 << 7 | 5) && others[1] == UINT64_MAX << 4 &&
+            other.has_null == 1,
+        "states that are merged");
+  uint64_t seen = 0;
+  uint64_t all = 0;
+  count(dunkelva_unique_count(&other, &seen, &all) == DUNKELVA_OK && seen == 4 && all == 5,
+        "counts of a state");
+  count(dunkelva_unique_finish(&other, values, 3, &null) == DUNKELVA_NO_ROOM && values[0] == 9 &&
+            null == 7,
+        "values without room");
+  count(dunkelva_unique_finish(&state, values, 4, &null) == DUNKELVA_OK &&
+            (int64_t)values[0] == -2 && values[1] == 5 && values[2] == 66 && values[3] == 9 &&
+            null == 1,
+        "values, ascending");
+  other.greatest = number_of(67);
+  count(dunkelva_unique_merge(&other, &state) == DUNKELVA_TYPES_DIFFER, "states of two ranges");
+  other.words = 1;
+  count(dunkelva_unique_count(&other, &seen, &all) == DUNKELVA_NO_ROOM && seen == 4,
+        "a state without room");
+  count(dunkelva_unique_append(NULL, &made->type, &made->array) == DUNKELVA_BAD_ARGUMENT &&
+            dunkelva_unique_merge(&state, NULL) == DUNKELVA_BAD_ARGUMENT,
+        "null pointers for states");
+}
+
 int main(void) {
   try_numbers();
   try_arithmetic();
   try_arithmetic_with_nulls();
   try_arithmetic_with_numbers();
   try_room_for_arithmetic();
+  try_states();
   try_sums();
   try_comparisons();
   try_nulls();

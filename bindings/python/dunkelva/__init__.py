@@ -17,12 +17,13 @@ from ._arithmetic import (absolute, add, floor_divide, mod, multiply, negative, 
                           truncating_divide)
 from ._diff import Diff, Difference, assert_equal, diff
 from ._library import (CHECK_TEXTS, FLOATS_BY_BITS, VERSION, BadArray, DunkelvaError, NotServed,
-                       TypesDiffer)
+                       OutOfRange, TypesDiffer)
 from ._library import compare as _compare
 from ._numbers import (compare, count_ones, count_zeros, is_null, leading_ones, leading_zeros, max,
                        min, min_max, reduce_and, reduce_or, reduce_xor, sum, trailing_ones,
                        trailing_zeros)
 from ._sources import Table, pair, read, whole
+from ._unique import Unique, n_unique, unique
 
 __all__ = ["equal", "not_equal", "assert_equal", "diff", "Diff", "Difference",
            "is_null", "compare", "sum", "min", "max", "min_max", "reduce_and", "reduce_or",
@@ -30,7 +31,8 @@ __all__ = ["equal", "not_equal", "assert_equal", "diff", "Diff", "Difference",
            "trailing_ones", "trailing_zeros",
            "add", "subtract", "multiply", "floor_divide", "truncating_divide", "mod", "negative",
            "absolute",
-           "DunkelvaError", "TypesDiffer", "BadArray", "NotServed", "__version__"]
+           "unique", "n_unique", "Unique",
+           "DunkelvaError", "TypesDiffer", "BadArray", "NotServed", "OutOfRange", "__version__"]
 __version__ = VERSION
 
 

@@ -15,6 +15,7 @@ FLOATS_BY_BITS = 1
 CHECK_TEXTS = 2
 
 _BAD_ARRAY, _TYPES_DIFFER, _, _NO_MEMORY, _NOT_SERVED, _BAD_STRUCTS, _BAD_ARGUMENT = range(1, 8)
+_OUT_OF_RANGE = 8
 
 
 class DunkelvaError(ValueError):
@@ -33,7 +34,11 @@ class NotServed(DunkelvaError, TypeError):
     """A type that can't be compared."""
 
 
-for _error in (DunkelvaError, TypesDiffer, BadArray, NotServed):
+class OutOfRange(DunkelvaError):
+    """A row that lies outside of the range of a state of distinct values."""
+
+
+for _error in (DunkelvaError, TypesDiffer, BadArray, NotServed, OutOfRange):
     _error.__module__ = "dunkelva"
 
 
@@ -84,6 +89,10 @@ def refusal(status: int, what: str, type: Type) -> Exception:
         return MemoryError("dunkelva: an allocation failed")
     if status == _NOT_SERVED:
         return NotServed(f"{what} is {type}, which is not served here")
+    if status == _OUT_OF_RANGE:
+        return OutOfRange(f"{what}, {type}: {_said(status)}")
+    if status == _TYPES_DIFFER:
+        return TypesDiffer(f"{what}, {type}: {_said(status)}")
     if status in (_BAD_ARRAY, _BAD_STRUCTS, _BAD_ARGUMENT):
         return BadArray(f"{what}, {type}: {_said(status)}")
     return DunkelvaError(f"{what}, {type}: {_said(status)}")

@@ -218,6 +218,14 @@ def min_max(column: object) -> Tuple[Any, Any]:
     numpy.datetime64('2024-01-01T00:00:00')
     """
     held = _column(column)
+    least, greatest = extremes(held)
+    if least is None or greatest is None:
+        return None, None
+    return named(least, held.type.format), named(greatest, held.type.format)
+
+
+def extremes(held: Column) -> Tuple[Optional[int], Optional[int]]:
+    """Returns the least and the greatest number of a column that is no null, or None twice."""
     lows: List[int] = []
     highs: List[int] = []
     for chunk in held.chunks:
@@ -230,8 +238,7 @@ def min_max(column: object) -> Tuple[Any, Any]:
             highs.append(_as_int(greatest, held.type))
     if not lows:
         return None, None
-    form = held.type.format
-    return named(builtins.min(lows), form), named(builtins.max(highs), form)
+    return builtins.min(lows), builtins.max(highs)
 
 
 def min(column: object) -> Any:

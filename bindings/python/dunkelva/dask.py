@@ -2,6 +2,7 @@
 from __future__ import annotations
 
 import dataclasses
+import pickle
 from typing import Any, Iterable, List, Optional, Sequence, Tuple, Union
 
 import numpy as np
@@ -12,8 +13,9 @@ from dask.delayed import delayed
 from . import equal as _equal
 from ._diff import Diff, diff as _diff
 from ._library import NotServed, TypesDiffer
+from ._unique import Unique
 
-__all__ = ["equal", "diff"]
+__all__ = ["equal", "diff", "unique"]
 
 # The place of a row in the whole table, which decides the order of rows of one key.
 _PART, _ROW = "dunkelva: part", "dunkelva: row"
@@ -147,3 +149,38 @@ def _merged(found: Sequence[Tuple[Diff, Any, Any]], left_starts: List[int],
         one.left_row is None, one.right_row if one.left_row is None else one.left_row))
     del total.differences[len(total.differences) if limit is None else limit:]
     return total
+
+
+def unique(series: Any, low: object, high: object) -> Unique:
+    """Returns a state of the distinct values of a Series of Dask, which lie from `low` to `high`.
+
+    Each partition makes a state where it is, and states are merged by two until one is left.
+
+    Raises OutOfRange where a row lies outside of the range.
+
+    >>> import dask.dataframe as dd, pandas as pd
+    >>> ages = dd.from_pandas(pd.Series([30, 41, 30, 7], dtype="Int64"), npartitions=2)
+    >>> unique(ages, 0, 150).values.tolist()
+    [7, 30, 41]
+    """
+    kind = series.dtype
+    states = [delayed(_state_of)(part, low, high, kind) for part in series.to_delayed()]
+    while len(states) > 1:
+        states = [delayed(_joined)(states[at:at + 2]) for at in range(0, len(states), 2)]
+    found: Unique = states[0].compute()
+    return found
+
+
+def _state_of(part: Any, low: object, high: object, kind: object) -> Unique:
+    state = Unique(low, high, kind)
+    state.append(part)
+    return state
+
+
+def _joined(states: Sequence[Unique]) -> Unique:
+    """Merges states into a new one: those of Dask are not written to."""
+    made = pickle.loads(pickle.dumps(states[0]))
+    for state in states[1:]:
+        made.merge(state)
+    joined: Unique = made
+    return joined

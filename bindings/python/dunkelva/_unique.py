@@ -1,0 +1,264 @@
+"""Distinct values of columns that are kept as whole numbers."""
+from __future__ import annotations
+
+import builtins
+import ctypes
+import sys
+from typing import TYPE_CHECKING, Any, List, Tuple
+
+import numpy as np
+import numpy.typing as npt
+
+from ._library import COLUMN, LIBRARY, NotServed, TypesDiffer, declare, refusal
+from ._numbers import NUMBER, Number, _column, extremes
+from ._rows import Unfit, build
+from ._sources import Table, read, typed
+from ._structs import Column
+from ._types import NUMBERS, Type
+from ._values import named, numbers_of, present_rows
+
+__all__ = ["Unique", "unique", "n_unique"]
+
+# The most bytes that `unique` takes for a state.
+MOST_BYTES = 1 << 30
+
+
+class _State(ctypes.Structure):
+    """A state as the library sees it: its range, where its bits lie, whether a null was seen."""
+
+    _fields_ = [("least", Number), ("greatest", Number), ("bits", ctypes.c_void_p),
+                ("words", ctypes.c_size_t), ("has_null", ctypes.c_uint64)]
+
+
+_STATE, _WHOLE = ctypes.POINTER(_State), ctypes.POINTER(ctypes.c_uint64)
+_init = declare("dunkelva_unique_init", _STATE, NUMBER, NUMBER, ctypes.c_void_p, ctypes.c_size_t)
+_append = declare("dunkelva_unique_append", _STATE, *COLUMN)
+_merge = declare("dunkelva_unique_merge", _STATE, _STATE)
+_count = declare("dunkelva_unique_count", _STATE, _WHOLE, _WHOLE)
+_finish = declare("dunkelva_unique_finish", _STATE, ctypes.c_void_p, ctypes.c_size_t, _WHOLE)
+_words = LIBRARY.dunkelva_unique_words
+_words.restype, _words.argtypes = ctypes.c_size_t, (NUMBER, NUMBER)
+
+if TYPE_CHECKING:
+    Masked = np.ma.MaskedArray[Any, np.dtype[Any]]
+else:
+    Masked = np.ma.MaskedArray
+
+
+def _type_of(dtype: object) -> Type:
+    """Returns the type of rows of a dtype of numpy or pandas."""
+    pandas = sys.modules.get("pandas")
+    if pandas is not None and isinstance(dtype, pandas.api.extensions.ExtensionDtype):
+        rows = read(pandas.Series([], dtype=dtype), "dtype")
+    else:
+        rows = read(np.zeros(0, np.dtype(dtype)), "dtype")  # type: ignore[call-overload]
+    if isinstance(rows, Table):
+        raise NotServed("dtype: it is one of tables")
+    return typed(rows, None, "dtype").type
+
+
+def _ends(low: object, high: object, kind: Type) -> Tuple[int, int]:
+    """Returns the ends of a range as the numbers that keep them."""
+    ends = [end.item() if isinstance(end, np.generic) else end for end in (low, high)]
+    try:
+        kept = build(ends, kind)
+    except Unfit as error:
+        raise TypesDiffer(f"range: {error}") from None
+    numbers = numbers_of(kept)
+    if numbers is None or kind.entries is not None or kind.has_floats():
+        raise NotServed(f"range: {kind} is not served here")
+    if not present_rows(kept).all():
+        raise TypesDiffer("range: an end is no null")
+    return int(numbers[0]), int(numbers[1])
+
+
+def _number(value: int) -> Number:
+    return Number(value & 2 ** 64 - 1, value >> 64 & 2 ** 64 - 1, 1)
+
+
+class Unique:
+    """A state of the distinct values of columns whose rows are null or lie from `low` to `high`.
+
+    It takes a bit for each number of the range. States of one range are merged in any order, so
+    parts of a column can be read in other threads, processes or machines: a state can be pickled.
+
+    >>> state = Unique(0, 9)
+    >>> state.append([3, None, 1, 3])
+    >>> state.values.tolist(), state.has_null, len(state)
+    ([1, 3], True, 2)
+    >>> other = Unique(0, 9)
+    >>> other.append(np.array([7]))
+    >>> state.merge(other)
+    >>> state.finish().tolist()
+    [1, 3, 7, None]
+    >>> state.append([10])
+    Traceback (most recent call last):
+        ...
+    dunkelva.OutOfRange: column, int64: a row lies outside of the range
+    """
+
+    def __init__(self, low: object, high: object, dtype: object = np.int64) -> None:
+        """Makes a state that has seen nothing, of columns of a type."""
+        kind = _type_of(dtype)
+        self._make(kind, _ends(low, high, kind))
+
+    def _make(self, kind: Type, ends: Tuple[int, int]) -> None:
+        self._type, self._ends = kind, ends
+        least, greatest = _number(ends[0]), _number(ends[1])
+        words = int(_words(least, greatest))
+        if words == 0:
+            raise ValueError(f"there is no range from {self.low!r} to {self.high!r}")
+        self._bits: npt.NDArray[np.uint64] = np.zeros(words, np.uint64)
+        self._state = _State()
+        self._check(_init(self._state, least, greatest, self._bits.ctypes.data, words), "range")
+
+    @property
+    def low(self) -> object:
+        """The least value of the range."""
+        return named(self._ends[0], self._type.format)
+
+    @property
+    def high(self) -> object:
+        """The greatest value of the range."""
+        return named(self._ends[1], self._type.format)
+
+    def _check(self, status: int, what: str) -> None:
+        if status:
+            raise refusal(status, what, self._type)
+
+    def append(self, column: object) -> None:
+        """Adds the rows of a column of the type of the state.
+
+        Raises OutOfRange where a row lies outside of the range, and TypesDiffer where the column
+        has another type. The state is then as it was.
+        """
+        source = read(column, "column")
+        if isinstance(source, Table):
+            raise NotServed("column: it is a table")
+        self._append(typed(source, self._type, "column"))
+
+    def _append(self, column: Column) -> None:
+        if column.type != self._type:
+            raise TypesDiffer(f"column: it is {column.type}, and the state of {self._type}")
+        to = self if len(column.chunks) == 1 else self._copy()
+        for chunk in column.chunks:
+            self._check(_append(to._state, chunk.schema, chunk.array), "column")
+        if to is not self:
+            self.merge(to)
+
+    def _copy(self) -> "Unique":
+        made: Unique = Unique.__new__(type(self))
+        made.__setstate__(self.__getstate__())
+        return made
+
+    def merge(self, other: "Unique") -> None:
+        """Adds what another state of the same range and type has seen.
+
+        Raises TypesDiffer where the two have another range or type.
+        """
+        if self._type != other._type:
+            raise TypesDiffer(f"a state of {other._type}, merged into one of {self._type}")
+        status = _merge(self._state, other._state)
+        if status:
+            raise refusal(status, "states", self._type)
+
+    def __len__(self) -> int:
+        """Returns how many values were seen, null not counted."""
+        values, rows = ctypes.c_uint64(), ctypes.c_uint64()
+        self._check(_count(self._state, ctypes.byref(values), ctypes.byref(rows)), "state")
+        return int(values.value)
+
+    @property
+    def has_null(self) -> bool:
+        """Whether a null was seen."""
+        return bool(self._state.has_null)
+
+    @property
+    def values(self) -> npt.NDArray[Any]:
+        """The values that were seen, ascending, as an array of the state's type."""
+        found: npt.NDArray[np.uint64] = np.zeros(len(self), np.uint64)
+        null = ctypes.c_uint64()
+        self._check(_finish(self._state, found.ctypes.data, found.size, ctypes.byref(null)),
+                    "state")
+        return _as_rows(found, self._type)
+
+    def finish(self) -> Masked:
+        """Returns the values as a masked array, with a null last if one was seen."""
+        return _with_null(self.values, self.has_null)
+
+    def __getstate__(self) -> Tuple[Type, Tuple[int, int], bytes, bool]:
+        return self._type, self._ends, self._bits.tobytes(), self.has_null
+
+    def __setstate__(self, kept: Tuple[Type, Tuple[int, int], bytes, bool]) -> None:
+        kind, ends, bits, null = kept
+        self._make(kind, ends)
+        self._bits[:] = np.frombuffer(bits, np.uint64)
+        self._state.has_null = int(null)
+
+    def __repr__(self) -> str:
+        null = " and null" if self.has_null else ""
+        return f"<Unique of {self._type} from {self.low!r} to {self.high!r}: {len(self)}{null}>"
+
+
+def _as_rows(numbers: npt.NDArray[np.uint64], kind: Type) -> npt.NDArray[Any]:
+    """Returns numbers of 64 bits as rows of a type."""
+    kept = numbers.view(np.int64).astype(np.dtype(kind.number() or "i8"), copy=False)
+    if kind.format in NUMBERS:
+        return kept
+    if kind.format == "tdD" or kind.format[:2] in ("ts", "tD"):
+        unit = {"s": "s", "m": "ms", "u": "us", "n": "ns"}.get(kind.format[2], "D")
+        return kept.astype(np.int64).view(f"{'m' if kind.format[:2] == 'tD' else 'M'}8[{unit}]")
+    rows = np.empty(kept.size, object)
+    rows[:] = [named(number, kind.format) for number in kept.tolist()]
+    return rows
+
+
+def _with_null(values: npt.NDArray[Any], null: bool) -> Masked:
+    masked: Any = np.ma.MaskedArray
+    rows = np.concatenate([values, np.zeros(int(null), values.dtype)])
+    array: Masked = masked(rows, mask=[False] * values.size + [True] * int(null))
+    return array
+
+
+def _state_of(column: object) -> Tuple[Type, List[Unique], bool]:
+    """Collects a column, and returns its type, no state or one, and whether a row is null."""
+    held = _column(column)
+    least, greatest = extremes(held)
+    if least is None or greatest is None:
+        return held.type, [], len(held) > 0
+    if (greatest - least) // 8 > MOST_BYTES:
+        raise NotServed(f"column: from {named(least, held.type.format)} to "
+                        f"{named(greatest, held.type.format)} there are more numbers than a state "
+                        f"of {MOST_BYTES} bytes has bits")
+    state: Unique = Unique.__new__(Unique)
+    state._make(held.type, (least, greatest))
+    state._append(held)
+    return held.type, [state], state.has_null
+
+
+def unique(column: object) -> Masked:
+    """Returns the distinct rows of a column, ascending, as a masked array: a null comes last.
+
+    Serves the columns that `compare` serves. It takes a bit for each number from the least row to
+    the greatest one, up to a gigabyte; what needs more is NotServed.
+
+    >>> unique([3, None, 1, 3]).tolist()
+    [1, 3, None]
+    >>> unique(np.array(["2024-02-01", "2024-01-01"], "M8[D]")).tolist()
+    [datetime.date(2024, 1, 1), datetime.date(2024, 2, 1)]
+    """
+    kind, states, null = _state_of(column)
+    values = states[0].values if states else _as_rows(np.zeros(0, np.uint64), kind)
+    return _with_null(values, null)
+
+
+def n_unique(column: object) -> int:
+    """Returns the number of distinct rows of a column, among which null counts as one.
+
+    Serves what `unique` serves.
+
+    >>> n_unique([3, None, 1, 3])
+    3
+    """
+    _, states, null = _state_of(column)
+    return builtins.sum(len(state) for state in states) + null

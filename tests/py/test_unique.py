@@ -1,0 +1,123 @@
+"""Distinct values, beside sets of Python."""
+from __future__ import annotations
+
+import datetime
+import decimal
+import pickle
+import random
+from typing import Any, List, Optional, Set
+
+import dask.dataframe as dd
+import numpy as np
+import pandas as pd
+import pytest
+
+import dunkelva
+import dunkelva.dask
+from exported import Exported, Streamed, column, masked
+
+
+def listed(rows: Any) -> List[Any]:
+    """Returns the rows of an array."""
+    return list(rows.tolist())
+
+
+def test_unique() -> None:
+    assert listed(dunkelva.unique([5, None, -3, 5])) == [-3, 5, None]
+    assert listed(dunkelva.unique(np.array([200, 7, 200], "u1"))) == [7, 200]
+    assert dunkelva.unique(np.array([200, 7, 200], "u1")).dtype == np.uint8
+    assert listed(dunkelva.unique(masked([1, 2, 1], mask=[1, 0, 1]))) == [2, None]
+    assert listed(dunkelva.unique(masked([1, 2], mask=[1, 1]))) == [None]
+    assert listed(dunkelva.unique(np.array([], "i4"))) == []
+    ends = np.array([2 ** 64 - 1, 2 ** 64 - 3], "u8")
+    assert listed(dunkelva.unique(ends)) == [2 ** 64 - 3, 2 ** 64 - 1]
+    parts: Any = ([], [5, None], [-7, 5])
+    assert listed(dunkelva.unique(Streamed([column("s", rows, 3) for rows in parts]))) == [
+        -7, 5, None]
+    days = np.array(["2024-01-03", "NaT", "2024-01-01"], "M8[D]")
+    assert listed(dunkelva.unique(days)) == [
+        datetime.date(2024, 1, 1), datetime.date(2024, 1, 3), None]
+    prices = Exported(column("d:9,1,32", [15, 10, 15], 1))
+    assert listed(dunkelva.unique(prices)) == [decimal.Decimal("1.0"), decimal.Decimal("1.5")]
+
+
+def test_n_unique() -> None:
+    assert dunkelva.n_unique([5, None, -3, 5]) == 3
+    assert dunkelva.n_unique(masked([1, 2], mask=[1, 1])) == 1
+    assert dunkelva.n_unique(np.array([], "i4")) == 0
+    assert dunkelva.n_unique(pd.Series([1, 2, 2], dtype="Int16")) == 2
+
+
+def test_refused() -> None:
+    for value in (["a"], np.array([1.5]), pd.DataFrame({"a": [1]})):
+        with pytest.raises(dunkelva.NotServed):
+            dunkelva.unique(value)
+    with pytest.raises(dunkelva.NotServed, match="more numbers than a state"):
+        dunkelva.unique([-2 ** 63, 2 ** 63 - 1])
+    with pytest.raises(ValueError, match="no range from 3 to 2"):
+        dunkelva.Unique(3, 2)
+    with pytest.raises(dunkelva.TypesDiffer, match="range: 300 is no uint8"):
+        dunkelva.Unique(0, 300, "u1")
+    state = dunkelva.Unique(0, 9, "i4")
+    with pytest.raises(dunkelva.TypesDiffer, match="it is int64, and the state of int32"):
+        state.append(np.array([1, 2]))
+    with pytest.raises(dunkelva.TypesDiffer):
+        state.merge(dunkelva.Unique(0, 8, "i4"))
+    with pytest.raises(dunkelva.TypesDiffer):
+        state.merge(dunkelva.Unique(0, 9, "i8"))
+    parts: Any = ([1, None], [10])
+    with pytest.raises(dunkelva.OutOfRange, match="outside of the range"):
+        state.append(Streamed([column("i", rows, 3) for rows in parts]))
+    assert (len(state), state.has_null) == (0, False)
+
+
+def test_states() -> None:
+    state = dunkelva.Unique(-1, 1, "i1")
+    state.append(np.array([1, -1, 1], "i1"))
+    assert state.values.tolist() == [-1, 1] and state.values.dtype == np.int8
+    assert (state.low, state.high, len(state), state.has_null) == (-1, 1, 2, False)
+    assert repr(state) == "<Unique of int8 from -1 to 1: 2>"
+    again = pickle.loads(pickle.dumps(state))
+    again.append([None, 0])
+    assert listed(again.finish()) == [-1, 0, 1, None]
+    assert listed(state.finish()) == [-1, 1]
+    state.merge(again)
+    assert repr(state) == "<Unique of int8 from -1 to 1: 3 and null>"
+    days = dunkelva.Unique(datetime.date(2024, 1, 1), datetime.date(2024, 12, 31), "M8[D]")
+    days.append(np.array(["2024-02-29", "NaT"], "M8[D]"))
+    assert listed(days.finish()) == [datetime.date(2024, 2, 29), None]
+
+
+def test_random_states() -> None:
+    """Parts of columns, appended to states that are pickled and merged in any order."""
+    chance = random.Random("states")
+    for kind in ("i1", "u1", "i2", "u4", "i8", "u8"):
+        limits = np.iinfo(kind)
+        for _ in range(20):
+            wide = chance.choice((1, 63, 64, 65, 200, 250))
+            low = chance.randint(limits.min, limits.max - wide)
+            high = low + wide
+            states: List[dunkelva.Unique] = []
+            seen: Set[Optional[int]] = set()
+            for _ in range(chance.randint(1, 5)):
+                rows = [chance.choice((None, low, high, chance.randint(low, high)))
+                        for _ in range(chance.choice((0, 1, 9, 300)))]
+                seen.update(rows)
+                state = dunkelva.Unique(low, high, kind)
+                state.append(rows)
+                states.append(pickle.loads(pickle.dumps(state)))
+            while len(states) > 1:
+                chance.shuffle(states)
+                states[-1].merge(states.pop(0))
+            wanted: List[Any] = sorted(row for row in seen if row is not None)
+            assert states[0].values.tolist() == wanted
+            assert len(states[0]) == len(wanted) and states[0].has_null == (None in seen)
+
+
+def test_dask() -> None:
+    rows = pd.Series([5, None, 3, 5, 9, 3, None, 7], dtype="Int32")
+    for parts in (1, 2, 3, 5):
+        found = dunkelva.dask.unique(dd.from_pandas(rows, npartitions=parts), 0, 10)
+        assert listed(found.finish()) == [3, 5, 7, 9, None]
+    with pytest.raises(dunkelva.OutOfRange):
+        dunkelva.dask.unique(dd.from_pandas(rows, npartitions=3), 0, 8)
