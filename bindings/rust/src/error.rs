@@ -22,8 +22,10 @@ pub enum Error {
     /// more than 2^20 types.
     BadStructs,
     /// An argument is wrong: rows outside of an array, a format that does not fit the numbers, a
-    /// name with a byte 0.
+    /// name with a byte 0, a range whose ends are not in order.
     BadArgument,
+    /// A row lies outside of the range of a [`Unique`](crate::Unique).
+    OutOfRange,
     /// A buffer or an array inside another has another length than the array asks for.
     Length {
         /// What has the wrong length.
@@ -49,6 +51,7 @@ impl Error {
             5 => Error::NotServed,
             6 => Error::BadStructs,
             7 => Error::BadArgument,
+            8 => Error::OutOfRange,
             other => Error::Unknown(other),
         })
     }
@@ -63,7 +66,8 @@ impl fmt::Display for Error {
             Error::NoMemory => "an allocation failed",
             Error::NotServed => "the type is not served by this call",
             Error::BadStructs => "the structs break the Arrow C data interface, or are too many",
-            Error::BadArgument => "an argument is wrong: rows, a format, or a name",
+            Error::BadArgument => "an argument is wrong: rows, a format, a name, or a range",
+            Error::OutOfRange => "a row lies outside of the range",
             Error::Length { what, has, needs } => {
                 return write!(f, "the {what} have length {has}, and {needs} is needed");
             }

@@ -12,6 +12,7 @@ mod mask;
 mod structs;
 #[allow(unsafe_code)]
 mod sys;
+mod unique;
 
 pub use crate::array::Array;
 pub use crate::bitmap::Bitmap;
@@ -23,6 +24,7 @@ pub use crate::calls::{
 pub use crate::error::Error;
 pub use crate::format::{Key, Number, Offset};
 pub use crate::mask::Mask;
+pub use crate::unique::Unique;
 
 /// The structs of the Arrow C data interface, which [`Array::from_raw`] takes.
 #[cfg(feature = "ffi")]

@@ -6,6 +6,8 @@
 
 use crate::structs::{ArrowArray, ArrowSchema, Structs};
 use std::ffi::CStr;
+use std::marker::PhantomData;
+use std::mem::MaybeUninit;
 use std::os::raw::{c_char, c_uint};
 
 /// A number of 128 bits, or none.
@@ -15,6 +17,54 @@ pub(crate) struct Wide {
     pub(crate) low: u64,
     pub(crate) high: u64,
     pub(crate) exists: u64,
+}
+
+/// A state of distinct values, whose bits are borrowed.
+#[repr(C)]
+pub(crate) struct State<'x> {
+    least: Wide,
+    greatest: Wide,
+    bits: *mut u64,
+    words: usize,
+    has_null: u64,
+    _bits: PhantomData<&'x mut [u64]>,
+}
+
+impl<'x> State<'x> {
+    pub(crate) fn of((least, greatest): (Wide, Wide), bits: &'x mut [u64], has_null: bool) -> Self {
+        let (at, words) = (bits.as_mut_ptr(), bits.len());
+        let has_null = has_null.into();
+        State {
+            least,
+            greatest,
+            bits: at,
+            words,
+            has_null,
+            _bits: PhantomData,
+        }
+    }
+
+    pub(crate) fn has_null(&self) -> bool {
+        self.has_null != 0
+    }
+}
+
+/// A state to which nothing is written.
+pub(crate) struct StateView<'x>(State<'x>);
+
+impl<'x> StateView<'x> {
+    pub(crate) fn of((least, greatest): (Wide, Wide), bits: &'x [u64], has_null: bool) -> Self {
+        let (at, words) = (bits.as_ptr() as *mut u64, bits.len());
+        let has_null = has_null.into();
+        StateView(State {
+            least,
+            greatest,
+            bits: at,
+            words,
+            has_null,
+            _bits: PhantomData,
+        })
+    }
 }
 
 #[rustfmt::skip]
@@ -37,6 +87,14 @@ extern "C" {
         result: &mut Wide) -> i32;
     fn dunkelva_count_bits(bits: c_uint, t: &ArrowSchema, a: &ArrowArray, counts: *mut u32,
         counts_len: usize) -> i32;
+    fn dunkelva_unique_words(least: &Wide, greatest: &Wide) -> usize;
+    fn dunkelva_unique_init(state: *mut State<'_>, least: &Wide, greatest: &Wide, bits: *mut u64,
+        words: usize) -> i32;
+    fn dunkelva_unique_append(state: &mut State<'_>, t: &ArrowSchema, a: &ArrowArray) -> i32;
+    fn dunkelva_unique_merge(state: &mut State<'_>, other: &State<'_>) -> i32;
+    fn dunkelva_unique_count(state: &State<'_>, values: &mut u64, rows: &mut u64) -> i32;
+    fn dunkelva_unique_finish(state: &State<'_>, values: *mut u64, values_len: usize,
+        has_null: &mut u64) -> i32;
     fn dunkelva_version() -> *const c_char;
 }
 
@@ -91,6 +149,34 @@ pub(crate) fn reduce_bits(join: c_uint, a: &Structs<'_>, result: &mut Wide) -> i
 pub(crate) fn count_bits(bits: c_uint, a: &Structs<'_>, counts: &mut [u32]) -> i32 {
     let (at, len) = (counts.as_mut_ptr(), counts.len());
     unsafe { dunkelva_count_bits(bits, &a.schema, &a.array, at, len) }
+}
+
+pub(crate) fn unique_words(least: &Wide, greatest: &Wide) -> usize {
+    unsafe { dunkelva_unique_words(least, greatest) }
+}
+
+/// Clears the bits of a state of this range.
+pub(crate) fn unique_init(least: &Wide, greatest: &Wide, bits: &mut [u64]) -> i32 {
+    let mut state = MaybeUninit::uninit();
+    let (at, words) = (bits.as_mut_ptr(), bits.len());
+    unsafe { dunkelva_unique_init(state.as_mut_ptr(), least, greatest, at, words) }
+}
+
+pub(crate) fn unique_append(state: &mut State<'_>, a: &Structs<'_>) -> i32 {
+    unsafe { dunkelva_unique_append(state, &a.schema, &a.array) }
+}
+
+pub(crate) fn unique_merge(state: &mut State<'_>, other: &StateView<'_>) -> i32 {
+    unsafe { dunkelva_unique_merge(state, &other.0) }
+}
+
+pub(crate) fn unique_count(state: &StateView<'_>, values: &mut u64, rows: &mut u64) -> i32 {
+    unsafe { dunkelva_unique_count(&state.0, values, rows) }
+}
+
+pub(crate) fn unique_finish(state: &StateView<'_>, values: &mut [u64], has_null: &mut u64) -> i32 {
+    let (at, len) = (values.as_mut_ptr(), values.len());
+    unsafe { dunkelva_unique_finish(&state.0, at, len, has_null) }
 }
 
 pub(crate) fn version() -> &'static str {

@@ -226,6 +226,7 @@ fn each_error_has_a_message() {
         Error::NotServed,
         Error::BadStructs,
         Error::BadArgument,
+        Error::OutOfRange,
         Error::Length {
             what: "bits",
             has: 1,

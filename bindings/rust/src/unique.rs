@@ -1,0 +1,149 @@
+//! States of distinct values.
+#![forbid(unsafe_code)]
+
+use crate::mask::zeros;
+use crate::structs::Structs;
+use crate::sys::{self, State, StateView, Wide};
+use crate::{Array, Error};
+use std::ops::RangeInclusive;
+
+/// The distinct values of arrays whose rows are null or numbers of one range.
+///
+/// It has a bit for each number of the range, and says nothing of how often a value came, or where.
+/// States can be made of parts of the rows, in other threads too, and merged.
+///
+/// # Examples
+///
+/// ```
+/// use dunkelva::{Array, Error, Unique};
+///
+/// let mut seen = Unique::new(1..=10)?;
+/// seen.append(&[Some(7), None, Some(3), Some(7)].into_iter().collect::<Array>())?;
+/// let mut others = Unique::new(1..=10)?;
+/// others.append(&Array::numbers(&[10, 3]))?;
+/// seen.merge(&others)?;
+/// assert_eq!(seen.values()?, [3, 7, 10]);
+/// assert_eq!((seen.count()?, seen.has_null()), (4, true));
+/// assert_eq!(seen.append(&Array::numbers(&[5, 11])), Err(Error::OutOfRange));
+/// # Ok::<(), Error>(())
+/// ```
+#[derive(Clone, Debug, PartialEq, Eq, Hash)]
+pub struct Unique {
+    least: i128,
+    greatest: i128,
+    bits: Vec<u64>,
+    has_null: bool,
+}
+
+impl Unique {
+    /// Makes a state that has seen nothing, for numbers of a range.
+    ///
+    /// # Errors
+    ///
+    /// [`Error::BadArgument`], if the ends are not in order, or if there are 2^64 - 1 numbers or
+    /// more between them; [`Error::NoMemory`], if there is none for a bit for each.
+    pub fn new<N: Into<i128>>(range: RangeInclusive<N>) -> Result<Self, Error> {
+        let (least, greatest) = range.into_inner();
+        let (least, greatest) = (least.into(), greatest.into());
+        let words = sys::unique_words(&Wide::of(least), &Wide::of(greatest));
+        let mut bits = zeros(words)?;
+        Error::check(sys::unique_init(
+            &Wide::of(least),
+            &Wide::of(greatest),
+            &mut bits,
+        ))?;
+        Ok(Unique {
+            least,
+            greatest,
+            bits,
+            has_null: false,
+        })
+    }
+
+    /// Adds the rows of an array of whole numbers of 8 to 64 bits, or of what is kept as such.
+    ///
+    /// # Errors
+    ///
+    /// They leave the state as it was: [`Error::OutOfRange`], if a row is a number outside of the
+    /// range; [`Error::TypesDiffer`], if the array's type lacks an end of the range;
+    /// [`Error::NotServed`] for other types; [`Error::NoMemory`].
+    pub fn append(&mut self, array: &Array<'_>) -> Result<(), Error> {
+        let structs = Structs::of(array);
+        self.change(|state| sys::unique_append(state, &structs))
+    }
+
+    /// Adds what another state has seen.
+    ///
+    /// # Errors
+    ///
+    /// [`Error::TypesDiffer`], if the states have other ranges.
+    pub fn merge(&mut self, other: &Unique) -> Result<(), Error> {
+        let other = other.view();
+        self.change(|state| sys::unique_merge(state, &other))
+    }
+
+    /// Returns how many rows are distinct. Null is one of them, if it was seen.
+    ///
+    /// # Errors
+    ///
+    /// None that the state can cause.
+    pub fn count(&self) -> Result<u64, Error> {
+        Ok(self.counts()?.1)
+    }
+
+    /// Returns the values that were seen, rising.
+    ///
+    /// # Errors
+    ///
+    /// [`Error::NoMemory`].
+    pub fn values(&self) -> Result<Vec<i128>, Error> {
+        let count = usize::try_from(self.counts()?.0).map_err(|_| Error::NoMemory)?;
+        let mut words = zeros(count)?;
+        let mut has_null = 0;
+        Error::check(sys::unique_finish(&self.view(), &mut words, &mut has_null))?;
+        // A range with numbers below 0 is one of signed numbers.
+        let value = |word: u64| {
+            if self.least < 0 {
+                i128::from(word as i64)
+            } else {
+                word.into()
+            }
+        };
+        let mut values = zeros(count)?;
+        values
+            .iter_mut()
+            .zip(words)
+            .for_each(|(to, word)| *to = value(word));
+        Ok(values)
+    }
+
+    /// Returns `true` if a null was seen.
+    pub fn has_null(&self) -> bool {
+        self.has_null
+    }
+
+    /// Returns the range.
+    pub fn range(&self) -> RangeInclusive<i128> {
+        self.least..=self.greatest
+    }
+
+    /// Counts the values that were seen, and the rows.
+    fn counts(&self) -> Result<(u64, u64), Error> {
+        let (mut values, mut rows) = (0, 0);
+        Error::check(sys::unique_count(&self.view(), &mut values, &mut rows))?;
+        Ok((values, rows))
+    }
+
+    fn change(&mut self, call: impl FnOnce(&mut State<'_>) -> i32) -> Result<(), Error> {
+        let ends = (Wide::of(self.least), Wide::of(self.greatest));
+        let mut state = State::of(ends, &mut self.bits, self.has_null);
+        Error::check(call(&mut state))?;
+        self.has_null = state.has_null();
+        Ok(())
+    }
+
+    fn view(&self) -> StateView<'_> {
+        let ends = (Wide::of(self.least), Wide::of(self.greatest));
+        StateView::of(ends, &self.bits, self.has_null)
+    }
+}
