@@ -1,8 +1,9 @@
 //! Columns that are lent to the library.
 #![forbid(unsafe_code)]
 
-use crate::format::{is_kept_as, Key, Number, Offset};
+use crate::format::{is_kept_as, numbers_of, Key, Number, Offset};
 use crate::lent::{Buffer, Content, Field, Lent};
+use crate::structs::{Structs, Typed};
 #[cfg(feature = "ffi")]
 use crate::sys::Foreign;
 use crate::{Bitmap, Error};
@@ -360,6 +361,20 @@ impl<'a> Array<'a> {
             content: Content::Foreign(foreign),
             levels: 1,
             types: 1,
+        }
+    }
+
+    /// Returns the structs of the array, if its rows are numbers of type `T`.
+    pub(crate) fn numbers_of<T: Key>(&self) -> Result<Typed<'_, T>, Error> {
+        let plain = match &self.content {
+            Content::Lent(lent) if lent.entries.is_some() => None,
+            Content::Lent(lent) => numbers_of(lent.format.split_last().map_or(&[], |it| it.1)),
+            Content::Foreign(foreign) => foreign.format().and_then(numbers_of),
+        };
+        match plain {
+            None => Err(Error::NotServed),
+            Some(plain) if plain == T::FORMAT => Ok(Typed::new(Structs::of(self))),
+            Some(_) => Err(Error::TypesDiffer),
         }
     }
 

@@ -17,7 +17,7 @@ pub trait Number: sealed::Sealed + Copy + Default + Send + Sync + 'static {
 }
 
 /// A type of keys of a dictionary: `i8` to `i64`, `u8` to `u64`.
-pub trait Key: Number {}
+pub trait Key: Number + Into<i128> {}
 
 /// A type of offsets of texts, byte strings and lists: `i32` or `i64`.
 pub trait Offset: Number + Ord {
@@ -71,6 +71,17 @@ impl Offset for i64 {
     }
 }
 
+/// Returns the plain format of the whole numbers of 8 to 64 bits that a format stands for. The
+/// argument has no byte 0 behind it.
+pub(crate) fn numbers_of(format: &[u8]) -> Option<&'static [u8]> {
+    let plain = [i8::FORMAT, i16::FORMAT, i32::FORMAT, i64::FORMAT]
+        .into_iter()
+        .chain([u8::FORMAT, u16::FORMAT, u32::FORMAT, u64::FORMAT]);
+    let text = std::str::from_utf8(format).ok()?;
+    let is_of = |it: &&[u8]| it.strip_suffix(b"\0") == Some(format) || is_kept_as(text, it);
+    plain.into_iter().find(is_of)
+}
+
 /// Says whether a format stands for numbers that are kept as those of a plain format, `i` or `l`:
 /// dates, times, points in time, spans, decimals.
 pub(crate) fn is_kept_as(format: &str, plain: &[u8]) -> bool {
@@ -104,7 +115,7 @@ fn decimal_bits(format: &str) -> u32 {
 
 #[cfg(test)]
 mod tests {
-    use super::is_kept_as;
+    use super::{is_kept_as, numbers_of};
 
     #[test]
     fn formats_fit_the_width_of_their_numbers() {
@@ -147,5 +158,20 @@ mod tests {
             );
         }
         assert!(!is_kept_as("tdD", b"I\0"));
+    }
+
+    #[test]
+    fn formats_stand_for_numbers_of_one_type() {
+        for format in ["c", "s", "i", "l", "C", "S", "I", "L"] {
+            let plain = numbers_of(format.as_bytes()).unwrap();
+            assert_eq!(plain, format!("{format}\0").as_bytes());
+        }
+        assert_eq!(numbers_of(b"tdD"), Some(&b"i\0"[..]));
+        assert_eq!(numbers_of(b"tsu:UTC"), Some(&b"l\0"[..]));
+        for format in [
+            "", "f", "g", "e", "b", "n", "u", "d:9,2", "+l", "ii", "i\0", "tdDx",
+        ] {
+            assert_eq!(numbers_of(format.as_bytes()), None, "{format:?}");
+        }
     }
 }

@@ -2,6 +2,7 @@
 #![deny(missing_docs, unsafe_code, unsafe_op_in_unsafe_fn)]
 #![warn(missing_debug_implementations)]
 
+mod arithmetic;
 mod array;
 mod bitmap;
 mod calls;
@@ -14,6 +15,10 @@ mod structs;
 mod sys;
 mod unique;
 
+pub use crate::arithmetic::{
+    absolute, add, arithmetic, arithmetic_number, floor_divide, modulo, multiply, negate,
+    number_arithmetic, subtract, truncating_divide, Numbers, Operation,
+};
 pub use crate::array::Array;
 pub use crate::bitmap::Bitmap;
 pub use crate::calls::{

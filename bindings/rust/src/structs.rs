@@ -141,6 +141,22 @@ impl<'x> Structs<'x> {
     }
 }
 
+/// The structs of an array whose rows are numbers of type `T`, so that results of this type are
+/// written for it. [`Array::numbers_of`] alone makes them.
+pub(crate) struct Typed<'x, T> {
+    pub(crate) structs: Structs<'x>,
+    _rows: PhantomData<T>,
+}
+
+impl<'x, T> Typed<'x, T> {
+    pub(crate) fn new(structs: Structs<'x>) -> Typed<'x, T> {
+        Typed {
+            structs,
+            _rows: PhantomData,
+        }
+    }
+}
+
 /// Returns a length. One that is no `i64` is refused by the library, as the greatest `i64` is.
 fn to_i64(length: usize) -> i64 {
     i64::try_from(length).unwrap_or(i64::MAX)

@@ -4,11 +4,13 @@
 //! ([`Structs`]). It writes to what it is lent for results alone, no more than their length, and
 //! keeps nothing. So the functions of this module are safe, but for `from_raw`.
 
-use crate::structs::{ArrowArray, ArrowSchema, Structs};
+use crate::format::Key;
+use crate::structs::{ArrowArray, ArrowSchema, Structs, Typed};
 use std::ffi::CStr;
 use std::marker::PhantomData;
 use std::mem::MaybeUninit;
-use std::os::raw::{c_char, c_uint};
+use std::os::raw::{c_char, c_uint, c_void};
+use std::ptr::null_mut;
 
 /// A number of 128 bits, or none.
 #[repr(C)]
@@ -87,6 +89,14 @@ extern "C" {
         result: &mut Wide) -> i32;
     fn dunkelva_count_bits(bits: c_uint, t: &ArrowSchema, a: &ArrowArray, counts: *mut u32,
         counts_len: usize) -> i32;
+    fn dunkelva_arithmetic(operation: c_uint, lt: &ArrowSchema, l: &ArrowArray, rt: &ArrowSchema,
+        r: &ArrowArray, values: *mut c_void, values_len: usize, present: *mut u8,
+        present_bytes: usize, nulls: *mut u64) -> i32;
+    fn dunkelva_arithmetic_number(operation: c_uint, side: c_uint, number: &Wide, t: &ArrowSchema,
+        a: &ArrowArray, values: *mut c_void, values_len: usize, present: *mut u8,
+        present_bytes: usize, nulls: *mut u64) -> i32;
+    fn dunkelva_sign(sign: c_uint, t: &ArrowSchema, a: &ArrowArray, values: *mut c_void,
+        values_len: usize, present: *mut u8, present_bytes: usize, nulls: *mut u64) -> i32;
     fn dunkelva_unique_words(least: &Wide, greatest: &Wide) -> usize;
     fn dunkelva_unique_init(state: *mut State<'_>, least: &Wide, greatest: &Wide, bits: *mut u64,
         words: usize) -> i32;
@@ -121,7 +131,7 @@ pub(crate) fn equal_rows(
 
 pub(crate) fn is_null(a: &Structs<'_>, out: &mut [u8]) -> i32 {
     let (at, len) = (out.as_mut_ptr(), out.len());
-    unsafe { dunkelva_is_null(&a.schema, &a.array, at, len, std::ptr::null_mut()) }
+    unsafe { dunkelva_is_null(&a.schema, &a.array, at, len, null_mut()) }
 }
 
 pub(crate) fn compare(test: c_uint, l: &Structs<'_>, r: &Structs<'_>, out: &mut [u8]) -> i32 {
@@ -149,6 +159,51 @@ pub(crate) fn reduce_bits(join: c_uint, a: &Structs<'_>, result: &mut Wide) -> i
 pub(crate) fn count_bits(bits: c_uint, a: &Structs<'_>, counts: &mut [u32]) -> i32 {
     let (at, len) = (counts.as_mut_ptr(), counts.len());
     unsafe { dunkelva_count_bits(bits, &a.schema, &a.array, at, len) }
+}
+
+pub(crate) fn arithmetic<T: Key>(
+    operation: c_uint,
+    l: &Typed<'_, T>,
+    r: &Typed<'_, T>,
+    values: &mut [T],
+    present: &mut [u8],
+) -> i32 {
+    let (ls, la, rs, ra) = (
+        &l.structs.schema,
+        &l.structs.array,
+        &r.structs.schema,
+        &r.structs.array,
+    );
+    let (to, len) = (values.as_mut_ptr().cast(), values.len());
+    let (bits, bytes, nulls) = (present.as_mut_ptr(), present.len(), null_mut());
+    unsafe { dunkelva_arithmetic(operation, ls, la, rs, ra, to, len, bits, bytes, nulls) }
+}
+
+pub(crate) fn arithmetic_number<T: Key>(
+    (operation, side): (c_uint, c_uint),
+    number: &Wide,
+    a: &Typed<'_, T>,
+    values: &mut [T],
+    present: &mut [u8],
+) -> i32 {
+    let (s, a) = (&a.structs.schema, &a.structs.array);
+    let (to, len) = (values.as_mut_ptr().cast(), values.len());
+    let (bits, bytes, nulls) = (present.as_mut_ptr(), present.len(), null_mut());
+    unsafe {
+        dunkelva_arithmetic_number(operation, side, number, s, a, to, len, bits, bytes, nulls)
+    }
+}
+
+pub(crate) fn sign<T: Key>(
+    sign: c_uint,
+    a: &Typed<'_, T>,
+    values: &mut [T],
+    present: &mut [u8],
+) -> i32 {
+    let (s, a) = (&a.structs.schema, &a.structs.array);
+    let (to, len) = (values.as_mut_ptr().cast(), values.len());
+    let (bits, bytes, nulls) = (present.as_mut_ptr(), present.len(), null_mut());
+    unsafe { dunkelva_sign(sign, s, a, to, len, bits, bytes, nulls) }
 }
 
 pub(crate) fn unique_words(least: &Wide, greatest: &Wide) -> usize {
@@ -200,6 +255,16 @@ unsafe impl Sync for Foreign<'_> {}
 impl<'a> Foreign<'a> {
     pub(crate) fn schema(&self) -> &'a ArrowSchema {
         self.schema
+    }
+
+    /// Returns the format, without a byte 0 behind it. There is none for dictionaries, whose format
+    /// is that of their keys.
+    pub(crate) fn format(&self) -> Option<&'a [u8]> {
+        if self.schema.format.is_null() || !self.schema.dictionary.is_null() {
+            return None;
+        }
+        // SAFETY: the format of a schema that keeps the rules is a text that ends with a byte 0.
+        Some(unsafe { CStr::from_ptr(self.schema.format) }.to_bytes())
     }
 
     pub(crate) fn array(&self) -> &'a ArrowArray {

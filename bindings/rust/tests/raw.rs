@@ -5,7 +5,7 @@ mod common;
 
 use common::digits;
 use dunkelva::ffi::{ArrowArray, ArrowSchema};
-use dunkelva::{compare_number, equal, is_null, sum, Array, Bitmap, Error, Test};
+use dunkelva::{compare_number, equal, is_null, negate, sum, Array, Bitmap, Error, Numbers, Test};
 use std::os::raw::{c_char, c_void};
 use std::ptr;
 
@@ -109,6 +109,9 @@ fn a_column_of_another_crate() -> Result<(), Error> {
     let window = array.slice(1, 3)?; // 2 null 4
     assert_eq!(digits(&compare_number(&window, Test::Greater, 2)?), "001");
     assert_eq!(array.slice(1, 4).map(drop), Err(Error::BadArgument));
+    let negative: Numbers<i32> = negate(&array)?;
+    assert!(negative.iter().eq([Some(-1), Some(-2), None, Some(-4)]));
+    assert_eq!(negate::<i64>(&array), Err(Error::TypesDiffer));
     Ok(())
 }
 
@@ -144,6 +147,7 @@ fn structs_that_are_refused() -> Result<(), Error> {
     let exported = Exported::new(b"+us:0\0", &VALUES, &[0xff], 0, 6);
     let array = exported.array()?;
     assert_eq!(equal(&array, &array), Err(Error::NotServed));
+    assert_eq!(negate::<i32>(&array), Err(Error::NotServed));
     let present = Bitmap::new(&[0xff], 0, 6)?;
     assert_eq!(
         array.with_validity(present).map(drop),
