@@ -18,7 +18,7 @@ part_of n i m within = elim (cases_lt i n) [
 ]
 
 -- rows of a key are counted in one list and then in the other
-count_append : (key : List ℕ) (xs ys : Keys) → count_of key (xs ++ ys) ≡ count_of key xs + count_of key ys
+pub count_append : (key : List ℕ) (xs ys : Keys) → count_of key (xs ++ ys) ≡ count_of key xs + count_of key ys
 unfolding count_of
 count_append key [] ys = omega arith
 count_append key (x ∷ xs) ys = at (bytes_eq x key) (count_append key xs ys)

@@ -2,6 +2,7 @@
 //! nothing; their contracts are the laws.
 
 ghost use Rattle.diff_joins.specs.Laws.{JoinsComparisons, JoinsMatchings, JoinsPartners};
+ghost use Rattle.diff_joins.specs.Merge.{MergesAdded, MergesNone, MergesOn, MergesPair, MergesRemoved};
 ghost use Rattle.diff_joins.specs.More.{MatchesAdded, MatchesPair, MatchesRemoved};
 
 /// Law: where two left tables and two right tables lie one behind another, and no row of the first
@@ -22,4 +23,15 @@ pub fn law_one_row_more()
     ensures pair { MatchesPair }
     ensures removed { MatchesRemoved }
     ensures added { MatchesAdded }
+{}
+
+/// Law: sorted tables are merged row by row. Where each step takes a row of the lesser of the two
+/// next keys, or one of each table where they are the same, the rows that were taken are matched,
+/// whatever rows are still to come; so in the end all rows are.
+pub fn law_merged()
+    ensures begin { MergesNone }
+    ensures on { MergesOn }
+    ensures pair { MergesPair }
+    ensures removed { MergesRemoved }
+    ensures added { MergesAdded }
 {}
