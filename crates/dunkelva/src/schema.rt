@@ -11,9 +11,8 @@ use clap::{Arg, ArgMatches, Command};
 use diff_csv::options::CsvOptions;
 use schema_report::changes::{SchemaCounts, counts_of, push_changes};
 use schema_report::changes_json::push_changes_json;
-use schema_report::json_lines::push_schema_json;
-use schema_report::text::push_schema;
 use schema_run::read::{TableSchema, read_schema};
+use schema_run::said::{Form, push_schema_of};
 use std::alloc::{AllocError, Global};
 use std::io;
 use std::io::{ErrorKind, Write};
@@ -82,6 +81,28 @@ fn is_json(matches: &ArgMatches<'_>) -> bool {
     matches.get_str("format") == Some("json")
 }
 
+/// Returns the form of what is said.
+fn form_in(matches: &ArgMatches<'_>) -> Form {
+    if is_json(matches) {
+        Form::Json
+    } else {
+        Form::Text
+    }
+}
+
+/// Returns the word that stands for null, if there is one.
+fn null_in<'m>(matches: &'m ArgMatches<'_>) -> Option<&'m [u8]> {
+    matches.get_str("null").map(|word| word.as_bytes())
+}
+
+/// Refuses a file whose name says that it has documents.
+fn refuse_documents(file: &str) -> Result<()> {
+    if names_documents(file) {
+        return Err(anyhow!("schemas are of CSV files").context(file));
+    }
+    Ok(())
+}
+
 /// Reads what the columns of a file are, beside standard input or not.
 fn schema_in(
     rt: &HostRuntime,
@@ -90,12 +111,9 @@ fn schema_in(
     options: CsvOptions,
     is_beside: bool,
 ) -> Result<TableSchema> {
-    if names_documents(file) {
-        return Err(anyhow!("schemas are of CSV files").context(file));
-    }
+    refuse_documents(file)?;
     let input = open(rt, file, is_beside)?;
-    let null = matches.get_str("null").map(|word| word.as_bytes());
-    match read_schema(rt.alloc(), input.reader, options, null) {
+    match read_schema(rt.alloc(), input.reader, options, null_in(matches)) {
         Ok(schema) => Ok(schema),
         Err(error) => Err(anyhow!("{error}").context(file)),
     }
@@ -112,21 +130,29 @@ fn print_text(rt: &HostRuntime, text: &[u8], status: u8) -> Result<u8> {
     }
 }
 
-/// Returns what is said of the columns of a file of this name.
+/// Returns what is said of the columns of a file.
 fn schema_text(
-    alloc: Global,
+    rt: &HostRuntime,
     matches: &ArgMatches<'_>,
     file: &str,
-    schema: &TableSchema,
+    options: CsvOptions,
 ) -> Result<Vec<u8>> {
-    let mut text = Vec::new(alloc);
-    if is_json(matches) {
-        push_schema_json(&mut text, &schema.columns)?;
-        return Ok(text);
+    refuse_documents(file)?;
+    let input = open(rt, file, false)?;
+    let mut text = Vec::new(rt.alloc());
+    let (name, null, form) = (file.as_bytes(), null_in(matches), form_in(matches));
+    match push_schema_of(
+        rt.alloc(),
+        &mut text,
+        name,
+        input.reader,
+        options,
+        null,
+        form,
+    ) {
+        Ok(()) => Ok(text),
+        Err(error) => Err(anyhow!("{error}").context(file)),
     }
-    let (rows, columns) = (schema.rows, &schema.columns);
-    push_schema(alloc, &mut text, file.as_bytes(), rows, columns)?;
-    Ok(text)
 }
 
 /// Says what the columns of the file are that the words name, and returns the status.
@@ -134,8 +160,7 @@ pub(crate) fn show_schema(rt: &HostRuntime, matches: &ArgMatches<'_>) -> Result<
     let file = matches.get_str("file").unwrap_or("-");
     refuse_own_output(rt, &[file])?;
     let options = csv_options(matches, file, file)?;
-    let schema = schema_in(rt, matches, file, options, false)?;
-    let text = schema_text(rt.alloc(), matches, file, &schema)?;
+    let text = schema_text(rt, matches, file, options)?;
     print_text(rt, &text, 0)
 }
 
