@@ -143,7 +143,11 @@ impl<'a> Array<'a> {
         Ok(Array::flat(present.len(), i32::TEXTS, buffers).with_present(&present))
     }
 
-    fn flat(rows: usize, format: impl Into<Cow<'static, [u8]>>, buffers: Vec<Buffer<'a>>) -> Self {
+    pub(crate) fn flat(
+        rows: usize,
+        format: impl Into<Cow<'static, [u8]>>,
+        buffers: Vec<Buffer<'a>>,
+    ) -> Self {
         let format = format.into();
         let lent = Lent {
             format,
@@ -387,7 +391,7 @@ impl<'a> Array<'a> {
     }
 
     /// Keeps a validity of its own.
-    fn with_present(mut self, present: &[bool]) -> Self {
+    pub(crate) fn with_present(mut self, present: &[bool]) -> Self {
         let rows = present
             .iter()
             .enumerate()

@@ -14,6 +14,7 @@ mod structs;
 #[allow(unsafe_code)]
 mod sys;
 mod unique;
+mod views;
 
 pub use crate::arithmetic::{
     absolute, add, arithmetic, arithmetic_number, floor_divide, modulo, multiply, negate,

@@ -117,6 +117,45 @@ fn texts_and_byte_strings() -> Result<(), Error> {
 }
 
 #[test]
+fn views_of_texts_and_byte_strings() -> Result<(), Error> {
+    let rows = [
+        Some("short"),
+        None,
+        Some("twelve bytes"),
+        Some("thirteen here"),
+        Some(""),
+    ];
+    let made = Array::from_texts_as_views(rows)?;
+    let number = |bytes| u128::from_le_bytes(bytes);
+    let views = [
+        number(*b"\x05\0\0\0short\0\0\0\0\0\0\0"),
+        u128::MAX, // under a null
+        number(*b"\x0c\0\0\0twelve bytes"),
+        number(*b"\x0d\0\0\0thir\x01\0\0\0\x02\0\0\0"),
+        0,
+    ];
+    let buffers: [&[u8]; 2] = [b"", b"??thirteen here"];
+    let present = Bitmap::new(&[0b11101], 0, 5)?;
+    let lent = Array::text_views(&views, &buffers).with_validity(present)?;
+    assert_eq!(same(&made, &lent)?, "11111");
+    assert_eq!(same(&made.slice(2, 3)?, &lent.slice(1, 3)?)?, "000");
+    let bytes = Array::binary_views(&views, &buffers).with_validity(present)?;
+    assert_eq!(same(&bytes, &bytes)?, "11111");
+    assert_eq!(same(&bytes, &lent), Err(Error::TypesDiffer));
+    // a view that leads behind its buffer
+    let mut others = views;
+    others[3] = number(*b"\x0d\0\0\0thir\x01\0\0\0\x03\0\0\0");
+    let bad = Array::text_views(&others, &buffers).with_validity(present)?;
+    assert_eq!(same(&bad, &bad), Err(Error::BadArray));
+    assert_eq!(same(&bad.slice(0, 3)?, &lent.slice(0, 3)?)?, "111");
+    assert_eq!(
+        same(&Array::text_views(&[], &[]), &Array::text_views(&[], &[]))?,
+        ""
+    );
+    Ok(())
+}
+
+#[test]
 fn texts_are_checked_if_asked() -> Result<(), Error> {
     let bad = Array::texts(&[0, 1, 2], b"a\xff")?;
     assert_eq!(same(&bad, &bad)?, "11");

@@ -92,6 +92,7 @@ enum Store {
     Texts(Offsets, Vec<u8>),
     Binary(Offsets, Vec<u8>),
     Sized(usize, Vec<u8>),
+    Views(bool, Vec<u128>, Vec<Vec<u8>>),
     List(Offsets, Box<Column>),
     SizedList(usize, Box<Column>),
     Struct(Vec<(String, Column)>),
@@ -202,6 +203,10 @@ impl Store {
                 let (_, bytes) = strings(false, 0, rows);
                 Store::Sized(*width, bytes)
             }
+            Type::Views { is_text } => {
+                let (views, buffers) = views(rows, present, chance);
+                Store::Views(*is_text, views, buffers)
+            }
             Type::List { is_large, items } => {
                 let before = chance.below(3);
                 let mut inside = some_rows(items, chance, before);
@@ -244,6 +249,14 @@ impl Store {
                 with_offsets!(offsets, it => Array::binary(it, bytes).unwrap())
             }
             Store::Sized(width, bytes) => Array::fixed_size_binary(rows, *width, bytes).unwrap(),
+            Store::Views(is_text, views, buffers) => {
+                let lent: Vec<_> = buffers.iter().map(Vec::as_slice).collect();
+                if *is_text {
+                    Array::text_views(views, &lent)
+                } else {
+                    Array::binary_views(views, &lent)
+                }
+            }
             Store::List(offsets, items) => {
                 with_offsets!(offsets, it => Array::list(it, items.array()).unwrap())
             }
@@ -269,12 +282,41 @@ fn numbers(rows: &[Row]) -> Vec<i128> {
     rows.iter().map(number).collect()
 }
 
-/// Returns the offsets and the bytes of byte strings, behind `before` other bytes.
-fn strings(is_large: bool, before: usize, rows: &[Row]) -> (Offsets, Vec<u8>) {
-    let bytes_of = |row: &Row| match row {
+fn bytes_of(row: &Row) -> Vec<u8> {
+    match row {
         Row::Bytes(bytes) => bytes.clone(),
         other => panic!("{other:?} is no byte string"),
+    }
+}
+
+/// Returns views of byte strings, and three buffers of the long ones. One begins with other bytes.
+/// A view under a null can be anything.
+fn views(rows: &[Row], present: &[bool], chance: &mut Chance) -> (Vec<u128>, Vec<Vec<u8>>) {
+    let mut buffers = vec![Vec::new(), vec![b'x'; 3], Vec::new()];
+    let mut view = |(row, &is_valid): (&Row, &bool)| {
+        if !is_valid && chance.percent(50) {
+            return u128::from(chance.word()) << 64 | u128::from(chance.word());
+        }
+        let bytes = bytes_of(row);
+        let mut view = [0; 16];
+        view[..4].copy_from_slice(&(bytes.len() as u32).to_le_bytes());
+        if bytes.len() <= 12 {
+            view[4..4 + bytes.len()].copy_from_slice(&bytes);
+        } else {
+            let number = chance.below(buffers.len());
+            view[4..8].copy_from_slice(&bytes[..4]);
+            view[8..12].copy_from_slice(&(number as u32).to_le_bytes());
+            view[12..].copy_from_slice(&(buffers[number].len() as u32).to_le_bytes());
+            buffers[number].extend(bytes);
+        }
+        u128::from_le_bytes(view)
     };
+    let views = rows.iter().zip(present).map(&mut view).collect();
+    (views, buffers)
+}
+
+/// Returns the offsets and the bytes of byte strings, behind `before` other bytes.
+fn strings(is_large: bool, before: usize, rows: &[Row]) -> (Offsets, Vec<u8>) {
     let strings: Vec<_> = rows.iter().map(bytes_of).collect();
     let offsets = Offsets::of(is_large, before, strings.iter().map(Vec::len));
     let mut bytes = vec![b'x'; before];

@@ -92,6 +92,9 @@ pub enum Type {
         is_large: bool,
     },
     Sized(usize),
+    Views {
+        is_text: bool,
+    },
     List {
         is_large: bool,
         items: Box<Type>,
@@ -110,13 +113,14 @@ pub enum Type {
 pub fn some_type(chance: &mut Chance, levels: usize) -> Type {
     let is_large = chance.percent(50);
     if levels <= 1 || chance.percent(40) {
-        return match chance.below(8) {
+        return match chance.below(10) {
             0 => Type::Null,
             1 => Type::Truth,
             2 | 3 => Type::Int(*chance.one_of(&INTS)),
             4 => Type::Decimal,
             5 => Type::Texts { is_large },
             6 => Type::Binary { is_large },
+            7 | 8 => Type::Views { is_text: is_large },
             _ => Type::Sized(chance.below(4)),
         };
     }
@@ -157,9 +161,22 @@ pub fn some_row(kind: &Type, chance: &mut Chance) -> Row {
         Type::Truth => Row::Truth(chance.percent(50)),
         Type::Int(int) => Row::Number(int.some(chance)),
         Type::Decimal => Row::Number(*chance.one_of(&[0, 1, -1, i128::MIN, i128::MAX, 1 << 64])),
-        Type::Texts { .. } => {
-            let texts = ["", "a", "b", "ab", "é", "a longer text"];
+        Type::Texts { .. } | Type::Views { is_text: true } => {
+            let texts = [
+                "",
+                "a",
+                "b",
+                "ab",
+                "é",
+                "twelve bytes",
+                "a longer text",
+                "a longer test",
+            ];
             Row::Bytes(chance.one_of(&texts).as_bytes().to_vec())
+        }
+        Type::Views { is_text: false } => {
+            let count = *chance.one_of(&[0, 1, 2, 4, 11, 12, 13, 14]);
+            Row::Bytes(some_bytes(chance, count))
         }
         Type::Binary { .. } => {
             let count = chance.below(4);
