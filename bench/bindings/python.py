@@ -9,6 +9,7 @@ that the library does not serve is left out. Calls of one line compute the same.
 """
 from __future__ import annotations
 
+import ctypes
 import pathlib
 import sys
 import time
@@ -20,6 +21,13 @@ import pandas as pd
 sys.path.insert(0, str(pathlib.Path(__file__).resolve().parents[2] / "bindings/python"))
 
 import dunkelva  # noqa: E402
+from dunkelva import _structs  # noqa: E402
+from dunkelva._types import Type  # noqa: E402
+
+_masked_array: Any = np.ma.masked_array  # which has no types
+_capsule = ctypes.pythonapi.PyCapsule_New
+_capsule.restype = ctypes.py_object
+_capsule.argtypes = [ctypes.c_void_p, ctypes.c_char_p, ctypes.c_void_p]
 
 Line = Tuple[str, Dict[str, Callable[[], Any]]]
 
@@ -34,6 +42,18 @@ def lines(rows: int) -> Iterator[Line]:
     small = left.astype(np.int32), right.astype(np.int32)
     yield "int32, equal", {"dunkelva": lambda: dunkelva.equal(*small),
                            "numpy": lambda: small[0] == small[1]}
+    masked: List[Any] = [_masked_array(side.astype(np.int32), left % step == 0)
+              for side, step in ((left, 3), (right, 5))]
+    yield "int32, masked, equal", {"dunkelva": lambda: dunkelva.equal(*masked),
+                                   "numpy": lambda: masked[0] == masked[1]}
+    yield "int32, masked, sum", {"dunkelva": lambda: dunkelva.sum(masked[0]),
+                                 "numpy": lambda: masked[0].sum(dtype=np.int32)}
+    yield "int32, masked, min_max", {"dunkelva": lambda: dunkelva.min_max(masked[0]),
+                                     "numpy": lambda: (masked[0].min(), masked[0].max())}
+    yield "int32, masked, add", {"dunkelva": lambda: dunkelva.add(*masked),
+                                 "numpy": lambda: masked[0] + masked[1]}
+    yield "int32, masked, mod 7", {"dunkelva": lambda: dunkelva.mod(masked[0], 7),
+                                   "numpy": lambda: masked[0] % 7}
     nulls = [pd.Series(pd.arrays.IntegerArray(side.copy(), left % step == 0))
              for side, step in ((left, 3), (right, 5))]
     yield "Int64 with nulls, equal", {
@@ -44,9 +64,17 @@ def lines(rows: int) -> Iterator[Line]:
         "pandas": lambda: nulls[0] < nulls[1]}
     yield "Int64 with nulls, sum", {"dunkelva": lambda: dunkelva.sum(nulls[0]),
                                     "pandas": lambda: nulls[0].sum()}
+    codes = pd.Series(pd.arrays.IntegerArray(left * 7919 % 50_000, left % 3 == 0))
+    yield "Int64 with nulls, unique", {"dunkelva": lambda: dunkelva.unique(codes),
+                                       "pandas": lambda: codes.unique()}
+    yield "Int64 with nulls, n_unique", {"dunkelva": lambda: dunkelva.n_unique(codes),
+                                         "pandas": lambda: codes.nunique(dropna=False)}
+    texts = [pd.Series((side % 1000).astype(str)).astype(object) for side in (left, right)]
+    buffers = [Texts(side) for side in texts]
+    yield "texts, equal", {"dunkelva": lambda: dunkelva.equal(*buffers),
+                           "pandas": lambda: texts[0] == texts[1]}
     if rows > 1_000_000:
         return
-    texts = [pd.Series((side % 1000).astype(str)) for side in (left, right)]
     yield "texts in objects, equal", {"dunkelva": lambda: dunkelva.equal(*texts),
                                       "pandas": lambda: texts[0] == texts[1]}
     words = pd.Categorical.from_codes(left % 3, ["a", "b", "c"])
@@ -58,6 +86,21 @@ def lines(rows: int) -> Iterator[Line]:
     yield "two columns by key", {
         "dunkelva": lambda: dunkelva.diff(frames[0], turned, on="id", limit=0),
         "pandas": lambda: _differences(frames[0], turned)}
+
+
+class Texts:
+    """A column of texts as programs export it that keep them in the layout of Arrow."""
+
+    def __init__(self, objects: Any) -> None:
+        texts = [text.encode() for text in objects]
+        offsets = np.zeros(len(texts) + 1, np.int32)
+        np.cumsum([len(text) for text in texts], out=offsets[1:])
+        buffers = [None, offsets, np.frombuffer(b"".join(texts), np.uint8)]
+        self._chunk = _structs.make(Type("u"), len(texts), buffers)
+
+    def __arrow_c_array__(self, requested_schema: object = None) -> Tuple[object, object]:
+        return (_capsule(ctypes.addressof(self._chunk.schema), b"arrow_schema", None),
+                _capsule(ctypes.addressof(self._chunk.array), b"arrow_array", None))
 
 
 def _equal_masked(sides: List[Any]) -> Any:

@@ -33,6 +33,21 @@ def is_missing(value: object) -> bool:
     return isinstance(value, (np.datetime64, np.timedelta64)) and bool(np.isnat(value))
 
 
+# Classes of which no value is missing, or the one that is None already.
+_PLAIN = frozenset({type(None), bool, int, str, bytes, bytearray, list, tuple, dict,
+                    decimal.Decimal, datetime.date, datetime.datetime, datetime.time,
+                    datetime.timedelta})
+
+
+def with_none(values: Sequence[object],
+              is_gap: Callable[[object], bool] = is_missing) -> Sequence[Any]:
+    """Returns rows in which None stands for each value that is missing."""
+    others = set(map(type, values)) - _PLAIN
+    if not others:
+        return values
+    return [None if type(value) in others and is_gap(value) else value for value in values]
+
+
 # Classes of values, the narrower ones first, and what they are called.
 _CLASSES: Tuple[Tuple[str, Tuple[type, ...]], ...] = (
     ("bool", (bool, np.bool_)), ("int", (int, np.integer)), ("float", (float, np.floating)),
@@ -55,8 +70,10 @@ def infer(values: Iterable[object]) -> Type:
     Numbers are int64 where they fit, else uint64, else decimals. Dicts are structs of all members
     that one of them has.
     """
-    present: List[Any] = [value for value in values if not is_missing(value)]
-    classes = {_class_of(kind) for kind in set(map(type, present))}
+    rows = with_none(list(values))
+    kinds = set(map(type, rows))
+    present = [row for row in rows if row is not None] if type(None) in kinds else list(rows)
+    classes = {_class_of(kind) for kind in kinds - {type(None)}}
     if classes == {"int", "float"}:
         if any(isinstance(value, int) and abs(value) > 2 ** 53 for value in present):
             raise Unfit("there are floats, and whole numbers that no float is")
@@ -115,7 +132,7 @@ _INFER: Dict[str, Callable[[List[Any]], Type]] = {
 
 def build(values: Sequence[object], type: Type) -> Chunk:
     """Makes an array of Python values, each of which has to be a value of the type."""
-    rows: List[Any] = [None if is_missing(value) else value for value in values]
+    rows = with_none(values)
     if type.entries is not None:
         return _dictionary(rows, type)
     if type.format == "n":
@@ -123,8 +140,7 @@ def build(values: Sequence[object], type: Type) -> Chunk:
             if row is not None:
                 raise Unfit(f"{row!r} is not null")
         return make(type, len(rows), [])
-    present = np.array([row is not None for row in rows], np.bool_)
-    bits, form = validity(present), type.format
+    bits, form = validity(_present(rows)), type.format
     if form == "+s":
         names = [name for name, _ in type.children]
         for row in rows:
@@ -150,7 +166,14 @@ def build(values: Sequence[object], type: Type) -> Chunk:
     return make(type, len(rows), [bits, _numbers(rows, type)])
 
 
-def _lists(rows: List[Any], type: Type, bits: Optional[npt.NDArray[np.uint8]]) -> Chunk:
+def _present(rows: Sequence[object]) -> Optional[npt.NDArray[np.bool_]]:
+    """Returns which rows are not None, or None where all are not."""
+    if type(None) not in set(map(type, rows)):
+        return None
+    return np.array([row is not None for row in rows], np.bool_)
+
+
+def _lists(rows: Sequence[Any], type: Type, bits: Optional[npt.NDArray[np.uint8]]) -> Chunk:
     width = int(type.format[3:]) if type.format.startswith("+w:") else None
     for row in rows:
         fits = row is None or isinstance(row, (list, tuple, np.ndarray))
@@ -165,9 +188,9 @@ def _lists(rows: List[Any], type: Type, bits: Optional[npt.NDArray[np.uint8]]) -
     return make(type, len(rows), [bits, offsets], [child])
 
 
-def _offsets(lengths: Sequence[int], is_large: bool) -> npt.NDArray[Any]:
-    offsets = np.zeros(len(lengths) + 1, np.int64)
-    np.cumsum(lengths, out=offsets[1:])
+def _offsets(lengths: npt.ArrayLike, is_large: bool) -> npt.NDArray[Any]:
+    ends = np.cumsum(lengths, dtype=np.int64)
+    offsets: npt.NDArray[Any] = np.concatenate([np.zeros(1, np.int64), ends])
     if is_large:
         return offsets
     if offsets[-1] > np.iinfo(np.int32).max:
@@ -175,38 +198,42 @@ def _offsets(lengths: Sequence[int], is_large: bool) -> npt.NDArray[Any]:
     return offsets.astype(np.int32)
 
 
-def _strings(rows: List[Any], type: Type, bits: Optional[npt.NDArray[np.uint8]]) -> Chunk:
+def _strings(rows: Sequence[Any], type: Type, bits: Optional[npt.NDArray[np.uint8]]) -> Chunk:
     is_text = type.format in ("u", "U", "vu")
     wanted: Tuple[Any, ...] = (str,) if is_text else (bytes, bytearray)
-    for kind in set(map(_class, rows)):
-        if kind is not None and not issubclass(kind, wanted):
+    for kind in _classes(rows):
+        if not issubclass(kind, wanted):
             raise Unfit(f"a row of {kind.__name__} is no {type}")
-    lengths, data = _joined(["" if row is None else row for row in rows] if is_text else
-                            [b"" if row is None else row for row in rows])
+    if bits is not None:
+        empty: Any = "" if is_text else b""
+        rows = [empty if row is None else row for row in rows]
+    lengths, data = _joined(rows)
     if type.format in ("vu", "vz"):
         return _views(lengths, data, type, bits)
     content = np.frombuffer(data or b"\0", np.uint8)
     return make(type, len(rows), [bits, _offsets(lengths, type.format in "UZ"), content])
 
 
-def _class(row: object) -> Optional[type]:
-    return None if row is None else type(row)
+def _classes(rows: Sequence[object]) -> List[type]:
+    """Returns the classes of the rows that are not None."""
+    return [kind for kind in set(map(type, rows)) if kind is not type(None)]
 
 
-def _joined(strings: Sequence[Any]) -> Tuple[List[int], bytes]:
+def _joined(strings: Sequence[Any]) -> Tuple[npt.NDArray[np.int64], bytes]:
     """Returns the lengths of texts or byte strings, and their bytes."""
     if strings and isinstance(strings[0], str):
+        lengths = np.fromiter(map(len, strings), np.int64, len(strings))
         data = "".join(strings).encode("utf-8", "surrogatepass")
-        if len(data) == sum(map(len, strings)):
-            return list(map(len, strings)), data
+        if len(data) == lengths.sum():
+            return lengths, data
         strings = [text.encode("utf-8", "surrogatepass") for text in strings]
-    return list(map(len, strings)), b"".join(strings)
+    return np.fromiter(map(len, strings), np.int64, len(strings)), b"".join(strings)
 
 
-def _views(lengths: List[int], data: bytes, type: Type,
+def _views(lengths: npt.NDArray[np.int64], data: bytes, type: Type,
            bits: Optional[npt.NDArray[np.uint8]]) -> Chunk:
     views, place = bytearray(), 0
-    for length in lengths:
+    for length in lengths.tolist():
         content = data[place:place + length]
         views += length.to_bytes(4, "little")
         if length <= 12:
@@ -237,7 +264,7 @@ def _fixed(row: Any, type: Type, width: int) -> bytes:
         raise Unfit(f"{row!r} is no {type}") from error
 
 
-def _numbers(rows: List[Any], type: Type) -> npt.NDArray[Any]:
+def _numbers(rows: Sequence[Any], type: Type) -> npt.NDArray[Any]:
     kind = type.number()
     if kind is None:
         raise Unfit(f"Python values can't be a column of {type}")
@@ -247,9 +274,8 @@ def _numbers(rows: List[Any], type: Type) -> npt.NDArray[Any]:
     wanted: Tuple[Any, ...] = (int, np.integer)
     if dtype.kind == "f":
         wanted = (float, np.floating, int, np.integer)
-    for row_class in set(map(_class, rows)):
-        if row_class is not None and (
-                not issubclass(row_class, wanted) or issubclass(row_class, (bool, np.bool_))):
+    for row_class in _classes(rows):
+        if not issubclass(row_class, wanted) or issubclass(row_class, (bool, np.bool_)):
             raise Unfit(f"a row of {row_class.__name__} is no {type}")
     filled = [0 if row is None else row for row in rows]
     if dtype.kind != "f" and filled:
@@ -290,7 +316,7 @@ def _in_unit(nano: int, unit: str, row: object, type: Type) -> int:
     return number
 
 
-def _dictionary(rows: List[Any], type: Type) -> Chunk:
+def _dictionary(rows: Sequence[Any], type: Type) -> Chunk:
     assert type.entries is not None
     places: Dict[str, int] = {}
     entries: List[object] = []
@@ -302,5 +328,5 @@ def _dictionary(rows: List[Any], type: Type) -> Chunk:
             entries.append(row)
         keys.append(None if row is None else places[name])
     held = build(entries, type.entries) if entries else no_rows(type.entries)
-    bits = validity(np.array([key is not None for key in keys], np.bool_))
+    bits = validity(_present(keys))
     return make(type, len(rows), [bits, _numbers(keys, Type(type.format))], entries=held)

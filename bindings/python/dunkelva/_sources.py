@@ -8,7 +8,7 @@ import numpy as np
 import numpy.typing as npt
 
 from ._library import NotServed, TypesDiffer, BadArray
-from ._rows import Unfit, build, infer, is_missing
+from ._rows import Unfit, build, infer, is_missing, with_none
 from ._structs import (Chunk, Column, fields_of, from_capsules, from_stream, make, memory,
                        no_rows, packed, validity)
 from ._types import NUMBERS, Type
@@ -272,8 +272,7 @@ def _series(series: Any) -> Side:
     values = series.to_numpy()
     if values.dtype.kind != "O":
         return _numpy(values)
-    return Rows([None if value is not None and value is not True and _is_gap(value) else value
-                 for value in values.tolist()])
+    return Rows(with_none(values.tolist(), _is_gap))
 
 
 def _is_gap(value: object) -> bool:
