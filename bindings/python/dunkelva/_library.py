@@ -75,7 +75,7 @@ def _status(left: Chunk, left_first: int, right: Chunk, right_first: int, rows: 
             out: npt.NDArray[np.uint8]) -> int:
     return int(_equal_rows(
         left.schema, left.array, left_first, right.schema, right.array, right_first, rows, flags,
-        out.ctypes.data, out.size, None))
+        out.__array_interface__["data"][0], out.size, None))
 
 
 def _said(status: int) -> str:
@@ -137,13 +137,16 @@ def compare(left: Column, right: Column, flags: int, what: str = "") -> npt.NDAr
     """Compares two columns of one length, whose chunks may end at different rows."""
     if len(left) != len(right):
         raise TypesDiffer(f"{what}left has {len(left)} rows, right has {len(right)}")
-    if left.type != right.type:  # but for names of items, which are not compared
+    # types may have other names of items, which are not compared
+    if left.type is not right.type and left.type != right.type:
         difference = left.type.difference(right.type)
         if difference is not None:
             raise TypesDiffer(what + difference)
+    if len(left.chunks) == len(right.chunks) == 1:
+        return compare_rows(left.chunks[0], 0, right.chunks[0], 0, len(left), flags, what)
     parts = [compare_rows(one, first, other, second, rows, flags, what)
              for one, first, other, second, rows in windows(left, right)]
-    return parts[0] if len(parts) == 1 else np.concatenate(parts)
+    return np.concatenate(parts)
 
 
 def windows(left: Column, right: Column) -> Iterator[Tuple[Chunk, int, Chunk, int, int]]:

@@ -14,6 +14,7 @@ from ._structs import (Chunk, Column, fields_of, from_capsules, from_stream, mak
 from ._types import NUMBERS, Type
 
 _FORMATS = {kind: form for form, kind in NUMBERS.items()}
+_NUMBERS = {kind: Type(form) for form, kind in NUMBERS.items()}
 _UNITS = {"s": "s", "ms": "m", "us": "u", "ns": "n"}
 _Present = Optional[npt.NDArray[np.bool_]]
 
@@ -56,6 +57,8 @@ def read(value: object, side: str) -> Source:
 
 
 def _read(value: Any) -> Source:
+    if isinstance(value, np.ndarray):
+        return _numpy(value)
     pandas = sys.modules.get("pandas")
     if pandas is not None:
         if isinstance(value, pandas.DataFrame):
@@ -64,8 +67,6 @@ def _read(value: Any) -> Source:
             return _series(value)
         if isinstance(value, pandas.api.extensions.ExtensionArray):
             return _series(pandas.Series(value))
-    if isinstance(value, np.ndarray):
-        return _numpy(value)
     if hasattr(value, "__arrow_c_array__"):
         return _table_or_column(Column([from_capsules(*value.__arrow_c_array__())]))
     if hasattr(value, "__arrow_c_stream__"):
@@ -197,10 +198,10 @@ def _flat(array: npt.NDArray[Any], present: _Present) -> Chunk:
     if kind == "S":
         width = array.dtype.itemsize
         return make(Type(f"w:{width}"), rows, [validity(present), array.view(np.uint8)], held=array)
-    form = _FORMATS.get(array.dtype.str[1:])
-    if form is None:
+    numbers = _NUMBERS.get(array.dtype.str[1:])
+    if numbers is None:
         raise NotServed(f"an array of {array.dtype} is not served")
-    return make(Type(form), rows, [validity(present), array])
+    return make(numbers, rows, [validity(present), array])
 
 
 def _times(array: npt.NDArray[Any], present: _Present) -> Chunk:

@@ -59,14 +59,8 @@ class Chunk:
 
     __slots__ = ("schema", "array", "held", "type")
 
-    def __init__(self, schema: ArrowSchema, array: ArrowArray, held: object,
-                 type: Optional[Type] = None):
-        if not array.release:
-            raise ValueError("its array was released")
-        if array.length < 0:
-            raise ValueError(f"its length is {array.length}")
-        self.schema, self.array, self.held = schema, array, held
-        self.type = type_of_schema(schema) if type is None else type
+    def __init__(self, schema: ArrowSchema, array: ArrowArray, held: object, type: Type):
+        self.schema, self.array, self.held, self.type = schema, array, held, type
 
     def __len__(self) -> int:
         return int(self.array.length)
@@ -83,6 +77,16 @@ class Column:
 
     def __len__(self) -> int:
         return sum(map(len, self.chunks))
+
+
+def borrowed(schema: ArrowSchema, array: ArrowArray, held: object,
+              type: Optional[Type] = None) -> Chunk:
+    """Checks an array that another program made, and borrows it."""
+    if not array.release:
+        raise ValueError("its array was released")
+    if array.length < 0:
+        raise ValueError(f"its length is {array.length}")
+    return Chunk(schema, array, held, type_of_schema(schema) if type is None else type)
 
 
 def type_of_schema(schema: ArrowSchema) -> Type:
@@ -173,7 +177,7 @@ def fields_of(chunk: Chunk) -> List[Chunk]:
                              f"rows, where {chunk.array.offset + chunk.array.length} are needed")
         field.offset += chunk.array.offset
         field.length = chunk.array.length
-        fields.append(Chunk(chunk.schema.children[place].contents, field, chunk, type))
+        fields.append(borrowed(chunk.schema.children[place].contents, field, chunk, type))
     return fields
 
 
@@ -200,9 +204,9 @@ class _Released:
 
 def from_capsules(schema: object, array: object) -> Chunk:
     """Borrows an array from its two capsules."""
-    return Chunk(ArrowSchema.from_address(_capsule_pointer(schema, b"arrow_schema")),
-                 ArrowArray.from_address(_capsule_pointer(array, b"arrow_array")),
-                 (schema, array))
+    return borrowed(ArrowSchema.from_address(_capsule_pointer(schema, b"arrow_schema")),
+                     ArrowArray.from_address(_capsule_pointer(array, b"arrow_array")),
+                     (schema, array))
 
 
 def from_stream(capsule: object) -> Column:
@@ -219,7 +223,7 @@ def from_stream(capsule: object) -> Column:
         _ask(stream, stream.get_next, array.struct)
         if not array.struct.release:
             return Column(chunks or [no_rows(type)])
-        chunks.append(Chunk(schema.struct, array.struct, (schema, array, capsule), type))
+        chunks.append(borrowed(schema.struct, array.struct, (schema, array, capsule), type))
 
 
 def _ask(stream: ArrowArrayStream, call: Any, struct: ctypes.Structure) -> None:

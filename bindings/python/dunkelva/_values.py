@@ -10,7 +10,7 @@ import numpy as np
 import numpy.typing as npt
 
 from ._rows import EPOCH
-from ._structs import ArrowArray, Chunk, Column, make, memory, validity
+from ._structs import ArrowArray, Chunk, Column, borrowed, make, memory, validity
 from ._types import Type
 
 _UNITS = {"s": "s", "m": "ms", "u": "us", "n": "ns"}
@@ -45,7 +45,7 @@ def names_of(chunk: Chunk) -> List[Hashable]:
         numbers = numbers_of(chunk)
         assert numbers is not None
         inner = array.dictionary.contents
-        entries = names_of(Chunk(chunk.schema.dictionary.contents, inner, chunk))
+        entries = names_of(borrowed(chunk.schema.dictionary.contents, inner, chunk))
         return [entries[key] if there else None for key, there in zip(numbers, present)]
     if form not in ("u", "U", "z", "Z") or rows == 0:
         return [_name(value) for value in values_at(Column([chunk]), range(rows))]
