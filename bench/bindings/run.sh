@@ -1,13 +1,16 @@
 #!/usr/bin/env bash
 # Makes the library for C and the timed kernels, both proved, and a Rust program that times the
-# library beside the kernels alone and beside plain Rust. Arguments: numbers of rows.
+# library beside the kernels alone and beside plain Rust. Where rt ci has run, what it proved is
+# compiled; else all is proved first. Arguments: numbers of rows.
 set -euo pipefail
 here="$(cd "$(dirname "$0")" && pwd)"
 top="$here/../.."
 built="$top/bench/out"
 mkdir -p "$built"
-"$top/packaging/make_library"
-(cd "$top/crates/bench_kernels" && rt lib | tail -n 1)
+for crate in dunkelva_c bench_kernels; do
+    "$top/packaging/build_archive" "$crate" || (cd "$top/crates/$crate" && rt lib | tail -n 1)
+done
+"$top/packaging/make_library" "$top/crates/dunkelva_c/out/libdunkelva_c.a"
 cp "$top/crates/bench_kernels/out/libbench_kernels.a" "$top/out/library/libdunkelva.a" "$built"
 rustc --edition 2024 -O -C target-cpu=x86-64-v2 -C llvm-args=--x86-branches-within-32B-boundaries \
     "$here/main.rs" -L "$built" -l static=bench_kernels -l static=dunkelva \
