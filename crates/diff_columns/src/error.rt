@@ -7,7 +7,7 @@ use std::fmt;
 use thiserror::Error;
 
 /// One of two tables.
-#[derive(Clone, Copy, Debug, PartialEq, Eq)]
+#[derive(Clone, Copy, Debug)]
 pub enum Side {
     Left,
     Right,
@@ -25,7 +25,7 @@ impl fmt::Display for Side {
 }
 
 /// The reason why columns are not matched.
-#[derive(Clone, Copy, Debug, Drop, Error, PartialEq, Eq)]
+#[derive(Clone, Copy, Debug, Error)]
 pub enum ColumnError {
     /// An allocation failed.
     #[error("out of memory")]
