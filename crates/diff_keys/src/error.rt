@@ -3,16 +3,13 @@
 ghost use Rattle.diff_keys.specs.Errors.{IsMemory};
 
 use std::alloc::{AllocError, AllocFailed};
-use thiserror::Error;
 
 /// The reason why rows are not matched.
-#[derive(Clone, Copy, Debug, Drop, Error, PartialEq, Eq)]
+#[derive(Clone, Copy)]
 pub enum MatchError {
     /// An allocation failed.
-    #[error("out of memory")]
     Memory,
     /// A table has more than 2^32 rows.
-    #[error("a table has more than 4,294,967,296 rows")]
     TooManyRows,
 }
 

@@ -6,7 +6,7 @@ ghost use Rattle.diff_keys.specs.Outcome.{outcome_of};
 use crate::matching::Matching;
 
 /// What a comparison of two inputs comes to.
-#[derive(Clone, Copy, PartialEq, Eq)]
+#[derive(Clone, Copy)]
 pub enum Outcome {
     /// The inputs are the same.
     Same,
