@@ -1,0 +1,3 @@
+mod Examples
+pub mod KeyOrderLemmas
+pub mod OrderLemmas

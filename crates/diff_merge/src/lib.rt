@@ -1,0 +1,4 @@
+//! The order of keys, by which sorted tables are merged.
+#![tactic(auto)]
+
+pub mod laws;
