@@ -1,10 +1,10 @@
 -- Worked examples of the definitions: the check computes both sides of each.
-use Rattle.std.specs.Prelude.{◌≡◌, pos, negsuc, true, false, [], ◌∷◌, Some, refl}
-use Rattle.arrow_arithmetic.specs.Answers.{has_result, is_answered, lefts_of, rights_of}
-use Rattle.arrow_arithmetic.specs.Arithmetic.{function_of, operation_of, placed}
+use Rattle.std.specs.Prelude.{◌≡◌, pos, negsuc, true, false, [], ◌∷◌, Some, None, refl}
+use Rattle.arrow_arithmetic.specs.Answers.{beside_of, has_result, is_answered, lefts_of, rights_of}
+use Rattle.arrow_arithmetic.specs.Arithmetic.{arithmetic_number, function_of, operation_of, placed, side_number, sign_number}
 use Rattle.arrow_arithmetic.specs.declared.calculating.Arithmetic.TheVariants.{Subtract, FloorDivide, TruncatingDivide, Modulo}
 use Rattle.arrow_arithmetic.specs.declared.calculating.Sign.TheVariants.{Absolute}
-use Rattle.arrow_arithmetic.specs.declared.calculating.Side.TheVariants.{Left}
+use Rattle.arrow_arithmetic.specs.declared.calculating.Side.TheVariants.{Left, Right}
 use Rattle.polars_compute_arithmetic.specs.Operations.{result_rows}
 use Rattle.polars_arrays_flat.specs.Row.{Null, Int}
 
@@ -37,3 +37,23 @@ lefts_of-zero = refl
 -- u8 [3, null] - [5, 1] is [254, null]
 result_rows-subtract : result_rows (pos 0) 8 (operation_of Subtract) (Int (pos 3) ∷ Null ∷ []) (Int (pos 5) ∷ Int (pos 1) ∷ []) ≡ (Int (pos 254) ∷ Null ∷ [])
 result_rows-subtract = refl
+
+-- 7 divided by a number on its right: the number is 0, so that no row has a result
+beside_of-right : is_answered (beside_of Right true FloorDivide) (pos 7) ≡ false
+beside_of-right = refl
+
+-- a number on the left divided by 7
+beside_of-left : is_answered (beside_of Left true FloorDivide) (pos 7) ≡ true
+beside_of-left = refl
+
+arithmetic_number-modulo : arithmetic_number 5 ≡ Some Modulo
+arithmetic_number-modulo = refl
+
+arithmetic_number-past_the_last : arithmetic_number 6 ≡ None
+arithmetic_number-past_the_last = refl
+
+side_number-right : side_number 1 ≡ Some Right
+side_number-right = refl
+
+sign_number-absolute : sign_number 1 ≡ Some Absolute
+sign_number-absolute = refl

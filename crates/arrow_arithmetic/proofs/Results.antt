@@ -3,10 +3,12 @@ use Rattle.std.proofs.Common.{◌≡◌, ◌↔◌, ◌∙◌, ◌&&◌, zero, s
 use Rattle.std.specs.Prelude.{ℤ, pos, negsuc}
 use Rattle.std.specs.Simd.Lanes.{zip2}
 use Rattle.std.proofs.lemmas.Simd.{map-map}
-use Rattle.arrow_arithmetic.specs.Answers.{has_result, is_answered, lefts_of, rights_of}
-use Rattle.arrow_arithmetic.specs.Arithmetic.{function_of, operation_of}
+use Rattle.arrow_arithmetic.specs.Answers.{beside_of, has_result, is_answered, lefts_of, rights_of}
+use Rattle.arrow_arithmetic.specs.Arithmetic.{function_of, operation_of, placed}
 use Rattle.arrow_arithmetic.specs.declared.calculating.Arithmetic.{Arithmetic}
 use Rattle.arrow_arithmetic.specs.declared.calculating.Arithmetic.TheVariants.{Add, Subtract, Multiply, FloorDivide, TruncatingDivide, Modulo}
+use Rattle.arrow_arithmetic.specs.declared.calculating.Side.{Side}
+use Rattle.arrow_arithmetic.specs.declared.calculating.Side.TheVariants.{Left, Right}
 use Rattle.arrow_arithmetic.specs.declared.calculating.Sign.{Sign}
 use Rattle.arrow_arithmetic.specs.declared.calculating.Sign.TheVariants.{Negate, Absolute}
 use Rattle.arrow_columns.specs.Comparing.{under}
@@ -32,7 +34,7 @@ rights-law Modulo a (pos zero) = refl
 rights-law Modulo a (pos (suc n)) = refl
 rights-law Modulo a (negsuc n) = refl
 
-pub lefts-law : (zero : Bool) (arithmetic : Arithmetic) (a b : ℤ) → not zero ≡ is_nonzero b → has_result (operation_of arithmetic a b) ≡ is_answered (lefts_of zero arithmetic) a
+lefts-law : (zero : Bool) (arithmetic : Arithmetic) (a b : ℤ) → not zero ≡ is_nonzero b → has_result (operation_of arithmetic a b) ≡ is_answered (lefts_of zero arithmetic) a
 lefts-law true Add a b e = refl
 lefts-law true Subtract a b e = refl
 lefts-law true Multiply a b e = refl
@@ -45,6 +47,10 @@ lefts-law false Multiply a b e = refl
 lefts-law false FloorDivide a b e = rights-law FloorDivide a b ∙ sym e
 lefts-law false TruncatingDivide a b e = rights-law TruncatingDivide a b ∙ sym e
 lefts-law false Modulo a b e = rights-law Modulo a b ∙ sym e
+
+pub beside-law : (side : Side) (is_zero : Bool) (arithmetic : Arithmetic) (n a : ℤ) → not is_zero ≡ is_nonzero n → has_result (placed side (operation_of arithmetic) n a) ≡ is_answered (beside_of side is_zero arithmetic) a
+beside-law Left is_zero arithmetic n a e = rights-law arithmetic n a
+beside-law Right is_zero arithmetic n a e = lefts-law is_zero arithmetic a n e
 
 -- whether a number is 0, told by a test
 pub is_nonzero-not : (zero : Bool) (n : ℤ) → IsTrue zero ↔ (n ≡ pos 0) → not zero ≡ is_nonzero n

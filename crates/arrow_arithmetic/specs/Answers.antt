@@ -1,7 +1,11 @@
 -- The numbers for which an operation has a result.
+--
+-- 7 divided by 2 has a result, and 7 divided by 0 has none. A sum always has one.
 use Rattle.std.specs.Prelude.{ℤ, Bool, true, false, Option, Some, None}
 use Rattle.arrow_arithmetic.specs.declared.calculating.Arithmetic.{Arithmetic}
 use Rattle.arrow_arithmetic.specs.declared.calculating.Arithmetic.TheVariants.{Add, Subtract, Multiply, FloorDivide, TruncatingDivide, Modulo}
+use Rattle.arrow_arithmetic.specs.declared.calculating.Side.{Side}
+use Rattle.arrow_arithmetic.specs.declared.calculating.Side.TheVariants.{Left, Right}
 use Rattle.arrow_arithmetic.specs.declared.present.Answered.{Answered}
 use Rattle.arrow_arithmetic.specs.declared.present.Answered.TheVariants.{Each, Nonzero, Nothing}
 use Rattle.polars_compute_arithmetic.specs.Zeros.{is_nonzero}
@@ -35,3 +39,8 @@ lefts_of true Modulo = Nothing
 lefts_of true Add = Each
 lefts_of true Subtract = Each
 lefts_of true Multiply = Each
+
+-- the numbers for which there is a result beside one on a side, which is 0 or is not
+abbrev pub beside_of : Side → Bool → Arithmetic → Answered
+beside_of Left _ op = rights_of op
+beside_of Right zero op = lefts_of zero op

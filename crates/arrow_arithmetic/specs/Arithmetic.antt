@@ -1,5 +1,8 @@
 -- The meaning of the operations and functions of columns.
-use Rattle.std.specs.Prelude.{ℤ}
+--
+-- -7 divided by 2 is -4 rounded down and -3 rounded toward 0, and leaves 1. With the number 10 on the left a difference from the
+-- row 3 is 7. Number 5 in C is the remainder.
+use Rattle.std.specs.Prelude.{ℕ, ℤ, List, [], ◌∷◌, Option, Some, None, slice_index_or}
 use Rattle.arrow_arithmetic.specs.declared.calculating.Arithmetic.{Arithmetic}
 use Rattle.arrow_arithmetic.specs.declared.calculating.Arithmetic.TheVariants.{Add, Subtract, Multiply, FloorDivide, TruncatingDivide, Modulo}
 use Rattle.arrow_arithmetic.specs.declared.calculating.Sign.{Sign}
@@ -26,3 +29,22 @@ placed Right op n = λ a. op a n
 abbrev pub function_of : Sign → Function
 function_of Negate = negation_of
 function_of Absolute = magnitude_of
+
+-- ---- numbers in C
+
+-- the operations by their numbers, from 0 on
+abbrev pub operations : List (Option Arithmetic)
+operations =
+    Some Add ∷ Some Subtract ∷ Some Multiply ∷ Some FloorDivide ∷ Some TruncatingDivide ∷ Some Modulo ∷ []
+
+-- the operation with a number, or None
+abbrev pub arithmetic_number : ℕ → Option Arithmetic
+arithmetic_number n = slice_index_or operations n None
+
+-- the side with a number, or None
+abbrev pub side_number : ℕ → Option Side
+side_number n = slice_index_or (Some Left ∷ Some Right ∷ []) n None
+
+-- the function with a number, or None
+abbrev pub sign_number : ℕ → Option Sign
+sign_number n = slice_index_or (Some Negate ∷ Some Absolute ∷ []) n None

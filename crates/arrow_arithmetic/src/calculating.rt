@@ -2,15 +2,16 @@
 
 ghost use Rattle.std.specs.Prelude.{◌≡◌, Some, length, IfOk, MatchResult, OnErr};
 ghost use Rattle.num_traits.specs.Laws.{bit_len};
-ghost use Rattle.arrow_arithmetic.specs.Answers.{lefts_of, rights_of};
-ghost use Rattle.arrow_arithmetic.specs.Arithmetic.{function_of, operation_of, placed};
+ghost use Rattle.arrow_arithmetic.specs.Answers.{beside_of, lefts_of, rights_of};
+ghost use Rattle.arrow_arithmetic.specs.Arithmetic.{arithmetic_number, function_of, operation_of, placed};
+ghost use Rattle.arrow_arithmetic.specs.Arithmetic.{side_number, sign_number};
 ghost use Rattle.polars_arrays_bits.specs.Errors.{IsMemory};
 ghost use Rattle.polars_arrays_flat.specs.ArrayRows.{number_rows};
 ghost use Rattle.polars_arrays_flat.specs.StoredRows.{number_slots, rows_under};
 ghost use Rattle.polars_compute_arithmetic.specs.Operations.{answer_rows, result_rows};
 
 use crate::present::{Answered, present_pairs, present_rows};
-use crate::values::{write_lefts, write_pairs, write_rights, write_signs};
+use crate::values::{write_beside, write_pairs, write_signs};
 use arrow_columns::column::Column;
 use polars_arrays_bits::bitmap::Bitmap;
 use polars_arrays_bits::error::ComputeError;
@@ -46,6 +47,49 @@ pub enum Sign {
     Absolute,
 }
 
+impl Arithmetic {
+    /// Returns the operation with this number in C, or `None` if there is none.
+    pub fn of(number: u32) -> Option<Arithmetic>
+        ensures { result ≡ arithmetic_number number }
+    {
+        match number {
+            0 => Some(Arithmetic::Add),
+            1 => Some(Arithmetic::Subtract),
+            2 => Some(Arithmetic::Multiply),
+            3 => Some(Arithmetic::FloorDivide),
+            4 => Some(Arithmetic::TruncatingDivide),
+            5 => Some(Arithmetic::Modulo),
+            _ => None,
+        }
+    }
+}
+
+impl Side {
+    /// Returns the side with this number in C, or `None` if there is none.
+    pub fn of(number: u32) -> Option<Side>
+        ensures { result ≡ side_number number }
+    {
+        match number {
+            0 => Some(Side::Left),
+            1 => Some(Side::Right),
+            _ => None,
+        }
+    }
+}
+
+impl Sign {
+    /// Returns the function with this number in C, or `None` if there is none.
+    pub fn of(number: u32) -> Option<Sign>
+        ensures { result ≡ sign_number number }
+    {
+        match number {
+            0 => Some(Sign::Negate),
+            1 => Some(Sign::Absolute),
+            _ => None,
+        }
+    }
+}
+
 // Returns the right numbers for which an operation has a result.
 fn answered_rights(arithmetic: Arithmetic) -> Answered
     ensures { result ≡ rights_of arithmetic }
@@ -77,6 +121,17 @@ fn answered_lefts(arithmetic: Arithmetic, zero: bool) -> Answered
     }
 }
 
+// Returns the rows for which an operation with a number has a result. The number stands on a side,
+// and is 0 or is not.
+fn answered_beside(arithmetic: Arithmetic, side: Side, zero: bool) -> Answered
+    ensures { result ≡ beside_of side zero arithmetic }
+{
+    match side {
+        Side::Left => answered_rights(arithmetic),
+        Side::Right => answered_lefts(arithmetic, zero),
+    }
+}
+
 /// Writes the results of an operation on the rows at each place of two columns of one length, and
 /// returns a bit for each row, 1 if it is present: if both rows are, and there is a result. What is
 /// written for another row is arbitrary. The error is `Memory`; nothing is then written.
@@ -101,49 +156,6 @@ pub fn calculate<T: PlNumArithmetic>(
     Ok(present)
 }
 
-// Does the same for each row of a column and a right number.
-fn calculate_with<T: PlNumArithmetic>(
-    alloc: Global,
-    arithmetic: Arithmetic,
-    left: &Column<'_, T>,
-    right: T,
-    out: &mut [T],
-) -> Result<Bitmap, ComputeError>
-    requires { length out.old ≡ length left.now.values }
-    ensures rows { MatchResult result (λ present.
-        rows_under (Some present) (number_slots T.value out.new)
-        ≡ answer_rows T.low (bit_len T.width) (λ a. operation_of arithmetic a (T.value right))
-        (number_rows T.value left.now)) IsMemory }
-    ensures count { IfOk result (λ present. length present ≡ length left.now.values) }
-    ensures kept { OnErr result (out.new ≡ out.old) }
-{
-    let answered = answered_lefts(arithmetic, right.is_zero());
-    let present = present_rows(alloc, answered, left)?;
-    write_rights(arithmetic, left.values(), right, out);
-    Ok(present)
-}
-
-// Does the same for a left number and each row of a column.
-fn calculate_from<T: PlNumArithmetic>(
-    alloc: Global,
-    arithmetic: Arithmetic,
-    left: T,
-    right: &Column<'_, T>,
-    out: &mut [T],
-) -> Result<Bitmap, ComputeError>
-    requires { length out.old ≡ length right.now.values }
-    ensures rows { MatchResult result (λ present.
-        rows_under (Some present) (number_slots T.value out.new)
-        ≡ answer_rows T.low (bit_len T.width) (operation_of arithmetic (T.value left))
-        (number_rows T.value right.now)) IsMemory }
-    ensures count { IfOk result (λ present. length present ≡ length right.now.values) }
-    ensures kept { OnErr result (out.new ≡ out.old) }
-{
-    let present = present_rows(alloc, answered_rights(arithmetic), right)?;
-    write_lefts(arithmetic, left, right.values(), out);
-    Ok(present)
-}
-
 /// Writes the results of an operation on each row of a column and a number, which stands on the side
 /// that is named, and returns a bit for each row, 1 if it is present: if the row of the column is,
 /// and there is a result. What is written for another row is arbitrary. The error is `Memory`;
@@ -165,10 +177,10 @@ pub fn calculate_number<T: PlNumArithmetic>(
     ensures count { IfOk result (λ present. length present ≡ length column.now.values) }
     ensures kept { OnErr result (out.new ≡ out.old) }
 {
-    match side {
-        Side::Left => calculate_from(alloc, arithmetic, number, column, out),
-        Side::Right => calculate_with(alloc, arithmetic, column, number, out),
-    }
+    let answered = answered_beside(arithmetic, side, number.is_zero());
+    let present = present_rows(alloc, answered, column)?;
+    write_beside(arithmetic, side, number, column.values(), out);
+    Ok(present)
 }
 
 /// Writes the results of a function of each row of a column, and returns a bit for each row, 1 if

@@ -16,7 +16,7 @@ use polars_arrays_numbers::native_type::NativeType;
 use std::alloc::Global;
 
 /// The stored numbers for which an operation has a result.
-#[derive(Clone, Copy, PartialEq, Eq, Debug)]
+#[derive(Clone, Copy)]
 pub(crate) enum Answered {
     Each,
     Nonzero,

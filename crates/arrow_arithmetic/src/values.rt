@@ -3,11 +3,11 @@
 ghost use Rattle.std.specs.Prelude.{◌≡◌, ℤ, List, length, map};
 ghost use Rattle.std.specs.Simd.Lanes.{zip2};
 ghost use Rattle.num_traits.specs.Laws.{bit_len};
-ghost use Rattle.arrow_arithmetic.specs.Arithmetic.{function_of, operation_of};
+ghost use Rattle.arrow_arithmetic.specs.Arithmetic.{function_of, operation_of, placed};
 ghost use Rattle.polars_arrays_numbers.specs.Wrapping.{wrapped};
 ghost use Rattle.polars_compute_arithmetic.specs.Operations.{or_zero};
 
-use crate::calculating::{Arithmetic, Sign};
+use crate::calculating::{Arithmetic, Side, Sign};
 use crate::functions::{Magnitude, Negation, NumberFunction, WithLeft, WithRight};
 use crate::operations::{
     Difference, FloorQuotient, Modulus, NumberOperation, Product, Sum, TruncatedQuotient,
@@ -131,81 +131,49 @@ pub(crate) fn write_pairs<T: PlNumArithmetic>(
     }
 }
 
-/// Writes the results for each number and a right one.
-pub(crate) fn write_rights<T: PlNumArithmetic>(
-    arithmetic: Arithmetic,
-    left: &[T],
-    right: T,
+// Writes the results of an operation on each number and one that stands on a side.
+fn write_placed<T: PlNumArithmetic, O: NumberOperation<T> + Drop>(
+    operation: O,
+    side: Side,
+    number: T,
+    values: &[T],
     out: &mut [T],
 )
-    requires { length out.old ≡ length left.now }
+    requires { length out.old ≡ length values.now }
     ensures { map T.value out.new ≡ map (λ x. wrapped T.low (bit_len T.width)
-        (or_zero (operation_of arithmetic (T.value x) (T.value right)))) left.now }
+        (or_zero (placed side O.meaning (T.value number) (T.value x)))) values.now }
 {
-    match arithmetic {
-        Arithmetic::Add => {
-            let operation = Sum;
-            write_function(WithRight { operation, right }, left, out)
+    match side {
+        Side::Left => {
+            let left = number;
+            write_function(WithLeft { operation, left }, values, out)
         }
-        Arithmetic::Subtract => {
-            let operation = Difference;
-            write_function(WithRight { operation, right }, left, out)
-        }
-        Arithmetic::Multiply => {
-            let operation = Product;
-            write_function(WithRight { operation, right }, left, out)
-        }
-        Arithmetic::FloorDivide => {
-            let operation = FloorQuotient;
-            write_function(WithRight { operation, right }, left, out)
-        }
-        Arithmetic::TruncatingDivide => {
-            let operation = TruncatedQuotient;
-            write_function(WithRight { operation, right }, left, out)
-        }
-        Arithmetic::Modulo => {
-            let operation = Modulus;
-            write_function(WithRight { operation, right }, left, out)
+        Side::Right => {
+            let right = number;
+            write_function(WithRight { operation, right }, values, out)
         }
     }
 }
 
-/// Writes the results for a left number and each one.
-pub(crate) fn write_lefts<T: PlNumArithmetic>(
+/// Writes the results for each number and one that stands on a side.
+pub(crate) fn write_beside<T: PlNumArithmetic>(
     arithmetic: Arithmetic,
-    left: T,
-    right: &[T],
+    side: Side,
+    number: T,
+    values: &[T],
     out: &mut [T],
 )
-    requires { length out.old ≡ length right.now }
-    ensures { map T.value out.new ≡ map (λ y. wrapped T.low (bit_len T.width)
-        (or_zero (operation_of arithmetic (T.value left) (T.value y)))) right.now }
+    requires { length out.old ≡ length values.now }
+    ensures { map T.value out.new ≡ map (λ x. wrapped T.low (bit_len T.width)
+        (or_zero (placed side (operation_of arithmetic) (T.value number) (T.value x)))) values.now }
 {
     match arithmetic {
-        Arithmetic::Add => {
-            let operation = Sum;
-            write_function(WithLeft { operation, left }, right, out)
-        }
-        Arithmetic::Subtract => {
-            let operation = Difference;
-            write_function(WithLeft { operation, left }, right, out)
-        }
-        Arithmetic::Multiply => {
-            let operation = Product;
-            write_function(WithLeft { operation, left }, right, out)
-        }
-        Arithmetic::FloorDivide => {
-            let operation = FloorQuotient;
-            write_function(WithLeft { operation, left }, right, out)
-        }
-        Arithmetic::TruncatingDivide => {
-            let operation = TruncatedQuotient;
-            write_function(WithLeft { operation, left }, right, out)
-        }
-        Arithmetic::Modulo => {
-            let operation = Modulus;
-            write_function(WithLeft { operation, left }, right, out)
-        }
+        Arithmetic::Add => write_placed(Sum, side, number, values, out),
+        Arithmetic::Subtract => write_placed(Difference, side, number, values, out),
+        Arithmetic::Multiply => write_placed(Product, side, number, values, out),
+        Arithmetic::FloorDivide => write_placed(FloorQuotient, side, number, values, out),
+        Arithmetic::TruncatingDivide => write_placed(TruncatedQuotient, side, number, values, out),
+        Arithmetic::Modulo => write_placed(Modulus, side, number, values, out),
     }
 }
 
