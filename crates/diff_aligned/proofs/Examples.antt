@@ -1,6 +1,6 @@
 -- Worked examples of the definitions.
 use Rattle.std.specs.Prelude.{◌≡◌, ◌++◌, [], ◌∷◌, codes, refl}
-use Rattle.diff_aligned.specs.Cut.{char_columns, cut, ending, padded}
+use Rattle.diff_widths.specs.Cut.{char_columns, cut, ending, padded}
 use Rattle.diff_aligned.specs.Paragraphs.{paragraph}
 use Rattle.diff_aligned.specs.Shown.{escape, is_hidden, shown_char}
 use Rattle.unicode_width.proofs.Computing.{unicode_width}

@@ -1,4 +1,3 @@
-pub mod CutLemmas
 mod Examples
 pub mod LineLemmas
 pub mod PartLemmas

@@ -4,7 +4,7 @@ use Rattle.std.proofs.lemmas.List.{append-nil}
 use Rattle.std.proofs.lemmas.List.Elements.{All-cons, All-nil}
 use Rattle.std.specs.Prelude.{All, codes, map}
 use Rattle.diff_aligned.specs.Aligned.{rooms_for, row_lines}
-use Rattle.diff_aligned.specs.Cut.{char_columns, cut, filler, padded, width}
+use Rattle.diff_widths.specs.Cut.{char_columns, cut, filler, padded, width}
 use Rattle.diff_aligned.specs.Pieces.{change_pieces, line_text, lone_pieces, pieces_by, row_pieces}
 use Rattle.diff_aligned.specs.Rooms.{needed, no_rooms, rooms_in, share}
 use Rattle.diff_aligned.specs.Rows.{Cells}

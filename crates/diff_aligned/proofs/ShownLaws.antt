@@ -5,7 +5,7 @@ use Rattle.std.proofs.lemmas.List.Folds.{list_all-append}
 use Rattle.std.specs.Fmt.{digit_glyph}
 use Rattle.std.specs.List.{flat_map, list_all}
 use Rattle.bstr.specs.Utf8.{lossy_chars}
-use Rattle.diff_aligned.specs.Cut.{beginning, char_columns, cut, ending, filler, is_end, padded, shortened, spaces, width}
+use Rattle.diff_widths.specs.Cut.{beginning, char_columns, cut, ending, filler, is_end, padded, shortened, spaces, width}
 use Rattle.diff_aligned.specs.Shown.{escape, is_hidden, shown_char, text_of, unit_escape}
 
 -- a text without hidden characters

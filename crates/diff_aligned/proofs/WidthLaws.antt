@@ -5,7 +5,7 @@ use Rattle.std.proofs.lemmas.Bool.Decides.{nat_tests}
 use Rattle.std.proofs.lemmas.List.Elements.{All-cons, All-nil}
 use Rattle.std.specs.Prelude.{All}
 use Rattle.unicode_width.proofs.Computing.{unicode_width}
-use Rattle.diff_aligned.specs.Cut.{beginning, char_columns, cut, ending, filler, is_end, padded, shortened, spaces, width}
+use Rattle.diff_widths.specs.Cut.{beginning, char_columns, cut, ending, filler, is_end, padded, shortened, spaces, width}
 use Rattle.diff_aligned.specs.Paragraphs.{filled, paragraph}
 
 pub width-append : (xs ys : List ℕ) → width (xs ++ ys) ≡ width xs + width ys

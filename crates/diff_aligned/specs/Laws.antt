@@ -2,7 +2,7 @@
 use Rattle.std.specs.List.{list_all}
 use Rattle.std.specs.Prelude.{◌≡◌, ℕ, ◌≤◌, true, not, All, List}
 use Rattle.diff_aligned.specs.Aligned.{row_lines}
-use Rattle.diff_aligned.specs.Cut.{cut, padded, width}
+use Rattle.diff_widths.specs.Cut.{cut, padded, width}
 use Rattle.diff_aligned.specs.Paragraphs.{paragraph}
 use Rattle.diff_aligned.specs.Pieces.{line_text}
 use Rattle.diff_aligned.specs.Rows.{Cells}

@@ -1,6 +1,5 @@
 pub mod Aligned
 pub mod Counts
-pub mod Cut
 pub mod Laws
 pub mod Paragraphs
 pub mod Pieces

@@ -3,7 +3,7 @@
 -- In 6 columns the words ab, cde and f are the lines `ab cde` and `f`.
 use Rattle.std.specs.List.{flat_map}
 use Rattle.std.specs.Prelude.{ℕ, ◌-◌, nat_lt, if◌then◌else◌, List, [], ◌∷◌, ◌++◌, codes, encode_utf8_all}
-use Rattle.diff_aligned.specs.Cut.{cut, width}
+use Rattle.diff_widths.specs.Cut.{cut, width}
 
 -- the lines of words behind those that stand in a line
 abbrev pub filled : ℕ → List ℕ → List (List ℕ) → List (List ℕ)

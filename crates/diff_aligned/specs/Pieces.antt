@@ -1,7 +1,7 @@
 -- The lines of rows, as pieces in colours.
 use Rattle.std.specs.List.{flat_map}
 use Rattle.std.specs.Prelude.{ℕ, Bool, List, [], ◌∷◌, ◌++◌, codes, encode_utf8_all}
-use Rattle.diff_aligned.specs.Cut.{cut, filler, padded}
+use Rattle.diff_widths.specs.Cut.{cut, filler, padded}
 use Rattle.diff_aligned.specs.Rows.{Cells}
 use Rattle.diff_aligned.specs.declared.rooms.Rooms.{Rooms}
 use Rattle.diff_aligned.specs.declared.rows.Mark.{Mark}

@@ -3,7 +3,7 @@
 -- Between and before the four columns of a changed row stand 10 columns of marks and gaps. Each gets what it needs where there is room,
 -- and else no less than its even share of what is left, as far as it needs that.
 use Rattle.std.specs.Prelude.{ℕ, ◌+◌, ◌-◌, ◌/◌, List, [], ◌∷◌, max, min}
-use Rattle.diff_aligned.specs.Cut.{width}
+use Rattle.diff_widths.specs.Cut.{width}
 use Rattle.diff_aligned.specs.Rows.{Cells}
 use Rattle.diff_aligned.specs.declared.rooms.Rooms.{Rooms}
 

@@ -3,7 +3,6 @@
 
 pub mod aligned;
 mod counts;
-mod cut;
 pub mod laws;
 mod line;
 mod paragraphs;

@@ -3,8 +3,8 @@
 ghost use Rattle.std.specs.Prelude.{◌≡◌, ◌∷◌, [], ◌++◌, map, OnOk};
 ghost use Rattle.diff_aligned.specs.Paragraphs.{filled, paragraph, texts_bytes};
 
-use crate::cut::width_of;
 use crate::pieces::{cut_of, push_chars};
+use diff_widths::cut::width_of;
 use std::alloc::{AllocError, Global};
 
 /// Appends a line, with its end.

@@ -1,15 +1,15 @@
 //! The lines of rows, in colours.
 
 ghost use Rattle.std.specs.Prelude.{◌≡◌, ◌++◌, codes, encode_utf8_all, IfOk, OnOk};
-ghost use Rattle.diff_aligned.specs.Cut.{cut, filler, padded};
+ghost use Rattle.diff_widths.specs.Cut.{cut, filler, padded};
 ghost use Rattle.diff_aligned.specs.Pieces.{change_pieces, line_bytes, lone_pieces, row_pieces};
 ghost use Rattle.diff_aligned.specs.Rows.{row_view};
 ghost use Rattle.diff_words.specs.Colors.{painted};
 
-use crate::cut::{push_cut, push_spaces, width_of};
 use crate::rooms::Rooms;
 use crate::rows::{Mark, Row};
 use crate::shown::push_ascii;
+use diff_widths::cut::{push_cut, push_filler};
 use diff_words::colors::{Color, push_color};
 use std::alloc::{AllocError, Global};
 
@@ -50,15 +50,8 @@ pub(crate) fn cut_of(alloc: Global, text: &[char], room: usize) -> Result<Vec<ch
     Ok(out)
 }
 
-/// Appends the spaces that fill the room behind a text.
-fn push_filler(out: &mut Vec<char>, text: &[char], room: usize) -> Result<(), AllocError>
-    ensures { OnOk result (out.new.items ≡ out.old.items ++ filler room text.now) }
-{
-    push_spaces(out, room.saturating_sub(width_of(text)))
-}
-
 /// Appends a text, cut or filled up with spaces.
-#[tactic(auto, unfolding(crate::specs::Cut::padded))]
+#[tactic(auto, unfolding(diff_widths::specs::Cut::padded))]
 fn push_padded(
     alloc: Global,
     out: &mut Vec<char>,

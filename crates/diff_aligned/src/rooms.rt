@@ -5,8 +5,8 @@ ghost use Rattle.diff_aligned.specs.Aligned.{rooms_for};
 ghost use Rattle.diff_aligned.specs.Rooms.{needed, no_rooms, rooms_in, share, with_row};
 ghost use Rattle.diff_aligned.specs.Rows.{row_view, rows_view};
 
-use crate::cut::width_of;
 use crate::rows::Row;
+use diff_widths::cut::width_of;
 
 /// What the marks of rows and the gaps in them take.
 const GAPS: usize = 10;

@@ -1,7 +1,7 @@
 //! How many columns of a terminal a text takes, and texts that are cut in the middle.
 
 ghost use Rattle.std.specs.Prelude.{◌≡◌, ◌≤◌, ◌++◌, ◌-◌, OnOk};
-ghost use Rattle.diff_aligned.specs.Cut.{beginning, char_columns, cut, ending, shortened, spaces, width};
+ghost use Rattle.diff_widths.specs.Cut.{beginning, char_columns, cut, ending, filler, shortened, spaces, width};
 
 use std::alloc::AllocError;
 use unicode_width::UnicodeWidthChar;
@@ -19,7 +19,7 @@ fn char_columns(c: char) -> usize
 }
 
 /// Returns the columns that a text takes, character by character.
-pub(crate) fn width_of(text: &[char]) -> usize
+pub fn width_of(text: &[char]) -> usize
     ensures { result ≡ width text.now }
 {
     let mut total = 0;
@@ -78,7 +78,7 @@ fn push_shortened(out: &mut Vec<char>, text: &[char], room: usize) -> Result<(),
 
 /// Appends a text as it is where it has room, and else cut in the middle.
 #[tactic(auto, unfolding(crate::specs::Cut::cut))]
-pub(crate) fn push_cut(out: &mut Vec<char>, text: &[char], room: usize) -> Result<(), AllocError>
+pub fn push_cut(out: &mut Vec<char>, text: &[char], room: usize) -> Result<(), AllocError>
     ensures { OnOk result (out.new.items ≡ out.old.items ++ cut room text.now) }
 {
     if width_of(text) <= room {
@@ -90,11 +90,18 @@ pub(crate) fn push_cut(out: &mut Vec<char>, text: &[char], room: usize) -> Resul
 }
 
 /// Appends spaces.
-pub(crate) fn push_spaces(out: &mut Vec<char>, n: usize) -> Result<(), AllocError>
+fn push_spaces(out: &mut Vec<char>, n: usize) -> Result<(), AllocError>
     ensures { OnOk result (out.new.items ≡ out.old.items ++ spaces n) }
 {
     for _done in 0..n {
         out.push(' ')?;
     }
     Ok(())
+}
+
+/// Appends the spaces that fill the room behind a text.
+pub fn push_filler(out: &mut Vec<char>, text: &[char], room: usize) -> Result<(), AllocError>
+    ensures { OnOk result (out.new.items ≡ out.old.items ++ filler room text.now) }
+{
+    push_spaces(out, room.saturating_sub(width_of(text)))
 }

@@ -1,6 +1,6 @@
 use Rattle.std.proofs.Common.{◌≡◌, drop}
-use Rattle.diff_aligned.specs.Cut.{ending, width}
-use Rattle.diff_aligned.proofs.cut.push_ending.Given as goal
+use Rattle.diff_widths.specs.Cut.{ending, width}
+use Rattle.diff_widths.proofs.cut.push_ending.Given as goal
 
 abbrev pub invariant-loop-i : goal.invariant-loop-i
 invariant-loop-i l =

@@ -1,6 +1,6 @@
 use Rattle.std.proofs.Common.{rules, arith}
-use Rattle.diff_aligned.proofs.CutLemmas.{all_counted, counted, fits_more}
-use Rattle.diff_aligned.proofs.cut.width_of.Goals as goal
+use Rattle.diff_widths.proofs.CutLemmas.{all_counted, counted, fits_more}
+use Rattle.diff_widths.proofs.cut.width_of.Goals as goal
 
 pub overflow_add-total : goal.overflow_add-total
 overflow_add-total c =
