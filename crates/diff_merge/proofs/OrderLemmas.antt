@@ -27,13 +27,13 @@ key_order = record {
 }
 
 -- what a comparison of two keys says
-less_key : (a b : List ℕ) (o : Ordering) → o ≡ slice_cmp nat_cmp a b → o ≡ Less → key_less a b ≡ true
+pub less_key : (a b : List ℕ) (o : Ordering) → o ≡ slice_cmp nat_cmp a b → o ≡ Less → key_less a b ≡ true
 less_key a b o is h = ap is_lt (sym is ∙ h)
 
-equal_key : (a b : List ℕ) (o : Ordering) → o ≡ slice_cmp nat_cmp a b → o ≡ Equal → a ≡ b
+pub equal_key : (a b : List ℕ) (o : Ordering) → o ≡ slice_cmp nat_cmp a b → o ≡ Equal → a ≡ b
 equal_key a b o is h = exact_bytes a b (sym is ∙ h)
 
-greater_key : (a b : List ℕ) (o : Ordering) → o ≡ slice_cmp nat_cmp a b → o ≡ Greater → key_less b a ≡ true
+pub greater_key : (a b : List ℕ) (o : Ordering) → o ≡ slice_cmp nat_cmp a b → o ≡ Greater → key_less b a ≡ true
 greater_key a b o is h = ap is_lt (nat_list_cmp_total.antisymm b a ∙ ap ordering_reverse (sym is ∙ h))
 
 -- of two keys one is less, or they are the same
