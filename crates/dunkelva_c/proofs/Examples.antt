@@ -2,56 +2,18 @@
 use Rattle.std.specs.Prelude.{◌≡◌, ◌-◌, ◌^◌, pos, negsuc, true, false, [], ◌∷◌, Some, None, refl}
 use Rattle.arrow_arithmetic.specs.Arithmetic.{operation_of}
 use Rattle.arrow_arithmetic.specs.declared.calculating.Arithmetic.TheVariants as arithmetic
-use Rattle.arrow_arithmetic.specs.declared.calculating.Side.TheVariants as side
-use Rattle.arrow_arithmetic.specs.declared.calculating.Sign.TheVariants as sign
-use Rattle.arrow_columns.specs.declared.comparing.Test.TheVariants as test
-use Rattle.arrow_columns.specs.declared.counting.Counting.TheVariants as counting
-use Rattle.arrow_columns.specs.declared.reducing.BitOperator.TheVariants as operator
+use Rattle.arrow_calls.specs.declared.fault.Fault.TheVariants.{Room}
 use Rattle.arrow_parts.specs.Kinds.{kind_number}
-use Rattle.dunkelva_c.specs.Arithmetic.{arithmetic_number, results_at, side_number, sign_number}
-use Rattle.dunkelva_c.specs.ColumnBits.{operator_number}
-use Rattle.dunkelva_c.specs.ColumnCounts.{counting_number}
+use Rattle.dunkelva_c.specs.Arithmetic.{results_at}
 use Rattle.dunkelva_c.specs.Columns.{number_type, sum_at}
-use Rattle.dunkelva_c.specs.Comparisons.{test_number}
 use Rattle.dunkelva_c.specs.Nulls.{has_nulls, masked_bits}
-use Rattle.dunkelva_c.specs.Numbers.{number_words, words_number}
 use Rattle.dunkelva_c.specs.States.{count_in, state_status}
-use Rattle.dunkelva_c.specs.Statuses.{status_of}
-use Rattle.dunkelva_c.specs.declared.fault.Fault.TheVariants.{Room}
 use Rattle.dunkelva_c.specs.declared.states.StateFault.TheVariants.{Of, Outside}
 use Rattle.polars_arrays_flat.specs.Row.{Null, Int}
-
--- the numbers of operations in C
-test_number-unequal : test_number 1 ≡ Some test.Unequal
-test_number-unequal = refl
-
-test_number-past_the_last : test_number 6 ≡ None
-test_number-past_the_last = refl
-
-counting_number-leading_zeros : counting_number 3 ≡ Some counting.LeadingZeros
-counting_number-leading_zeros = refl
-
-operator_number-xor : operator_number 2 ≡ Some operator.Xor
-operator_number-xor = refl
-
-arithmetic_number-modulo : arithmetic_number 5 ≡ Some arithmetic.Modulo
-arithmetic_number-modulo = refl
-
-arithmetic_number-past_the_last : arithmetic_number 6 ≡ None
-arithmetic_number-past_the_last = refl
-
-side_number-right : side_number 1 ≡ Some side.Right
-side_number-right = refl
-
-sign_number-absolute : sign_number 1 ≡ Some sign.Absolute
-sign_number-absolute = refl
 
 -- kind 3 is the numbers of 8 bits with a sign: 100 + 100 is -56
 results_at-wraps : results_at (number_type (kind_number 3)) (operation_of arithmetic.Add) (Int (pos 100) ∷ Null ∷ []) (Int (pos 100) ∷ Int (pos 1) ∷ []) ≡ Int (negsuc 55) ∷ Null ∷ []
 results_at-wraps = refl
-
-status_of-room : status_of Room ≡ pos 3
-status_of-room = refl
 
 -- kind 3 is the numbers of 8 bits with a sign: 127 + 1 is -128
 number_type-wraps : sum_at (number_type (kind_number 3)) (Int (pos 127) ∷ Null ∷ Int (pos 1) ∷ []) ≡ Some (negsuc 127)
@@ -69,16 +31,6 @@ masked_bits-one = refl
 
 masked_bits-none : masked_bits 2 None ≡ false ∷ false ∷ []
 masked_bits-none = refl
-
--- -1 is all ones
-number_words-below_zero : number_words (Some (negsuc 0)) ≡ record { low = 2 ^ 64 - 1; high = 2 ^ 64 - 1; exists = 1 }
-number_words-below_zero = refl
-
-number_words-none : number_words None ≡ record { low = 0; high = 0; exists = 0 }
-number_words-none = refl
-
-words_number-below_zero : words_number (2 ^ 64 - 2) (2 ^ 64 - 1) ≡ negsuc 1
-words_number-below_zero = refl
 
 -- statuses of calls on states, and the three numbers from -1 to 1
 state_status-outside : state_status Outside ≡ pos 8

@@ -1,23 +1,18 @@
 -- Columns that are lent, and their validity.
-use Rattle.std.proofs.Common.{◌≡◌, ◌+◌, ◌∙◌, ℕ, List, [], ◌∷◌, Option, Some, None, Bool, not, length, map, refl, sym, ap₂, subst}
+use Rattle.std.proofs.Common.{◌≡◌, ◌∙◌, ℕ, List, Option, Some, None, Bool, not, length, map, refl, sym, ap₂, subst}
 use Rattle.std.specs.Prelude.{ℤ, option_map}
 use Rattle.std.proofs.lemmas.List.{length-map}
-use Rattle.std.proofs.lemmas.List.FromFn.{length-map-range_with_len}
-use Rattle.arrow_parts.specs.ByteBits.{byte_bit, presence}
+use Rattle.arrow_calls.proofs.Lent.{presence_bits}
+use Rattle.arrow_calls.specs.Columns.{Lends, rows_lent}
+use Rattle.arrow_parts.specs.ByteBits.{presence}
 use Rattle.arrow_parts.specs.declared.part.Part.{Part}
-use Rattle.dunkelva_c.specs.Columns.{Lends, rows_lent}
 use Rattle.polars_arrays_flat.specs.ArrayRows.{number_rows}
 use Rattle.polars_arrays_flat.specs.Numbers.{Numbers}
 use Rattle.polars_arrays_flat.specs.Row.{Row, Int}
 use Rattle.polars_arrays_flat.specs.StoredRows.{number_slots, rows_under}
 use Rattle.polars_arrays_flat.specs.Validity.{HasBits}
 
--- a validity has a bit for each row
-pub presence_bits : (at n : ℕ) (bytes : List ℕ) → HasBits n (presence at n bytes)
-presence_bits at n [] = tt
-presence_bits at n (byte ∷ bytes) = length-map-range_with_len (λ i. byte_bit (byte ∷ bytes) (at + i)) 0 n
-
--- and so has its complement
+-- the complement of a validity has a bit for each row
 pub nulls_long : (at n : ℕ) (bytes : List ℕ) (bits : List Bool) → Some bits ≡ presence at n bytes → length (map not bits) ≡ n
 nulls_long at n bytes bits e =
     length-map bits not ∙ subst (λ (v : Option (List Bool)). HasBits n v) (sym e) (presence_bits at n bytes)

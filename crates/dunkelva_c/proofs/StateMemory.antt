@@ -1,10 +1,10 @@
 -- States of ranges.
 use Rattle.std.proofs.Common.{◌≡◌, ◌<◌, ◌∙◌, ◌++◌, ℕ, Bool, true, false, cond, not, eqb, List, drop, length, map, refl, subst, arith}
 use Rattle.std.specs.Prelude.{ℤ}
+use Rattle.arrow_calls.specs.declared.fault.Fault.TheVariants.{Room}
+use Rattle.arrow_calls.specs.declared.number.Number.{Number}
 use Rattle.arrow_unique.specs.Memory.{low_word, state_in}
 use Rattle.dunkelva_c.specs.States.{AreCounts, IsAppended, IsListed, IsTrueListFault, count_in, whole_in}
-use Rattle.dunkelva_c.specs.declared.fault.Fault.TheVariants.{Room}
-use Rattle.dunkelva_c.specs.declared.number.Number.{Number}
 use Rattle.dunkelva_c.specs.declared.states.StateFault.TheVariants.{Of}
 use Rattle.polars_arrays_flat.specs.Row.{Int, Row}
 use Rattle.polars_compute_slots.specs.State.{finalised, set_of}

@@ -1,37 +1,25 @@
 -- Arithmetic on parts of numbers, whose results are written into the caller's memory.
-use Rattle.std.specs.Prelude.{◌≡◌, ◌≤◌, ◌*◌, ◌≤ℤ◌, ℕ, ℤ, pos, Bool, not, List, [], ◌∷◌, Option, Some, None, count_by, length, slice_index_or, ⊤}
+--
+-- Of the columns 100, null and 100, 1 of 8 bits with a sign the sums are -56 and null: memory has the number -56 and some other
+-- one, the bits 1 and 0, and the count 1 of nulls.
+use Rattle.std.specs.Prelude.{◌≡◌, ◌≤◌, ◌*◌, ◌≤ℤ◌, ℕ, ℤ, pos, Bool, not, List, [], Option, Some, None, count_by, length, ⊤}
 use Rattle.arrow_arithmetic.specs.Arithmetic.{function_of, operation_of, placed}
 use Rattle.arrow_arithmetic.specs.declared.calculating.Arithmetic.{Arithmetic}
-use Rattle.arrow_arithmetic.specs.declared.calculating.Arithmetic.TheVariants as arithmetic
 use Rattle.arrow_arithmetic.specs.declared.calculating.Side.{Side}
-use Rattle.arrow_arithmetic.specs.declared.calculating.Side.TheVariants as side
 use Rattle.arrow_arithmetic.specs.declared.calculating.Sign.{Sign}
-use Rattle.arrow_arithmetic.specs.declared.calculating.Sign.TheVariants as sign
+use Rattle.arrow_calls.specs.Columns.{IsColumn}
+use Rattle.arrow_calls.specs.declared.fault.Fault.{Fault}
+use Rattle.arrow_calls.specs.declared.fault.Fault.TheVariants.{Memory, NotServed, Parts, Room, Types}
 use Rattle.arrow_parts.specs.Kinds.{kind_number}
 use Rattle.arrow_parts.specs.Written.{AreWritten}
 use Rattle.arrow_parts.specs.declared.part.Part.{Part}
 use Rattle.arrow_parts.specs.declared.part.PartKind.{PartKind}
 use Rattle.arrow_parts.specs.declared.part.PartKind.TheVariants as kind
-use Rattle.dunkelva_c.specs.Columns.{IsColumn, NumberType, count_at, number_rows_of, number_type, rows_at}
+use Rattle.dunkelva_c.specs.Columns.{NumberType, count_at, number_rows_of, number_type, rows_at}
 use Rattle.dunkelva_c.specs.Comparisons.{AreAlike}
-use Rattle.dunkelva_c.specs.declared.fault.Fault.{Fault}
-use Rattle.dunkelva_c.specs.declared.fault.Fault.TheVariants.{Parts, Types, Room, Memory, NotServed}
 use Rattle.polars_arrays_flat.specs.Row.{Row}
 use Rattle.polars_arrays_flat.specs.StoredRows.{number_slots, rows_under}
 use Rattle.polars_compute_arithmetic.specs.Operations.{Function, Operation, answer_rows, result_rows}
-
--- the operation with a number, or None
-abbrev pub arithmetic_number : ℕ → Option Arithmetic
-arithmetic_number n =
-    slice_index_or (Some arithmetic.Add ∷ Some arithmetic.Subtract ∷ Some arithmetic.Multiply ∷ Some arithmetic.FloorDivide ∷ Some arithmetic.TruncatingDivide ∷ Some arithmetic.Modulo ∷ []) n None
-
--- the side with a number, or None
-abbrev pub side_number : ℕ → Option Side
-side_number n = slice_index_or (Some side.Left ∷ Some side.Right ∷ []) n None
-
--- the function with a number, or None
-abbrev pub sign_number : ℕ → Option Sign
-sign_number n = slice_index_or (Some sign.Negate ∷ Some sign.Absolute ∷ []) n None
 
 -- the caller's slices of numbers, one for each type
 pub record Slices : Type 0 where

@@ -1,21 +1,18 @@
 -- Bits of parts of numbers.
-use Rattle.std.specs.Prelude.{◌≡◌, ◌≤ℤ◌, ℕ, ℤ, List, [], ◌∷◌, Option, Some, None, IfSome, option_map, slice_index_or}
+--
+-- The rows 12, null and 10 are joined to 8 by AND, to 14 by OR and to 6 by exclusive OR.
+use Rattle.std.specs.Prelude.{◌≡◌, ◌≤ℤ◌, ℕ, ℤ, List, Option, Some, None, IfSome, option_map}
+use Rattle.arrow_calls.specs.Numbers.{number_words}
+use Rattle.arrow_calls.specs.declared.fault.Fault.{Fault}
+use Rattle.arrow_calls.specs.declared.fault.Fault.TheVariants.{NotServed}
+use Rattle.arrow_calls.specs.declared.number.Number.{Number}
 use Rattle.arrow_columns.specs.Reductions.{joins_bits}
 use Rattle.arrow_columns.specs.declared.reducing.BitOperator.{BitOperator}
-use Rattle.arrow_columns.specs.declared.reducing.BitOperator.TheVariants.{And, Or, Xor}
 use Rattle.arrow_parts.specs.Kinds.{kind_number}
 use Rattle.arrow_parts.specs.declared.part.Part.{Part}
 use Rattle.dunkelva_c.specs.Columns.{IsTrueFault, NumberType, number_rows_of, number_type}
-use Rattle.dunkelva_c.specs.Numbers.{number_words}
-use Rattle.dunkelva_c.specs.declared.fault.Fault.{Fault}
-use Rattle.dunkelva_c.specs.declared.fault.Fault.TheVariants.{NotServed}
-use Rattle.dunkelva_c.specs.declared.number.Number.{Number}
 use Rattle.polars_arrays_flat.specs.Row.{Row}
 use Rattle.polars_compute_bits.specs.Bitwise.{number_bits, reduced}
-
--- the operator with a number, or None
-abbrev pub operator_number : ℕ → Option BitOperator
-operator_number n = slice_index_or (Some And ∷ Some Or ∷ Some Xor ∷ []) n None
 
 -- a number from `least` to `greatest` has the bits that an operator joins from those of rows; there
 -- is none if no row is present

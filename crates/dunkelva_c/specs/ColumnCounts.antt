@@ -1,24 +1,17 @@
 -- Counts of the bits of a part's numbers.
-use Rattle.std.specs.Prelude.{◌≡◌, ℕ, pos, List, [], ◌∷◌, Option, Some, None, map, slice_index_or, ⊤}
+--
+-- The rows 12 and null have two ones and null: the second count may be any number.
+use Rattle.std.specs.Prelude.{◌≡◌, ℕ, pos, List, Option, Some, None, map}
+use Rattle.arrow_calls.specs.Columns.{rows_lent}
+use Rattle.arrow_calls.specs.declared.fault.Fault.{Fault}
+use Rattle.arrow_calls.specs.declared.fault.Fault.TheVariants.{NotServed}
 use Rattle.arrow_columns.specs.Counting.{counted_by}
 use Rattle.arrow_columns.specs.declared.counting.Counting.{Counting}
 use Rattle.arrow_columns.specs.declared.counting.Counting.TheVariants as counting
 use Rattle.arrow_parts.specs.Kinds.{kind_number}
 use Rattle.arrow_parts.specs.declared.part.Part.{Part}
-use Rattle.dunkelva_c.specs.Columns.{IsColumn, NumberType, count_at, number_rows_of, number_type, rows_lent}
-use Rattle.dunkelva_c.specs.declared.fault.Fault.{Fault}
-use Rattle.dunkelva_c.specs.declared.fault.Fault.TheVariants.{Parts, Types, Room, Memory, NotServed}
+use Rattle.dunkelva_c.specs.Columns.{NumberType, count_at, number_rows_of, number_type}
 use Rattle.polars_compute_bits.specs.Bitwise.{counted}
-
--- the counts by their numbers, from 0 on
-abbrev pub countings : List (Option Counting)
-countings =
-    Some counting.Ones ∷ Some counting.Zeros ∷ Some counting.LeadingOnes ∷ Some counting.LeadingZeros
-    ∷ Some counting.TrailingOnes ∷ Some counting.TrailingZeros ∷ []
-
--- the count with a number, or None
-abbrev pub counting_number : ℕ → Option Counting
-counting_number n = slice_index_or countings n None
 
 -- counts under the validity of a part are those of its rows; a count of a null row is null
 abbrev pub AreCountsAt : Option NumberType → Counting → Part → List ℕ → Type 0
@@ -32,14 +25,6 @@ AreCounts counting p counts = AreCountsAt (number_type (kind_number p.kind)) cou
 abbrev pub AreNumberedCounts : Option Counting → Part → List ℕ → Type 0
 AreNumberedCounts None p counts = ⊥
 AreNumberedCounts (Some counting) p counts = AreCounts counting p counts
-
--- a fault of counts of `count` stored numbers, into a slice of `room`, is true
-abbrev pub IsTrueCountsFault : ℕ → ℕ → Part → Fault → Type 0
-IsTrueCountsFault count room p Parts = ¬ IsColumn p count
-IsTrueCountsFault count room p Types = ⊥
-IsTrueCountsFault count room p Room = ¬ (room ≡ p.rows)
-IsTrueCountsFault count room p Memory = ⊤
-IsTrueCountsFault count room p NotServed = ⊥
 
 -- a fault of the counts of a part is true
 abbrev pub IsTrueCountFault : ℕ → Part → Fault → Type 0

@@ -1,32 +1,17 @@
 -- Parts of numbers as columns.
+--
+-- A part of kind 3 has its numbers in `i8s`, of 8 bits with a sign. Where these are 127, 5 and 1 under the bits 1, 0, 1, its rows
+-- are 127, null and 1, and their sum is -128.
 use Rattle.std.specs.Prelude.{◌≡◌, ℕ, ℤ, pos, Bool, true, false, List, [], Option, Some, None, length, ⊤}
+use Rattle.arrow_calls.specs.declared.fault.Fault.{Fault}
+use Rattle.arrow_calls.specs.declared.fault.Fault.TheVariants.{Memory, NotServed, Parts, Room, Types}
 use Rattle.arrow_columns.specs.Reductions.{sum_if_any}
-use Rattle.arrow_parts.specs.ByteBits.{HoldPresence}
 use Rattle.arrow_parts.specs.Kinds.{kind_number}
-use Rattle.arrow_parts.specs.Lent.{present_in}
 use Rattle.arrow_parts.specs.declared.part.Part.{Part}
 use Rattle.arrow_parts.specs.declared.part.PartKind.{PartKind}
 use Rattle.arrow_parts.specs.declared.part.PartKind.TheVariants as kind
-use Rattle.dunkelva_c.specs.declared.fault.Fault.{Fault}
-use Rattle.dunkelva_c.specs.declared.fault.Fault.TheVariants.{Parts, Types, Room, Memory, NotServed}
-use Rattle.polars_arrays_flat.specs.Numbers.{Numbers}
 use Rattle.polars_arrays_flat.specs.Row.{Row}
-use Rattle.polars_arrays_flat.specs.StoredRows.{number_slots, rows_under}
 use Rattle.polars_arrays_numbers.specs.Ranges.{greatest_of, least_of}
-
--- the rows of stored numbers under the validity of a part
-abbrev pub rows_lent : {A : Type 0} → (A → ℤ) → Part → List A → List Row
-rows_lent value p xs = rows_under (present_in p) (number_slots value xs)
-
--- a column has the stored numbers, and the validity of a part
-pub record Lends {A : Type 0} (p : Part) (xs : List A) (column : Numbers A) : Type 0 where
-  pub values : column.values ≡ xs
-  pub validity : column.validity ≡ present_in p
-
--- a part lends `count` numbers, one for each row, and a bit for each row or none at all
-pub record IsColumn (p : Part) (count : ℕ) : Type 0 where
-  pub rows : count ≡ p.rows
-  pub present : HoldPresence p.first_bit p.rows p.present.now
 
 -- the rows of a part of numbers; none if its kind is another
 abbrev pub rows_at : Option PartKind → Part → List Row

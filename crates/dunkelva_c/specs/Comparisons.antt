@@ -1,25 +1,17 @@
 -- Comparisons of two parts of numbers.
-use Rattle.std.specs.Prelude.{◌≡◌, ◌≤◌, ◌*◌, ℕ, Bool, List, [], ◌∷◌, Option, Some, None, slice_index_or, ⊤}
+--
+-- Of the rows 1, null, 3 and 1, null, 2 the bits of `Equal` are 1, 1, 0 and those of `Greater` 0, 0, 1.
+use Rattle.std.specs.Prelude.{◌≡◌, ◌≤◌, ◌*◌, ℕ, Bool, List, Option, Some, None, ⊤}
 use Rattle.std.specs.Simd.Lanes.{zip2}
+use Rattle.arrow_calls.specs.Columns.{IsColumn}
+use Rattle.arrow_calls.specs.declared.fault.Fault.{Fault}
+use Rattle.arrow_calls.specs.declared.fault.Fault.TheVariants.{Memory, NotServed, Parts, Room, Types}
 use Rattle.arrow_columns.specs.Comparing.{holds_of}
 use Rattle.arrow_columns.specs.declared.comparing.Test.{Test}
-use Rattle.arrow_columns.specs.declared.comparing.Test.TheVariants as test
 use Rattle.arrow_parts.specs.Kinds.{kind_number}
 use Rattle.arrow_parts.specs.Written.{AreWritten}
 use Rattle.arrow_parts.specs.declared.part.Part.{Part}
-use Rattle.dunkelva_c.specs.Columns.{IsColumn, count_at, number_type, rows_at}
-use Rattle.dunkelva_c.specs.declared.fault.Fault.{Fault}
-use Rattle.dunkelva_c.specs.declared.fault.Fault.TheVariants.{Parts, Types, Room, Memory, NotServed}
-
--- the comparisons by their numbers, from 0 on
-abbrev pub tests : List (Option Test)
-tests =
-    Some test.Equal ∷ Some test.Unequal ∷ Some test.Less ∷ Some test.LessOrEqual ∷ Some test.Greater
-    ∷ Some test.GreaterOrEqual ∷ []
-
--- the comparison with a number, or None
-abbrev pub test_number : ℕ → Option Test
-test_number n = slice_index_or tests n None
+use Rattle.dunkelva_c.specs.Columns.{count_at, number_type, rows_at}
 
 -- two parts are of one kind and length
 pub record AreAlike (left right : Part) : Type 0 where

@@ -1,9 +1,11 @@
 -- The least and the greatest number of a part.
+--
+-- The ends of the rows 7, null and -3 are -3 and 7, and nulls alone have none.
 use Rattle.std.specs.Prelude.{◌≡◌, ℤ, List, Option, MatchOption, option_map}
+use Rattle.arrow_calls.specs.Numbers.{number_words}
+use Rattle.arrow_calls.specs.declared.number.Number.{Number}
 use Rattle.arrow_parts.specs.declared.part.Part.{Part}
 use Rattle.dunkelva_c.specs.Columns.{number_rows_of}
-use Rattle.dunkelva_c.specs.Numbers.{number_words}
-use Rattle.dunkelva_c.specs.declared.number.Number.{Number}
 use Rattle.polars_arrays_flat.specs.Row.{Row, Int}
 use Rattle.polars_compare_extremes.specs.Extremes.{IsGreatest, IsLeast, NonePresent}
 

@@ -6,6 +6,4 @@ pub mod Comparisons
 pub mod Extremes
 pub mod Nulls
 pub mod NumberComparisons
-pub mod Numbers
 pub mod States
-pub mod Statuses

@@ -1,5 +1,9 @@
 -- The nulls of a part.
+--
+-- Of the rows 5, null and 7 the bits are 0, 1, 0 and the count is 1; of a column of two nulls they are 1, 1 and 2.
 use Rattle.std.specs.Prelude.{◌≡◌, ◌≤◌, ◌*◌, ℕ, Bool, true, false, not, List, Option, Some, None, map, replicate, ⊤}
+use Rattle.arrow_calls.specs.declared.fault.Fault.{Fault}
+use Rattle.arrow_calls.specs.declared.fault.Fault.TheVariants.{Memory, NotServed, Parts, Room, Types}
 use Rattle.arrow_parts.specs.ByteBits.{HoldPresence}
 use Rattle.arrow_parts.specs.Kinds.{kind_number}
 use Rattle.arrow_parts.specs.Lent.{present_in}
@@ -7,9 +11,7 @@ use Rattle.arrow_parts.specs.Written.{AreWritten}
 use Rattle.arrow_parts.specs.declared.part.Part.{Part}
 use Rattle.arrow_parts.specs.declared.part.PartKind.{PartKind}
 use Rattle.arrow_parts.specs.declared.part.PartKind.TheVariants as kind
-use Rattle.dunkelva_c.specs.Columns.{number_type, NumberType}
-use Rattle.dunkelva_c.specs.declared.fault.Fault.{Fault}
-use Rattle.dunkelva_c.specs.declared.fault.Fault.TheVariants.{Parts, Types, Room, Memory, NotServed}
+use Rattle.dunkelva_c.specs.Columns.{NumberType, number_type}
 use Rattle.polars_arrays_flat.specs.Validity.{masked_count}
 
 -- a bit for each of n rows, true if the row is masked

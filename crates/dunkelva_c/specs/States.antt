@@ -1,14 +1,18 @@
 -- States of distinct values in the caller's memory.
+--
+-- The range from -1 to 1 has three numbers. A state of it with the bits 0, 1, 1 and the flag 1 has seen 0, 1 and null: two values
+-- and three rows. Its list is 0, 1.
 use Rattle.std.specs.Prelude.{◌≡◌, ◌≢◌, ◌+◌, ◌<◌, ◌≤◌, ◌≤ℤ◌, ◌+ℤ◌, ◌-ℤ◌, ◌*◌, ◌++◌, ◌^◌, ℕ, ℤ, pos, Bool, false, cond, List, Option, Some, None, drop, length, map, unsigned_abs, IsTrue, ⊤}
+use Rattle.arrow_calls.specs.Columns.{IsColumn}
+use Rattle.arrow_calls.specs.Numbers.{words_number}
+use Rattle.arrow_calls.specs.Statuses.{status_of}
+use Rattle.arrow_calls.specs.declared.fault.Fault.{Fault}
+use Rattle.arrow_calls.specs.declared.fault.Fault.TheVariants.{Memory, NotServed, Parts, Room, Types}
+use Rattle.arrow_calls.specs.declared.number.Number.{Number}
 use Rattle.arrow_parts.specs.Kinds.{kind_number}
 use Rattle.arrow_parts.specs.declared.part.Part.{Part}
 use Rattle.arrow_unique.specs.Memory.{Holds, low_word, state_in}
-use Rattle.dunkelva_c.specs.Columns.{IsColumn, NumberType, count_at, number_rows_of, number_type}
-use Rattle.dunkelva_c.specs.Numbers.{words_number}
-use Rattle.dunkelva_c.specs.Statuses.{status_of}
-use Rattle.dunkelva_c.specs.declared.fault.Fault.{Fault}
-use Rattle.dunkelva_c.specs.declared.fault.Fault.TheVariants.{Parts, Types, Room, Memory, NotServed}
-use Rattle.dunkelva_c.specs.declared.number.Number.{Number}
+use Rattle.dunkelva_c.specs.Columns.{NumberType, count_at, number_rows_of, number_type}
 use Rattle.dunkelva_c.specs.declared.states.Range.{Range}
 use Rattle.dunkelva_c.specs.declared.states.StateFault.{StateFault}
 use Rattle.dunkelva_c.specs.declared.states.StateFault.TheVariants.{NoRange, Of, Outside}

@@ -2,36 +2,22 @@
 
 ghost use Rattle.std.specs.Prelude.{◌≡◌, ◌≢◌, length, pos, IfErr, OnErr, OnOk};
 ghost use Rattle.num_traits.specs.Laws.{bit_len};
-ghost use Rattle.arrow_arithmetic.specs.Arithmetic.{operation_of};
+ghost use Rattle.arrow_arithmetic.specs.Arithmetic.{arithmetic_number, operation_of};
+ghost use Rattle.arrow_calls.specs.Columns.{rows_lent};
+ghost use Rattle.arrow_calls.specs.Statuses.{IsTrueStatus};
 ghost use Rattle.arrow_parts.specs.Kinds.{kind_number};
-ghost use Rattle.dunkelva_c.specs.Arithmetic.{AreNumberedResults, AreRows, AreRowsAt, IsTrueArithmeticFault, IsTruePartsFault, IsTrueResultFault, arithmetic_number, results_of, slices};
-ghost use Rattle.dunkelva_c.specs.Columns.{rows_lent};
+ghost use Rattle.dunkelva_c.specs.Arithmetic.{AreNumberedResults, AreRows, AreRowsAt, IsTrueArithmeticFault};
+ghost use Rattle.dunkelva_c.specs.Arithmetic.{IsTruePartsFault, IsTrueResultFault, results_of, slices};
 ghost use Rattle.dunkelva_c.specs.Comparisons.{AreAlike};
-ghost use Rattle.dunkelva_c.specs.Statuses.{IsTrueStatus};
 ghost use Rattle.polars_compute_arithmetic.specs.Operations.{result_rows};
 
-use crate::columns::column;
-use crate::fault::{Fault, status};
 use crate::results::{check_room, into_one_kind, write_present};
 use arrow_arithmetic::calculating::{Arithmetic, calculate};
+use arrow_calls::columns::column;
+use arrow_calls::fault::{Fault, status};
 use arrow_parts::part::{Part, PartKind};
 use polars_compute_arithmetic::arithmetic::pl_num::PlNumArithmetic;
 use std::alloc::Global;
-
-/// Returns the operation with this number, if there is one.
-pub(crate) fn arithmetic_of(number: u32) -> Option<Arithmetic>
-    ensures { result ≡ arithmetic_number number }
-{
-    match number {
-        0 => Some(Arithmetic::Add),
-        1 => Some(Arithmetic::Subtract),
-        2 => Some(Arithmetic::Multiply),
-        3 => Some(Arithmetic::FloorDivide),
-        4 => Some(Arithmetic::TruncatingDivide),
-        5 => Some(Arithmetic::Modulo),
-        _ => None,
-    }
-}
 
 // Writes the results of an operation on the numbers of two parts.
 fn calculate_numbers<T: PlNumArithmetic>(
@@ -149,7 +135,7 @@ pub extern "C" fn dunkelva_parts_arithmetic(
         (slices i8s.old i16s.old i32s.old i64s.old u8s.old u16s.old u32s.old u64s.old)
         (length present.old) left.now right.now) result }
 {
-    let Some(arithmetic) = arithmetic_of(operation) else {
+    let Some(arithmetic) = Arithmetic::of(operation) else {
         return status(Fault::NotServed);
     };
     match calculate_parts(

@@ -2,30 +2,22 @@
 
 ghost use Rattle.std.specs.Prelude.{◌≡◌, ◌≢◌, length, pos, IfErr, IfOk};
 ghost use Rattle.num_traits.specs.Laws.{bit_len};
-ghost use Rattle.dunkelva_c.specs.ColumnBits.{HasJoinedBits, IsNumberedReduction, IsReduction, IsTrueReduceFault, operator_number};
-ghost use Rattle.dunkelva_c.specs.Columns.{IsColumn, IsTrueFault, rows_lent};
-ghost use Rattle.dunkelva_c.specs.Statuses.{IsTrueOf, IsTrueStatus};
+ghost use Rattle.arrow_calls.specs.Columns.{IsColumn, rows_lent};
+ghost use Rattle.arrow_calls.specs.Operations.{operator_number};
+ghost use Rattle.arrow_calls.specs.Statuses.{IsTrueOf, IsTrueStatus};
+ghost use Rattle.dunkelva_c.specs.ColumnBits.{HasJoinedBits, IsNumberedReduction, IsReduction, IsTrueReduceFault};
+ghost use Rattle.dunkelva_c.specs.Columns.{IsTrueFault};
 
-use crate::columns::{at_number_kind, column};
-use crate::fault::{Fault, status};
-use crate::number::{Number, number_of, whole};
+use crate::columns::at_number_kind;
+use arrow_calls::columns::column;
+use arrow_calls::fault::{Fault, status};
+use arrow_calls::number::{Number, number_of, whole};
+use arrow_calls::operations::operator_of;
 use arrow_columns::reducing::{BitOperator, reduce_bits};
 use arrow_parts::part::{Part, PartKind};
 use polars_compute_bits::bit_number::BitNumber;
 use polars_compute_slots::number::UniqueNumber;
 use std::alloc::Global;
-
-// Returns the operator with this number, if there is one.
-fn operator_of(number: u32) -> Option<BitOperator>
-    ensures { result ≡ operator_number number }
-{
-    match number {
-        0 => Some(BitOperator::And),
-        1 => Some(BitOperator::Or),
-        2 => Some(BitOperator::Xor),
-        _ => None,
-    }
-}
 
 // Joins the bits of a part's present numbers.
 fn reduce_numbers<T: BitNumber + UniqueNumber>(

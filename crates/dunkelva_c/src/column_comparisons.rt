@@ -2,35 +2,24 @@
 
 ghost use Rattle.std.specs.Prelude.{◌≡◌, ◌≢◌, length, pos, IfErr, IfOk, OnErr, OnOk};
 ghost use Rattle.std.specs.Simd.Lanes.{zip2};
+ghost use Rattle.arrow_calls.specs.Columns.{IsColumn, rows_lent};
+ghost use Rattle.arrow_calls.specs.Operations.{test_number};
+ghost use Rattle.arrow_calls.specs.Statuses.{IsTrueOf, IsTrueStatus};
 ghost use Rattle.arrow_columns.specs.Comparing.{holds_of};
 ghost use Rattle.arrow_columns.specs.declared.comparing.Test.TheVariants.{Equal};
-ghost use Rattle.dunkelva_c.specs.Columns.{IsColumn, rows_lent};
-ghost use Rattle.dunkelva_c.specs.Comparisons.{AreAlike, IsComparison, IsNumberedComparison, IsTruePairFault, IsTrueRoomFault, IsTrueTestFault, compared_rows, test_number};
-ghost use Rattle.dunkelva_c.specs.Statuses.{IsTrueOf, IsTrueStatus};
+ghost use Rattle.dunkelva_c.specs.Comparisons.{AreAlike, IsComparison, IsNumberedComparison, IsTruePairFault};
+ghost use Rattle.dunkelva_c.specs.Comparisons.{IsTrueRoomFault, IsTrueTestFault, compared_rows};
 
-use crate::columns::{at_one_kind, column};
-use crate::fault::{Fault, status};
+use crate::columns::at_one_kind;
+use arrow_calls::columns::column;
+use arrow_calls::fault::{Fault, status};
+use arrow_calls::operations::test_of;
 use arrow_columns::comparing::{Test, compare};
 use arrow_parts::part::{Part, PartKind};
 use arrow_parts::written::write_bits;
 use polars_arrays_bits::bitmap::Bitmap;
 use polars_arrays_numbers::native_type::NativeType;
 use std::alloc::Global;
-
-/// Returns the comparison with this number, if there is one.
-pub(crate) fn test_of(number: u32) -> Option<Test>
-    ensures { result ≡ test_number number }
-{
-    match number {
-        0 => Some(Test::Equal),
-        1 => Some(Test::Unequal),
-        2 => Some(Test::Less),
-        3 => Some(Test::LessOrEqual),
-        4 => Some(Test::Greater),
-        5 => Some(Test::GreaterOrEqual),
-        _ => None,
-    }
-}
 
 // Compares the numbers of two parts row by row.
 fn compare_numbers<T: NativeType>(

@@ -1,57 +1,17 @@
 //! Counts of the bits of a column's numbers.
 
-ghost use Rattle.std.specs.Prelude.{◌≡◌, ◌≢◌, length, map, pos, IfErr, OnErr, OnOk};
-ghost use Rattle.num_traits.specs.Laws.{bit_len};
-ghost use Rattle.arrow_columns.specs.Counting.{counted_by};
-ghost use Rattle.dunkelva_c.specs.ColumnCounts.{AreCounts, AreNumberedCounts, IsTrueCountFault, IsTrueCountingFault, IsTrueCountsFault, counting_number};
-ghost use Rattle.dunkelva_c.specs.Columns.{IsColumn, rows_lent};
-ghost use Rattle.dunkelva_c.specs.Statuses.{IsTrueStatus};
-ghost use Rattle.polars_compute_bits.specs.Bitwise.{counted};
+ghost use Rattle.std.specs.Prelude.{◌≡◌, ◌≢◌, length, pos, IfErr, OnErr, OnOk};
+ghost use Rattle.arrow_calls.specs.Operations.{counting_number};
+ghost use Rattle.arrow_calls.specs.Statuses.{IsTrueStatus};
+ghost use Rattle.dunkelva_c.specs.ColumnCounts.{AreCounts, AreNumberedCounts, IsTrueCountFault, IsTrueCountingFault};
 
-use crate::columns::{at_number_kind, column};
-use crate::fault::{Fault, status};
-use arrow_columns::counting::{Counting, count_bits};
+use crate::columns::at_number_kind;
+use arrow_calls::counts::count_numbers;
+use arrow_calls::fault::{Fault, status};
+use arrow_calls::operations::counting_of;
+use arrow_columns::counting::Counting;
 use arrow_parts::part::{Part, PartKind};
-use polars_compute_bits::bit_number::BitNumber;
 use std::alloc::Global;
-
-// Returns the count with this number, if there is one.
-fn counting_of(number: u32) -> Option<Counting>
-    ensures { result ≡ counting_number number }
-{
-    match number {
-        0 => Some(Counting::Ones),
-        1 => Some(Counting::Zeros),
-        2 => Some(Counting::LeadingOnes),
-        3 => Some(Counting::LeadingZeros),
-        4 => Some(Counting::TrailingOnes),
-        5 => Some(Counting::TrailingZeros),
-        _ => None,
-    }
-}
-
-// Writes the counts of a part's numbers.
-fn count_numbers<T: BitNumber>(
-    alloc: Global,
-    counting: Counting,
-    part: &Part<'_>,
-    values: &[T],
-    counts: &mut [u32],
-) -> Result<(), Fault>
-    ensures written { OnOk result (rows_lent (λ n. pos n) part.now counts.new
-        ≡ map (counted (counted_by counting) (bit_len T.width))
-        (rows_lent T.value part.now values.now)) }
-    ensures kept { OnErr result (counts.new ≡ counts.old) }
-    ensures refused { IfErr result (IsTrueCountsFault (length values.now)
-        (length counts.old) part.now) }
-{
-    let column = column(alloc, part, values)?;
-    if counts.len() != part.rows {
-        return Err(Fault::Room);
-    }
-    count_bits(counting, &column, counts);
-    Ok(())
-}
 
 // Writes the counts of a part of numbers.
 fn count_part(

@@ -1,13 +1,15 @@
 //! The least and the greatest number of a column.
 
 ghost use Rattle.std.specs.Prelude.{◌≡◌, ◌≢◌, length, option_map, pos, IfErr, IfOk};
-ghost use Rattle.dunkelva_c.specs.Columns.{IsColumn, IsTrueFault, number_rows_of, rows_lent};
+ghost use Rattle.arrow_calls.specs.Columns.{IsColumn, rows_lent};
+ghost use Rattle.arrow_calls.specs.Statuses.{IsTrueOf, IsTrueStatus};
+ghost use Rattle.dunkelva_c.specs.Columns.{IsTrueFault, number_rows_of};
 ghost use Rattle.dunkelva_c.specs.Extremes.{AreEnds, AreWrittenEnds};
-ghost use Rattle.dunkelva_c.specs.Statuses.{IsTrueOf, IsTrueStatus};
 
-use crate::columns::{at_number_kind, column};
-use crate::fault::{Fault, status};
-use crate::number::{Number, number_of};
+use crate::columns::at_number_kind;
+use arrow_calls::columns::column;
+use arrow_calls::fault::{Fault, status};
+use arrow_calls::number::{Number, number_of};
 use arrow_extremes::extremes::min_max;
 use arrow_parts::part::{Part, PartKind};
 use polars_compute_slots::number::UniqueNumber;

@@ -1,15 +1,15 @@
 //! Nulls of arrays of one level.
 
 ghost use Rattle.std.specs.Prelude.{◌≡◌, ◌≢◌, length, pos, IfErr, IfOk, OnErr, OnOk};
-ghost use Rattle.arrow_parts.specs.Kinds.{kind_number};
-ghost use Rattle.arrow_parts.specs.Written.{AreWritten};
-ghost use Rattle.dunkelva_c.specs.Nulls.{AreNulls, IsTrueNullFault, IsTrueNullRoomFault, masked_bits, nulls_at, null_count_at};
-ghost use Rattle.dunkelva_c.specs.Statuses.{IsTrueOf, IsTrueStatus};
+ghost use Rattle.arrow_calls.specs.Statuses.{IsTrueOf, IsTrueStatus};
 ghost use Rattle.arrow_parts.specs.ByteBits.{HoldPresence};
+ghost use Rattle.arrow_parts.specs.Kinds.{kind_number};
 ghost use Rattle.arrow_parts.specs.Lent.{present_in};
+ghost use Rattle.dunkelva_c.specs.Nulls.{AreNulls, IsTrueNullFault, IsTrueNullRoomFault, masked_bits};
+ghost use Rattle.dunkelva_c.specs.Nulls.{null_count_at, nulls_at};
 ghost use Rattle.polars_arrays_flat.specs.Validity.{masked_count};
 
-use crate::fault::{Fault, status};
+use arrow_calls::fault::{Fault, status};
 use arrow_parts::bits::validity;
 use arrow_parts::part::{Part, PartKind};
 use arrow_parts::written::write_bits;

@@ -2,15 +2,16 @@
 
 ghost use Rattle.std.specs.Prelude.{◌≡◌, ◌≢◌, length, pos, IfErr, IfOk};
 ghost use Rattle.num_traits.specs.Laws.{bit_len};
+ghost use Rattle.arrow_calls.specs.Columns.{IsColumn, rows_lent};
+ghost use Rattle.arrow_calls.specs.Numbers.{number_words};
+ghost use Rattle.arrow_calls.specs.Statuses.{IsTrueOf, IsTrueStatus};
 ghost use Rattle.arrow_columns.specs.Reductions.{sum_if_any};
-ghost use Rattle.arrow_parts.specs.Lent.{present_in};
-ghost use Rattle.dunkelva_c.specs.Columns.{IsColumn, IsTrueFault, rows_lent, sum_of_part};
-ghost use Rattle.dunkelva_c.specs.Numbers.{number_words};
-ghost use Rattle.dunkelva_c.specs.Statuses.{IsTrueOf, IsTrueStatus};
+ghost use Rattle.dunkelva_c.specs.Columns.{IsTrueFault, sum_of_part};
 
-use crate::columns::{at_number_kind, column};
-use crate::fault::{Fault, status};
-use crate::number::{Number, number_of, whole};
+use crate::columns::at_number_kind;
+use arrow_calls::columns::column;
+use arrow_calls::fault::{Fault, status};
+use arrow_calls::number::{Number, number_of, whole};
 use arrow_columns::reducing::sum;
 use arrow_parts::part::{Part, PartKind};
 use polars_compute_bits::sum::WrappingAdd;

@@ -12,8 +12,6 @@ mod column_extremes;
 mod column_nulls;
 mod column_sums;
 mod columns;
-mod fault;
-mod number;
 mod number_arithmetic;
 mod number_comparisons;
 mod results;

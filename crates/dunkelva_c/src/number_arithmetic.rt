@@ -2,34 +2,23 @@
 
 ghost use Rattle.std.specs.Prelude.{◌≡◌, ◌≢◌, length, pos, IfErr, OnErr, OnOk};
 ghost use Rattle.num_traits.specs.Laws.{bit_len};
-ghost use Rattle.arrow_arithmetic.specs.Arithmetic.{operation_of, placed};
-ghost use Rattle.dunkelva_c.specs.Arithmetic.{AreAnswers, AreNumberedAnswers, AreRows, IsTrueSidedFault, IsTrueTypedFault, IsTrueWithFault, arithmetic_number, side_number, slices};
-ghost use Rattle.dunkelva_c.specs.Columns.{rows_lent};
-ghost use Rattle.dunkelva_c.specs.Numbers.{words_number};
-ghost use Rattle.dunkelva_c.specs.Statuses.{IsTrueStatus};
+ghost use Rattle.arrow_arithmetic.specs.Arithmetic.{arithmetic_number, operation_of, placed, side_number};
+ghost use Rattle.arrow_calls.specs.Columns.{rows_lent};
+ghost use Rattle.arrow_calls.specs.Numbers.{words_number};
+ghost use Rattle.arrow_calls.specs.Statuses.{IsTrueStatus};
+ghost use Rattle.dunkelva_c.specs.Arithmetic.{AreAnswers, AreNumberedAnswers, AreRows, IsTrueSidedFault};
+ghost use Rattle.dunkelva_c.specs.Arithmetic.{IsTrueTypedFault, IsTrueWithFault, slices};
 ghost use Rattle.polars_compute_arithmetic.specs.Operations.{answer_rows};
 
-use crate::arithmetic::arithmetic_of;
-use crate::columns::column;
-use crate::fault::{Fault, status};
-use crate::number::{narrow, whole_of};
 use crate::results::{check_room, into_kind, write_present};
 use arrow_arithmetic::calculating::{Arithmetic, Side, calculate_number};
+use arrow_calls::columns::column;
+use arrow_calls::fault::{Fault, status};
+use arrow_calls::number::{narrow, whole_of};
 use arrow_parts::part::{Part, PartKind};
 use polars_compute_arithmetic::arithmetic::pl_num::PlNumArithmetic;
 use polars_compute_slots::number::UniqueNumber;
 use std::alloc::Global;
-
-// Returns the side with this number, if there is one.
-fn side_of(number: u32) -> Option<Side>
-    ensures { result ≡ side_number number }
-{
-    match number {
-        0 => Some(Side::Left),
-        1 => Some(Side::Right),
-        _ => None,
-    }
-}
 
 // Writes the results of an operation on the numbers of a part and a number.
 fn calculate_numbers<T: PlNumArithmetic + UniqueNumber>(
@@ -142,10 +131,10 @@ pub extern "C" fn dunkelva_part_arithmetic_number(
         (slices i8s.old i16s.old i32s.old i64s.old u8s.old u16s.old u32s.old u64s.old)
         (length present.old) part.now) result }
 {
-    let Some(arithmetic) = arithmetic_of(operation) else {
+    let Some(arithmetic) = Arithmetic::of(operation) else {
         return status(Fault::NotServed);
     };
-    let Some(side) = side_of(side) else {
+    let Some(side) = Side::of(side) else {
         return status(Fault::NotServed);
     };
     match calculate_part(

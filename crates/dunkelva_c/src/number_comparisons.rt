@@ -1,18 +1,21 @@
 //! Comparisons of a column of numbers with a number.
 
 ghost use Rattle.std.specs.Prelude.{◌≡◌, ◌≢◌, length, map, pos, IfErr, IfOk, OnErr, OnOk};
+ghost use Rattle.arrow_calls.specs.Columns.{rows_lent};
+ghost use Rattle.arrow_calls.specs.Numbers.{words_number};
+ghost use Rattle.arrow_calls.specs.Operations.{test_number};
+ghost use Rattle.arrow_calls.specs.Statuses.{IsTrueStatus};
 ghost use Rattle.arrow_columns.specs.Comparing.{holds_of};
-ghost use Rattle.dunkelva_c.specs.Columns.{rows_lent};
-ghost use Rattle.dunkelva_c.specs.Comparisons.{test_number};
-ghost use Rattle.dunkelva_c.specs.NumberComparisons.{AreCompared, IsNumberedTest, IsTrueNumberFault, IsTrueNumberRoomFault, IsTrueNumberTestFault, IsTrueTypeFault, compared_with};
-ghost use Rattle.dunkelva_c.specs.Numbers.{words_number};
-ghost use Rattle.dunkelva_c.specs.Statuses.{IsTrueStatus};
+ghost use Rattle.dunkelva_c.specs.NumberComparisons.{AreCompared, IsNumberedTest, IsTrueNumberFault};
+ghost use Rattle.dunkelva_c.specs.NumberComparisons.{IsTrueNumberRoomFault, IsTrueNumberTestFault};
+ghost use Rattle.dunkelva_c.specs.NumberComparisons.{IsTrueTypeFault, compared_with};
 ghost use Rattle.polars_arrays_flat.specs.Row.{Int};
 
-use crate::column_comparisons::test_of;
-use crate::columns::{at_number_kind, column};
-use crate::fault::{Fault, status};
-use crate::number::{narrow, whole_of};
+use crate::columns::at_number_kind;
+use arrow_calls::columns::column;
+use arrow_calls::fault::{Fault, status};
+use arrow_calls::number::{narrow, whole_of};
+use arrow_calls::operations::test_of;
 use arrow_columns::comparing::{Test, compare_with};
 use arrow_parts::part::{Part, PartKind};
 use arrow_parts::written::write_bits;

@@ -1,11 +1,11 @@
 //! Results of arithmetic in the caller's memory.
 
 ghost use Rattle.std.specs.Prelude.{◌≡◌, ◌≤◌, ◌*◌, not, count_by, length, IfErr, OnErr, OnOk};
+ghost use Rattle.arrow_calls.specs.declared.fault.Fault.TheVariants.{Room};
 ghost use Rattle.arrow_parts.specs.Written.{AreWritten};
 ghost use Rattle.dunkelva_c.specs.Arithmetic.{HasRoom};
-ghost use Rattle.dunkelva_c.specs.declared.fault.Fault.TheVariants.{Room};
 
-use crate::fault::Fault;
+use arrow_calls::fault::Fault;
 use arrow_parts::part::Part;
 use arrow_parts::written::write_bits;
 use polars_arrays_bits::bitmap::Bitmap;

@@ -2,30 +2,20 @@
 
 ghost use Rattle.std.specs.Prelude.{◌≡◌, ◌≢◌, length, pos, IfErr, OnErr, OnOk};
 ghost use Rattle.num_traits.specs.Laws.{bit_len};
-ghost use Rattle.arrow_arithmetic.specs.Arithmetic.{function_of};
-ghost use Rattle.dunkelva_c.specs.Arithmetic.{AreAnswers, AreNumberedSigns, AreRows, IsTrueAnswerFault, IsTruePartFault, IsTrueSignFault, sign_number, slices};
-ghost use Rattle.dunkelva_c.specs.Columns.{rows_lent};
-ghost use Rattle.dunkelva_c.specs.Statuses.{IsTrueStatus};
+ghost use Rattle.arrow_arithmetic.specs.Arithmetic.{function_of, sign_number};
+ghost use Rattle.arrow_calls.specs.Columns.{rows_lent};
+ghost use Rattle.arrow_calls.specs.Statuses.{IsTrueStatus};
+ghost use Rattle.dunkelva_c.specs.Arithmetic.{AreAnswers, AreNumberedSigns, AreRows, IsTrueAnswerFault};
+ghost use Rattle.dunkelva_c.specs.Arithmetic.{IsTruePartFault, IsTrueSignFault, slices};
 ghost use Rattle.polars_compute_arithmetic.specs.Operations.{answer_rows};
 
-use crate::columns::column;
-use crate::fault::{Fault, status};
 use crate::results::{check_room, into_kind, write_present};
 use arrow_arithmetic::calculating::{Sign, change_sign};
+use arrow_calls::columns::column;
+use arrow_calls::fault::{Fault, status};
 use arrow_parts::part::{Part, PartKind};
 use polars_compute_arithmetic::arithmetic::pl_num::PlNumArithmetic;
 use std::alloc::Global;
-
-// Returns the function with this number, if there is one.
-fn sign_of(number: u32) -> Option<Sign>
-    ensures { result ≡ sign_number number }
-{
-    match number {
-        0 => Some(Sign::Negate),
-        1 => Some(Sign::Absolute),
-        _ => None,
-    }
-}
 
 // Writes the results of a function of the numbers of a part.
 fn change_numbers<T: PlNumArithmetic>(
@@ -125,7 +115,7 @@ pub extern "C" fn dunkelva_part_sign(
         (slices i8s.old i16s.old i32s.old i64s.old u8s.old u16s.old u32s.old u64s.old)
         (length present.old) part.now) result }
 {
-    let Some(sign) = sign_of(sign) else {
+    let Some(sign) = Sign::of(sign) else {
         return status(Fault::NotServed);
     };
     match change_part(

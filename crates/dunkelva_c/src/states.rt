@@ -4,12 +4,17 @@
 //! that is not 0 where a null was seen.
 
 ghost use Rattle.std.specs.Prelude.{◌≡◌, ◌≢◌, ◌≤◌, ◌*◌, length, pos, IfErr, IfOk, IfSome, IsNone, OnErr, OnOk};
-ghost use Rattle.dunkelva_c.specs.States.{AreCounts, IsAppended, IsAppendedPart, IsListed, IsMerged, IsRange, IsTrueAppendFault, IsTrueListFault, IsTrueMergeFault, IsTrueNumbersFault, IsTruePartFault, IsTrueRangeFault, IsTrueStateStatus, IsWithin, state_status};
-ghost use Rattle.dunkelva_c.specs.Columns.{number_rows_of, rows_lent};
+ghost use Rattle.arrow_calls.specs.Columns.{rows_lent};
+ghost use Rattle.dunkelva_c.specs.Columns.{number_rows_of};
+ghost use Rattle.dunkelva_c.specs.States.{AreCounts, IsAppended, IsAppendedPart, IsListed, IsMerged, IsRange};
+ghost use Rattle.dunkelva_c.specs.States.{IsTrueAppendFault, IsTrueListFault, IsTrueMergeFault};
+ghost use Rattle.dunkelva_c.specs.States.{IsTrueNumbersFault, IsTruePartFault, IsTrueRangeFault};
+ghost use Rattle.dunkelva_c.specs.States.{IsTrueStateStatus, IsWithin, state_status};
 
-use crate::columns::{at_number_kind, column};
-use crate::fault::{Fault, status as fault_status};
-use crate::number::{Number, narrow, whole_of};
+use crate::columns::at_number_kind;
+use arrow_calls::columns::column;
+use arrow_calls::fault::{Fault, status as fault_status};
+use arrow_calls::number::{Number, narrow, whole_of};
 use arrow_parts::part::{Part, PartKind};
 use arrow_unique::appending::append;
 use arrow_unique::listing::{count_rows, count_seen, list};

@@ -3,7 +3,7 @@
 ghost use Rattle.std.specs.Prelude.{◌≡◌, ◌≢◌, pos};
 ghost use Rattle.arrow_equality.specs.Equal.{AreEqualIn, IsCountIn};
 
-use crate::fault::{Fault, status};
+use arrow_calls::fault::{Fault, status};
 use arrow_equality::equal::equal_rows;
 use arrow_parts::part::Part;
 use std::alloc::Global;

@@ -1,9 +1,9 @@
 use Rattle.std.proofs.Common.{◌∙◌, ap₂}
 use Rattle.num_traits.specs.Laws.{bit_len}
 use Rattle.arrow_arithmetic.specs.Arithmetic.{operation_of}
-use Rattle.polars_compute_arithmetic.specs.Operations.{result_rows}
 use Rattle.dunkelva_c.proofs.Lent.{lent-rows}
 use Rattle.dunkelva_c.proofs.arithmetic.calculate_numbers.Goals as goal
+use Rattle.polars_compute_arithmetic.specs.Operations.{result_rows}
 
 pub returns-clause-written : goal.returns-clause-written
 returns-clause-written g c =

@@ -2,10 +2,10 @@ use Rattle.std.proofs.Common.{◌∙◌, ap, ap₂}
 use Rattle.std.specs.Prelude.{option_map}
 use Rattle.num_traits.specs.Laws.{bit_len}
 use Rattle.arrow_columns.specs.Reductions.{joins_bits}
-use Rattle.polars_arrays_flat.specs.StoredRows.{number_slots, rows_under}
-use Rattle.polars_compute_bits.specs.Bitwise.{number_bits, reduced}
 use Rattle.dunkelva_c.proofs.Lent.{option_map-fused}
 use Rattle.dunkelva_c.proofs.column_bits.reduce_numbers.Goals as goal
+use Rattle.polars_arrays_flat.specs.StoredRows.{number_slots, rows_under}
+use Rattle.polars_compute_bits.specs.Bitwise.{number_bits, reduced}
 
 pub returns-clause-joined : goal.returns-clause-joined
 returns-clause-joined g c =

@@ -4,10 +4,10 @@ use Rattle.std.specs.Prelude.{ℤ}
 use Rattle.std.proofs.lemmas.Int.{to_z-of_z}
 use Rattle.num_traits.specs.Laws.{bit_len}
 use Rattle.arrow_arithmetic.specs.Arithmetic.{operation_of, placed}
-use Rattle.polars_arrays_flat.specs.ArrayRows.{number_rows}
-use Rattle.polars_compute_arithmetic.specs.Operations.{answer_rows}
 use Rattle.dunkelva_c.proofs.Lent.{lent-rows}
 use Rattle.dunkelva_c.proofs.number_arithmetic.calculate_numbers.Goals as goal
+use Rattle.polars_arrays_flat.specs.ArrayRows.{number_rows}
+use Rattle.polars_compute_arithmetic.specs.Operations.{answer_rows}
 
 pub returns-clause-written : goal.returns-clause-written
 returns-clause-written g c =

@@ -1,9 +1,9 @@
 use Rattle.std.proofs.Common.{◌∙◌, ap}
 use Rattle.num_traits.specs.Laws.{bit_len}
 use Rattle.arrow_arithmetic.specs.Arithmetic.{function_of}
-use Rattle.polars_compute_arithmetic.specs.Operations.{answer_rows}
 use Rattle.dunkelva_c.proofs.Lent.{lent-rows}
 use Rattle.dunkelva_c.proofs.signs.change_numbers.Goals as goal
+use Rattle.polars_compute_arithmetic.specs.Operations.{answer_rows}
 
 pub returns-clause-written : goal.returns-clause-written
 returns-clause-written g c =

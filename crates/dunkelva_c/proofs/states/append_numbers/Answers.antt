@@ -1,9 +1,9 @@
 use Rattle.std.proofs.Common.{ap₂}
-use Rattle.polars_arrays_flat.specs.StoredRows.{number_slots, rows_under}
-use Rattle.polars_arrays_flat.specs.ArrayRows.{number_rows}
-use Rattle.dunkelva_c.specs.Columns.{rows_lent}
+use Rattle.arrow_calls.specs.Columns.{rows_lent}
 use Rattle.dunkelva_c.proofs.StateMemory.{appended-same}
 use Rattle.dunkelva_c.proofs.states.append_numbers.Goals as goal
+use Rattle.polars_arrays_flat.specs.ArrayRows.{number_rows}
+use Rattle.polars_arrays_flat.specs.StoredRows.{number_slots, rows_under}
 
 pub returns-clause-appended : goal.returns-clause-appended
 returns-clause-appended g c =

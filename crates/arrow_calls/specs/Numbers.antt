@@ -1,7 +1,9 @@
 -- Whole numbers in the caller's memory, in two's complement of 128 bits.
+--
+-- The words of 5 are 5 and 0, and those of -1 are both 2 ^ 64 - 1.
 use Rattle.std.specs.Prelude.{◌+◌, ◌*◌, ◌/◌, ◌%◌, ◌^◌, ℕ, ℤ, Option, Some, None}
 use Rattle.std.specs.Int.{w128, cast_signed, cast_unsigned}
-use Rattle.dunkelva_c.specs.declared.number.Number.{Number}
+use Rattle.arrow_calls.specs.declared.number.Number.{Number}
 
 -- the low and the high word of a whole number, or of none
 abbrev pub number_words : Option ℤ → Number

@@ -1,8 +1,8 @@
 //! Reasons why a call has no result, and their numbers in C.
 
 ghost use Rattle.std.specs.Prelude.{◌≡◌};
-ghost use Rattle.dunkelva_c.specs.Statuses.{fault_of, status_of};
-ghost use Rattle.dunkelva_c.specs.declared.fault.Fault.TheVariants.{Memory};
+ghost use Rattle.arrow_calls.specs.Statuses.{fault_of, status_of};
+ghost use Rattle.arrow_calls.specs.declared.fault.Fault.TheVariants.{Memory};
 ghost use Rattle.polars_arrays_bits.specs.Errors.{IsMemory};
 
 use arrow_parts::refused::Refused;
@@ -10,7 +10,7 @@ use polars_arrays_bits::error::ComputeError;
 
 /// A reason why a call has no result.
 #[derive(Clone, Copy, Drop, Debug)]
-pub(crate) enum Fault {
+pub enum Fault {
     /// The parts make no array.
     Parts,
     /// Two arrays are not of one type and length.
@@ -48,7 +48,7 @@ impl From<ComputeError> for Fault {
 }
 
 /// Returns the status of a call that has no result.
-pub(crate) fn status(fault: Fault) -> i32
+pub fn status(fault: Fault) -> i32
     ensures { result ≡ status_of fault }
 {
     match fault {

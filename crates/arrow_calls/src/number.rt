@@ -1,7 +1,7 @@
 //! Whole numbers in the caller's memory.
 
 ghost use Rattle.std.specs.Prelude.{◌≡◌, ◌≤ℤ◌, option_map, IfSome, IsNone};
-ghost use Rattle.dunkelva_c.specs.Numbers.{number_words, words_number};
+ghost use Rattle.arrow_calls.specs.Numbers.{number_words, words_number};
 
 use polars_arrays_numbers::native_type::{greatest_value, least_value};
 use polars_compute_slots::number::UniqueNumber;
@@ -19,7 +19,7 @@ pub struct Number {
 }
 
 /// Returns a number of a column as a whole number.
-pub(crate) fn whole<T: UniqueNumber>(number: Option<T>) -> Option<i128>
+pub fn whole<T: UniqueNumber>(number: Option<T>) -> Option<i128>
     ensures number { result ≡ option_map T.value number }
     ensures in_type { IfSome result (λ n. (T.low ≤ℤ n) × (n ≤ℤ T.high)) }
 {
@@ -30,7 +30,7 @@ pub(crate) fn whole<T: UniqueNumber>(number: Option<T>) -> Option<i128>
 }
 
 /// Returns a whole number in the form that crosses to C.
-pub(crate) fn number_of(whole: Option<i128>) -> Number
+pub fn number_of(whole: Option<i128>) -> Number
     ensures { result ≡ number_words whole }
 {
     match whole {
@@ -51,7 +51,7 @@ pub(crate) fn number_of(whole: Option<i128>) -> Number
 }
 
 /// Returns the whole number of a low and a high word.
-pub(crate) fn whole_of(low: u64, high: u64) -> i128
+pub fn whole_of(low: u64, high: u64) -> i128
     ensures { result ≡ words_number low high }
 {
     let low = u128::from(low);
@@ -60,7 +60,7 @@ pub(crate) fn whole_of(low: u64, high: u64) -> i128
 }
 
 /// Returns a whole number as a number of a type, or `None` if the type does not have it.
-pub(crate) fn narrow<T: UniqueNumber>(whole: i128) -> Option<T>
+pub fn narrow<T: UniqueNumber>(whole: i128) -> Option<T>
     ensures number { IfSome result (λ number. T.value number ≡ whole) }
     ensures none { IsNone result → ¬ ((T.low ≤ℤ whole) × (whole ≤ℤ T.high)) }
 {

@@ -1,8 +1,8 @@
 use Rattle.std.proofs.Common.{◌≡◌, ℕ, Bool, List, Option, length, subst, sym, arith}
+use Rattle.arrow_calls.proofs.Lent.{presence_bits}
+use Rattle.arrow_calls.proofs.columns.column.Goals as goal
 use Rattle.arrow_parts.specs.ByteBits.{presence}
 use Rattle.polars_arrays_flat.specs.Validity.{HasBits}
-use Rattle.dunkelva_c.proofs.Lent.{presence_bits}
-use Rattle.dunkelva_c.proofs.columns.column.Goals as goal
 
 pub unreachable-requires : goal.unreachable-requires
 unreachable-requires g c =

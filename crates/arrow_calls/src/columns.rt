@@ -1,0 +1,33 @@
+//! Columns of the numbers of parts.
+
+ghost use Rattle.std.specs.Prelude.{length, IfErr, IfOk};
+ghost use Rattle.arrow_calls.specs.Columns.{IsColumn, Lends};
+ghost use Rattle.arrow_calls.specs.Statuses.{IsTrueOf};
+
+use crate::fault::Fault;
+use arrow_columns::column::Column;
+use arrow_parts::bits::validity;
+use arrow_parts::part::Part;
+use polars_arrays_numbers::native_type::NativeType;
+use std::alloc::Global;
+
+/// Borrows the numbers of a part as a column, with a validity made of the part's bits. The error is
+/// `Parts` if there is not a number and a bit for each row, or `Memory`.
+pub fn column<'a, T: NativeType>(
+    alloc: Global,
+    part: &Part<'_>,
+    values: &'a [T],
+) -> Result<Column<'a, T>, Fault>
+    ensures made { IfOk result (λ column. Lends part.now values.now column) }
+    ensures good { IfOk result (λ _. IsColumn part.now (length values.now)) }
+    ensures refused { IfErr result (IsTrueOf (IsColumn part.now (length values.now))) }
+{
+    if values.len() != part.rows {
+        return Err(Fault::Parts);
+    }
+    let present = validity(alloc, part.present, part.first_bit, part.rows)?;
+    match Column::try_new(values, present) {
+        Ok(column) => Ok(column),
+        Err(_) => unreachable!(),
+    }
+}
