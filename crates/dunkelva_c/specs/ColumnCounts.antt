@@ -3,6 +3,7 @@
 -- The rows 12 and null have two ones and null: the second count may be any number.
 use Rattle.std.specs.Prelude.{◌≡◌, ℕ, pos, List, Option, Some, None, map}
 use Rattle.arrow_calls.specs.Columns.{rows_lent}
+use Rattle.arrow_calls.specs.Counts.{IsTrueCountsFault}
 use Rattle.arrow_calls.specs.declared.fault.Fault.{Fault}
 use Rattle.arrow_calls.specs.declared.fault.Fault.TheVariants.{NotServed}
 use Rattle.arrow_columns.specs.Counting.{counted_by}

@@ -3,6 +3,7 @@
 -- A part of kind 3 has its numbers in `i8s`, of 8 bits with a sign. Where these are 127, 5 and 1 under the bits 1, 0, 1, its rows
 -- are 127, null and 1, and their sum is -128.
 use Rattle.std.specs.Prelude.{◌≡◌, ℕ, ℤ, pos, Bool, true, false, List, [], Option, Some, None, length, ⊤}
+use Rattle.arrow_calls.specs.Columns.{IsColumn, rows_lent}
 use Rattle.arrow_calls.specs.declared.fault.Fault.{Fault}
 use Rattle.arrow_calls.specs.declared.fault.Fault.TheVariants.{Memory, NotServed, Parts, Room, Types}
 use Rattle.arrow_columns.specs.Reductions.{sum_if_any}
