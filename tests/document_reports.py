@@ -142,21 +142,26 @@ def shown(text):
     return HIGH.sub(lambda found: f"\\u{ord(found[0]):04x}", text)
 
 
+def stored_text(text):
+    """Returns a string as JSON, with the control characters that may stand in it."""
+    return json.dumps(text, ensure_ascii=False)
+
+
 def string_text(text):
     """Returns a string as JSON, with no control character in it."""
-    return shown(json.dumps(text, ensure_ascii=False))
+    return shown(stored_text(text))
 
 
-def compact(value):
+def compact(value, string=string_text):
     """Returns a value as JSON without blanks, its numbers as they stand."""
     if isinstance(value, Number):
         return value.text
     if isinstance(value, str):
-        return string_text(value)
+        return string(value)
     if isinstance(value, list):
-        return f"[{','.join(map(compact, value))}]"
+        return f"[{','.join(compact(child, string) for child in value)}]"
     if isinstance(value, Object):
-        return f"{{{','.join(f'{string_text(name)}:{compact(child)}' for name, child in value.members)}}}"
+        return f"{{{','.join(f'{string(name)}:{compact(child, string)}' for name, child in value.members)}}}"
     return json.dumps(value)
 
 
@@ -296,15 +301,15 @@ def documents_of(content, options):
     return documents
 
 
-def keys_of(documents, options):
+def keys_of(documents, options, string=string_text):
     """Returns the key of each document, as normal texts."""
     paths = [steps_of(key) for key in options["keys"]]
-    return [tuple(key_text(part_at(it, path)) for path in paths) for it in documents]
+    return [tuple(key_text(part_at(it, path), string) for path in paths) for it in documents]
 
 
-def key_text(part):
+def key_text(part, string=string_text):
     """Returns the normal text of a part of a key, which is null where there is none."""
-    return compact(normal(None if part is MISSING else part))
+    return compact(normal(None if part is MISSING else part), string)
 
 
 # ---- tolerances

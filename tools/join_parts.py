@@ -1,14 +1,15 @@
 #!/usr/bin/env python3
-"""Joins the reports of all parts of two CSV files, as JSON lines, to the report of the whole.
+"""Joins the reports of all parts of two files, as JSON lines, to the report of the whole.
 
 usage: join_parts.py LEFT REPORT.. [-- OPTION..]
 
-LEFT is the left file, whose first record says in which order the columns are, and an option is one that the parts were
-compared with. A report is a file of what `dunkelva diff LEFT RIGHT --partition I/N --format json --limit 0 OPTION..`
+LEFT is the left file, and an option is one that the parts were compared with. Of CSV the first record of LEFT says in which
+order the columns are. A report is a file of what `dunkelva diff LEFT RIGHT --partition I/N --format json --limit 0 OPTION..`
 printed, and all N of them are needed, the first part's first. Prints what a run without `--partition` prints.
 
 Differences stand in the order of the whole: changed rows by their left row, then removed ones, then added ones by their
-row. Each report has this order, so that no more than a line of each is in memory. Counts are added up.
+row; documents by their lines. Each report has this order, so that no more than a line of each is in memory. Counts are
+added up, but for those of lines that are passed over, which each part has.
 """
 import csv
 import heapq
@@ -20,8 +21,8 @@ RANKS = {b"column": 0, b"changed": 1, b"removed": 2, b"added": 3, b"counts": 4}
 KIND = re.compile(rb'\{"kind":"(\w+)"')
 # cells and keys are texts or null, so that no other member with such a name is a number
 ROW = re.compile(rb'"(?:left_)?row":([0-9]+)')
-COUNTS = re.compile(rb'\{"kind":"counts","changed":(\d+),"removed":(\d+),"added":(\d+),"same":(\d+),"not_shown":(\d+),'
-                    rb'"columns":\{(.*)\}\}\n')
+COUNTS = re.compile(rb'\{"kind":"counts","changed":(\d+),"removed":(\d+),"added":(\d+),"same":(\d+),"not_shown":(\d+),?'
+                    rb'(?:"columns":\{(.*)\})?("left_skipped":\d+,"right_skipped":\d+)?\}\n')
 COLUMN = re.compile(rb'("(?:[^"\\]|\\.)*"):(\d+)')
 
 
@@ -29,6 +30,15 @@ def place_of(line):
     """Returns what lines are ordered by: their kind, and the number of their row."""
     kind = KIND.match(line)[1]
     return RANKS[kind], int(ROW.search(line)[1]) if kind in (b"changed", b"removed", b"added") else 0
+
+
+def document_place_of(line):
+    """Returns the same of documents, whose keys may be objects with members of any name."""
+    kind = KIND.match(line)[1]
+    if kind == b"counts":
+        return RANKS[kind], 0
+    told = json.loads(line, parse_int=str, parse_float=str)
+    return RANKS[kind], int(told.get("left_line") or told["line"])
 
 
 def option_of(options, name):
@@ -39,6 +49,12 @@ def option_of(options, name):
         if word.startswith(name + "="):
             return word.removeprefix(name + "=")
     return None
+
+
+def hold_documents(left, options):
+    """Returns whether the files hold JSON documents, by the option or the name of the left one."""
+    given = option_of(options, "--input")
+    return left.endswith((".ndjson", ".jsonl")) if given is None else given == "ndjson"
 
 
 def names_of(left, options):
@@ -60,16 +76,18 @@ def counts_of(lines, names):
     for line in lines:
         found = COUNTS.fullmatch(line)
         totals = [total + int(count) for total, count in zip(totals, found.groups())]
-        for name, count in COLUMN.findall(found[6]):
+        for name, count in COLUMN.findall(found[6] or b""):
             columns[name] = columns.get(name, 0) + int(count)
+    counts = b'{"kind":"counts","changed":%d,"removed":%d,"added":%d,"same":%d,"not_shown":%d' % tuple(totals)
+    if found[6] is None:
+        return counts + (b"," + found[7] if found[7] else b"") + b"}\n"
 
     def order(name):
         text = json.loads(name)
         return int(text) if names is None else names.index(text)
 
     texts = b",".join(name + b":%d" % columns[name] for name in sorted(columns, key=order))
-    return (b'{"kind":"counts","changed":%d,"removed":%d,"added":%d,"same":%d,"not_shown":%d,' % tuple(totals)
-            + b'"columns":{' + texts + b"}}\n")
+    return counts + b',"columns":{' + texts + b"}}\n"
 
 
 def without_columns(report, number):
@@ -77,10 +95,12 @@ def without_columns(report, number):
     return (line for line in report if number == 0 or KIND.match(line)[1] != b"column")
 
 
-def joined(reports, names):
+def joined(reports, left, options):
     """Makes the lines of the whole, by the lines of the parts' reports."""
-    counts = []
-    for line in heapq.merge(*(without_columns(it, n) for n, it in enumerate(reports)), key=place_of):
+    is_documents = hold_documents(left, options)
+    names = None if is_documents else names_of(left, options)
+    place, counts = document_place_of if is_documents else place_of, []
+    for line in heapq.merge(*(without_columns(it, n) for n, it in enumerate(reports)), key=place):
         if KIND.match(line)[1] == b"counts":
             counts.append(line)
         else:
@@ -93,7 +113,7 @@ def main(words):
     end = words.index("--") if "--" in words else len(words)
     left, reports, options = words[0], words[1:end], words[end + 1:]
     files = [open(report, "rb") for report in reports]
-    sys.stdout.buffer.writelines(joined(files, names_of(left, options)))
+    sys.stdout.buffer.writelines(joined(files, left, options))
 
 
 if __name__ == "__main__":

@@ -1,5 +1,5 @@
 #!/usr/bin/env python3
-"""Compares two CSV files in N parts on a Dask cluster of this machine, and prints what one run of `dunkelva` would.
+"""Compares two files in N parts on a Dask cluster of this machine, and prints what one run of `dunkelva` would.
 
 usage: parts_dask.py [--workers W] [--program PROGRAM] N LEFT RIGHT --key COLUMNS [OPTION..]
 
@@ -42,7 +42,7 @@ def main():
             sys.stderr.buffer.write(said)
             return status
     reports = [report.splitlines(True) for _, report, _ in ran]
-    sys.stdout.buffer.writelines(join_parts.joined(reports, join_parts.names_of(words[0], words[2:])))
+    sys.stdout.buffer.writelines(join_parts.joined(reports, words[0], words[2:]))
     return max(status for status, _, _ in ran)
 
 

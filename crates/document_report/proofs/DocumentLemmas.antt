@@ -5,6 +5,7 @@ use Rattle.std.proofs.lemmas.List.Elements.{All-get_or}
 use Rattle.std.proofs.Math.Seq.{get_or-append_seam}
 use Rattle.diff_tables.specs.Tables.{TableRows}
 use Rattle.document_rows.specs.Documents.{IsDocument, cell_of, document_row, key_cells, tree_of}
+use Rattle.document_rows.specs.Parts.{IsWanted}
 use Rattle.document_rows.specs.Tables.{HoldsDocuments, line_at}
 use Rattle.document_rows.specs.declared.reading.Reading.{Reading}
 use Rattle.json_paths.specs.Paths.{Path, part_at}
@@ -28,7 +29,7 @@ document_at t i h within =
     let row : get_or t.rows i [] ≡ document_row keys (get_or lines i []) = ap (λ l. get_or l i []) rows.rows ∙ get_or-map (document_row keys) lines i [] [] inside in
     let place : t.width - 1 ≡ length keys = omega (arith, rows.width) in
     let line : line_at t i ≡ get_or lines i [] = ap (λ r. get_or r (t.width - 1) []) row ∙ last_cell keys (get_or lines i []) (t.width - 1) place in
-    (reading, keys, subst (IsDocument reading keys) (sym line) (All-get_or (IsDocument reading keys) lines i [] inside rows.documents))
+    (reading, keys, subst (IsDocument reading keys) (sym line) (All-get_or (IsWanted reading keys) lines i [] inside rows.documents).document)
 
 -- so is the cell behind those of the keys
 pub document_in : (t : TableRows) (i n : ℕ) (cell : List ℕ) → HoldsDocuments t → i < length t.rows → t.width ≡ suc n → cell ≡ get_or (get_or t.rows i []) n [] → (reading : Reading) × (keys : List Path) × IsDocument reading keys cell

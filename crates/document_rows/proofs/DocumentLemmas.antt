@@ -48,7 +48,7 @@ row_of t (reading, keys, lines, h) i within =
     record {
       reading = reading;
       keys = keys;
-      document = subst (IsDocument reading keys) (sym line) (h.documents i [] inside);
+      document = subst (IsDocument reading keys) (sym line) (h.documents i [] inside).document;
       width = ap length row ∙ (row_count keys (get_or lines i []) ∙ sym h.width);
     }
 

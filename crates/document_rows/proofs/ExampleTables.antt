@@ -2,7 +2,9 @@
 use Rattle.std.proofs.Common.{◌≡◌, ◌∙◌, ap, arith, subst, sym, refl}
 use Rattle.std.proofs.lemmas.List.Elements.{All-cons, All-nil}
 use Rattle.std.proofs.lemmas.Option.{same_Some}
-use Rattle.std.specs.Prelude.{◌++◌, ℕ, false, true, IsSome, List, [], ◌∷◌, None, Some, codes, option_copied, unwrap_or}
+use Rattle.std.specs.Prelude.{◌++◌, ℕ, false, true, IsSome, List, [], ◌∷◌, Option, None, Some, codes, option_copied, unwrap_or}
+use Rattle.diff_parts.specs.Parts.{PartNumber}
+use Rattle.diff_parts.specs.Rows.{has_row}
 use Rattle.diff_tables.specs.Tables.{TableRows}
 use Rattle.fast_float.specs.Text.{scan}
 use Rattle.json.proofs.Printed.Utf8.{IsUtf8-are_ascii}
@@ -19,6 +21,7 @@ use Rattle.json_paths.specs.Paths.{Path, name, part_at}
 use Rattle.json_paths.specs.Patterns.{Pattern, exactly}
 use Rattle.document_rows.specs.Documents.{IsDocument, document_row, key_cells, tree_of}
 use Rattle.document_rows.specs.Known.{HoldsDocumentsOf, KnowsLines}
+use Rattle.document_rows.specs.Parts.{IsWanted, is_in}
 use Rattle.document_rows.specs.Tables.{IsOtherDocument}
 use Rattle.document_rows.specs.declared.known.Known.{Known}
 use Rattle.document_rows.specs.declared.reading.Reading.{Reading}
@@ -71,22 +74,38 @@ cells-seven : key_cells by_id (object seven_members) ≡ codes "7" ∷ []
 unfolding normal_number number_text digits_text tens_text normal_of decimal_of scan print_from escape_byte
 cells-seven = refl
 
+-- {"n": 1, "id": 7.0} has the same key, and so it is in the same part, whichever that is
+abbrev other_seven : Members
+other_seven = member (codes "n") (number (codes "1")) (member (codes "id") (number (codes "7.0")) no_members)
+
+cells-other : key_cells by_id (object other_seven) ≡ codes "7" ∷ []
+unfolding normal_number number_text digits_text tens_text normal_of decimal_of scan print_from escape_byte
+cells-other = refl
+
+one-part : (part : Option PartNumber) → is_in part by_id (object seven_members) ≡ is_in part by_id (object other_seven)
+one-part None = refl
+one-part (Some part) = ap (has_row part (0 ∷ [])) (cells-seven ∙ sym cells-other)
+
 row-seven : document_row by_id seven ≡ codes "7" ∷ seven ∷ []
 row-seven = ap (λ j. key_cells by_id (unwrap_or j null) ++ seven ∷ []) seven-read ∙ ap (λ cells. cells ++ seven ∷ []) cells-seven
 
-seven-held : (reading : Reading) → HoldsDocumentsOf reading by_id one_seven
-seven-held reading = (
+-- however many parts there are, it is in the part that the key "7" is in
+seven-wanted : (reading : Reading) → is_in reading.part by_id (tree_of seven) ≡ true → IsWanted reading by_id seven
+seven-wanted reading is = record { document = seven-document reading; in_part = is }
+
+seven-held : (reading : Reading) → is_in reading.part by_id (tree_of seven) ≡ true → HoldsDocumentsOf reading by_id one_seven
+seven-held reading is = (
   seven ∷ [],
   record {
-    documents = All-cons (IsDocument reading by_id) seven [] (seven-document reading) (All-nil (IsDocument reading by_id));
+    documents = All-cons (IsWanted reading by_id) seven [] (seven-wanted reading is) (All-nil (IsWanted reading by_id));
     width = refl;
     rows = ap (λ row. row ∷ []) (sym row-seven);
   },
 )
 
 -- with this table the line {"id": 7} is known
-seven-known : (reading : Reading) (k : Known) → option_copied k.table ≡ Some one_seven → KnowsLines reading by_id k
-seven-known reading k held t is = subst (HoldsDocumentsOf reading by_id) (same_Some one_seven t (sym held ∙ is)) (seven-held reading)
+seven-known : (reading : Reading) (k : Known) → is_in reading.part by_id (tree_of seven) ≡ true → option_copied k.table ≡ Some one_seven → KnowsLines reading by_id k
+seven-known reading k wanted held t is = subst (HoldsDocumentsOf reading by_id) (same_Some one_seven t (sym held ∙ is)) (seven-held reading wanted)
 
 -- ---- under rules
 

@@ -7,11 +7,12 @@ use Rattle.json.specs.Print.{escape_byte, print_from}
 use Rattle.json_paths.specs.Paths.{Path, name}
 use Rattle.document_rows.proofs.NumberLemmas.{no_numbers, none_numbered, number_more, number_passed, other_numbered}
 use Rattle.document_rows.proofs.RowLemmas.{no_document}
-use Rattle.document_rows.specs.Documents.{IsDocument, key_cells}
+use Rattle.document_rows.specs.Documents.{key_cells}
 use Rattle.document_rows.specs.Errors.{IsObject}
 use Rattle.document_rows.specs.Known.{HoldsDocumentsOf, KnowsLines}
 use Rattle.document_rows.specs.Lines.{lines_of}
 use Rattle.document_rows.specs.Numbers.{AreNumbered, AreNumbersOf, numbered_lines}
+use Rattle.document_rows.specs.Parts.{IsWanted}
 use Rattle.document_rows.specs.Tables.{line_at}
 use Rattle.document_faults.specs.declared.fault.LineFault.TheVariants as fault
 use Rattle.document_rows.specs.declared.known.Known.{Known}
@@ -88,4 +89,4 @@ none-known reading keys k none t is = let both : None ≡ Some t = sym none ∙ 
 
 -- the lines of a table that has no rows are known
 none-held : (reading : Reading) → HoldsDocumentsOf reading [] (record { width = 1; rows = []; far = false })
-none-held reading = ([], record { documents = All-nil (IsDocument reading []); width = refl; rows = refl })
+none-held reading = ([], record { documents = All-nil (IsWanted reading []); width = refl; rows = refl })

@@ -4,8 +4,9 @@ use Rattle.std.proofs.lemmas.List.{append_assoc, get_or-map, length-map, take_mo
 use Rattle.diff_tables.specs.Strings.{AreStrings}
 use Rattle.diff_tables.specs.Tables.{TableRows}
 use Rattle.json_paths.specs.Paths.{Path}
-use Rattle.document_rows.specs.Documents.{IsDocument, document_row, key_cells, tree_of}
+use Rattle.document_rows.specs.Documents.{document_row, key_cells, tree_of}
 use Rattle.document_rows.specs.Known.{HoldsDocumentsOf}
+use Rattle.document_rows.specs.Parts.{IsWanted}
 use Rattle.document_rows.specs.Rows.{HoldsRows}
 use Rattle.document_rows.specs.Tables.{HoldsDocuments, line_at}
 use Rattle.document_rows.specs.declared.cells.Rows.{Rows}
@@ -15,7 +16,7 @@ use Rattle.document_rows.proofs.RowLemmas.{row_kept}
 
 -- the row of a document is a function of its line
 pub record IsRowAt (reading : Reading) (keys : List Path) (t : TableRows) (i : ℕ) : Type 0 where
-  pub document : IsDocument reading keys (line_at t i)
+  pub wanted : IsWanted reading keys (line_at t i)
   pub row : get_or t.rows i [] ≡ document_row keys (line_at t i)
   pub width : length (get_or t.rows i []) ≡ t.width
 
@@ -28,7 +29,7 @@ row_at reading keys t (lines, h) i within =
     ap (λ (rs : List (List (List ℕ))). get_or rs i []) h.rows ∙ get_or-map (document_row keys) lines i [] [] inside in
     let line : line_at t i ≡ get_or lines i [] = ap (λ (r : List (List ℕ)). get_or r (t.width - 1) []) row ∙ row_line keys (get_or lines i []) t.width h.width in
     record {
-      document = subst (IsDocument reading keys) (sym line) (h.documents i [] inside);
+      wanted = subst (IsWanted reading keys) (sym line) (h.documents i [] inside);
       row = row ∙ ap (document_row keys) (sym line);
       width = ap length row ∙ (row_count keys (get_or lines i []) ∙ sym h.width);
     }
@@ -51,5 +52,5 @@ pub copy_kept : (reading : Reading) (keys : List Path) (all : List (List ℕ)) (
 copy_kept reading keys all t i number old new docs within number_is h cells numbers others =
     let here = row_at reading keys t docs i within in
     let tree = tree_of (line_at t i) in
-    row_kept reading keys all (line_at t i) tree number old new (here.document.json ∙ ap Some (sym (tree_is reading keys (line_at t i) here.document))) here.document number_is h
+    row_kept reading keys all (line_at t i) tree number old new (here.wanted.document.json ∙ ap Some (sym (tree_is reading keys (line_at t i) here.wanted.document))) here.wanted number_is h
     (λ strings held. subst (AreStrings new.cells) (ap (λ l. strings ++ l) here.row ∙ sym (append_assoc strings (key_cells keys tree) (line_at t i ∷ []))) (cells strings held)) numbers others

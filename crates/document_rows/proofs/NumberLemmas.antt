@@ -6,6 +6,7 @@ use Rattle.diff_keys.specs.RisingLaws.{listed_as, one_listed, one_passed}
 use Rattle.json_paths.specs.Paths.{Path}
 use Rattle.document_rows.specs.Documents.{IsDocument}
 use Rattle.document_rows.specs.Numbers.{AreNumbered, AreNumbersOf, IsNumberOf, numbered_line, numbered_lines}
+use Rattle.document_rows.specs.Parts.{IsWanted}
 use Rattle.document_rows.specs.declared.reading.Reading.{Reading}
 
 -- of no lines none is meant
@@ -77,16 +78,25 @@ lines_more P lines line numbers h =
 -- no lines
 pub none_numbered : (reading : Reading) (keys : List Path) → AreNumbered reading keys [] [] []
 none_numbered reading keys = record {
-  documents = no_numbers (IsDocument reading keys);
+  documents = no_numbers (IsWanted reading keys);
   others = no_numbers (λ line. ¬ IsDocument reading keys line);
   none_skipped = λ strict. All-nil (IsDocument reading keys);
 }
 
 -- a document more
 pub document_numbered : (reading : Reading) (keys : List Path) (lines : List (List ℕ)) (line : List ℕ) (numbers skipped : List ℕ) → AreNumbered reading keys lines numbers skipped
-    → IsDocument reading keys line → AreNumbered reading keys (lines ++ line ∷ []) (numbers ++ suc (length lines) ∷ []) skipped
-document_numbered reading keys lines line numbers skipped h document = record {
-  documents = number_more (IsDocument reading keys) lines line numbers h.documents document;
+    → IsWanted reading keys line → AreNumbered reading keys (lines ++ line ∷ []) (numbers ++ suc (length lines) ∷ []) skipped
+document_numbered reading keys lines line numbers skipped h wanted = record {
+  documents = number_more (IsWanted reading keys) lines line numbers h.documents wanted;
+  others = number_passed (λ l. ¬ IsDocument reading keys l) lines line skipped h.others (λ other. other wanted.document);
+  none_skipped = λ strict. All-push (IsDocument reading keys) lines line (h.none_skipped strict) wanted.document;
+}
+
+-- a document more that is in another part
+pub passed_numbered : (reading : Reading) (keys : List Path) (lines : List (List ℕ)) (line : List ℕ) (numbers skipped : List ℕ) → AreNumbered reading keys lines numbers skipped
+    → IsDocument reading keys line → ¬ IsWanted reading keys line → AreNumbered reading keys (lines ++ line ∷ []) numbers skipped
+passed_numbered reading keys lines line numbers skipped h document unwanted = record {
+  documents = number_passed (IsWanted reading keys) lines line numbers h.documents unwanted;
   others = number_passed (λ l. ¬ IsDocument reading keys l) lines line skipped h.others (λ other. other document);
   none_skipped = λ strict. All-push (IsDocument reading keys) lines line (h.none_skipped strict) document;
 }
@@ -95,7 +105,7 @@ document_numbered reading keys lines line numbers skipped h document = record {
 pub other_numbered : (reading : Reading) (keys : List Path) (lines : List (List ℕ)) (line : List ℕ) (numbers skipped : List ℕ) → AreNumbered reading keys lines numbers skipped
     → reading.skip_bad ≡ true → ¬ IsDocument reading keys line → AreNumbered reading keys (lines ++ line ∷ []) numbers (skipped ++ suc (length lines) ∷ [])
 other_numbered reading keys lines line numbers skipped h passes other = record {
-  documents = number_passed (IsDocument reading keys) lines line numbers h.documents other;
+  documents = number_passed (IsWanted reading keys) lines line numbers h.documents (λ wanted. other wanted.document);
   others = number_more (λ l. ¬ IsDocument reading keys l) lines line skipped h.others other;
   none_skipped = λ strict. absurd (let both : false ≡ true = sym strict ∙ passes in cc both);
 }

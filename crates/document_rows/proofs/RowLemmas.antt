@@ -5,7 +5,7 @@ use Rattle.std.proofs.lemmas.List.{append_assoc, append-nil, flat_map_more, get_
 use Rattle.std.proofs.lemmas.List.Elements.{All-push}
 use Rattle.std.specs.List.{flat_map}
 use Rattle.std.specs.Option.{option_map}
-use Rattle.std.specs.Prelude.{All, IsSome, codes, false, true, unwrap_or}
+use Rattle.std.specs.Prelude.{All, Bool, IsSome, codes, false, true, unwrap_or}
 use Rattle.std.specs.Str.{IsUtf8}
 use Rattle.diff_tables.specs.Strings.{AreStrings}
 use Rattle.diff_tables.specs.Tables.{cut_rows}
@@ -22,6 +22,7 @@ use Rattle.document_rows.specs.Documents.{HasKeys, HasParts, IsDocument, cell_of
 use Rattle.document_rows.specs.Errors.{IsLineFault, IsObject, IsReadFault, IsStop}
 use Rattle.document_rows.specs.Lines.{lines_of}
 use Rattle.document_rows.specs.Numbers.{AreNumbered, numbered_lines}
+use Rattle.document_rows.specs.Parts.{IsWanted, is_in}
 use Rattle.document_rows.specs.Reading.{IsFaultAt, IsKeyFault, LacksPart}
 use Rattle.document_rows.specs.Rows.{HoldsRows}
 use Rattle.document_rows.specs.declared.cells.Rows.{Rows}
@@ -30,7 +31,7 @@ use Rattle.document_faults.specs.declared.fault.LineFault.TheVariants as fault
 use Rattle.document_rows.specs.declared.error.ReadError.{ReadError}
 use Rattle.document_rows.specs.declared.error.ReadError.TheVariants as error
 use Rattle.document_rows.specs.declared.reading.Reading.{Reading}
-use Rattle.document_rows.proofs.NumberLemmas.{document_numbered, lines_more, other_numbered, same_lines}
+use Rattle.document_rows.proofs.NumberLemmas.{document_numbered, lines_more, other_numbered, passed_numbered, same_lines}
 
 -- the cells of one key more
 cells_more : (ks : List Path) (p : Path) (j : Json) → key_cells (paths_view (ks ++ p ∷ [])) j ≡ key_cells (paths_view ks) j ++ cell_of (part_at (path_view p) j) ∷ []
@@ -133,20 +134,46 @@ row_more keys all line j is =
     ∙ (ap (λ (t : Json). flat_map (document_row keys) all ++ (key_cells keys t ++ line ∷ [])) tree ∙ flat_map_more (document_row keys) [] all line)
 
 -- one row more
-pub row_kept : (reading : Reading) (keys : List paths.Path) (all : List (List ℕ)) (line : List ℕ) (j : Json) (number : ℕ) (old new : Rows) → document line ≡ Some j → IsDocument reading keys line
+pub row_kept : (reading : Reading) (keys : List paths.Path) (all : List (List ℕ)) (line : List ℕ) (j : Json) (number : ℕ) (old new : Rows) → document line ≡ Some j → IsWanted reading keys line
     → number ≡ suc (length all) → HoldsRows reading keys all old
     → ((strings : List (List ℕ)) → AreStrings old.cells strings → AreStrings new.cells ((strings ++ key_cells keys j) ++ line ∷ []))
     → new.lines.items ≡ old.lines.items ++ number ∷ [] → new.skipped.items ≡ old.skipped.items → HoldsRows reading keys (all ++ line ∷ []) new
-row_kept reading keys all line j number old new is doc number_is h cells numbers others =
+row_kept reading keys all line j number old new is wanted number_is h cells numbers others =
     let before = numbered_lines all old.lines.items in
     let grown : new.lines.items ≡ old.lines.items ++ suc (length all) ∷ [] = numbers ∙ ap (λ n. old.lines.items ++ n ∷ []) number_is in
     let kept : numbered_lines (all ++ line ∷ []) new.lines.items ≡ before ++ line ∷ [] =
-    ap (numbered_lines (all ++ line ∷ [])) grown ∙ lines_more (IsDocument reading keys) all line old.lines.items h.numbered.documents in
+    ap (numbered_lines (all ++ line ∷ [])) grown ∙ lines_more (IsWanted reading keys) all line old.lines.items h.numbered.documents in
     record {
       numbered = subst (λ l. AreNumbered reading keys (all ++ line ∷ []) l new.skipped.items) (sym grown)
-          (subst (AreNumbered reading keys (all ++ line ∷ []) (old.lines.items ++ suc (length all) ∷ [])) (sym others) (document_numbered reading keys all line old.lines.items old.skipped.items h.numbered doc));
-      documents = subst (All (IsDocument reading keys)) (sym kept) (All-push (IsDocument reading keys) before line h.documents doc);
+          (subst (AreNumbered reading keys (all ++ line ∷ []) (old.lines.items ++ suc (length all) ∷ [])) (sym others) (document_numbered reading keys all line old.lines.items old.skipped.items h.numbered wanted));
+      documents = subst (All (IsWanted reading keys)) (sym kept) (All-push (IsWanted reading keys) before line h.documents wanted);
       cells = subst (λ l. AreStrings new.cells (flat_map (document_row keys) l)) (sym kept) (subst (AreStrings new.cells) (row_more keys before line j is) (cells (flat_map (document_row keys) before) h.cells));
+    }
+
+-- a document whose value is in the part is wanted
+pub wanted_from : (reading : Reading) (keys : List paths.Path) (line : List ℕ) (j : Json) (kept : Bool) → IsDocument reading keys line → document line ≡ Some j → kept ≡ is_in reading.part keys j → kept ≡ true
+    → IsWanted reading keys line
+wanted_from reading keys line j kept doc json is there = record {
+  document = doc;
+  in_part = ap (λ o. is_in reading.part keys (unwrap_or o null)) json ∙ (sym is ∙ there);
+}
+
+-- and no other is
+pub unwanted_from : (reading : Reading) (keys : List paths.Path) (line : List ℕ) (j : Json) (kept : Bool) → document line ≡ Some j → kept ≡ is_in reading.part keys j → kept ≡ false
+    → ¬ IsWanted reading keys line
+unwanted_from reading keys line j kept json is absent wanted =
+    let both : true ≡ false = sym wanted.in_part ∙ (ap (λ o. is_in reading.part keys (unwrap_or o null)) json ∙ (sym is ∙ absent)) in
+    cc both
+
+-- a document that is in another part
+pub row_passed : (reading : Reading) (keys : List paths.Path) (all : List (List ℕ)) (line : List ℕ) (r : Rows) → IsDocument reading keys line → ¬ IsWanted reading keys line
+    → HoldsRows reading keys all r → HoldsRows reading keys (all ++ line ∷ []) r
+row_passed reading keys all line r doc unwanted h =
+    let kept : numbered_lines (all ++ line ∷ []) r.lines.items ≡ numbered_lines all r.lines.items = same_lines (IsWanted reading keys) all line r.lines.items h.numbered.documents in
+    record {
+      numbered = passed_numbered reading keys all line r.lines.items r.skipped.items h.numbered doc unwanted;
+      documents = subst (All (IsWanted reading keys)) (sym kept) h.documents;
+      cells = subst (λ l. AreStrings r.cells (flat_map (document_row keys) l)) (sym kept) h.cells;
     }
 
 -- a line that is passed over
@@ -156,11 +183,11 @@ pub row_skipped : (reading : Reading) (keys : List paths.Path) (all : List (List
 row_skipped reading keys all line number old new passes other number_is h cells numbers skipped =
     let grown : new.skipped.items ≡ old.skipped.items ++ suc (length all) ∷ [] = skipped ∙ ap (λ n. old.skipped.items ++ n ∷ []) number_is in
     let kept : numbered_lines (all ++ line ∷ []) new.lines.items ≡ numbered_lines all old.lines.items =
-    ap (λ l. numbered_lines (all ++ line ∷ []) l.items) numbers ∙ same_lines (IsDocument reading keys) all line old.lines.items h.numbered.documents in
+    ap (λ l. numbered_lines (all ++ line ∷ []) l.items) numbers ∙ same_lines (IsWanted reading keys) all line old.lines.items h.numbered.documents in
     record {
       numbered = subst (λ l. AreNumbered reading keys (all ++ line ∷ []) l.items new.skipped.items) (sym numbers)
           (subst (AreNumbered reading keys (all ++ line ∷ []) old.lines.items) (sym grown) (other_numbered reading keys all line old.lines.items old.skipped.items h.numbered passes other));
-      documents = subst (All (IsDocument reading keys)) (sym kept) h.documents;
+      documents = subst (All (IsWanted reading keys)) (sym kept) h.documents;
       cells = subst (λ c. AreStrings c (flat_map (document_row keys) (numbered_lines (all ++ line ∷ []) new.lines.items))) (sym cells) (subst (λ l. AreStrings old.cells (flat_map (document_row keys) l)) (sym kept) h.cells);
     }
 

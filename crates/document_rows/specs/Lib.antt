@@ -4,6 +4,7 @@ pub mod Known
 pub mod LineParts
 pub mod Lines
 pub mod Numbers
+pub mod Parts
 pub mod Reading
 pub mod Rows
 pub mod Tables

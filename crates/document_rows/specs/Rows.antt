@@ -6,16 +6,18 @@ use Rattle.std.specs.List.{flat_map}
 use Rattle.std.specs.Prelude.{◌≡◌, ℕ, All, List, Option, Some}
 use Rattle.diff_tables.specs.Strings.{AreStrings}
 use Rattle.json_paths.specs.Paths.{Path}
-use Rattle.document_rows.specs.Documents.{IsDocument, document_row}
+use Rattle.document_rows.specs.Documents.{document_row}
 use Rattle.document_rows.specs.Lines.{lines_of}
 use Rattle.document_rows.specs.Numbers.{AreNumbered, numbered_lines}
+use Rattle.document_rows.specs.Parts.{IsWanted}
 use Rattle.document_rows.specs.declared.cells.Rows.{Rows}
 use Rattle.document_rows.specs.declared.reading.Reading.{Reading}
 
--- of these lines the documents are kept, each with its cells and its number, and the numbers of the others
+-- of these lines the documents that are wanted are kept, each with its cells and its number, and the numbers of those
+-- that are no documents
 pub record HoldsRows (reading : Reading) (keys : List Path) (all : List (List ℕ)) (r : Rows) : Type 0 where
   pub numbered : AreNumbered reading keys all r.lines.items r.skipped.items
-  pub documents : All (IsDocument reading keys) (numbered_lines all r.lines.items)
+  pub documents : All (IsWanted reading keys) (numbered_lines all r.lines.items)
   pub cells : AreStrings r.cells (flat_map (document_row keys) (numbered_lines all r.lines.items))
 
 -- lines are read to the end, and kept; where the reader's bytes are known they are all its lines

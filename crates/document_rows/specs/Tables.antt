@@ -8,19 +8,20 @@ use Rattle.std.specs.Prelude.{◌≡◌, ◌≢◌, ◌-◌, ℕ, suc, All, List
 use Rattle.diff_tables.specs.Tables.{TableRows}
 use Rattle.json_changes.specs.Rules.{Rules, differences_told}
 use Rattle.json_paths.specs.Paths.{Path}
-use Rattle.document_rows.specs.Documents.{IsDocument, document_row, tree_of}
+use Rattle.document_rows.specs.Documents.{document_row, tree_of}
 use Rattle.document_rows.specs.Lines.{lines_of}
 use Rattle.document_rows.specs.Numbers.{AreNumbered, numbered_lines}
+use Rattle.document_rows.specs.Parts.{IsWanted}
 use Rattle.document_rows.specs.declared.reading.Reading.{Reading}
 
--- the table has a row for each of these lines, which are documents
+-- the table has a row for each of these lines, which are documents, of the part if there is one
 pub record AreRowsOf (reading : Reading) (keys : List Path) (lines : List (List ℕ)) (t : TableRows) : Type 0 where
-  pub documents : All (IsDocument reading keys) lines
+  pub documents : All (IsWanted reading keys) lines
   pub width : t.width ≡ suc (length keys)
   pub rows : t.rows ≡ map (document_row keys) lines
 
--- the table has a row for each of these lines that is a document, in their order; these are the numbers of the rows' lines,
--- and of the lines that are passed over
+-- the table has a row for each of these lines that is a document, of the part if there is one, in their order; these are the
+-- numbers of the rows' lines, and of the lines that are passed over
 pub record AreDocumentsWith (reading : Reading) (keys : List Path) (lines : List (List ℕ)) (t : TableRows) (numbers skipped : List ℕ) : Type 0 where
   pub numbered : AreNumbered reading keys lines numbers skipped
   pub table : AreRowsOf reading keys (numbered_lines lines numbers) t

@@ -5,7 +5,6 @@ ghost use Rattle.diff_tables.specs.Strings.{AreStrings};
 ghost use Rattle.json.specs.Strict.{HasUniqueKeys};
 ghost use Rattle.json.specs.Value.{value_view};
 ghost use Rattle.json_normal.specs.Narrow.{HasNarrowNumbers};
-ghost use Rattle.json_normal.specs.Normal.{normal_text};
 ghost use Rattle.json_paths.specs.Paths as paths;
 ghost use Rattle.json_paths.specs.Paths.{part_at};
 ghost use Rattle.json_paths.specs.Views.{path_view, paths_view};
@@ -16,25 +15,16 @@ ghost use Rattle.document_rows.specs.Rows.{HoldsRows};
 ghost use Rattle.document_rows.specs.Tables.{HoldsDocuments, line_at};
 ghost use Rattle.document_rows.specs.declared.reading.Reading.{Reading};
 
+use crate::parts::{Room, is_in, write_part};
 use crate::reading::Reading;
 use crate::values::{Trouble, document_in};
 use diff_tables::strings::Strings;
 use diff_tables::table::Table;
 use document_faults::fault::LineFault;
 use document_faults::place::column_of;
-use json::{Scratch, Value, Writer};
-use json_decimals::error::NumberError;
-use json_normal::write::write_normal;
+use json::{Scratch, Value};
 use json_paths::path::Path;
 use std::alloc::{AllocError, Global};
-use std::mem;
-
-/// Room for the numbers and the normal texts of parts.
-#[derive(Drop)]
-struct Room {
-    number: Vec<u8>,
-    text: Vec<u8>,
-}
 
 /// Room for a document, kept from line to line.
 #[derive(Drop)]
@@ -52,30 +42,6 @@ pub(crate) struct Rows {
     pub(crate) skipped: Vec<u64>,
 }
 
-/// Appends the normal text of a value as a cell.
-fn push_cell(
-    alloc: Global,
-    cells: &mut Strings,
-    room: &mut Room,
-    value: &Value<'_>,
-) -> Result<(), AllocError>
-    requires unique { HasUniqueKeys (value_view value.now) }
-    requires narrow { HasNarrowNumbers (value_view value.now) }
-    ensures { OnOk result ((all : List (List ℕ)) → AreStrings cells.old all → AreStrings cells.new (all ++ normal_text (value_view value.now) ∷ [])) }
-{
-    let mut text = mem::replace(&mut room.text, Vec::new(alloc));
-    text.clear();
-    let mut writer = Writer::new(text);
-    match write_normal(alloc, &mut writer, &mut room.number, value) {
-        Ok(()) => {}
-        Err(NumberError::Memory) => return Err(AllocError),
-        Err(NumberError::WideExponent) => unreachable!(),
-    }
-    room.text = writer.into_inner();
-    cells.push(&room.text)?;
-    Ok(())
-}
-
 /// Appends the normal text of a document's part at a key, and that of null where there is none.
 fn push_part(
     alloc: Global,
@@ -88,16 +54,9 @@ fn push_part(
     requires narrow { HasNarrowNumbers (value_view value.now) }
     ensures { OnOk result ((all : List (List ℕ)) → AreStrings cells.old all → AreStrings cells.new (all ++ cell_of (part_at (path_view key.now) (value_view value.now)) ∷ [])) }
 {
-    match key.part_of(value) {
-        Some(part) => {
-            push_cell(alloc, cells, room, part)?;
-            Ok(())
-        }
-        None => {
-            cells.push(b"null")?;
-            Ok(())
-        }
-    }
+    write_part(alloc, room, value, key)?;
+    cells.push(&room.text)?;
+    Ok(())
 }
 
 /// Appends the cells of a document's keys.
@@ -183,7 +142,7 @@ impl Rows {
     }
 
     /// Appends the row of a document, which is the line of a number: the cells of the keys, and the
-    /// line. Appends nothing where the line is no document.
+    /// line. Appends nothing where the line is no document, or one of another part.
     pub(crate) fn push(
         &mut self,
         alloc: Global,
@@ -200,6 +159,9 @@ impl Rows {
     {
         let Rooms { scratch, room } = rooms;
         let value = document_in(alloc, line, keys, reading, scratch, &mut room.number)?;
+        if !is_in(alloc, room, &value, keys, reading.part)? {
+            return Ok(());
+        }
         push_parts(alloc, &mut self.cells, room, &value, keys)?;
         self.cells.push(line)?;
         self.lines.push(number)?;

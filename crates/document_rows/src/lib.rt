@@ -8,6 +8,7 @@ mod guesses;
 mod known;
 mod lines;
 pub mod pairs;
+pub mod parts;
 pub mod read;
 pub mod reading;
 mod values;

@@ -77,7 +77,7 @@ fn fault_in(
 }
 
 /// Keeps the document of a line, which is read unless the line is known, or passes over a line that
-/// is none. `number` is the line's, from 1 on.
+/// is none, or one of another part. `number` is the line's, from 1 on.
 fn keep_line(
     alloc: Global,
     rows: &mut Rows,
@@ -94,6 +94,7 @@ fn keep_line(
         (λ _. (all : List (List ℕ)) → number ≡ suc (length all) → HoldsRows reading (paths_view keys.now) all rows.old → HoldsRows reading (paths_view keys.now) (all ++ line.now ∷ []) rows.new)
         (IsFaultAt reading (paths_view keys.now) line.now number) }
 {
+    let skips = reading.skip_bad;
     if known.push_row(rows, line, number, guess)? {
         return Ok(());
     }
@@ -101,7 +102,7 @@ fn keep_line(
         Ok(()) => Ok(()),
         Err(Trouble::Memory) => Err(ReadError::Memory),
         Err(Trouble::Fault(fault)) => {
-            if !reading.skip_bad {
+            if !skips {
                 return Err(fault_in(alloc, line, number, fault, rooms));
             }
             rows.skip(number)?;
@@ -240,6 +241,7 @@ fn read_unknown<R: Read + Drop>(
 
 /// Reads the documents of an input, each of which has a part at each key, or null where there is
 /// none if `reading` says so. A line that is no such document is passed over if `reading` says so.
+/// Of a part, if `reading` names one, the documents are kept alone.
 /// Fails with `Line` only where it does not and a line is none, with `Read` where the reader fails,
 /// and else with `Memory`.
 pub fn read_documents<R: Read + Drop>(

@@ -1,5 +1,5 @@
 -- The worked example of a report: the sides of two texts, and which of their documents are changed.
-use Rattle.std.proofs.Common.{◌≡◌, ◌≢◌, ◌∙◌, ℕ, suc, false, List, [], ◌∷◌, length, map, ap, arith, subst, sym, refl}
+use Rattle.std.proofs.Common.{◌≡◌, ◌≢◌, ◌∙◌, ℕ, suc, false, List, [], ◌∷◌, None, length, map, ap, arith, subst, sym, refl}
 use Rattle.std.proofs.lemmas.List.{length-map}
 use Rattle.std.specs.Prelude.{codes, slice_index}
 use Rattle.diff_columns.specs.Names.{names_of}
@@ -11,6 +11,7 @@ use Rattle.diff_words.specs.declared.formats.Format.TheVariants as format
 use Rattle.document_rows.specs.Documents.{IsDocument, document_row, tree_of}
 use Rattle.document_rows.specs.Lines.{lines_of}
 use Rattle.document_rows.specs.Numbers.{AreNumbered, AreNumbersOf, IsNumberOf, numbered_lines}
+use Rattle.document_rows.specs.Parts.{IsWanted, is_in}
 use Rattle.document_rows.specs.declared.reading.Reading.{Reading}
 use Rattle.document_run.specs.Run.{IsSideOf, paths_of, rules_of, tree_at}
 use Rattle.document_run.specs.declared.options.DocumentOptions.{DocumentOptions}
@@ -27,6 +28,7 @@ pub record AreById (options : DocumentOptions) (rules : Rules) : Type 0 where
   pub names : names_of options.names.now ≡ codes "id" ∷ []
   pub told_by : rules_of options ≡ rules
   pub none_skipped : options.reading.skip_bad ≡ false
+  pub no_part : options.reading.part ≡ None
   pub limit : options.limit ≡ 20
   pub format : options.format ≡ format.Text
   pub colored : options.colored ≡ false
@@ -50,12 +52,13 @@ record AreThree (numbers skipped : List ℕ) : Type 0 where
   numbers_are : numbers ≡ 1 ∷ 2 ∷ 3 ∷ []
   none_skipped : skipped ≡ []
 
-three-numbered : (reading : Reading) (keys : List Path) (a b c : List ℕ) (numbers skipped : List ℕ) → reading.skip_bad ≡ false → AreNumbered reading keys (a ∷ b ∷ c ∷ []) numbers skipped → AreThree numbers skipped
-three-numbered reading keys a b c numbers skipped strict h =
+three-numbered : (reading : Reading) (keys : List Path) (a b c : List ℕ) (numbers skipped : List ℕ) → reading.skip_bad ≡ false → reading.part ≡ None → AreNumbered reading keys (a ∷ b ∷ c ∷ []) numbers skipped → AreThree numbers skipped
+three-numbered reading keys a b c numbers skipped strict whole h =
     let all = h.none_skipped strict in
+    let wanted : (line : List ℕ) → IsDocument reading keys line → IsWanted reading keys line = λ line document. record { document = document; in_part = ap (λ part. is_in part keys (tree_of line)) whole } in
     record {
-      numbers_are = one_listing (IsNumberOf (IsDocument reading keys) (a ∷ b ∷ c ∷ [])) 4 numbers (1 ∷ 2 ∷ 3 ∷ []) h.documents
-          (all-three (IsDocument reading keys) a b c (all 0 [] (omega arith)) (all 1 [] (omega arith)) (all 2 [] (omega arith)));
+      numbers_are = one_listing (IsNumberOf (IsWanted reading keys) (a ∷ b ∷ c ∷ [])) 4 numbers (1 ∷ 2 ∷ 3 ∷ []) h.documents
+          (all-three (IsWanted reading keys) a b c (wanted a (all 0 [] (omega arith))) (wanted b (all 1 [] (omega arith))) (wanted c (all 2 [] (omega arith))));
       none_skipped = one_listing (IsNumberOf (λ line. ¬ IsDocument reading keys line) (a ∷ b ∷ c ∷ [])) 4 skipped [] h.others
           (no-others (IsDocument reading keys) a b c (all 0 [] (omega arith)) (all 1 [] (omega arith)) (all 2 [] (omega arith)));
     }
@@ -79,7 +82,7 @@ side_read options rules text name side skipped a b c rows by lines made h = reco
 }
   where
     three : AreThree side.lines.items skipped
-    three = three-numbered options.reading (paths_of options) a b c side.lines.items skipped by.none_skipped
+    three = three-numbered options.reading (paths_of options) a b c side.lines.items skipped by.none_skipped by.no_part
         (subst (λ all. AreNumbered options.reading (paths_of options) all side.lines.items skipped) lines h.documents.numbered)
 
 -- there is one key

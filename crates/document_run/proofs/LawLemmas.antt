@@ -52,7 +52,7 @@ changed_not_same options left_text right_text left_name right_name written outco
         let low : i < length left = omega (arith, pairs.left_within k within, length-map left (document_row (paths_of options))) in
         let other : k < length r.matching.right_rows.items = omega (arith, within, pairs.one_length) in
         let few : j < length right = omega (arith, pairs.right_within k other, length-map right (document_row (paths_of options))) in
-        let l : IsDocument options.reading (paths_of options) (get_or left i []) = r.sides_are.left.documents.table.documents i [] low in
-        let m : IsDocument options.reading (paths_of options) (get_or right j []) = r.sides_are.right.documents.table.documents j [] few in
+        let l : IsDocument options.reading (paths_of options) (get_or left i []) = (r.sides_are.left.documents.table.documents i [] low).document in
+        let m : IsDocument options.reading (paths_of options) (get_or right j []) = (r.sides_are.right.documents.table.documents j [] few).document in
         told_apart (rules_of options) (tree_at left i) (tree_at right j) none
         (tree_unique options.reading (paths_of options) (get_or left i []) l) (tree_unique options.reading (paths_of options) (get_or right j []) m)

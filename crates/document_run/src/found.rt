@@ -1,7 +1,6 @@
 //! What differs between two sides.
 
-ghost use Rattle.std.specs.List.{range_with_len};
-ghost use Rattle.std.specs.Prelude.{◌≡◌, true, IfOk, MatchResult};
+ghost use Rattle.std.specs.Prelude.{◌≡◌, true, MatchResult};
 ghost use Rattle.diff_tables.specs.Comparison.{IsComparison};
 ghost use Rattle.document_run.specs.Faults.{IsRowsFault};
 ghost use Rattle.document_run.specs.Run.{key_columns};
@@ -14,6 +13,7 @@ use diff_keys::error::MatchError;
 use diff_keys::matching::Matching;
 use diff_tables::compare::{Comparison, compare_tables};
 use document_rows::pairs::differing_pairs;
+use document_rows::parts::key_columns;
 use document_words::sides::DocumentSides;
 use std::alloc::{AllocError, Global};
 
@@ -23,13 +23,6 @@ pub(crate) struct Found {
     pub(crate) matching: Matching,
     /// The places among the partners where a difference between the two documents is told.
     pub(crate) changed: Vec<usize>,
-}
-
-/// Lists the columns of the keys.
-fn key_columns(alloc: Global, count: usize) -> Result<Vec<usize>, AllocError>
-    ensures { IfOk result (λ columns. columns.items ≡ range_with_len 0 count) }
-{
-    (0..count).collect(alloc)
 }
 
 /// Matches the documents of two sides by their keys.

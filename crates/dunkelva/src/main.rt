@@ -22,7 +22,7 @@ use crate::config::{Config, config_for, joined, named_file};
 use crate::keys::keys_of;
 use crate::kinds::{hold_documents, refuse_document_options, refuse_table_options};
 use crate::outputs::refuse_own_target;
-use crate::parts::part_of;
+use crate::parts::{part_of, part_of_rows};
 use crate::rules::rules_of;
 use crate::schema::{compare_schemas, show_schema};
 use crate::tasks::{Target, Task, compare_named};
@@ -60,7 +60,7 @@ fn diff_tables(
         numbers: matches
             .get_flag("numbers")
             .then_some(names.texts.as_slice()),
-        part: part_of(matches, &names)?,
+        part: part_of_rows(matches, &names)?,
         null: matches.get_str("null").map(|word| word.as_bytes()),
         limit: limit_of(matches),
         common: matches.get_flag("common"),
@@ -88,6 +88,7 @@ fn diff_documents(
         reading: Reading {
             null_keys: matches.get_flag("no-key-is-null"),
             skip_bad: matches.get_flag("skip-bad"),
+            part: part_of(matches)?,
         },
         rules: &rules,
         limit: limit_of(matches),

@@ -170,8 +170,7 @@ static OPTIONS: [CliOption; 26] = [
         takes: Takes::Text,
         value: "I/N",
         needs: Some("key"),
-        goes_with: GoesWith::Tables,
-        help: "Compare part I of N of the rows, by their keys; all N parts are the whole",
+        help: "Compare part I of N of the rows or documents, by key; all N parts are the whole",
         ..SWITCH
     },
     CliOption {

@@ -1,4 +1,4 @@
-//! The part of the rows that is compared.
+//! The part of the rows or documents that is compared.
 
 use crate::words::Names;
 use anyhow::{Result, anyhow};
@@ -29,11 +29,18 @@ fn refuse_numbers(matches: &ArgMatches<'_>, names: &Names<'_>) -> Result<()> {
 }
 
 /// Returns the part of the rows that is compared, where one is asked for.
-pub(crate) fn part_of(matches: &ArgMatches<'_>, names: &Names<'_>) -> Result<Option<Part>> {
+pub(crate) fn part_of_rows(matches: &ArgMatches<'_>, names: &Names<'_>) -> Result<Option<Part>> {
+    if matches.contains_id("partition") {
+        refuse_numbers(matches, names)?;
+    }
+    part_of(matches)
+}
+
+/// Returns the part of the documents that is compared, where one is asked for.
+pub(crate) fn part_of(matches: &ArgMatches<'_>) -> Result<Option<Part>> {
     let Some(text) = matches.get_str("partition") else {
         return Ok(None);
     };
-    refuse_numbers(matches, names)?;
     match named_part(text) {
         Some(part) => Ok(Some(part)),
         None => Err(anyhow!("--partition takes I/N, as 1/8, with I from 1 to N, and not {text:?}")),
