@@ -4,4 +4,5 @@ pub mod ExampleReport
 pub mod ExampleRules
 pub mod ExampleSides
 pub mod LawLemmas
+mod PartLemmas
 pub mod SideLemmas
