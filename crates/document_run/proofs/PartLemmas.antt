@@ -131,5 +131,5 @@ keeps_documents text whole some part keys t u numbers kept skipped others none t
       kept_are,
       h.table.rows ∙ (ap (λ ns. map (document_row keys) (map (numbered_line lines) ns)) kept_are ∙ (rows ∙ ap (filter (has_row part (range_with_len 0 (length keys)))) (sym all.table.rows))),
       one_listing (IsNumberOf (λ line. ¬ IsDocument whole keys line) lines) (suc (length lines)) others skipped
-      (listed_as (IsNumberOf (λ line. ¬ IsDocument some keys line) lines) (IsNumberOf (λ line. ¬ IsDocument whole keys line) lines) (suc (length lines)) others bad h.numbered.others) all.numbered.others,
+          (listed_as (IsNumberOf (λ line. ¬ IsDocument some keys line) lines) (IsNumberOf (λ line. ¬ IsDocument whole keys line) lines) (suc (length lines)) others bad h.numbered.others) all.numbered.others,
     )
