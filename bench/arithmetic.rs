@@ -61,8 +61,9 @@ unsafe extern "C" {
     safe fn mallopt(parameter: i32, value: i32) -> i32;
 }
 
-/// Has the C library's allocator keep what is freed. Else it gives new numbers of many rows back to the system run
-/// after run, and the time is that of the system, on either side as its memory happens to lie.
+/// Has the C library's allocator keep what is freed. Else it gives new numbers of many rows back to
+/// the system run after run, and the time is that of the system, on either side as its memory
+/// happens to lie.
 fn keep_freed_memory() {
     const TRIM_THRESHOLD: i32 = -1;
     const MMAP_MAX: i32 = -4;
@@ -93,7 +94,7 @@ const SCALARS: [i64; 10] = [
 /// The parts from which the library makes the arrays.
 struct Columns {
     left: Vec<i64>,
-    /// Numbers of all magnitudes, of which every sixty-fourth or so is 0.
+    /// Numbers of all magnitudes. About one in sixty-four is 0.
     right: Vec<i64>,
     /// Words of the validities, with one more than there are bits for.
     words: Vec<u64>,
@@ -130,7 +131,7 @@ struct Arrays<'a, T> {
     numbers: PhantomData<T>,
 }
 
-/// Row `i` of the numbers of which those are present whose bit is 1, or all.
+/// Returns row `i` of the numbers: null where its bit is 0. Without bits all rows are present.
 fn row<T: Number>(values: &[T], words: Option<&[u64]>, i: usize) -> u64 {
     let values = black_box(values);
     match values.get(i) {
@@ -141,7 +142,7 @@ fn row<T: Number>(values: &[T], words: Option<&[u64]>, i: usize) -> u64 {
     }
 }
 
-/// Row after row of what a peer makes, as often as it is told.
+/// Runs a peer row after row, `repeats` times.
 fn checksum(repeats: usize, mut row: impl FnMut(usize) -> u64) -> u64 {
     (0..repeats).fold(0, |sum: u64, round| {
         sum.wrapping_mul(31).wrapping_add(row(round))
@@ -164,7 +165,8 @@ impl<'a, T: Number> Arrays<'a, T> {
         }
     }
 
-    /// The numbers that the library makes its rows of, at the type. Each side makes its operands anew.
+    /// The numbers that the library makes its rows of, at the type. Each side makes its operands
+    /// anew.
     fn made(&self, column: &[i64]) -> Vec<T> {
         column.iter().map(|wide| T::of(*wide)).collect()
     }
@@ -427,7 +429,7 @@ const FORMS: [Form; 4] = [
     },
 ];
 
-/// Both sides answer alike at each row of lengths up to some hundreds, by all scalars.
+/// Checks that both sides return the same for all scalars, at lengths up to some hundreds.
 pub fn agree() {
     for count in (0..70).chain([127, 128, 129, 300]) {
         let columns = &Columns::new(count);
@@ -447,9 +449,9 @@ pub fn agree() {
     }
 }
 
-/// Returns whether a line of the operation is timed. Of the types that are not among the four first ones only
-/// divisions by a scalar are, and with nulls only the pairs of one type. The numbers without a sign are their own
-/// distances from 0.
+/// Returns whether a line of the operation is timed. Of the types that are not among the four first
+/// ones only divisions by a scalar are, and with nulls only the pairs of one type. The numbers
+/// without a sign are their own distances from 0.
 fn is_timed(name: &str) -> bool {
     let of_type = |types: &[&str]| {
         let mut words = name.split([' ', ',']);

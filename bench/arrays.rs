@@ -45,7 +45,7 @@ struct Arrays<'a, T> {
 }
 
 impl<T: Copy + PartialOrd> Arrays<'_, T> {
-    /// Runs a kernel of the library, on validities of which the left one begins at `shift`.
+    /// Runs a kernel of the library. The left validity begins at bit `shift`.
     fn run(&self, kernel: NumberKernel, shift: usize, repeats: usize) -> u64 {
         polars_time_numbers(
             rows(&self.data.left_i64),
@@ -83,8 +83,9 @@ impl<T: Copy + PartialOrd> Arrays<'_, T> {
         });
     }
 
-    /// Hands to `each` the comparison that sees nulls, once with validities at differing places in words
-    /// and once at the beginning of words. It is timed beside the raw comparison of the same arrays.
+    /// Hands to `each` the comparison that sees nulls, once with validities at differing places in
+    /// words and once at the beginning of words. It is timed beside the raw comparison of the same
+    /// arrays.
     fn for_each_missing(&self, each: &mut dyn FnMut(&Kernel)) {
         let (left, right) = (self.left, self.right);
         let len = left.len();

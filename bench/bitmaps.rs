@@ -54,7 +54,8 @@ unsafe extern "C" {
     ) -> u64;
 }
 
-/// The call that the library runs: on three bitmaps, or on two arrays of truth values in the first two.
+/// The call that the library runs: on three bitmaps, or on two arrays of truth values in the first
+/// two.
 #[derive(Clone, Copy)]
 enum Ours {
     Bitmaps(BitmapKernel),
@@ -64,8 +65,8 @@ enum Ours {
 /// The distance in bits between the two windows of one operand.
 const STRIDE: usize = 64;
 
-/// A kernel of the bitmaps, and its peer on three windows, which answers bit `i` or
-/// the count. Its windows begin `shift`, twice and three times `shift` bits into the words.
+/// A kernel of the bitmaps, and its peer on three windows, which returns bit `i` or the count.
+/// Its windows begin `shift`, twice and three times `shift` bits into the words.
 struct Logic {
     name: &'static str,
     shift: usize,
@@ -297,7 +298,7 @@ pub fn compare(bench: &mut Bench, run: usize) {
     }
 }
 
-/// Both sides answer alike at each bit of lengths up to some hundreds, in windows at many places.
+/// Checks that both sides return the same bits, at lengths up to some hundreds and many places.
 pub fn agree() {
     for len in 0..300 {
         let words = operands(len);

@@ -1,10 +1,11 @@
 //! Times the kernels of the library beside plain Rust, in one run and at one processor level, and
 //! prints a line for each: nanoseconds a row (a bit, where the rows are bits) on either side, their
-//! ratio, and what is asked for. Arguments: words of the names of the kernels to run. The variable ROUNDS says in how
-//! many rounds all but arithmetic are timed, if not in four.
+//! ratio, and what is asked for. Arguments: words of the names of the kernels to run. The variable
+//! ROUNDS says in how many rounds all but arithmetic are timed, if not in four.
 //!
-//! To add a kernel: its entry and its arm in `crates/bench_kernels`, the same entry of the enum here, its peer
-//! in the file `plain*.rs` of its shape, and a line where its group hands out its kernels.
+//! To add a kernel: its entry and its arm in `crates/bench_kernels`, the same entry of the enum
+//! here, its peer in the file `plain*.rs` of its shape, and a line where its group hands out its
+//! kernels.
 
 mod arithmetic;
 mod arrays;
@@ -30,7 +31,7 @@ use operands::Data;
 use string_rows::Strings;
 use timing::{Bench, Kernel, RUNS, rounds};
 
-/// Hands each kernel on rows to `each`, on so many of them.
+/// Hands each kernel on rows to `each`, on `count` of them.
 fn for_each_on_rows(count: usize, each: &mut dyn FnMut(&Kernel)) {
     let data = &Data::new(count);
     slices::for_each(data, each);
@@ -41,7 +42,7 @@ fn for_each_on_rows(count: usize, each: &mut dyn FnMut(&Kernel)) {
     nested::for_each(&Nested::new(count), each);
 }
 
-/// Both sides answer alike at each bit of so many rows, where the kernel is one of those to run.
+/// Checks that both sides return the same bits for `count` rows, if the kernel is to be run.
 fn agree(bench: &Bench, count: usize, kernel: &Kernel) {
     if !bench.runs(kernel.name) {
         return;
@@ -55,7 +56,7 @@ fn agree(bench: &Bench, count: usize, kernel: &Kernel) {
     );
 }
 
-/// Both sides answer alike at lengths up to some hundreds.
+/// Checks that both sides return the same, at lengths up to some hundreds.
 fn rows_agree(bench: &Bench) {
     for count in 0..300 {
         for_each_on_rows(count, &mut |kernel| agree(bench, count, kernel));

@@ -110,7 +110,7 @@ impl Arrays<'_> {
     }
 }
 
-/// Runs the raw comparison of each two columns of so many rows, one after the other.
+/// Runs the raw comparison of each pair of columns, one after the other.
 fn run_columns(count: usize, left: &[i32], right: &[i32], repeats: usize) -> u64 {
     polars_time_columns(rows(left), rows(right), ColumnKernel::TotEq, count, repeats)
 }
@@ -149,7 +149,8 @@ fn hand_lists(
     });
 }
 
-/// Hands the kernel on lists of one width to `each`. It is timed beside the raw comparison of all items.
+/// Hands the kernel on lists of one width to `each`. It is timed beside the raw comparison of all
+/// items.
 fn hand_fixed_lists(left: &[i32], right: &[i32], each: &mut dyn FnMut(&Kernel)) {
     let arrays = Arrays {
         nested_type: NestedType::FixedLists,
@@ -213,7 +214,8 @@ fn of_texts<'a>(texts: &'a Texts, items: &'a [i32]) -> Parts<'a> {
     }
 }
 
-/// Hands the kernel on lists of texts to `each`. It is timed beside the raw comparison of all texts.
+/// Hands the kernel on lists of texts to `each`. It is timed beside the raw comparison of all
+/// texts.
 fn hand_text_lists(pair: &Pair<Texts>, each: &mut dyn FnMut(&Kernel)) {
     let Pair { left, right } = pair;
     let begins = regular_offsets(left.count());
@@ -233,8 +235,8 @@ fn hand_text_lists(pair: &Pair<Texts>, each: &mut dyn FnMut(&Kernel)) {
     });
 }
 
-/// Hands the kernel on structs of numbers and a text to `each`. It is timed beside the raw comparisons of the columns, one after the
-/// other.
+/// Hands the kernel on structs of numbers and a text to `each`. It is timed beside the raw
+/// comparisons of the columns, one after the other.
 fn hand_mixed_structs(mixed: &Mixed, each: &mut dyn FnMut(&Kernel)) {
     let Mixed { numbers, texts } = mixed;
     let count = texts.left.count();
@@ -285,8 +287,8 @@ pub fn for_each(nested: &Nested, each: &mut dyn FnMut(&Kernel)) {
 /// The name of the kernel on structs.
 const STRUCTS: &str = "tot_eq_missing structs of 8";
 
-/// Hands the kernel on structs of so many rows to `each`. It is timed beside the raw comparison of the
-/// columns, one after the other.
+/// Hands the kernel on structs of `count` rows to `each`. It is timed beside the raw comparison of
+/// the columns, one after the other.
 pub fn for_structs(count: usize, each: &mut dyn FnMut(&Kernel)) {
     let Pair { left, right } = &structs(count);
     let arrays = Arrays {

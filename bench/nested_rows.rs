@@ -61,7 +61,7 @@ impl Lists {
         self.offsets.len() - 1
     }
 
-    /// Two columns of so many lists, of which about three quarters are equal.
+    /// Two columns of `count` lists. About three quarters are equal.
     fn pair(numbers: &mut Numbers, count: usize, seventh: Seventh) -> Pair<Lists> {
         let (mut left, mut right) = (Lists::new(), Lists::new());
         for i in 0..count {
@@ -135,8 +135,8 @@ impl Keyed {
         }
     }
 
-    /// Two columns of so many rows, which have the same text in about half of them, at differing places
-    /// among the entries.
+    /// Two columns of `count` rows. About half of them have the same text, at other places among
+    /// the entries.
     fn pair(numbers: &mut Numbers, count: usize) -> Pair<Keyed> {
         let texts = entries(numbers, ENTRIES);
         let mut turned = Texts::new();
@@ -158,7 +158,7 @@ impl Keyed {
     }
 }
 
-/// Columns one behind the other, of `count` rows each, of which about one in sixteen rows differs.
+/// Columns of `count` rows each, one behind the other. About one row in sixteen differs.
 pub fn structs(count: usize) -> Pair<Vec<i32>> {
     let numbers = &mut Numbers::new(521_288_629);
     let left: Vec<i32> = (0..COLUMNS * count)
@@ -174,7 +174,7 @@ pub fn structs(count: usize) -> Pair<Vec<i32>> {
 /// The number of columns of numbers of a struct, beside one of texts.
 pub const NUMBER_COLUMNS: usize = 2;
 
-/// Structs of numbers and of a text, of which about half are equal.
+/// Structs of numbers and of a text. About half are equal.
 pub struct Mixed {
     /// Columns one behind the other.
     pub numbers: Pair<Vec<i32>>,

@@ -3,7 +3,7 @@
 //! A window of bits is a slice of words, the place of its first bit, and its length in bits. Each
 //! maker gives new words whose bits past the length may be anything.
 
-/// The word whose bit `i` is the `i`-th answer, of at most 64.
+/// Returns the word whose bit `i` is the `i`-th result, for at most 64 of them.
 #[inline]
 pub fn word_of(answers: impl Iterator<Item = bool>) -> u64 {
     answers
@@ -66,7 +66,8 @@ pub fn less_constant<T: Copy + PartialOrd>(left: &[T], right: T) -> Vec<u64> {
     test_each(left, |l| l < right)
 }
 
-/// Returns where rows of two arrays are equal, null to null alone, by the windows of their validities.
+/// Returns where rows of two arrays are equal, null to null alone, by the windows of their
+/// validities.
 pub fn equal_missing<T: Copy + PartialEq>(
     left: &[T],
     right: &[T],
@@ -79,7 +80,8 @@ pub fn equal_missing<T: Copy + PartialEq>(
     merge_eq(raw, left_validity, right_validity)
 }
 
-/// The byte whose bits are eight truth values: the product has each of them once in its highest byte.
+/// The byte whose bits are eight truth values: the product has each of them once in its highest
+/// byte.
 #[inline]
 fn byte_of(bools: &[bool; 8]) -> u8 {
     let bytes = u64::from_le_bytes(bools.map(u8::from));
@@ -128,7 +130,7 @@ impl<'a> Window<'a> {
     }
 }
 
-/// The 64 bits from bit `by` of `low` on, of which `high` is the next word.
+/// Returns the 64 bits from bit `by` of `low` on. `high` is the word behind it.
 #[inline(always)]
 fn join(low: u64, high: u64, by: u32) -> u64 {
     (low >> by) | ((high << 1) << (63 - by))

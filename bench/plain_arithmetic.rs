@@ -1,5 +1,5 @@
-//! Arithmetic on columns of numbers in plain Rust: a loop over what is written in place, a collected
-//! iterator for new values. Words of bits say which rows are present.
+//! Arithmetic on columns of numbers in plain Rust: a loop over what is written in place, a
+//! collected iterator for new values. Words of bits say which rows are present.
 
 use crate::plain::test_each;
 
@@ -32,8 +32,8 @@ pub trait Number: Copy + PartialEq {
     /// Returns whether a remainder and its divisor lie on different sides of 0.
     fn is_across(self, divisor: Self) -> bool;
 
-    /// The quotient by a number that is not 0, rounded down. The rest is what its product leaves: not all types get both
-    /// of one division.
+    /// The quotient by a number that is not 0, rounded down. The rest is what its product leaves:
+    /// not all types get both of one division.
     #[inline(always)]
     fn floor_div(self, other: Self) -> Self {
         let quotient = self.trunc_div(other);
@@ -171,7 +171,8 @@ operations! {
     Mod, true, |x, y| x.modulo(y);
 }
 
-/// Returns the result of the operation. Where it divides by 0 the row is null, and the number of no account.
+/// Returns the result of the operation. Where it divides by 0 the row is null, and the number of no
+/// account.
 #[inline(always)]
 fn answer<T: Number, O: Operation>(left: T, right: T) -> T {
     if O::DIVIDES && right == T::ZERO {

@@ -1,4 +1,4 @@
-//! The line language by std alone: reads standard input, answers each line, and writes all answers.
+//! The line language by std alone: reads standard input, runs each line, and writes all results.
 //!
 //! It is what `time_lines.py` times the program beside.
 

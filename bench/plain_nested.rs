@@ -5,8 +5,8 @@ use crate::plain::{compare_pairs, equal};
 use crate::plain_strings::{equal_texts, test_rows};
 use crate::string_rows::Texts;
 
-/// Of lists without nulls that have as many items: all items are compared at once, and those of each list
-/// folded.
+/// Of lists without nulls that have as many items: all items are compared at once, and those of
+/// each list folded.
 #[inline(never)]
 pub fn equal_lists_at_once(left: &Lists, right: &Lists) -> Vec<u64> {
     let items = left.items.iter().zip(&right.items).map(|(l, r)| l == r);
@@ -38,8 +38,8 @@ fn list_row<'a>((offsets, items, _): Parts<'a>, i: usize) -> &'a [i32] {
     &items[offsets[i] as usize..offsets[i + 1] as usize]
 }
 
-/// Returns whether two short lists have the same items. It takes less time than the comparison of the slices, which
-/// calls `memcmp`.
+/// Returns whether two short lists have the same items. It takes less time than the comparison of
+/// the slices, which calls `memcmp`.
 #[inline]
 fn same_items(left: &[i32], right: &[i32]) -> bool {
     let pairs = left.iter().zip(right);

@@ -1,5 +1,5 @@
-//! Reductions of a column of numbers in plain Rust: an iterator that is folded, and for nulls a loop that tests the bit
-//! of each row.
+//! Reductions of a column of numbers in plain Rust: an iterator that is folded, and for nulls a
+//! loop that tests the bit of each row.
 
 use crate::plain::Window;
 use crate::plain_arithmetic::Number;

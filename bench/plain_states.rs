@@ -1,5 +1,5 @@
-//! How many distinct values a column has, in plain Rust: a bit for each value of a range in one number or in words, and
-//! what a user would pick instead, a tree or a table of hashes.
+//! How many distinct values a column has, in plain Rust: a bit for each value of a range in one
+//! number or in words, and what a user would pick instead, a tree or a table of hashes.
 
 use crate::plain::Window;
 use std::collections::{BTreeSet, HashSet};

@@ -3,7 +3,7 @@
 use crate::plain::{compare_pairs, test_each, word_of};
 use crate::string_rows::{Texts, Views};
 
-/// The answers for the rows from the first one on.
+/// Returns the results for the rows from the first one on.
 #[inline]
 pub fn test_rows(count: usize, test: impl Fn(usize) -> bool + Copy) -> Vec<u64> {
     let full = count / 64;
@@ -108,8 +108,8 @@ pub fn less_texts(left: &Texts, right: &Texts) -> Vec<u64> {
 /// The number of bytes of a block.
 const BLOCK: usize = 16;
 
-/// The sixteen bytes from a place on as a number, of which those of a string of so many bytes are kept, if it is no longer and the
-/// bytes go on so far. The first byte is the greatest.
+/// Returns string `i` as a number of sixteen bytes, the first one being the greatest, with zeros
+/// behind its bytes, and its length. None where it is longer, or fewer bytes lie there.
 #[inline]
 fn block_of((offsets, bytes): Parts<'_>, i: usize) -> Option<(u128, usize)> {
     let from = offsets[i] as usize;
@@ -119,7 +119,7 @@ fn block_of((offsets, bytes): Parts<'_>, i: usize) -> Option<(u128, usize)> {
     Some((u128::from_be_bytes(*block) & kept, len))
 }
 
-/// The numbers whose first so many bytes are ones, the greatest being the first.
+/// Numbers whose first 0, 1, 2, .. bytes are ones, the first byte being the greatest.
 const MASKS: [u128; BLOCK + 1] = {
     let mut masks = [0; BLOCK + 1];
     let mut n = 1;

@@ -70,7 +70,7 @@ fn pair_of<T: Reduced>(found: Option<(T, T)>) -> u64 {
     })
 }
 
-/// A peer that answers one number a run.
+/// A peer that returns one number a run.
 fn plain_number(repeats: usize, answer: impl Fn() -> u64) -> u64 {
     repeat(&[(); 2], repeats, |(), _| black_box(answer()))
 }
@@ -102,8 +102,8 @@ impl<T: Reduced> Columns<'_, T> {
         )
     }
 
-    /// Hands a reduction to `each`: of all rows, with half of them null beside a test of each bit, and the
-    /// same and with a validity of ones beside that of all rows.
+    /// Hands a reduction to `each`: of all rows, with half of them null beside a test of each bit,
+    /// and the same and with a validity of ones beside that of all rows.
     fn for_each_form<J: Join>(
         &self,
         name: &str,

@@ -1,4 +1,5 @@
-//! States of distinct values: columns appended in one array or in chunks, with and without nulls, and merges.
+//! States of distinct values: columns appended in one array or in chunks, with and without nulls,
+//! and merges.
 
 use crate::operands::{Numbers, Rows, rows, words};
 use crate::plain::Window;
@@ -40,8 +41,8 @@ const MANY: usize = 10_000;
 /// The number of rows of a short chunk.
 const CHUNK: usize = 1_000;
 
-/// A column whose numbers are from 0 to below a bound, which none of them is one less than: so no state of
-/// these values has ever seen all, and each row is read.
+/// A column whose numbers are from 0 to below a bound, which none of them is one less than: so no
+/// state of these values has ever seen all, and each row is read.
 struct Drawn {
     range: usize,
     values: Vec<i32>,
@@ -92,7 +93,7 @@ impl Drawn {
         }
     }
 
-    /// Appends the column to a state of the library, in chunks of so many rows.
+    /// Appends the column to a state of the library, in chunks of `chunk` rows.
     fn run(&self, validity: &[u64], chunk: usize, repeats: usize) -> u64 {
         polars_time_states(
             rows(&self.wide),
@@ -161,12 +162,13 @@ impl Drawn {
     }
 }
 
-/// A peer that answers one number a run.
+/// A peer that returns one number a run.
 fn answers(repeats: usize, answer: impl Fn() -> u64) -> u64 {
     repeat(&[(); 2], repeats, |(), _| black_box(answer()))
 }
 
-/// Hands a column of which all values stand in the first rows to `each`: the state stops reading once it has seen all.
+/// Hands a column whose first rows have all values to `each`: the state stops reading once it has
+/// seen all.
 fn full(count: usize, each: &mut dyn FnMut(&Kernel)) {
     let values: Vec<i32> = (0..count).map(|i| (i % FEW) as i32).collect();
     let wide: Vec<i64> = values.iter().map(|value| i64::from(*value)).collect();

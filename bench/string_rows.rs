@@ -45,8 +45,8 @@ impl Texts {
 /// The most bytes of a string that its view holds.
 const INLINED: usize = 12;
 
-/// Strings by views. A view begins with the length, and then has the bytes of a short string, or of a
-/// longer one the first four, the number of its buffer and where it begins there.
+/// Strings by views. A view begins with the length, and then has the bytes of a short string, or of
+/// a longer one the first four, the number of its buffer and where it begins there.
 pub struct Views {
     pub views: Vec<u128>,
     pub buffers: Vec<Vec<u8>>,
@@ -128,7 +128,7 @@ impl Shape {
     }
 }
 
-/// Two columns of so many texts of about 6 bytes.
+/// Two columns of `count` texts of about 6 bytes.
 pub fn texts(numbers: &mut Numbers, count: usize) -> Pair<Texts> {
     let shape = Shape {
         prefix: b"",
@@ -147,7 +147,7 @@ pub fn entries(numbers: &mut Numbers, count: usize) -> Texts {
 pub struct Strings {
     /// Views that hold their strings.
     pub short: Pair<Views>,
-    /// Views of strings of 20 bytes, of which the first four are the same.
+    /// Views of strings of 20 bytes whose first four are the same.
     pub long: Pair<Views>,
     /// Texts of about 6 bytes.
     pub texts: Pair<Texts>,

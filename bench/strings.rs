@@ -1,4 +1,5 @@
-//! The comparisons and the extremes of arrays of views, of texts between offsets, and of byte strings of one size.
+//! The comparisons and the extremes of arrays of views, of texts between offsets, and of byte
+//! strings of one size.
 
 use crate::operands::{Rows, rows};
 use crate::plain_strings as plain;
@@ -71,7 +72,7 @@ impl Comparison<'_> {
         });
     }
 
-    /// Hands the kernel on arrays to `each`, beside another way to the same answer in plain Rust.
+    /// Hands the kernel on arrays to `each`, beside another way to the same result in plain Rust.
     fn hand_beside(
         &self,
         strings: &str,

@@ -25,7 +25,7 @@ pub fn bit_of(made: Vec<u64>, len: usize, i: usize) -> u64 {
     }
 }
 
-/// Runs a kernel so many times, and answers the checksum that the library's entry points answer.
+/// Runs a kernel `repeats` times. Returns the checksum that the library's entry points return.
 pub fn repeat<X>(operands: &[X; 2], repeats: usize, run: impl Fn(&X, usize) -> u64) -> u64 {
     (0..repeats).fold(0, |checksum: u64, round| {
         let number = run(black_box(&operands[round % 2]), round / 2);
@@ -33,7 +33,7 @@ pub fn repeat<X>(operands: &[X; 2], repeats: usize, run: impl Fn(&X, usize) -> u
     })
 }
 
-/// Bit by bit what a peer makes of its rows, as often as it is told.
+/// Runs a peer on its rows bit by bit, `repeats` times.
 pub fn plain_rows(count: usize, repeats: usize, make: impl Fn() -> Vec<u64>) -> u64 {
     repeat(&[(); 2], repeats, |(), i| bit_of(make(), count, i))
 }
@@ -94,7 +94,7 @@ pub enum Asked {
     Nanoseconds([f64; 2]),
 }
 
-/// A side of a kernel: runs it as often as it is told, and answers the checksum.
+/// A side of a kernel: runs it a number of times, and returns the checksum.
 pub type Side<'a> = &'a dyn Fn(usize) -> u64;
 
 /// A kernel and what it is set beside.
@@ -102,7 +102,7 @@ pub struct Kernel<'a> {
     pub name: &'a str,
     pub asked: Asked,
     pub ours: Side<'a>,
-    /// Plain Rust that answers the same.
+    /// Plain Rust that returns the same.
     pub plain: Side<'a>,
     /// The call that is timed in place of the plain Rust.
     pub beside: Option<Side<'a>>,
@@ -153,7 +153,8 @@ pub struct Bench {
     words: Vec<String>,
     over: usize,
     rounds_left: usize,
-    /// The best nanoseconds a row of both sides so far, by the kernel's name and the number of rows.
+    /// The best nanoseconds a row of both sides so far, by the kernel's name and the number of
+    /// rows.
     best: HashMap<(String, usize), (f64, f64)>,
 }
 
@@ -168,7 +169,7 @@ impl Bench {
         }
     }
 
-    /// Times kernels in so many rounds. The lines are printed in the last one.
+    /// Times kernels in `rounds` rounds. The lines are printed in the last one.
     pub fn in_rounds(&mut self, rounds: usize, mut each: impl FnMut(&mut Bench)) {
         for left in (0..rounds).rev() {
             self.rounds_left = left;
@@ -186,13 +187,14 @@ impl Bench {
         self.over
     }
 
-    /// Times both sides in turn, and in the last round prints the line. `run` says which of `RUNS` it is.
+    /// Times both sides in turn, and in the last round prints the line. `run` says which of `RUNS`
+    /// it is.
     pub fn compare(&mut self, run: usize, kernel: &Kernel) {
         self.time(&RUNS[run], run, kernel);
     }
 
-    /// Times a kernel at any number of rows, where `run` says which of the numbers that are asked counts. Answers
-    /// the nanoseconds a row of the library, if the kernel is one of those to run.
+    /// Times a kernel at any number of rows, where `run` says which of the numbers that are asked
+    /// counts. Returns the nanoseconds a row of the library, if the kernel is one of those to run.
     pub fn time(&mut self, rows: &Run, run: usize, kernel: &Kernel) -> Option<f64> {
         let name = kernel.name;
         if !self.runs(name) {

@@ -26,7 +26,7 @@ pub enum Operation {
     Modulo = 5,
 }
 
-/// Numbers that a call returns, of which some are null.
+/// Numbers that a call returns. Some may be null.
 #[derive(Clone, Debug, PartialEq, Eq)]
 pub struct Numbers<T> {
     values: Vec<T>,

@@ -18,7 +18,7 @@ const MOST_TYPES: usize = 1 << 20;
 
 /// A column: rows of one type, in the layout of Arrow, in slices that are borrowed.
 ///
-/// Nothing is copied, but for a validity that begins at another bit of its byte than the rows do.
+/// Nothing is copied, except a validity that begins at another bit of its byte than the rows do.
 /// What a call would read is checked when an array is made, so that no call reads behind the end of
 /// a slice: offsets rise and end within their bytes or items, a validity has a bit for each row,
 /// the fields of a struct have its rows.
@@ -356,7 +356,7 @@ impl<'a> Array<'a> {
         self.rows == 0
     }
 
-    /// Takes a column of another crate, of which `offset` rows come before the first.
+    /// Takes a column of another crate. `offset` rows of it come before the first.
     #[cfg(feature = "ffi")]
     pub(crate) fn foreign(foreign: Foreign<'a>, rows: usize, offset: usize) -> Self {
         Array {

@@ -16,7 +16,7 @@ pub struct Mask {
 }
 
 impl Mask {
-    /// Makes a mask of which a call writes the bytes.
+    /// Makes a mask whose bytes a call writes.
     pub(crate) fn written(rows: usize, call: impl FnOnce(&mut [u8]) -> i32) -> Result<Mask, Error> {
         let mut bytes = zeros(rows / 8 + usize::from(rows % 8 != 0))?;
         Error::check(call(&mut bytes))?;
@@ -79,7 +79,7 @@ impl Mask {
         self.bytes
     }
 
-    /// Lends the truth values as bits, of which an array can be made.
+    /// Lends the truth values as bits. An array can be made of these.
     pub fn bitmap(&self) -> Bitmap<'_> {
         Bitmap::new(&self.bytes, 0, self.rows).expect("a mask has a bit for each row")
     }

@@ -2,7 +2,7 @@
 //!
 //! The library reads the structs and what they point to, which is as long as the interface asks
 //! ([`Structs`]). It writes to what it is lent for results alone, no more than their length, and
-//! keeps nothing. So the functions of this module are safe, but for `from_raw`.
+//! keeps nothing. So the functions of this module are safe, except `from_raw`.
 
 use crate::format::Key;
 use crate::structs::{ArrowArray, ArrowSchema, Structs, Typed};

@@ -36,7 +36,7 @@ fn truths(mask: &Mask) -> Vec<bool> {
     mask.iter().collect()
 }
 
-/// Returns rows of which about half are those of the left side.
+/// Returns rows, about half of them those of the left side.
 fn right_of(left: &[Row], kind: &Type, chance: &mut Chance) -> Vec<Row> {
     let row = |row: &Row| {
         if chance.percent(60) {

@@ -22,7 +22,7 @@ impl Chance {
         (self.word() % end as u64) as usize
     }
 
-    /// Returns `true` in so many of a hundred cases.
+    /// Returns `true` in `percent` of a hundred cases.
     pub fn percent(&mut self, cases: usize) -> bool {
         self.below(100) < cases
     }
