@@ -267,7 +267,8 @@ def assert_equal(left: object, right: object, *, key: Union[str, Sequence[str]] 
                  floats_by_bits: bool = False, show: int = 20) -> None:
     """Raises AssertionError where two tables or two columns differ, with a table of what differs.
 
-    The arguments are those of `diff`; `show` says how many differences are shown.
+    The arguments are those of `diff`, with `key` in place of `on` and without `limit`. `show` says
+    how many differences are shown.
 
     >>> assert_equal([1, None, 3], [1, None, 3])
     >>> assert_equal({"id": [1, 2], "n": [5, 6]}, {"id": [2, 1], "n": [7, 5]}, key="id")
