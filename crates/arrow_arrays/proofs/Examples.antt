@@ -5,12 +5,12 @@ use Rattle.polars_arrays_flat.specs.Row.{Int, Entry, Rows, Null, no_rows, more_r
 use Rattle.polars_arrays_flat.specs.StoredRows.{number_slots}
 use Rattle.polars_arrays_flat.specs.StoredRows.{row as row_at}
 use Rattle.polars_arrays_views.specs.Views.{view_buffer, view_len, view_offset}
-use Rattle.arrow_arrays.specs.Columns.{Column, across, entries, fixed_lists, lists, no_column, only}
+use Rattle.arrow_arrays.specs.Columns.{Column, across, entries, entry_leaves, fixed_leaves, fixed_lists, leaves_across, list_leaves, lists, no_column, only}
 use Rattle.arrow_arrays.specs.Views.{NotNegative, bytes_if}
 
 -- the rows 7, 8, 9
 abbrev three : Column
-three = record { len = 3; row = row_at (number_slots (λ x. x) (pos 7 ∷ pos 8 ∷ pos 9 ∷ [])) }
+three = record { len = 3; row = row_at (number_slots (λ x. x) (pos 7 ∷ pos 8 ∷ pos 9 ∷ [])); leaves = λ from n. n }
 
 -- between the places 0, 2, 3 list 0 is 7, 8 and list 1 is 9
 first-list : lists (Some 0 ∷ Some 2 ∷ Some 3 ∷ []) (three ∷ []) 0 ≡ Rows (more_rows (Int (pos 7)) (more_rows (Int (pos 8)) no_rows))
@@ -38,6 +38,25 @@ named = refl
 -- two columns are not one
 two-columns : only (three ∷ three ∷ []) ≡ no_column
 two-columns = refl
+
+-- the two lists have three leaf slots, and the second one alone has one
+all-leaves : list_leaves (Some 0 ∷ Some 2 ∷ Some 3 ∷ []) (three ∷ []) 0 2 ≡ 3
+all-leaves = refl
+
+second-leaves : list_leaves (Some 0 ∷ Some 2 ∷ Some 3 ∷ []) (three ∷ []) 1 1 ≡ 1
+second-leaves = refl
+
+-- two lists of two items each
+fixed-slots : fixed_leaves 2 (three ∷ []) 0 2 ≡ 4
+fixed-slots = refl
+
+-- a row of two columns
+across-slots : leaves_across (three ∷ three ∷ []) 1 1 ≡ 2
+across-slots = refl
+
+-- an entry counts once for each present row of it
+entry-slots : entry_leaves (Some (true ∷ false ∷ true ∷ [])) (Some 2 ∷ Some 2 ∷ Some 2 ∷ []) (three ∷ []) 0 3 ≡ 2
+entry-slots = refl
 
 -- 13 bytes that begin with `abcd`, in buffer 0 from byte 1 on
 not-negative : NotNegative (13 ∷ 0 ∷ 0 ∷ 0 ∷ 97 ∷ 98 ∷ 99 ∷ 100 ∷ 0 ∷ 0 ∷ 0 ∷ 0 ∷ 1 ∷ 0 ∷ 0 ∷ 0 ∷ [])

@@ -1,17 +1,27 @@
 -- Stacks of arrays that stand for the columns of parts.
 use Rattle.std.proofs.Common.{◌≡◌, ℕ, zero, suc, ◌+◌, ◌-◌, List, [], ◌∷◌, ◌++◌, ◌<◌, ◌≤◌, length, get_or, take, drop, reverse, refl, sym, ap, subst, ◌∙◌, arith, append_assoc}
 use Rattle.std.proofs.Math.Seq.{drop-cons, take-suc}
-use Rattle.std.proofs.lemmas.List.{drop_all, length-append, reverse-append, take_all}
+use Rattle.std.proofs.lemmas.List.{drop_all, length-append, length-reverse, reverse-append, take_all}
 use Rattle.std.proofs.lemmas.List.Elements.{All-cons, All-nil}
 use Rattle.std.specs.List.{All}
+use Rattle.std.specs.Str.{IsUtf8}
+use Rattle.polars_arrays_flat.specs.DataType.{kind_of}
+use Rattle.polars_arrays_flat.specs.declared.data_type.Field.{Field}
 use Rattle.polars_arrays_nested.specs.GoodParts.{IsGood}
+use Rattle.polars_arrays_nested.specs.Types.{type_of}
 use Rattle.polars_arrays_nested.specs.declared.any_array.AnyArray.{AnyArray}
 use Rattle.arrow_parts.specs.Kinds.{kind_number}
+use Rattle.arrow_parts.specs.Refusals.{IsHonest}
 use Rattle.arrow_parts.specs.declared.part.Part.{Part}
+use Rattle.arrow_parts.specs.declared.refused.Refused.{Refused}
+use Rattle.arrow_parts.specs.declared.refused.Refused.TheVariants.{Memory}
+use Rattle.arrow_arrays.proofs.Honest.{honest-more}
+use Rattle.arrow_arrays.proofs.Standing.{length-stand}
 use Rattle.arrow_arrays.specs.Columns.{Column, column_of, columns_of, only, rows_of_parts, stacked}
-use Rattle.arrow_arrays.specs.Shapes.{FitsPart, GoodShape, SameColumn, shape_column}
-use Rattle.arrow_arrays.specs.Stacks.{AllFit, AreTaken, IsStep, Stacks}
-use Rattle.arrow_arrays.specs.Stands.{AllStand, Fills, Stands}
+use Rattle.arrow_arrays.specs.Good.{AllGood, AreGoodParts, GoodPart, GoodRows}
+use Rattle.arrow_arrays.specs.Shapes.{CanFill, FitsPart, GoodShape, IsHonestOver, SameColumn, shape_column}
+use Rattle.arrow_arrays.specs.Stacks.{AllFit, AreTaken, IsRefusedStep, IsStep, IsStepGood, Stacks, WasGood}
+use Rattle.arrow_arrays.specs.Stands.{AllStand, AreTyped, CanFillWith, Fills, IsHonestFill, Stands}
 use Rattle.arrow_arrays.specs.declared.shapes.Shape.{Shape}
 
 -- ---- shapes
@@ -96,7 +106,7 @@ take-more k taken new was stack left a are top is = record {
 }
 
 stands-as : (a : AnyArray) (c d : Column) → Stands a c → SameColumn c d → Stands a d
-stands-as a c d stands same = record { good = stands.good; len = stands.len ∙ same.len; rows = λ i. stands.rows i ∙ same.rows i }
+stands-as a c d stands same = record { good = stands.good; len = stands.len ∙ same.len; rows = λ i. stands.rows i ∙ same.rows i; leaves = λ from n. stands.leaves from n ∙ same.leaves from n }
 
 -- the array of the last shape
 pub made-step : (count : ℕ) (was shapes : List Shape) (s : Shape) (taken stack left : List AnyArray) (a : AnyArray) → was ≡ shapes ++ s ∷ [] → AreTaken count taken stack left → Fills s taken a → IsStep count was shapes stack left a
@@ -116,11 +126,13 @@ pushed-step count was shapes stack left new a step is p ps cs same fit all =
 pub record AreStacked (parts : List Part) (i : ℕ) (shapes : List Shape) (stack : List AnyArray) : Type 0 where
   pub fit : AllFit (take (length parts - i) parts) shapes
   pub stand : AllStand (reverse stack) (columns_of (drop (length parts - i) parts))
+  pub good : AllGood (drop (length parts - i) parts)
 
 pub none-stacked : (parts : List Part) (shapes : List Shape) → AllFit parts shapes → AreStacked parts 0 shapes []
 none-stacked parts shapes fit = record {
   fit = subst (λ ps. AllFit ps shapes) (sym (take_all (length parts - 0) parts (omega arith))) fit;
   stand = subst (λ ps. AllStand [] (columns_of ps)) (sym (drop_all (length parts - 0) parts (omega arith))) tt;
+  good = subst AllGood (sym (drop_all (length parts - 0) parts (omega arith))) tt;
 }
 
 take-next : (parts : List Part) (i : ℕ) (p d : Part) → i < length parts → get_or parts (length parts - 1 - i) d ≡ p → take (length parts - i) parts ≡ take (length parts - (i + 1)) parts ++ p ∷ []
@@ -139,13 +151,15 @@ drop-next parts i p d low is =
     let within : length parts - 1 - i < length parts = omega arith in
     ap (λ k. drop k parts) at ∙ drop-cons parts (length parts - 1 - i) d within ∙ ap (λ x. x ∷ drop (suc (length parts - 1 - i)) parts) is ∙ ap (λ k. p ∷ drop k parts) next
 
-pub one-stacked : (parts : List Part) (i : ℕ) (p d : Part) (was shapes : List Shape) (stack new : List AnyArray) → i < length parts → get_or parts (length parts - 1 - i) d ≡ p → AreStacked parts i was stack → Stacks p.children was shapes stack new → AreStacked parts (i + 1) shapes new
-one-stacked parts i p d was shapes stack new low is are step =
+pub one-stacked : (parts : List Part) (i : ℕ) (p d : Part) (was shapes : List Shape) (stack new : List AnyArray) → i < length parts → get_or parts (length parts - 1 - i) d ≡ p → AreStacked parts i was stack → Stacks p.children was shapes stack new → WasGood p.children was stack → IsUtf8 p.name.now → AreStacked parts (i + 1) shapes new
+one-stacked parts i p d was shapes stack new low is are step good name =
     let fit = subst (λ ps. AllFit ps was) (take-next parts i p d low is) are.fit in
     let both = step p (take (length parts - (i + 1)) parts) (columns_of (drop (length parts - i) parts)) refl fit are.stand in
+    let part = good p (take (length parts - (i + 1)) parts) (columns_of (drop (length parts - i) parts)) refl fit are.stand in
     record {
       fit = both.0;
       stand = subst (λ ps. AllStand (reverse new) (columns_of ps)) (sym (drop-next parts i p d low is)) both.1;
+      good = subst AllGood (sym (drop-next parts i p d low is)) (record { name = name; children = part.children; rows = part.rows }, are.good);
     }
 
 stand-only : (a : AnyArray) (cs : List Column) → AllStand (a ∷ []) cs → Stands a (only cs)
@@ -158,4 +172,106 @@ all-stacked parts i shapes stack a end one are =
     let none : length parts - i ≡ 0 = omega arith in
     stand-only a (columns_of parts) (subst (λ k. AllStand (a ∷ []) (columns_of (drop k parts))) none (subst (λ xs. AllStand (reverse xs) (columns_of (drop (length parts - i) parts))) one are.stand))
 
-pub ruleset stacks = (fit-more, shape-good, taken-good, take-none, made-step, pushed-step)
+-- parts that were all stacked as one array are good
+pub all-parts-good : (parts : List Part) (i : ℕ) (shapes : List Shape) (stack : List AnyArray) (a : AnyArray) → i ≡ length parts → stack ≡ a ∷ [] → AreStacked parts i shapes stack → AreGoodParts parts
+all-parts-good parts i shapes stack a end one are =
+    let none : length parts - i ≡ 0 = omega arith in
+    let stand : AllStand (a ∷ []) (columns_of parts) = subst (λ k. AllStand (a ∷ []) (columns_of (drop k parts))) none (subst (λ xs. AllStand (reverse xs) (columns_of (drop (length parts - i) parts))) one are.stand) in
+    record {
+      all = subst (λ k. AllGood (drop k parts)) none are.good;
+      one = sym (length-stand (a ∷ []) (columns_of parts) stand);
+    }
+
+-- what was taken and what is left are all
+pub taken-length : (count : ℕ) (taken was left : List AnyArray) → AreTaken count taken was left → length was ≡ count + length left
+taken-length count taken was left are =
+    sym (length-reverse was) ∙ sym (ap length are.order) ∙ length-append taken (reverse left) ∙ ap (λ n. n + length (reverse left)) are.count_is ∙ ap (λ n. count + n) (length-reverse left)
+
+-- the array of the last shape was made
+pub made-good : (count : ℕ) (was shapes : List Shape) (s : Shape) (taken stack left : List AnyArray) → was ≡ shapes ++ s ∷ [] → AreTaken count taken stack left → CanFillWith s taken → WasGood count was stack
+made-good count was shapes s taken stack left top are can p ps cs same fit all =
+    let parts = fit-last ps shapes p s (subst (AllFit (ps ++ p ∷ [])) top fit) in
+    let both = stand-split taken (reverse left) cs p.children (are.count_is ∙ sym same) (subst (λ xs. AllStand xs cs) (sym are.order) all) in
+    let long : length stack ≡ length cs = sym (length-reverse stack) ∙ length-stand (reverse stack) cs all in
+    record {
+      children = omega (arith, same, long, taken-length count taken stack left are);
+      rows = (parts.1.fills (take p.children cs)).1 (can (take p.children cs) both.0);
+    }
+
+-- ---- fields
+
+typed-snoc : (fields : List Field) (arrays : List AnyArray) (field : Field) (a : AnyArray) → AreTyped fields arrays → type_of a ≡ kind_of field.dtype → AreTyped (fields ++ field ∷ []) (arrays ++ a ∷ [])
+typed-snoc [] [] field a typed is = (is, tt)
+typed-snoc [] (b ∷ arrays) field a typed is = absurd typed
+typed-snoc (f ∷ fields) [] field a typed is = absurd typed
+typed-snoc (f ∷ fields) (b ∷ arrays) field a typed is = (typed.0, typed-snoc fields arrays field a typed.1 is)
+
+-- one field more
+pub typed-more : (fields new : List Field) (arrays : List AnyArray) (i : ℕ) (d : AnyArray) (field : Field) → i < length arrays → AreTyped fields (take i arrays) → type_of (get_or arrays i d) ≡ kind_of field.dtype → new ≡ fields ++ field ∷ [] → AreTyped new (take (i + 1) arrays)
+typed-more fields new arrays i d field low typed is pushed =
+    let at : suc i ≡ i + 1 = omega arith in
+    subst (λ n. AreTyped new (take n arrays)) at
+    (subst (AreTyped new) (sym (take-suc arrays i d low))
+    (subst (λ fs. AreTyped fs (take i arrays ++ get_or arrays i d ∷ [])) (sym pushed) (typed-snoc fields (take i arrays) field (get_or arrays i d) typed is)))
+
+pub typed-all : (fields : List Field) (arrays : List AnyArray) (i : ℕ) → length arrays ≤ i → AreTyped fields (take i arrays) → AreTyped fields arrays
+typed-all fields arrays i end = subst (AreTyped fields) (take_all i arrays end)
+
+-- ---- refusals
+
+pub memory-step : (count : ℕ) (shapes : List Shape) (stack : List AnyArray) (r : Refused) → r ≡ Memory → IsRefusedStep count shapes stack r
+memory-step count shapes stack r is p ps cs same fit all = subst (IsHonest (IsStepGood p cs)) (sym is) tt
+
+pub few-refused : (count : ℕ) (shapes : List Shape) (stack : List AnyArray) (r : Refused) → IsHonest (count ≤ length stack) r → IsRefusedStep count shapes stack r
+few-refused count shapes stack r honest p ps cs same fit all =
+    let long : length stack ≡ length cs = sym (length-reverse stack) ∙ length-stand (reverse stack) cs all in
+    honest-more (count ≤ length stack) (IsStepGood p cs) r honest (λ good. omega (arith, same, long, good.children))
+
+pub none-refused : (count : ℕ) (shapes : List Shape) (stack : List AnyArray) (r : Refused) → shapes ≡ [] → IsRefusedStep count shapes stack r
+none-refused count shapes stack r none p ps cs same fit all =
+    absurd (unfit ps p (subst (AllFit (ps ++ p ∷ [])) none fit))
+
+pub made-refused : (count : ℕ) (was shapes : List Shape) (s : Shape) (taken stack left : List AnyArray) (r : Refused) → was ≡ shapes ++ s ∷ [] → AreTaken count taken stack left → IsHonestFill s taken r → IsRefusedStep count was stack r
+made-refused count was shapes s taken stack left r top are honest p ps cs same fit all =
+    let parts = fit-last ps shapes p s (subst (AllFit (ps ++ p ∷ [])) top fit) in
+    let both = stand-split taken (reverse left) cs p.children (are.count_is ∙ sym same) (subst (λ xs. AllStand xs cs) (sym are.order) all) in
+    honest-more (CanFill s (take p.children cs)) (IsStepGood p cs) r (honest (take p.children cs) both.0)
+    (λ good. (parts.1.fills (take p.children cs)).0 good.rows)
+
+-- part j is good before the columns of those behind it
+good-at : (parts : List Part) (j : ℕ) (d : Part) → j < length parts → AllGood parts → GoodPart (get_or parts j d) (columns_of (drop (suc j) parts))
+good-at [] j d low all = absurd (omega arith)
+good-at (p ∷ parts) zero d low all = all.0
+good-at (p ∷ parts) (suc j) d low all = good-at parts j d (omega (arith, low)) all.1
+
+pub shape-refused : (parts : List Part) (i : ℕ) (d : Part) (r : Refused) → i < length parts → IsHonestOver (GoodRows (kind_number (get_or parts i d).kind) (get_or parts i d)) r → IsHonest (AllGood parts) r
+shape-refused parts i d r low honest =
+    let p = get_or parts i d in
+    let cs = take p.children (columns_of (drop (suc i) parts)) in
+    honest-more (GoodRows (kind_number p.kind) p cs) (AllGood parts) r (honest cs) (λ all. (good-at parts i d low all).rows)
+
+pub shapes-refused : (parts : List Part) (r : Refused) → IsHonest (AllGood parts) r → IsHonest (AreGoodParts parts) r
+shapes-refused parts r honest = honest-more (AllGood parts) (AreGoodParts parts) r honest (λ good. good.all)
+
+pub step-refused : (parts : List Part) (i : ℕ) (p d : Part) (shapes : List Shape) (stack : List AnyArray) (r : Refused) → i < length parts → get_or parts (length parts - 1 - i) d ≡ p → AreStacked parts i shapes stack → IsRefusedStep p.children shapes stack r → IsHonest (AreGoodParts parts) r
+step-refused parts i p d shapes stack r low is are refused =
+    let fit = subst (λ ps. AllFit ps shapes) (take-next parts i p d low is) are.fit in
+    let cs = columns_of (drop (length parts - i) parts) in
+    let next : suc (length parts - 1 - i) ≡ length parts - i = omega arith in
+    let honest = refused p (take (length parts - (i + 1)) parts) cs refl fit are.stand in
+    honest-more (IsStepGood p cs) (AreGoodParts parts) r honest
+    (λ good.
+    let part : GoodPart p cs = subst (λ q. GoodPart q cs) is (subst (λ k. GoodPart (get_or parts (length parts - 1 - i) d) (columns_of (drop k parts))) next (good-at parts (length parts - 1 - i) d (omega arith) good.all)) in
+    record { children = part.children; rows = part.rows })
+
+pub name-refused : (parts : List Part) (j : ℕ) (d : Part) (r : Refused) → j < length parts → IsHonest (IsUtf8 (get_or parts j d).name.now) r → IsHonest (AreGoodParts parts) r
+name-refused parts j d r low honest =
+    honest-more (IsUtf8 (get_or parts j d).name.now) (AreGoodParts parts) r honest (λ good. (good-at parts j d low good.all).name)
+
+pub one-array-refused : (parts : List Part) (i : ℕ) (shapes : List Shape) (stack : List AnyArray) (r : Refused) → i ≡ length parts → AreStacked parts i shapes stack → IsHonest (length stack ≡ 1) r → IsHonest (AreGoodParts parts) r
+one-array-refused parts i shapes stack r end are honest =
+    let none : length parts - i ≡ 0 = omega arith in
+    let long : length (reverse stack) ≡ length (columns_of parts) = length-stand (reverse stack) (columns_of parts) (subst (λ k. AllStand (reverse stack) (columns_of (drop k parts))) none are.stand) in
+    honest-more (length stack ≡ 1) (AreGoodParts parts) r honest (λ good. sym (length-reverse stack) ∙ long ∙ good.one)
+
+pub ruleset stacks = (fit-more, shape-good, taken-good, take-none, made-step, pushed-step, memory-step, few-refused, none-refused, made-refused, made-good, shapes-refused)

@@ -1,8 +1,12 @@
 -- A stack of arrays, the last one on top, and the parts and shapes that are still to come.
-use Rattle.std.specs.Prelude.{◌≡◌, ◌++◌, ◌∷◌, ℕ, List, [], length, reverse, ⊤}
+use Rattle.std.specs.Prelude.{◌≡◌, ◌++◌, ◌∷◌, ◌≤◌, ℕ, List, [], length, reverse, take, ⊤}
 use Rattle.polars_arrays_nested.specs.declared.any_array.AnyArray.{AnyArray}
+use Rattle.arrow_parts.specs.Kinds.{kind_number}
+use Rattle.arrow_parts.specs.Refusals.{IsHonest}
 use Rattle.arrow_parts.specs.declared.part.Part.{Part}
+use Rattle.arrow_parts.specs.declared.refused.Refused.{Refused}
 use Rattle.arrow_arrays.specs.Columns.{Column, stacked}
+use Rattle.arrow_arrays.specs.Good.{GoodRows}
 use Rattle.arrow_arrays.specs.Shapes.{FitsPart}
 use Rattle.arrow_arrays.specs.Stands.{AllStand}
 use Rattle.arrow_arrays.specs.declared.shapes.Shape.{Shape}
@@ -27,3 +31,18 @@ IsStep count was_shapes shapes was stack a =
 abbrev pub Stacks : ℕ → List Shape → List Shape → List AnyArray → List AnyArray → Type 0
 Stacks count was_shapes shapes was stack =
     (p : Part) (ps : List Part) (cs : List Column) → p.children ≡ count → AllFit (ps ++ p ∷ []) was_shapes → AllStand (reverse was) cs → AllFit ps shapes × AllStand (reverse stack) (stacked p cs)
+
+-- the last part is good before the columns of the stack, but for its name
+pub record IsStepGood (p : Part) (cs : List Column) : Type 0 where
+  pub children : p.children ≤ length cs
+  pub rows : GoodRows (kind_number p.kind) p (take p.children cs)
+
+-- a refusal to make the array of the last part is true
+abbrev pub IsRefusedStep : ℕ → List Shape → List AnyArray → Refused → Type 0
+IsRefusedStep count was_shapes was r =
+    (p : Part) (ps : List Part) (cs : List Column) → p.children ≡ count → AllFit (ps ++ p ∷ []) was_shapes → AllStand (reverse was) cs → IsHonest (IsStepGood p cs) r
+
+-- the last part was good before the columns of the stack, but for its name
+abbrev pub WasGood : ℕ → List Shape → List AnyArray → Type 0
+WasGood count was_shapes was =
+    (p : Part) (ps : List Part) (cs : List Column) → p.children ≡ count → AllFit (ps ++ p ∷ []) was_shapes → AllStand (reverse was) cs → IsStepGood p cs

@@ -1,5 +1,6 @@
 -- Comparisons of two arrays, row by row.
-use Rattle.std.specs.Prelude.{◌≡◌, ◌-◌, ◌^◌, ℕ, min, true}
+use Rattle.std.specs.Prelude.{◌≡◌, ◌≤◌, ◌-◌, ◌^◌, ℕ, min, true}
+use Rattle.polars_arrays_nested.specs.Leaves.{leaves}
 use Rattle.polars_arrays_nested.specs.Lengths.{len_of}
 use Rattle.polars_arrays_nested.specs.declared.any_array.AnyArray.{AnyArray}
 use Rattle.polars_compare_nested.specs.Headline.{SameTrees}
@@ -10,8 +11,10 @@ use Rattle.arrow_equality.specs.declared.compared.Compared.{Compared}
 abbrev pub IsCounted : AnyArray → AnyArray → ℕ → Type 0
 IsCounted left right n = n ≡ min (tally left right 0 0 (len_of left)) (2 ^ 64 - 1)
 
--- two arrays of one length, their equal rows, and the comparisons that this took
+-- two arrays of one length, their equal rows, and the comparisons that this took: at most one for each
+-- leaf slot of the left array
 pub record AreCompared (left right : AnyArray) (c : Compared) : Type 0 where
   pub one_length : len_of left ≡ len_of right
   pub same : SameTrees true left right c.bits
   pub counted : IsCounted left right c.comparisons
+  pub bound : c.comparisons ≤ leaves left 0 (len_of left)

@@ -15,13 +15,15 @@ pub record AreEqualRows (left right : Column) (words : List ℕ) : Type 0 where
   pub at_each : (i : ℕ) → i < left.len → (bit_of words i ≡ true) ↔ (left.row i ≡ right.row i)
   pub behind : (i : ℕ) → left.len ≤ i → bit_of words i ≡ false
 
--- the comparisons of leaves that the kernel makes of arrays with these rows
+-- the comparisons of leaves that the kernel makes of arrays with these rows: at most one for each leaf
+-- slot of the left column
 pub record IsCount (left right : Column) (n : ℕ) : Type 0 where
   pub left_array : AnyArray
   pub right_array : AnyArray
   pub left_stands : Stands left_array left
   pub right_stands : Stands right_array right
   pub counted : IsCounted left_array right_array n
+  pub bound : n ≤ left.leaves 0 left.len
 
 -- the comparison of arrays with these rows
 pub record IsComparison (left right : Column) (c : Compared) : Type 0 where

@@ -24,7 +24,8 @@ pub struct Compared {
     pub comparisons: u64,
 }
 
-/// Compares two arrays of one type and length, row by row. The one error is `Memory`.
+/// Compares two arrays of one type and length, row by row, with at most one comparison for each leaf
+/// slot of the left array. The one error is `Memory`.
 pub fn compare(alloc: Global, left: &AnyArray, right: &AnyArray) -> Result<Compared, Refused>
     requires left_good { IsGood left.now }
     requires right_good { IsGood right.now }
