@@ -19,7 +19,7 @@ use Rattle.diff_json.specs.Cells.{json_cell}
 use Rattle.diff_json.specs.Changes.{change_member, change_members}
 use Rattle.diff_json.specs.Keys.{key_members}
 use Rattle.diff_json.specs.Columns.{column_object}
-use Rattle.diff_json.specs.Counts.{column_members, counts_object, difference_count, totals_members}
+use Rattle.diff_json.specs.Counts.{column_members, counts_object, counts_of, difference_count, totals_members}
 use Rattle.diff_json.specs.Laws.{cell_value, change_value, changes_value, column_value, columns_value, counts_value, key_value, members_of, pair_value, row_value}
 use Rattle.diff_json.specs.Lines.{pair_object, row_object}
 use Rattle.diff_json.specs.Strings.{char_text, json_string}
@@ -285,7 +285,7 @@ unfolding column_object
 column_law Left name = column_reads name (codes "left") left_word
 column_law Right name = column_reads name (codes "right") right_word
 
-columns_read : (n : Naming) (counts : List ℕ) → ((column : ℕ) → slice_index counts column < 2 ^ 64) → Reads (123 ∷ column_members n counts ++ 125 ∷ []) (columns_value n counts)
+columns_read : (n : Naming) (counts : List ℕ) → ((column : ℕ) → slice_index counts column < 2 ^ 64) → Reads (123 ∷ column_members n.names counts ++ 125 ∷ []) (columns_value n counts)
 columns_read n counts low =
     object_reads (λ column. get_or n.names column []) (λ column. decimal (slice_index counts column)) (λ column. number (decimal (slice_index counts column)))
     (λ column. number_reads (slice_index counts column) (low column)) (columns_counted counts)
@@ -297,7 +297,7 @@ columns_shallow n counts =
 
 pub counts_law : (n : Naming) (c : Comparison) (counts : List ℕ) (limit : ℕ) → difference_count c < 2 ^ 64 → length c.matching.left_rows.items < 2 ^ 64 → ((column : ℕ) → slice_index counts column < 2 ^ 64)
     → document (counts_object n c counts limit) ≡ Some (counts_value n c counts limit)
-unfolding counts_object totals_members
+unfolding counts_of totals_members
 counts_law n c counts limit few low_rows low =
     counts_read (length c.changed.items) (length c.matching.removed.items) (length c.matching.added.items) (length c.matching.left_rows.items - length c.changed.items) (difference_count c - limit)
-    (column_members n counts) (columns_value n counts) (omega arith) (omega arith) (omega arith) (omega arith) (omega arith) (columns_read n counts low) (columns_shallow n counts)
+    (column_members n.names counts) (columns_value n counts) (omega arith) (omega arith) (omega arith) (omega arith) (omega arith) (columns_read n counts low) (columns_shallow n counts)

@@ -24,7 +24,7 @@ use Rattle.diff_report.specs.Summary.{columns_counted}
 use Rattle.diff_json.specs.Cells.{json_cell}
 use Rattle.diff_json.specs.Changes.{change_member, change_members}
 use Rattle.diff_json.specs.Columns.{column_object}
-use Rattle.diff_json.specs.Counts.{column_member, column_members, counts_object, difference_count, totals_members}
+use Rattle.diff_json.specs.Counts.{column_member, column_members, counts_object, counts_of, difference_count, totals_members}
 use Rattle.diff_json.specs.Keys.{key_member, key_members}
 use Rattle.diff_json.specs.Lines.{pair_object, row_object}
 use Rattle.diff_json.specs.Plain.{IsLine, IsPlain}
@@ -169,9 +169,9 @@ key_part n cells = record { all = key_plain n cells }
 changes_part : (n : Naming) (columns : List ℕ) (left right : List (List ℕ)) → Plain (change_members n columns left right)
 changes_part n columns left right = record { all = changes_plain n columns left right }
 
-columns_part : (n : Naming) (counts : List ℕ) → ((column : ℕ) → slice_index counts column < 2 ^ 64) → Plain (column_members n counts)
+columns_part : (n : Naming) (counts : List ℕ) → ((column : ℕ) → slice_index counts column < 2 ^ 64) → Plain (column_members n.names counts)
 columns_part n counts low = record {
-  all = list_plain (column_member n counts)
+  all = list_plain (column_member n.names counts)
       (λ column. both_plain (json_string (get_or n.names column [])) (58 ∷ decimal (slice_index counts column)) (string_plain (get_or n.names column []))
       (one_plain 58 (decimal (slice_index counts column)) refl (decimal_plain (slice_index counts column) (low column)))) (columns_counted counts);
 }
@@ -212,7 +212,7 @@ column_line side name =
 
 pub counts_line : (n : Naming) (c : Comparison) (counts : List ℕ) (limit : ℕ) → difference_count c < 2 ^ 64 → length c.matching.left_rows.items < 2 ^ 64 → ((column : ℕ) → slice_index counts column < 2 ^ 64)
     → IsLine (counts_object n c counts limit)
-unfolding counts_object totals_members
+unfolding counts_of totals_members
 counts_line n c counts limit few low_rows low =
     let changed = both (tested (codes "\"changed\":") refl) (record { all = decimal_plain (length c.changed.items) (omega arith) }) in
     let removed = numbered (codes ",\"removed\":") (length c.matching.removed.items) changed refl (omega arith) in

@@ -12,7 +12,7 @@ use Rattle.diff_report.specs.Pairs.{columns_apart}
 use Rattle.diff_report.specs.Sides.{compared_left, compared_right, naming_of, number_in}
 use Rattle.diff_report.specs.declared.sides.Sides.{Sides}
 use Rattle.diff_json.specs.Cells.{json_cell}
-use Rattle.diff_json.specs.Counts.{column_members, counts_object, totals_members}
+use Rattle.diff_json.specs.Counts.{column_members, counts_of, totals_members}
 use Rattle.diff_json.specs.Lines.{changed_object, pair_object, row_object, side_object}
 use Rattle.diff_json.specs.Report.{json_text}
 use Rattle.diff_json.specs.Strings.{char_text, json_string}
@@ -93,14 +93,14 @@ lines_of p = map (pair_of p) p.changed ++ map (λ i. row_object (codes "removed"
 -- the line with the counts
 abbrev last_of : Parts → List ℕ → ℕ → List ℕ
 last_of p counts limit = codes "{\"kind\":\"counts\"," ++ totals_members (length p.changed) (length p.removed) (length p.added) (length p.left_partners - length p.changed) ((length p.changed + length p.removed + length p.added) - limit)
-    ++ codes ",\"columns\":{" ++ column_members p.naming counts ++ codes "}}\n"
+    ++ codes ",\"columns\":{" ++ column_members p.naming.names counts ++ codes "}}\n"
 
 -- the whole report
 abbrev text_of : Parts → List ℕ → ℕ → List ℕ
 text_of p counts limit = concat (take limit (lines_of p)) ++ last_of p counts limit
 
 text-is : (s : Sides) (c : Comparison) (counts : List ℕ) (limit : ℕ) → json_text s c counts limit ≡ text_of (parts_of s c) counts limit
-unfolding json_text changed_object side_object counts_object
+unfolding json_text changed_object side_object counts_of
 text-is s c counts limit = refl
 
 all-lines : text_of parts (0 ∷ 1 ∷ 1 ∷ []) 20

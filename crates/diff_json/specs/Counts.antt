@@ -6,7 +6,8 @@ use Rattle.std.specs.Prelude.{ℕ, ◌+◌, ◌-◌, List, [], ◌∷◌, ◌++�
 use Rattle.diff_tables.specs.declared.compare.Comparison.{Comparison}
 use Rattle.diff_words.specs.Lists.{listed}
 use Rattle.diff_report.specs.Naming.{Naming}
-use Rattle.diff_report.specs.Summary.{columns_counted}
+use Rattle.diff_report.specs.Summary.{columns_counted, differences, totals_of}
+use Rattle.diff_report.specs.declared.summary.Totals.{Totals}
 use Rattle.diff_json.specs.Strings.{json_string}
 
 -- how many differences there are
@@ -18,19 +19,18 @@ unfoldable pub totals_members : ℕ → ℕ → ℕ → ℕ → ℕ → List ℕ
 totals_members changed removed added same not_shown = codes "\"changed\":" ++ decimal changed ++ codes ",\"removed\":" ++ decimal removed ++ codes ",\"added\":" ++ decimal added
     ++ codes ",\"same\":" ++ decimal same ++ codes ",\"not_shown\":" ++ decimal not_shown
 
--- the totals of a comparison
-abbrev pub totals_of : Comparison → ℕ → List ℕ
-totals_of c limit = totals_members (length c.changed.items) (length c.matching.removed.items) (length c.matching.added.items) (length c.matching.left_rows.items - length c.changed.items)
-    (difference_count c - limit)
-
 -- the name of a column, and its count
-abbrev pub column_member : Naming → List ℕ → ℕ → List ℕ
-column_member n counts column = json_string (get_or n.names column []) ++ 58 ∷ decimal (slice_index counts column)
+abbrev pub column_member : List (List ℕ) → List ℕ → ℕ → List ℕ
+column_member names counts column = json_string (get_or names column []) ++ 58 ∷ decimal (slice_index counts column)
 
 -- the columns with a count that is not 0, and their counts
-abbrev pub column_members : Naming → List ℕ → List ℕ
-column_members n counts = listed (codes ",") (map (column_member n counts) (columns_counted counts))
+abbrev pub column_members : List (List ℕ) → List ℕ → List ℕ
+column_members names counts = listed (codes ",") (map (column_member names counts) (columns_counted counts))
 
 -- the last line: the totals, and the columns in which rows differ
-unfoldable pub counts_object : Naming → Comparison → List ℕ → ℕ → List ℕ
-counts_object n c counts limit = codes "{\"kind\":\"counts\"," ++ totals_of c limit ++ codes ",\"columns\":{" ++ column_members n counts ++ codes "}}\n"
+unfoldable pub counts_of : List (List ℕ) → Totals → List ℕ → ℕ → List ℕ
+counts_of names t counts limit = codes "{\"kind\":\"counts\"," ++ totals_members t.changed t.removed t.added t.same (differences t - limit) ++ codes ",\"columns\":{" ++ column_members names counts ++ codes "}}\n"
+
+-- the last line of a comparison
+abbrev pub counts_object : Naming → Comparison → List ℕ → ℕ → List ℕ
+counts_object n c counts limit = counts_of n.names (totals_of c) counts limit

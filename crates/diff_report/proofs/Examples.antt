@@ -12,7 +12,7 @@ use Rattle.diff_report.specs.Naming.{Naming}
 use Rattle.diff_report.specs.Pairs.{change_text, columns_apart}
 use Rattle.diff_report.specs.Rows.{row_text}
 use Rattle.diff_report.specs.Sides.{row_of}
-use Rattle.diff_report.specs.Summary.{by_column, columns_counted, rest_text, summary_text, totals_text}
+use Rattle.diff_report.specs.Summary.{by_column, columns_counted, rest_text, summary_of, summary_text, totals_text}
 use Rattle.diff_report.specs.declared.sides.Side.{Side}
 
 -- three columns, of which the first two are keys
@@ -74,11 +74,11 @@ one-counted = refl
 -- of three pairs two differ, a row is removed and none is added
 last-line : (c : Comparison) → c.changed.items ≡ 0 ∷ 2 ∷ [] → c.matching.left_rows.items ≡ 0 ∷ 1 ∷ 3 ∷ [] → c.matching.removed.items ≡ 2 ∷ [] → c.matching.added.items ≡ []
     → summary_text by_two c (0 ∷ 1 ∷ 2 ∷ []) ≡ codes "2 changed, 1 removed, 0 added, 1 the same.  By column: day 1, city 2.\n"
-unfolding summary_text totals_text by_column listed word_text digits
+unfolding summary_of totals_text by_column listed word_text digits
 last-line c changed left_rows removed added = rw (changed, left_rows, removed, added) refl
 
 -- no pair differs
 last-line-without : (c : Comparison) → c.changed.items ≡ [] → c.matching.left_rows.items ≡ 0 ∷ [] → c.matching.removed.items ≡ [] → c.matching.added.items ≡ []
     → summary_text by_two c (0 ∷ 0 ∷ 0 ∷ []) ≡ codes "0 changed, 0 removed, 0 added, 1 the same.\n"
-unfolding summary_text totals_text digits
+unfolding summary_of totals_text digits
 last-line-without c changed left_rows removed added = rw (changed, left_rows, removed, added) refl

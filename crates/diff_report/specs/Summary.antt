@@ -9,6 +9,7 @@ use Rattle.diff_tables.specs.declared.compare.Comparison.{Comparison}
 use Rattle.diff_words.specs.Lists.{listed}
 use Rattle.diff_words.specs.Words.{word_text}
 use Rattle.diff_report.specs.Naming.{Naming}
+use Rattle.diff_report.specs.declared.summary.Totals.{Totals}
 
 -- how many differences there are, where so many of the matched rows are changed
 abbrev pub difference_count : Matching → ℕ → ℕ
@@ -19,9 +20,21 @@ unfoldable pub rest_text : ℕ → ℕ → List ℕ
 rest_text limit count = if nat_lt 0 limit && nat_lt limit count then codes ".. and " ++ decimal (count - limit) ++ codes " more\n" else []
 
 -- how many rows are changed, removed, added, and the same
-unfoldable pub totals_text : Comparison → List ℕ
-totals_text c = decimal (length c.changed.items) ++ codes " changed, " ++ decimal (length c.matching.removed.items) ++ codes " removed, "
-    ++ decimal (length c.matching.added.items) ++ codes " added, " ++ decimal (length c.matching.left_rows.items - length c.changed.items) ++ codes " the same."
+abbrev pub totals_of : Comparison → Totals
+totals_of c = record {
+  changed = length c.changed.items;
+  removed = length c.matching.removed.items;
+  added = length c.matching.added.items;
+  same = length c.matching.left_rows.items - length c.changed.items;
+}
+
+-- how many of them are differences
+abbrev pub differences : Totals → ℕ
+differences t = t.changed + t.removed + t.added
+
+-- the totals as text
+unfoldable pub totals_text : Totals → List ℕ
+totals_text t = decimal t.changed ++ codes " changed, " ++ decimal t.removed ++ codes " removed, " ++ decimal t.added ++ codes " added, " ++ decimal t.same ++ codes " the same."
 
 -- a column has a count that is not 0
 abbrev pub is_counted : List ℕ → ℕ → Bool
@@ -32,13 +45,17 @@ abbrev pub columns_counted : List ℕ → List ℕ
 columns_counted counts = filter (is_counted counts) (range_with_len 0 (length counts))
 
 -- the name of a column, and its count
-abbrev pub count_text : Naming → List ℕ → ℕ → List ℕ
-count_text n counts column = word_text (get_or n.names column []) ++ 32 ∷ [] ++ decimal (slice_index counts column)
+abbrev pub count_text : List (List ℕ) → List ℕ → ℕ → List ℕ
+count_text names counts column = word_text (get_or names column []) ++ 32 ∷ [] ++ decimal (slice_index counts column)
 
 -- the counts of the columns
-unfoldable pub by_column : Naming → List ℕ → List ℕ
-by_column n counts = codes "  By column: " ++ listed (codes ", ") (map (count_text n counts) (columns_counted counts)) ++ codes "."
+unfoldable pub by_column : List (List ℕ) → List ℕ → List ℕ
+by_column names counts = codes "  By column: " ++ listed (codes ", ") (map (count_text names counts) (columns_counted counts)) ++ codes "."
 
 -- the last line: the totals, and the columns where something is changed
-unfoldable pub summary_text : Naming → Comparison → List ℕ → List ℕ
-summary_text n c counts = totals_text c ++ (if length c.changed.items == 0 then [] else by_column n counts) ++ 10 ∷ []
+unfoldable pub summary_of : List (List ℕ) → Totals → List ℕ → List ℕ
+summary_of names t counts = totals_text t ++ (if t.changed == 0 then [] else by_column names counts) ++ 10 ∷ []
+
+-- the last line of a comparison
+abbrev pub summary_text : Naming → Comparison → List ℕ → List ℕ
+summary_text n c counts = summary_of n.names (totals_of c) counts

@@ -3,8 +3,9 @@
 ghost use Rattle.std.specs.Fmt.{decimal};
 ghost use Rattle.std.specs.Prelude.{◌≡◌, ◌<◌, ◌≤◌, ◌+◌, ◌++◌, [], if◌then◌else◌, length, map, codes, IfOk, OnOk};
 ghost use Rattle.diff_words.specs.Lists.{gap, listed};
+ghost use Rattle.polars_arrays_bytes.specs.OffsetStrings.{offset_strings};
 ghost use Rattle.diff_report.specs.Sides.{naming_of};
-ghost use Rattle.diff_report.specs.Summary.{by_column, count_text, difference_count, is_counted, rest_text, summary_text, totals_text};
+ghost use Rattle.diff_report.specs.Summary.{by_column, count_text, difference_count, differences, is_counted, rest_text, summary_of, summary_text, totals_of, totals_text};
 
 use crate::sides::Sides;
 use diff_keys::matching::Matching;
@@ -12,8 +13,40 @@ use diff_tables::compare::Comparison;
 use diff_words::decimals::push_decimal;
 use diff_words::lists::push_gap;
 use diff_words::words::push_word;
+use polars_arrays_bytes::binary::BinaryArray;
 use polars_arrays_flat::byte_rows::ByteRows;
 use std::alloc::AllocError;
+
+/// How many rows are changed, removed, added, and the same.
+#[derive(Clone, Copy)]
+pub struct Totals {
+    pub changed: usize,
+    pub removed: usize,
+    pub added: usize,
+    pub same: usize,
+}
+
+impl Totals {
+    /// Returns how many differences there are.
+    pub fn differences(&self) -> u128
+        ensures { result ≡ differences self.now }
+    {
+        self.changed as u128 + self.removed as u128 + self.added as u128
+    }
+}
+
+/// Returns how many rows of two tables are changed, removed, added, and the same.
+pub fn totals_of(comparison: &Comparison) -> Totals
+    requires { length comparison.now.changed.items ≤ length comparison.now.matching.left_rows.items }
+    ensures { result ≡ totals_of comparison.now }
+{
+    Totals {
+        changed: comparison.changed.len(),
+        removed: comparison.matching.removed.len(),
+        added: comparison.matching.added.len(),
+        same: comparison.matching.left_rows.len() - comparison.changed.len(),
+    }
+}
 
 /// Returns how many differences there are, where `changed` of the matched rows differ.
 pub fn difference_count(matching: &Matching, changed: usize) -> u128
@@ -47,15 +80,13 @@ fn push_count(out: &mut Vec<u8>, count: usize, what: &[u8]) -> Result<(), AllocE
 
 /// Appends how many rows are changed, removed, added, and the same.
 #[tactic(auto, unfolding(crate::specs::Summary::totals_text))]
-fn push_totals(out: &mut Vec<u8>, comparison: &Comparison) -> Result<(), AllocError>
-    requires { length comparison.now.changed.items ≤ length comparison.now.matching.left_rows.items }
-    ensures { OnOk result (out.new.items ≡ out.old.items ++ totals_text comparison.now) }
+fn push_totals(out: &mut Vec<u8>, totals: &Totals) -> Result<(), AllocError>
+    ensures { OnOk result (out.new.items ≡ out.old.items ++ totals_text totals.now) }
 {
-    let same = comparison.matching.left_rows.len() - comparison.changed.len();
-    push_count(out, comparison.changed.len(), b" changed, ")?;
-    push_count(out, comparison.matching.removed.len(), b" removed, ")?;
-    push_count(out, comparison.matching.added.len(), b" added, ")?;
-    push_count(out, same, b" the same.")?;
+    push_count(out, totals.changed, b" changed, ")?;
+    push_count(out, totals.removed, b" removed, ")?;
+    push_count(out, totals.added, b" added, ")?;
+    push_count(out, totals.same, b" the same.")?;
     Ok(())
 }
 
@@ -63,44 +94,66 @@ fn push_totals(out: &mut Vec<u8>, comparison: &Comparison) -> Result<(), AllocEr
 /// that has `written` elements already. Returns how many it has then.
 fn push_if_counted(
     out: &mut Vec<u8>,
-    sides: &Sides,
+    names: &BinaryArray<i64>,
     counts: &[usize],
     column: usize,
     written: usize,
 ) -> Result<usize, AllocError>
-    requires names { column < length (naming_of sides.now).names }
+    requires names { column < length (offset_strings (λ x. x) names.now) }
     requires counts { column < length counts.now }
     requires room { written < usize.MAX }
-    ensures text { OnOk result (out.new.items ≡ out.old.items ++ (if is_counted counts.now column then gap (codes ", ") written ++ count_text (naming_of sides.now) counts.now column else [])) }
+    ensures text { OnOk result (out.new.items ≡ out.old.items ++ (if is_counted counts.now column then gap (codes ", ") written ++ count_text (offset_strings (λ x. x) names.now) counts.now column else [])) }
     ensures count { IfOk result (λ n. n ≡ written + (if is_counted counts.now column then 1 else 0)) }
 {
     if counts[column] == 0 {
         return Ok(written);
     }
     push_gap(out, b", ", written)?;
-    push_word(out, sides.names.bytes(column))?;
+    push_word(out, names.bytes(column))?;
     out.push(b' ')?;
     push_decimal(out, counts[column])?;
     Ok(written + 1)
 }
 
 /// Appends the columns that differ, and how often.
-fn push_by_column(out: &mut Vec<u8>, sides: &Sides, counts: &[usize]) -> Result<(), AllocError>
-    requires { length counts.now ≡ length (naming_of sides.now).names }
-    ensures { OnOk result (out.new.items ≡ out.old.items ++ by_column (naming_of sides.now) counts.now) }
+fn push_by_column(
+    out: &mut Vec<u8>,
+    names: &BinaryArray<i64>,
+    counts: &[usize],
+) -> Result<(), AllocError>
+    requires { length counts.now ≡ length (offset_strings (λ x. x) names.now) }
+    ensures { OnOk result (out.new.items ≡ out.old.items ++ by_column (offset_strings (λ x. x) names.now) counts.now) }
 {
     out.extend_from_slice(b"  By column: ")?;
     let mut written = 0;
     for column in 0..counts.len() {
-        written = push_if_counted(out, sides, counts, column, written)?;
+        written = push_if_counted(out, names, counts, column, written)?;
     }
     out.push(b'.')?;
     Ok(())
 }
 
 /// Appends the last line: how many rows differ, and in which columns. `counts` says how often each
-/// column differs.
-#[tactic(auto, unfolding(crate::specs::Summary::summary_text))]
+/// column of these names differs.
+#[tactic(auto, unfolding(crate::specs::Summary::summary_of))]
+pub fn push_summary_of(
+    out: &mut Vec<u8>,
+    names: &BinaryArray<i64>,
+    totals: &Totals,
+    counts: &[usize],
+) -> Result<(), AllocError>
+    requires { length counts.now ≡ length (offset_strings (λ x. x) names.now) }
+    ensures { OnOk result (out.new.items ≡ out.old.items ++ summary_of (offset_strings (λ x. x) names.now) totals.now counts.now) }
+{
+    push_totals(out, totals)?;
+    if totals.changed != 0 {
+        push_by_column(out, names, counts)?;
+    }
+    out.push(b'\n')?;
+    Ok(())
+}
+
+/// Appends the last line of a comparison. `counts` says how often each column differs.
 pub fn push_summary(
     out: &mut Vec<u8>,
     sides: &Sides,
@@ -111,10 +164,6 @@ pub fn push_summary(
     requires counts { length counts.now ≡ length (naming_of sides.now).names }
     ensures { OnOk result (out.new.items ≡ out.old.items ++ summary_text (naming_of sides.now) comparison.now counts.now) }
 {
-    push_totals(out, comparison)?;
-    if !comparison.changed.is_empty() {
-        push_by_column(out, sides, counts)?;
-    }
-    out.push(b'\n')?;
+    push_summary_of(out, &sides.names, &totals_of(comparison), counts)?;
     Ok(())
 }

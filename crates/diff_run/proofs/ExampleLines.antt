@@ -10,7 +10,7 @@ use Rattle.diff_report.specs.Pairs.{columns_apart, differ_at}
 use Rattle.diff_report.specs.Report.{report_text}
 use Rattle.diff_report.specs.Rows.{row_text}
 use Rattle.diff_report.specs.Sides.{compared_left, compared_right, naming_of}
-use Rattle.diff_report.specs.Summary.{by_column, rest_text, summary_text, totals_text}
+use Rattle.diff_report.specs.Summary.{by_column, rest_text, summary_of, totals_text}
 use Rattle.diff_report.specs.declared.sides.Sides.{Sides}
 use Rattle.diff_tables.specs.declared.compare.Comparison.{Comparison}
 use Rattle.diff_words.specs.Cells.{cell_text}
@@ -86,7 +86,7 @@ counts_of p = map
 -- the last line
 abbrev last_of : Parts → List ℕ → List ℕ
 last_of p counts = (decimal (length p.changed) ++ codes " changed, " ++ decimal (length p.removed) ++ codes " removed, " ++ decimal (length p.added) ++ codes " added, "
-    ++ decimal (length p.left_partners - length p.changed) ++ codes " the same.") ++ (if length p.changed == 0 then [] else by_column p.naming counts) ++ 10 ∷ []
+    ++ decimal (length p.left_partners - length p.changed) ++ codes " the same.") ++ (if length p.changed == 0 then [] else by_column p.naming.names counts) ++ 10 ∷ []
 
 -- the lines of all differences
 abbrev lines_of : Parts → List (List ℕ)
@@ -149,7 +149,7 @@ counts-are : (s : Sides) (c : Comparison) → column_counts s c.matching c.chang
 counts-are s c = refl
 
 text-is : (s : Sides) (c : Comparison) (counts : List ℕ) → report_text s c counts 20 ≡ text_of (parts_of s c) counts
-unfolding report_text changed_line side_line side_text summary_text totals_text
+unfolding report_text changed_line side_line side_text summary_of totals_text
 text-is s c counts = refl
 
 -- a report that is made of the parts of the two texts is printed

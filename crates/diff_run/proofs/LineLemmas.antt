@@ -2,9 +2,12 @@
 use Rattle.std.proofs.Common.{◌≡◌, ℕ, List, ◌++◌, length, take, sym, refl}
 use Rattle.std.proofs.lemmas.List.{append_assoc}
 use Rattle.std.specs.List.{concat}
+use Rattle.std.specs.Prelude.{slice_index}
 use Rattle.diff_json.specs.Report.{json_text}
+use Rattle.diff_keys.specs.declared.matching.Matching.{Matching}
 use Rattle.diff_report.proofs.LineLemmas.{length_of_three}
 use Rattle.diff_report.specs.Lines.{changed_line, side_line}
+use Rattle.diff_json.specs.Lines.{changed_object}
 use Rattle.diff_report.specs.Report.{difference_lines, report_text}
 use Rattle.diff_report.specs.Sides.{naming_of}
 use Rattle.diff_report.specs.Summary.{difference_count, rest_text, summary_text}
@@ -12,7 +15,7 @@ use Rattle.diff_report.specs.declared.sides.Sides.{Sides}
 use Rattle.diff_tables.specs.declared.compare.Comparison.{Comparison}
 use Rattle.diff_words.specs.declared.formats.Format.{Format}
 use Rattle.diff_words.specs.declared.formats.Format.TheVariants.{Text, Json}
-use Rattle.diff_run.specs.Lines.{all_lines, end_text}
+use Rattle.diff_run.specs.Lines.{all_lines, end_text, pair_at, pair_of}
 use Rattle.diff_run.specs.Run.{differences_text}
 
 -- the first lines and what stands behind them are the report
@@ -23,3 +26,9 @@ in_form Text s c counts limit =
     length_of_three (changed_line s c.matching) (side_line 45 (naming_of s) s.left) (side_line 43 (naming_of s) s.right) c.changed.items c.matching.removed.items c.matching.added.items in
     rw count (sym (append_assoc (concat (take limit (difference_lines s c))) (rest_text limit (difference_count c.matching (length c.changed.items))) (summary_text (naming_of s) c counts)))
 in_form Json s c counts limit = refl
+
+-- the line of the pair at place k is that of its two rows
+pub pair_there : (format : Format) (s : Sides) (m : Matching) (k : ℕ) → pair_of format s (slice_index m.left_rows.items k) (slice_index m.right_rows.items k) ≡ pair_at format s m k
+unfolding changed_line changed_object
+pair_there Text s m k = refl
+pair_there Json s m k = refl

@@ -3,20 +3,26 @@
 -- ~ id=4411  city "Oslo" -> "Bergen"
 -- {"kind":"removed","key":{"id":"77"},"row":77,"line":78}
 use Rattle.std.specs.Prelude.{ℕ, List, ◌++◌, length, map, codes}
-use Rattle.diff_json.specs.Counts.{counts_object}
-use Rattle.diff_json.specs.Lines.{changed_object, side_object}
+use Rattle.diff_json.specs.Counts.{counts_of}
+use Rattle.diff_json.specs.Lines.{changed_object, object_of, side_object}
 use Rattle.diff_keys.specs.declared.matching.Matching.{Matching}
-use Rattle.diff_report.specs.Lines.{changed_line, side_line}
+use Rattle.diff_report.specs.Lines.{changed_line, line_of, side_line}
 use Rattle.diff_report.specs.Naming.{Naming}
 use Rattle.diff_report.specs.Sides.{naming_of}
-use Rattle.diff_report.specs.Summary.{difference_count, rest_text, summary_text}
+use Rattle.diff_report.specs.Summary.{differences, rest_text, summary_of, totals_of}
 use Rattle.diff_report.specs.declared.sides.Side.{Side}
 use Rattle.diff_report.specs.declared.sides.Sides.{Sides}
+use Rattle.diff_report.specs.declared.summary.Totals.{Totals}
 use Rattle.diff_tables.specs.declared.compare.Comparison.{Comparison}
 use Rattle.diff_words.specs.declared.formats.Format.{Format}
 use Rattle.diff_words.specs.declared.formats.Format.TheVariants.{Text, Json}
 use Rattle.diff_report.specs.declared.lines.Alone.{Alone}
 use Rattle.diff_report.specs.declared.lines.Alone.TheVariants.{Removed, Added}
+
+-- the line of left row i and right row j
+abbrev pub pair_of : Format → Sides → ℕ → ℕ → List ℕ
+pair_of Text s i j = line_of s i j
+pair_of Json s i j = object_of s i j
 
 -- the line of the pair at place k of the matched rows
 abbrev pub pair_at : Format → Sides → Matching → ℕ → List ℕ
@@ -34,7 +40,11 @@ row_alone Json Added = side_object (codes "added")
 abbrev pub all_lines : Format → Sides → Comparison → List (List ℕ)
 all_lines format s c = map (pair_at format s c.matching) c.changed.items ++ map (row_alone format Removed (naming_of s) s.left) c.matching.removed.items ++ map (row_alone format Added (naming_of s) s.right) c.matching.added.items
 
--- what stands behind them: how many more there are, and the counts
+-- what stands behind lines: how many more there are, and the counts
+abbrev pub end_of : Format → List (List ℕ) → Totals → List ℕ → ℕ → List ℕ
+end_of Text names t counts limit = rest_text limit (differences t) ++ summary_of names t counts
+end_of Json names t counts limit = counts_of names t counts limit
+
+-- what stands behind the lines of a comparison
 abbrev pub end_text : Format → Sides → Comparison → List ℕ → ℕ → List ℕ
-end_text Text s c counts limit = rest_text limit (difference_count c.matching (length c.changed.items)) ++ summary_text (naming_of s) c counts
-end_text Json s c counts limit = counts_object (naming_of s) c counts limit
+end_text format s c counts limit = end_of format (naming_of s).names (totals_of c) counts limit

@@ -5,7 +5,7 @@ mod comparables;
 pub mod error;
 mod heads;
 mod inputs;
-mod lines;
+pub mod lines;
 mod lone;
 mod names;
 pub mod options;

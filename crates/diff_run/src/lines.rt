@@ -3,18 +3,39 @@
 ghost use Rattle.std.specs.List.{concat, flat_map};
 ghost use Rattle.std.specs.Prelude.{◌≡◌, ◌<◌, ◌≤◌, ◌++◌, All, length, take, OnOk};
 ghost use Rattle.diff_report.specs.Sides.{AreSides, IsSide, NamesRows, naming_of};
-ghost use Rattle.diff_run.specs.Lines.{all_lines, end_text, pair_at, row_alone};
+ghost use Rattle.diff_run.specs.Lines.{all_lines, end_of, end_text, pair_at, pair_of, row_alone};
 ghost use Rattle.diff_tables.specs.Comparison.{ArePairs};
+ghost use Rattle.polars_arrays_bytes.specs.OffsetStrings.{offset_strings};
 
-use diff_json::counts::push_counts;
+use diff_json::counts::push_counts_of;
 use diff_json::lines::{push_alone, push_pair};
 use diff_keys::matching::Matching;
 use diff_report::lines::{Alone, push_pair_line, push_side_line};
 use diff_report::sides::{Side, Sides};
-use diff_report::summary::{difference_count, push_rest, push_summary};
+use diff_report::summary::{Totals, push_rest, push_summary_of, totals_of};
 use diff_tables::compare::Comparison;
 use diff_words::formats::Format;
+use polars_arrays_bytes::binary::BinaryArray;
 use std::alloc::AllocError;
+
+/// Appends the line of left row `i` and right row `j`, which differ.
+pub fn push_pair_of(
+    out: &mut Vec<u8>,
+    format: Format,
+    sides: &Sides,
+    i: usize,
+    j: usize,
+) -> Result<(), AllocError>
+    requires sides { AreSides sides.now }
+    requires left { i < length sides.now.left.table.rows }
+    requires right { j < length sides.now.right.table.rows }
+    ensures { OnOk result (out.new.items ≡ out.old.items ++ pair_of format sides.now i j) }
+{
+    match format {
+        Format::Text => push_pair_line(out, sides, i, j),
+        Format::Json => push_pair(out, sides, i, j),
+    }
+}
 
 /// Appends the line of the pair at place `k` of the matched rows.
 fn push_pair_at(
@@ -31,14 +52,12 @@ fn push_pair_at(
 {
     let i = matching.left_rows[k] as usize;
     let j = matching.right_rows[k] as usize;
-    match format {
-        Format::Text => push_pair_line(out, sides, i, j),
-        Format::Json => push_pair(out, sides, i, j),
-    }
+    push_pair_of(out, format, sides, i, j)?;
+    Ok(())
 }
 
 /// Appends the line of a row that has no partner.
-fn push_row(
+pub fn push_row(
     out: &mut Vec<u8>,
     format: Format,
     alone: Alone,
@@ -123,7 +142,30 @@ pub(crate) fn push_lines(
 }
 
 /// Appends what stands behind the lines: in text how many more there are and the summary, in JSON
-/// the counts. `counts` says how often each column differs.
+/// the counts. `counts` says how often each column of these names differs.
+pub fn push_end_of(
+    out: &mut Vec<u8>,
+    format: Format,
+    names: &BinaryArray<i64>,
+    totals: &Totals,
+    counts: &[usize],
+    limit: usize,
+) -> Result<(), AllocError>
+    requires { length counts.now ≡ length (offset_strings (λ x. x) names.now) }
+    ensures { OnOk result (out.new.items ≡ out.old.items ++ end_of format (offset_strings (λ x. x) names.now) totals.now counts.now limit) }
+{
+    match format {
+        Format::Text => {
+            push_rest(out, totals.differences(), limit)?;
+            push_summary_of(out, names, totals, counts)?;
+            Ok(())
+        }
+        Format::Json => push_counts_of(out, names, totals, counts, limit),
+    }
+}
+
+/// Appends what stands behind the lines of a comparison. `counts` says how often each column
+/// differs.
 pub(crate) fn push_end(
     out: &mut Vec<u8>,
     format: Format,
@@ -136,13 +178,7 @@ pub(crate) fn push_end(
     requires counts { length counts.now ≡ length (naming_of sides.now).names }
     ensures { OnOk result (out.new.items ≡ out.old.items ++ end_text format sides.now comparison.now counts.now limit) }
 {
-    match format {
-        Format::Text => {
-            let count = difference_count(&comparison.matching, comparison.changed.len());
-            push_rest(out, count, limit)?;
-            push_summary(out, sides, comparison, counts)?;
-            Ok(())
-        }
-        Format::Json => push_counts(out, sides, comparison, counts, limit),
-    }
+    let totals = totals_of(comparison);
+    push_end_of(out, format, &sides.names, &totals, counts, limit)?;
+    Ok(())
 }

@@ -1,0 +1,4 @@
+pub mod CountLemmas
+mod Examples
+pub mod LineLemmas
+pub mod SideLemmas
