@@ -1,0 +1,3 @@
+mod Examples
+pub mod GroupLemmas
+pub mod PathLemmas

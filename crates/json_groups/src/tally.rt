@@ -1,0 +1,23 @@
+//! What is gathered of values.
+
+ghost use Rattle.std.specs.Prelude.{◌++◌, ◌∷◌, [], List, IfOk, OnOk};
+ghost use Rattle.json.specs.Json.{Json};
+ghost use Rattle.json.specs.Value.{value_view};
+
+use json::Value;
+use std::alloc::{AllocError, Global};
+
+/// What is gathered of values, which are added one after another.
+pub trait Tally: Drop + Sized {
+    // This was gathered of these values.
+    ghost Gathers: { List Json → Self → Type 0 };
+
+    /// Returns what is gathered of no values.
+    fn new(alloc: Global) -> Result<Self, AllocError>
+        ensures { IfOk result (λ t. Gathers [] t) };
+
+    /// Adds a value.
+    fn add(&mut self, value: &Value<'_>) -> Result<(), AllocError>
+        ensures { OnOk result ((values : List Json) → Gathers values self.old
+            → Gathers (values ++ value_view value.now ∷ []) self.new) };
+}

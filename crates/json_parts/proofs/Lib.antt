@@ -1,0 +1,3 @@
+mod Examples
+pub mod NumberLemmas
+pub mod TextLemmas

@@ -1,0 +1,8 @@
+//! Laws of parts.
+
+ghost use Rattle.json_parts.specs.Laws.{PartsHaveNumbers};
+
+/// Says that the texts of numbers in parts are numbers, where those of the value are.
+pub fn part_laws()
+    ensures { PartsHaveNumbers }
+{}

@@ -1,0 +1,69 @@
+//! The texts of names in paths, as `json_changes` writes them.
+
+ghost use Rattle.std.specs.List.{list_all};
+ghost use Rattle.std.specs.Prelude.{◌≡◌, ◌++◌, OnOk, length, take};
+ghost use Rattle.json.specs.Print.{quoted};
+ghost use Rattle.json_changes.specs.Texts.{is_plain, is_plain_byte, name_text};
+ghost use Rattle.json_parts.specs.Parts.{item_path};
+
+use json::{Value, to_vec};
+use std::alloc::{AllocError, Global};
+
+/// Returns whether each byte needs no quotes.
+fn are_plain(bytes: &[u8]) -> bool
+    ensures { result ≡ list_all is_plain_byte bytes.now }
+{
+    bytes
+        .iter()
+        .all(|b| b.is_ascii_alphanumeric() || *b == b'_' || *b == b'-')
+}
+
+/// Returns whether a name needs no quotes.
+fn is_plain(name: &str) -> bool
+    ensures { result ≡ is_plain name.now }
+{
+    !name.is_empty() && are_plain(name.as_bytes())
+}
+
+/// Appends a name between quotes.
+fn push_quoted(alloc: Global, path: &mut Vec<u8>, name: &str) -> Result<(), AllocError>
+    ensures { OnOk result (path.new.items ≡ path.old.items ++ quoted name.now) }
+{
+    let value: Value<'_> = Value::String(name);
+    let text = to_vec(alloc, &value)?;
+    path.extend_from_slice(text.as_slice())?;
+    Ok(())
+}
+
+/// Appends the text of a step to the member of a name.
+fn push_step(alloc: Global, path: &mut Vec<u8>, key: &str) -> Result<(), AllocError>
+    ensures { OnOk result (path.new.items ≡ path.old.items ++ name_text path.old.items key.now) }
+{
+    if !is_plain(key) {
+        path.push(b'.')?;
+        return push_quoted(alloc, path, key);
+    }
+    if !path.is_empty() {
+        path.push(b'.')?;
+    }
+    path.extend_from_slice(key.as_bytes())?;
+    Ok(())
+}
+
+/// Appends the step to the member of a name.
+pub(crate) fn push_name(alloc: Global, path: &mut Vec<u8>, key: &str) -> Result<(), AllocError>
+    ensures path { OnOk result (path.new.items ≡ path.old.items ++ name_text path.old.items key.now) }
+    ensures front { OnOk result (take (length path.old.items) path.new.items ≡ path.old.items) }
+{
+    push_step(alloc, path, key)?;
+    Ok(())
+}
+
+/// Appends the step to any item.
+pub(crate) fn push_any_item(path: &mut Vec<u8>) -> Result<(), AllocError>
+    ensures path { OnOk result (path.new.items ≡ item_path path.old.items) }
+    ensures front { OnOk result (take (length path.old.items) path.new.items ≡ path.old.items) }
+{
+    path.extend_from_slice(b"[]")?;
+    Ok(())
+}
