@@ -1,0 +1,49 @@
+//! The key of a row.
+
+ghost use Rattle.std.specs.Prelude.{◌≡◌, ◌++◌, OnOk};
+ghost use Rattle.diff_merge.specs.Rows.{cells_of};
+ghost use Rattle.diff_tables.specs.Keys.{escaped, marked, row_key};
+
+use crate::row::Row;
+use std::alloc::AllocError;
+
+/// Appends a byte, and a 1 behind a zero.
+#[inline(always)]
+fn push_byte(out: &mut Vec<u8>, byte: u8) -> Result<(), AllocError>
+    ensures { OnOk result (out.new.items ≡ out.old.items ++ marked byte) }
+{
+    if byte == 0 {
+        out.push(0)?;
+        out.push(1)?;
+        return Ok(());
+    }
+    out.push(byte)?;
+    Ok(())
+}
+
+/// Appends a byte string so that its end shows: a zero as 0 1, the end as 0 0.
+fn push_escaped(out: &mut Vec<u8>, string: &[u8]) -> Result<(), AllocError>
+    ensures { OnOk result (out.new.items ≡ out.old.items ++ escaped string.now) }
+{
+    for byte in string {
+        push_byte(out, *byte)?;
+    }
+    out.push(0)?;
+    out.push(0)?;
+    Ok(())
+}
+
+/// Makes `key` the key of a row: its cells in the key columns, each with its end.
+pub(crate) fn write_key(
+    key: &mut Vec<u8>,
+    row: &Row<'_>,
+    columns: &[usize],
+) -> Result<(), AllocError>
+    ensures { OnOk result (key.new.items ≡ row_key columns.now (cells_of row.now)) }
+{
+    key.clear();
+    for column in columns {
+        push_escaped(key, row.cell(*column))?;
+    }
+    Ok(())
+}

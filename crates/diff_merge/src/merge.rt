@@ -1,0 +1,175 @@
+//! The merge of two sorted texts.
+
+ghost use Rattle.std.specs.Prelude.{◌≡◌, ◌+◌, ◌<◌, ◌^◌, [], ℕ, false, List, MatchResult, IfOk, OnOk, None, Some};
+ghost use Rattle.diff_columns.specs.declared.error.Side.TheVariants.{Left, Right};
+ghost use Rattle.diff_csv.specs.declared.options.CsvOptions.{CsvOptions};
+ghost use Rattle.diff_joins.specs.Merge.{ComesBefore};
+ghost use Rattle.diff_keys.specs.declared.matching.Matching.{Matching};
+ghost use Rattle.diff_merge.specs.Cursors.{IsAlike, IsAt, next_key};
+ghost use Rattle.diff_merge.specs.Merging.{IsEmpty, IsMergeAt, IsMergeFault, IsMergeOf, IsStep};
+ghost use Rattle.diff_merge.specs.Order.{key_less};
+
+use crate::cursor::Cursor;
+use crate::error::MergeError;
+use crate::sink::Sink;
+use std::cmp::Ordering;
+use std::io::Read;
+
+/// The most steps that are taken.
+const MOST_STEPS: usize = 1 << 62;
+
+/// What comes next of two texts.
+#[derive(Clone, Copy)]
+pub(crate) enum Step {
+    /// A row of each, which have one key.
+    Pair,
+    /// A left row, which has no partner.
+    Removed,
+    /// A right row, which has no partner.
+    Added,
+    /// No row.
+    End,
+}
+
+/// Returns what comes next: the row of the lesser of the two next keys, or both rows where these are
+/// the same.
+fn next_step<L: Read + Drop, R: Read + Drop>(left: &Cursor<'_, L>, right: &Cursor<'_, R>) -> Step
+    ensures { IsStep (next_key left.now) (next_key right.now) result }
+{
+    match (left.line, right.line) {
+        (None, None) => Step::End,
+        (Some(_), None) => Step::Removed,
+        (None, Some(_)) => Step::Added,
+        (Some(_), Some(_)) => match left.key.as_slice().cmp(right.key.as_slice()) {
+            Ordering::Less => Step::Removed,
+            Ordering::Equal => Step::Pair,
+            Ordering::Greater => Step::Added,
+        },
+    }
+}
+
+/// Tells of the next rows of both texts, which have one key.
+fn take_pair<L: Read + Drop, R: Read + Drop, S: Sink>(
+    left: &mut Cursor<'_, L>,
+    right: &mut Cursor<'_, R>,
+    sink: &mut S,
+) -> Result<(), MergeError>
+    requires one_key { (key : List ℕ) × (next_key left.old ≡ Some key) × (next_key right.old ≡ Some key) }
+    requires left_side { left.old.side ≡ Left }
+    requires right_side { right.old.side ≡ Right }
+    ensures step { MatchResult result
+        (λ _. (options : CsvOptions) (left_text right_text : List ℕ) (n : ℕ) → n < 2 ^ 62 → IsMergeAt L.remaining R.remaining S.holds options left_text right_text n left.old right.old sink.old
+            → IsMergeAt L.remaining R.remaining S.holds options left_text right_text (n + 1) left.new right.new sink.new)
+        (λ error. (options : CsvOptions) (left_text right_text : List ℕ) (n : ℕ) → IsMergeAt L.remaining R.remaining S.holds options left_text right_text n left.old right.old sink.old
+            → IsMergeFault options left_text right_text left.old right.old error) }
+    ensures left_alike { OnOk result (IsAlike left.old left.new) }
+    ensures right_alike { OnOk result (IsAlike right.old right.new) }
+{
+    let left_row = left.row();
+    let right_row = right.row();
+    sink.pair(&left_row, &right_row)?;
+    left.advance()?;
+    right.advance()?;
+    Ok(())
+}
+
+/// Tells of the next left row, which has no partner.
+fn take_removed<L: Read + Drop, R: Read + Drop, S: Sink>(
+    left: &mut Cursor<'_, L>,
+    right: &Cursor<'_, R>,
+    sink: &mut S,
+) -> Result<(), MergeError>
+    requires lesser { (key : List ℕ) × (next_key left.old ≡ Some key) × ComesBefore key_less key (next_key right.now) }
+    requires left_side { left.old.side ≡ Left }
+    ensures step { MatchResult result
+        (λ _. (options : CsvOptions) (left_text right_text : List ℕ) (n : ℕ) → n < 2 ^ 62 → IsMergeAt L.remaining R.remaining S.holds options left_text right_text n left.old right.now sink.old
+            → IsMergeAt L.remaining R.remaining S.holds options left_text right_text (n + 1) left.new right.now sink.new)
+        (λ error. (options : CsvOptions) (left_text right_text : List ℕ) (n : ℕ) → IsMergeAt L.remaining R.remaining S.holds options left_text right_text n left.old right.now sink.old
+            → IsMergeFault options left_text right_text left.old right.now error) }
+    ensures left_alike { OnOk result (IsAlike left.old left.new) }
+{
+    let row = left.row();
+    sink.removed(&row)?;
+    left.advance()?;
+    Ok(())
+}
+
+/// Tells of the next right row, which has no partner.
+fn take_added<L: Read + Drop, R: Read + Drop, S: Sink>(
+    left: &Cursor<'_, L>,
+    right: &mut Cursor<'_, R>,
+    sink: &mut S,
+) -> Result<(), MergeError>
+    requires lesser { (key : List ℕ) × (next_key right.old ≡ Some key) × ComesBefore key_less key (next_key left.now) }
+    requires right_side { right.old.side ≡ Right }
+    ensures step { MatchResult result
+        (λ _. (options : CsvOptions) (left_text right_text : List ℕ) (n : ℕ) → n < 2 ^ 62 → IsMergeAt L.remaining R.remaining S.holds options left_text right_text n left.now right.old sink.old
+            → IsMergeAt L.remaining R.remaining S.holds options left_text right_text (n + 1) left.now right.new sink.new)
+        (λ error. (options : CsvOptions) (left_text right_text : List ℕ) (n : ℕ) → IsMergeAt L.remaining R.remaining S.holds options left_text right_text n left.now right.old sink.old
+            → IsMergeFault options left_text right_text left.now right.old error) }
+    ensures right_alike { OnOk result (IsAlike right.old right.new) }
+{
+    let row = right.row();
+    sink.added(&row)?;
+    right.advance()?;
+    Ok(())
+}
+
+/// Tells of what comes next. Returns whether there was a row.
+fn take_step<L: Read + Drop, R: Read + Drop, S: Sink>(
+    left: &mut Cursor<'_, L>,
+    right: &mut Cursor<'_, R>,
+    sink: &mut S,
+) -> Result<bool, MergeError>
+    requires left_side { left.old.side ≡ Left }
+    requires right_side { right.old.side ≡ Right }
+    ensures step { MatchResult result
+        (λ _. (options : CsvOptions) (left_text right_text : List ℕ) (n : ℕ) → n < 2 ^ 62 → IsMergeAt L.remaining R.remaining S.holds options left_text right_text n left.old right.old sink.old
+            → IsMergeAt L.remaining R.remaining S.holds options left_text right_text (n + 1) left.new right.new sink.new)
+        (λ error. (options : CsvOptions) (left_text right_text : List ℕ) (n : ℕ) → IsMergeAt L.remaining R.remaining S.holds options left_text right_text n left.old right.old sink.old
+            → IsMergeFault options left_text right_text left.old right.old error) }
+    ensures left_alike { OnOk result (IsAlike left.old left.new) }
+    ensures right_alike { OnOk result (IsAlike right.old right.new) }
+    ensures end { IfOk result (λ more. more ≡ false → (next_key left.new ≡ None) × (next_key right.new ≡ None)) }
+{
+    match next_step(left, right) {
+        Step::Pair => {
+            take_pair(left, right, sink)?;
+            Ok(true)
+        }
+        Step::Removed => {
+            take_removed(left, right, sink)?;
+            Ok(true)
+        }
+        Step::Added => {
+            take_added(left, right, sink)?;
+            Ok(true)
+        }
+        Step::End => Ok(false),
+    }
+}
+
+/// Merges two texts from where they are to their ends, and tells a sink of their rows. Fails with
+/// `Falls` where a key is less than the one before it, and with `KeyTwice` where it is the same and
+/// keys have to be unique.
+pub fn merge<L: Read + Drop, R: Read + Drop, S: Sink>(
+    left: &mut Cursor<'_, L>,
+    right: &mut Cursor<'_, R>,
+    sink: &mut S,
+) -> Result<(), MergeError>
+    requires left_side { left.old.side ≡ Left }
+    requires right_side { right.old.side ≡ Right }
+    ensures { MatchResult result
+        (λ _. (options : CsvOptions) (left_text right_text : List ℕ) → IsAt L.remaining options left_text [] left.old → IsAt R.remaining options right_text [] right.old
+            → ((m : Matching) → IsEmpty m → S.holds sink.old [] [] m) → IsMergeOf S.holds options left_text right_text left.old right.old sink.new)
+        (λ error. (options : CsvOptions) (left_text right_text : List ℕ) → IsAt L.remaining options left_text [] left.old → IsAt R.remaining options right_text [] right.old
+            → ((m : Matching) → IsEmpty m → S.holds sink.old [] [] m) → IsMergeFault options left_text right_text left.old right.old error) }
+{
+    for number in 0..MOST_STEPS {
+        if !take_step(left, right, sink)? {
+            return Ok(());
+        }
+    }
+    // No machine takes so many steps.
+    Err(MergeError::Memory)
+}

@@ -1,0 +1,79 @@
+//! The rows of two sorted texts, matched by key.
+
+ghost use Rattle.std.specs.Prelude.{◌≡◌, [], ℕ, suc, List, MatchResult};
+ghost use Rattle.diff_columns.specs.declared.error.Side.TheVariants.{Left, Right};
+ghost use Rattle.diff_csv.specs.declared.options.CsvOptions.{CsvOptions};
+ghost use Rattle.diff_merge.specs.Cursors.{IsAt};
+ghost use Rattle.diff_merge.specs.Merging.{IsMergeFault};
+ghost use Rattle.diff_merge.specs.Pairings.{IsPairingOf, ListsSame};
+
+use crate::cursor::Cursor;
+use crate::error::MergeError;
+use crate::merge::merge;
+use crate::row::Row;
+use crate::sink::Sink;
+use std::alloc::{AllocError, Global};
+use std::io::Read;
+
+/// The rows of two texts, matched: row `left_rows[k]` of the left one and row `right_rows[k]` of the
+/// right one are partners. Rows are numbered from 0 on.
+#[derive(Drop)]
+pub struct Pairing {
+    /// The left rows that have a partner, in rising order.
+    pub left_rows: Vec<u64>,
+    /// The partner of each of them.
+    pub right_rows: Vec<u64>,
+    /// The left rows that have no partner, in rising order.
+    pub removed: Vec<u64>,
+    /// The right rows that have no partner, in rising order.
+    pub added: Vec<u64>,
+}
+
+/// Returns the number of a row, from 0 on.
+fn place(row: &Row<'_>) -> u64
+    ensures { (n : ℕ) → row.now.number ≡ suc n → result ≡ n }
+{
+    row.number.saturating_sub(1)
+}
+
+impl Sink for Pairing {
+    ghost holds = { λ pairing left_rows right_rows m. ListsSame pairing m };
+
+    fn pair(&mut self, left: &Row<'_>, right: &Row<'_>) -> Result<(), AllocError> {
+        self.left_rows.push(place(left))?;
+        self.right_rows.push(place(right))?;
+        Ok(())
+    }
+
+    fn removed(&mut self, row: &Row<'_>) -> Result<(), AllocError> {
+        self.removed.push(place(row))?;
+        Ok(())
+    }
+
+    fn added(&mut self, row: &Row<'_>) -> Result<(), AllocError> {
+        self.added.push(place(row))?;
+        Ok(())
+    }
+}
+
+/// Matches the rows of two sorted texts by key, from where they are to their ends.
+pub fn match_sorted<L: Read + Drop, R: Read + Drop>(
+    alloc: Global,
+    left: &mut Cursor<'_, L>,
+    right: &mut Cursor<'_, R>,
+) -> Result<Pairing, MergeError>
+    requires left_side { left.old.side ≡ Left }
+    requires right_side { right.old.side ≡ Right }
+    ensures { MatchResult result
+        (λ pairing. (options : CsvOptions) (left_text right_text : List ℕ) → IsAt L.remaining options left_text [] left.old → IsAt R.remaining options right_text [] right.old → IsPairingOf options left_text right_text left.old right.old pairing)
+        (λ error. (options : CsvOptions) (left_text right_text : List ℕ) → IsAt L.remaining options left_text [] left.old → IsAt R.remaining options right_text [] right.old → IsMergeFault options left_text right_text left.old right.old error) }
+{
+    let mut pairing = Pairing {
+        left_rows: Vec::new(alloc),
+        right_rows: Vec::new(alloc),
+        removed: Vec::new(alloc),
+        added: Vec::new(alloc),
+    };
+    merge(left, right, &mut pairing)?;
+    Ok(pairing)
+}
