@@ -3,7 +3,11 @@
 -- 7 divided by 2 has a result, and 7 divided by 0 has none. A sum always has one.
 use Rattle.std.specs.Prelude.{ℤ, Bool, true, false, Option, Some, None}
 use Rattle.arrow_arithmetic.specs.declared.calculating.Arithmetic.{Arithmetic}
-use Rattle.arrow_arithmetic.specs.declared.calculating.Arithmetic.TheVariants.{Add, Subtract, Multiply, FloorDivide, TruncatingDivide, Modulo}
+use Rattle.arrow_arithmetic.specs.declared.calculating.Arithmetic.TheVariants.{Add, Subtract}
+use Rattle.arrow_arithmetic.specs.declared.calculating.Arithmetic.TheVariants.{Multiply}
+use Rattle.arrow_arithmetic.specs.declared.calculating.Arithmetic.TheVariants.{FloorDivide}
+use Rattle.arrow_arithmetic.specs.declared.calculating.Arithmetic.TheVariants.{TruncatingDivide}
+use Rattle.arrow_arithmetic.specs.declared.calculating.Arithmetic.TheVariants.{Modulo}
 use Rattle.arrow_arithmetic.specs.declared.calculating.Side.{Side}
 use Rattle.arrow_arithmetic.specs.declared.calculating.Side.TheVariants.{Left, Right}
 use Rattle.arrow_arithmetic.specs.declared.present.Answered.{Answered}

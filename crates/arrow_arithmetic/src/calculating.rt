@@ -3,7 +3,8 @@
 ghost use Rattle.std.specs.Prelude.{◌≡◌, Some, length, IfOk, MatchResult, OnErr};
 ghost use Rattle.num_traits.specs.Laws.{bit_len};
 ghost use Rattle.arrow_arithmetic.specs.Answers.{beside_of, lefts_of, rights_of};
-ghost use Rattle.arrow_arithmetic.specs.Arithmetic.{arithmetic_number, function_of, operation_of, placed};
+ghost use Rattle.arrow_arithmetic.specs.Arithmetic.{arithmetic_number, function_of, operation_of};
+ghost use Rattle.arrow_arithmetic.specs.Arithmetic.{placed};
 ghost use Rattle.arrow_arithmetic.specs.Arithmetic.{side_number, sign_number};
 ghost use Rattle.polars_arrays_bits.specs.Errors.{IsMemory};
 ghost use Rattle.polars_arrays_flat.specs.ArrayRows.{number_rows};
@@ -156,9 +157,9 @@ pub fn calculate<T: PlNumArithmetic>(
     Ok(present)
 }
 
-/// Writes the results of an operation on each row of a column and a number, which stands on the side
-/// that is named, and returns a bit for each row, 1 if it is present: if the row of the column is,
-/// and there is a result. What is written for another row is arbitrary. The error is `Memory`;
+/// Writes the results of an operation on each row of a column and a number, which stands on the
+/// side that is named, and returns a bit for each row, 1 if it is present: if the row of the column
+/// is, and there is a result. What is written for another row is arbitrary. The error is `Memory`;
 /// nothing is then written.
 pub fn calculate_number<T: PlNumArithmetic>(
     alloc: Global,

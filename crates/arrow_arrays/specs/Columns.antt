@@ -65,13 +65,16 @@ keys_in _ p = []
 
 -- the byte strings of a part, between offsets of 32 or of 64 bits, or of its views
 abbrev pub near_strings : Part → ℕ → Row
-near_strings p = row_at (byte_slots (strings_between (places_from p.base (λ x. x) p.i32s.now) p.u8s.now))
+near_strings p =
+    row_at (byte_slots (strings_between (places_from p.base (λ x. x) p.i32s.now) p.u8s.now))
 
 abbrev pub far_strings : Part → ℕ → Row
-far_strings p = row_at (byte_slots (strings_between (places_from p.base (λ x. x) p.i64s.now) p.u8s.now))
+far_strings p =
+    row_at (byte_slots (strings_between (places_from p.base (λ x. x) p.i64s.now) p.u8s.now))
 
 abbrev pub viewed_strings : Part → ℕ → Row
-viewed_strings p = row_at (byte_slots (strings_of (buffers_in p) (sized_strings 16 p.rows p.u8s.now)))
+viewed_strings p =
+    row_at (byte_slots (strings_of (buffers_in p) (sized_strings 16 p.rows p.u8s.now)))
 
 -- the rows that a part of a kind stores over the columns inside it, also where they are masked
 abbrev pub stored_in : PartKind → Part → List Column → ℕ → Row
@@ -109,7 +112,8 @@ stored_in kind.Utf8View p cs = viewed_strings p
 
 -- stored rows, with Null in place of those that are not present
 abbrev pub column_with : Part → (ℕ → Row) → Column
-column_with p stored = record { len = p.rows; row = λ i. kept (is_present (present_in p) i) (stored i) }
+column_with p stored =
+    record { len = p.rows; row = λ i. kept (is_present (present_in p) i) (stored i) }
 
 -- the column of a part over the columns inside it
 abbrev pub column_of : Option PartKind → Part → List Column → Column

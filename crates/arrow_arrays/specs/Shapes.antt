@@ -9,13 +9,15 @@ use Rattle.polars_arrays_nested.specs.GoodParts.{IsGood}
 use Rattle.polars_arrays_nested.specs.Lengths.{len_of}
 use Rattle.polars_arrays_nested.specs.declared.dict_keys.DictKeys.{DictKeys}
 use Rattle.polars_arrays_nested.specs.ListOffsets.{list_count, list_places}
-use Rattle.arrow_arrays.specs.Columns.{Column, across, column_of, column_with, entries, fixed_lists, keys_in, lists, stored_in}
+use Rattle.arrow_arrays.specs.Columns.{Column, across, column_of, column_with, entries, fixed_lists}
+use Rattle.arrow_arrays.specs.Columns.{keys_in, lists, stored_in}
 use Rattle.arrow_parts.specs.Kinds.{kind_number}
 use Rattle.arrow_parts.specs.Lent.{present_in}
 use Rattle.arrow_parts.specs.declared.part.Part.{Part}
 use Rattle.arrow_parts.specs.declared.part.PartKind.{PartKind}
 use Rattle.arrow_arrays.specs.declared.shapes.Shape.{Shape}
-use Rattle.arrow_arrays.specs.declared.shapes.Shape.TheVariants.{Leaf, Lists, FixedLists, Structs, Entries}
+use Rattle.arrow_arrays.specs.declared.shapes.Shape.TheVariants.{Leaf, Lists, FixedLists, Structs}
+use Rattle.arrow_arrays.specs.declared.shapes.Shape.TheVariants.{Entries}
 
 -- an array of one level is good
 abbrev pub GoodShape : Shape → Type 0

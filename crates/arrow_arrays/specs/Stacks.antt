@@ -21,9 +21,13 @@ pub record AreTaken (count : ℕ) (taken was left : List AnyArray) : Type 0 wher
 -- an array for the last part, which has `count` children, was made of the arrays on top
 abbrev pub IsStep : ℕ → List Shape → List Shape → List AnyArray → List AnyArray → AnyArray → Type 0
 IsStep count was_shapes shapes was stack a =
-    (p : Part) (ps : List Part) (cs : List Column) → p.children ≡ count → AllFit (ps ++ p ∷ []) was_shapes → AllStand (reverse was) cs → AllFit ps shapes × AllStand (a ∷ reverse stack) (stacked p cs)
+    (p : Part) (ps : List Part) (cs : List Column) → p.children ≡ count
+    → AllFit (ps ++ p ∷ []) was_shapes → AllStand (reverse was) cs → AllFit ps shapes
+    × AllStand (a ∷ reverse stack) (stacked p cs)
 
 -- the array of the last part stands on top, in place of the arrays inside it
 abbrev pub Stacks : ℕ → List Shape → List Shape → List AnyArray → List AnyArray → Type 0
 Stacks count was_shapes shapes was stack =
-    (p : Part) (ps : List Part) (cs : List Column) → p.children ≡ count → AllFit (ps ++ p ∷ []) was_shapes → AllStand (reverse was) cs → AllFit ps shapes × AllStand (reverse stack) (stacked p cs)
+    (p : Part) (ps : List Part) (cs : List Column) → p.children ≡ count
+    → AllFit (ps ++ p ∷ []) was_shapes → AllStand (reverse was) cs → AllFit ps shapes
+    × AllStand (reverse stack) (stacked p cs)

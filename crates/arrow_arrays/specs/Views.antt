@@ -1,5 +1,6 @@
 -- Views of a part, and the byte strings that they lead to (the Arrow layout).
-use Rattle.std.specs.Prelude.{◌≡◌, ◌+◌, ◌*◌, ◌^◌, ◌<◌, ℕ, Bool, true, false, List, [], Option, Some, length}
+use Rattle.std.specs.Prelude.{◌≡◌, ◌+◌, ◌*◌, ◌^◌, ◌<◌, ℕ, Bool, true, false, List, [], Option, Some}
+use Rattle.std.specs.Prelude.{length}
 use Rattle.std.specs.Str.{IsUtf8}
 use Rattle.polars_arrays_bytes.specs.OffsetStrings.{AreGood, place_at, string_between}
 use Rattle.polars_arrays_bytes.specs.SizedStrings.{sized_string}

@@ -102,7 +102,8 @@ fn filled(
 ) -> Result<AnyArray, Refused>
     requires shapes { (ps : List Part) × AllFit ps shapes.old.items }
     requires stack { (cs : List Column) × AllStand (reverse stack.old.items) cs }
-    ensures { IfOk result (IsStep count shapes.old.items shapes.new.items stack.old.items stack.new.items) }
+    ensures { IfOk result
+        (IsStep count shapes.old.items shapes.new.items stack.old.items stack.new.items) }
 {
     let inside = take_inside(alloc, count, stack, names)?;
     let shape = take_shape(shapes)?;
@@ -120,7 +121,8 @@ fn step(
 ) -> Result<(), Refused>
     requires shapes { (ps : List Part) × AllFit ps shapes.old.items }
     requires stack { (cs : List Column) × AllStand (reverse stack.old.items) cs }
-    ensures { OnOk result (Stacks count shapes.old.items shapes.new.items stack.old.items stack.new.items) }
+    ensures { OnOk result
+        (Stacks count shapes.old.items shapes.new.items stack.old.items stack.new.items) }
 {
     let array = filled(alloc, count, shapes, stack, names)?;
     stack.push(array)?;
@@ -129,7 +131,9 @@ fn step(
 
 /// Puts the shape of a part behind others.
 fn put_shape(alloc: Global, part: &Part<'_>, shapes: &mut Vec<Shape>) -> Result<(), Refused>
-    ensures { OnOk result ((ps : List Part) → AllFit ps shapes.old.items → AllFit (ps ++ part.now ∷ []) shapes.new.items) }
+    ensures { OnOk result
+        ((ps : List Part) → AllFit ps shapes.old.items
+        → AllFit (ps ++ part.now ∷ []) shapes.new.items) }
 {
     let shape = shape_of(alloc, part)?;
     shapes.push(shape)?;

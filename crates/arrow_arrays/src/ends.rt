@@ -14,7 +14,8 @@ use std::alloc::Global;
 /// Returns an offset less the base, or None if it lies before the base.
 #[inline(always)]
 fn end_from<O: Offset>(offset: O, base: usize) -> Option<i64>
-    ensures { IfSome result (λ end. natural_of end ≡ place_from base (natural_of (O.value offset))) }
+    ensures { IfSome result
+        (λ end. natural_of end ≡ place_from base (natural_of (O.value offset))) }
 {
     let place = offset.to_place()?;
     if place < base {
@@ -33,7 +34,8 @@ pub fn ends_from<O: Offset>(
     base: usize,
     offsets: &[O],
 ) -> Result<Buffer<i64>, Refused>
-    ensures { IfOk result (λ ends. places (λ x. x) ends.items ≡ places_from base O.value offsets.now) }
+    ensures { IfOk result
+        (λ ends. places (λ x. x) ends.items ≡ places_from base O.value offsets.now) }
 {
     let mut ends: Vec<i64> = Vec::with_capacity(alloc, offsets.len())?;
     for i in 0..offsets.len() {

@@ -6,7 +6,8 @@ ghost use Rattle.std.specs.List.{All};
 ghost use Rattle.polars_arrays_nested.specs.GoodParts.{IsGood};
 ghost use Rattle.arrow_arrays.specs.Shapes.{GoodShape};
 ghost use Rattle.arrow_arrays.specs.Stands.{Fills, FillsOne};
-ghost use Rattle.arrow_arrays.specs.declared.shapes.Shape.TheVariants.{Lists, FixedLists, Structs, Entries};
+ghost use Rattle.arrow_arrays.specs.declared.shapes.Shape.TheVariants.{Lists, FixedLists, Structs};
+ghost use Rattle.arrow_arrays.specs.declared.shapes.Shape.TheVariants.{Entries};
 
 use crate::shapes::{Shape, Size};
 use arrow_parts::refused::Refused;

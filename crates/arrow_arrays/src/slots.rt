@@ -25,8 +25,10 @@ use std::alloc::Global;
 /// fewer bits than rows, and `Memory` if an allocation fails.
 pub fn present(alloc: Global, part: &Part<'_>) -> Result<Option<Bitmap>, Refused>
     ensures mask { IfOk result (λ bits. bits ≡ present_in part.now) }
-    ensures held { IfOk result (λ _. HoldPresence part.now.first_bit part.now.rows part.now.present.now) }
-    ensures refused { IfErr result (IsHonest (HoldPresence part.now.first_bit part.now.rows part.now.present.now)) }
+    ensures held { IfOk result
+        (λ _. HoldPresence part.now.first_bit part.now.rows part.now.present.now) }
+    ensures refused { IfErr result
+        (IsHonest (HoldPresence part.now.first_bit part.now.rows part.now.present.now)) }
 {
     validity(alloc, part.present, part.first_bit, part.rows)
 }
@@ -59,7 +61,8 @@ pub fn numbers<T: NativeType>(
 
 /// Returns the array of a part's rows, which are truth values.
 pub fn truths(alloc: Global, part: &Part<'_>) -> Result<BooleanArray, Refused>
-    ensures stored { IfOk result (λ a. a.values ≡ byte_window part.now.first_bit part.now.rows part.now.u8s.now) }
+    ensures stored { IfOk result
+        (λ a. a.values ≡ byte_window part.now.first_bit part.now.rows part.now.u8s.now) }
     ensures mask { IfOk result (λ a. a.validity ≡ present_in part.now) }
 {
     let validity = present(alloc, part)?;
@@ -77,7 +80,8 @@ pub fn ends<O: Offset>(
     offsets: &[O],
 ) -> Result<Buffer<i64>, Refused>
     ensures count { IfOk result (λ ends. row_count ends.items ≡ part.now.rows) }
-    ensures ends { IfOk result (λ ends. places (λ x. x) ends.items ≡ places_from part.now.base O.value offsets.now) }
+    ensures ends { IfOk result
+        (λ ends. places (λ x. x) ends.items ≡ places_from part.now.base O.value offsets.now) }
 {
     let ends = ends_from(alloc, part.base, offsets)?;
     if ends.len().saturating_sub(1) != part.rows {
@@ -93,7 +97,8 @@ pub fn strings<O: Offset>(
     offsets: &[O],
 ) -> Result<BinaryArray<i64>, Refused>
     ensures count { IfOk result (λ a. row_count a.offsets ≡ part.now.rows) }
-    ensures ends { IfOk result (λ a. places (λ x. x) a.offsets ≡ places_from part.now.base O.value offsets.now) }
+    ensures ends { IfOk result
+        (λ a. places (λ x. x) a.offsets ≡ places_from part.now.base O.value offsets.now) }
     ensures stored { IfOk result (λ a. a.values ≡ part.now.u8s.now) }
     ensures mask { IfOk result (λ a. a.validity ≡ present_in part.now) }
 {
@@ -111,7 +116,8 @@ pub fn texts<O: Offset>(
     offsets: &[O],
 ) -> Result<Utf8Array<i64>, Refused>
     ensures count { IfOk result (λ a. row_count a.offsets ≡ part.now.rows) }
-    ensures ends { IfOk result (λ a. places (λ x. x) a.offsets ≡ places_from part.now.base O.value offsets.now) }
+    ensures ends { IfOk result
+        (λ a. places (λ x. x) a.offsets ≡ places_from part.now.base O.value offsets.now) }
     ensures stored { IfOk result (λ a. a.values ≡ part.now.u8s.now) }
     ensures mask { IfOk result (λ a. a.validity ≡ present_in part.now) }
 {

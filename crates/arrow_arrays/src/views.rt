@@ -1,13 +1,17 @@
 //! Rows of views, copied into byte strings one after the other.
 #![tactic(auto, using(crate::proofs::ViewRows::views))]
 
-ghost use Rattle.std.specs.Prelude.{◌≡◌, ◌↔◌, ◌+◌, ◌*◌, ◌^◌, ◌≤◌, ◌<◌, ◌++◌, true, length, take, drop, IsTrue, IfSome, IfNone, IfOk, IfErr, OnOk, MatchOption};
+ghost use Rattle.std.specs.Prelude.{◌≡◌, ◌↔◌, ◌+◌, ◌*◌, ◌^◌, ◌≤◌, ◌<◌, ◌++◌, true, length, take};
+ghost use Rattle.std.specs.Prelude.{drop, IsTrue, IfSome, IfNone, IfOk, IfErr, OnOk, MatchOption};
 ghost use Rattle.polars_arrays_bytes.specs.OffsetStrings.{places};
 ghost use Rattle.polars_arrays_flat.specs.Validity.{is_present};
-ghost use Rattle.polars_arrays_views.specs.Views.{AllZero, InBuffer, IsView, row_bytes, view_len, view_prefix};
+ghost use Rattle.polars_arrays_views.specs.Views.{AllZero, InBuffer, IsView, row_bytes, view_len};
+ghost use Rattle.polars_arrays_views.specs.Views.{view_prefix};
 ghost use Rattle.arrow_parts.specs.Lent.{buffers_in, lent_buffers, present_in};
 ghost use Rattle.arrow_parts.specs.Refusals.{IsHonest};
-ghost use Rattle.arrow_arrays.specs.Views.{AllLead, AreGathered, AreTextViews, AreViews, LeadsToRow, NotNegative, bytes_if, has_row, view_in, viewed_row};
+ghost use Rattle.arrow_arrays.specs.Views.{AllLead, AreGathered, AreTextViews, AreViews};
+ghost use Rattle.arrow_arrays.specs.Views.{LeadsToRow, NotNegative, bytes_if, has_row, view_in};
+ghost use Rattle.arrow_arrays.specs.Views.{viewed_row};
 
 use crate::slots::present;
 use arrow_parts::part::{Bytes, Part};
@@ -112,8 +116,8 @@ fn is_row(present: &Option<Bitmap>, i: usize) -> bool
     }
 }
 
-/// Appends the bytes of row `i`, if it is present. The error is `Parts` if its view leads to no row,
-/// and `Memory` if an allocation fails.
+/// Appends the bytes of row `i`, if it is present. The error is `Parts` if its view leads to no
+/// row, and `Memory` if an allocation fails.
 fn append_row(
     part: &Part<'_>,
     present: &Option<Bitmap>,
@@ -123,8 +127,11 @@ fn append_row(
     requires present { present.now ≡ present_in part.now }
     requires row { i < part.now.rows }
     requires within { 16 * i + 16 ≤ length part.now.u8s.now }
-    ensures appended { OnOk result (bytes.new.items ≡ bytes.old.items ++ bytes_if (has_row part.now i) (viewed_row part.now i)) }
-    ensures good { OnOk result (has_row part.now i ≡ true → LeadsToRow (buffers_in part.now) (view_in part.now i)) }
+    ensures appended { OnOk result
+        (bytes.new.items ≡ bytes.old.items
+        ++ bytes_if (has_row part.now i) (viewed_row part.now i)) }
+    ensures good { OnOk result
+        (has_row part.now i ≡ true → LeadsToRow (buffers_in part.now) (view_in part.now i)) }
     ensures refused { IfErr result (IsHonest (AllLead part.now part.now.rows)) }
 {
     if !is_row(present, i) {
@@ -151,7 +158,8 @@ struct Strings {
 fn gathered(alloc: Global, part: &Part<'_>, present: &Option<Bitmap>) -> Result<Strings, Refused>
     requires present { present.now ≡ present_in part.now }
     requires size { length part.now.u8s.now ≡ 16 * part.now.rows }
-    ensures rows { IfOk result (λ s. AreGathered part.now part.now.rows (places (λ x. x) s.ends.items) s.bytes.items) }
+    ensures rows { IfOk result
+        (λ s. AreGathered part.now part.now.rows (places (λ x. x) s.ends.items) s.bytes.items) }
     ensures good { IfOk result (λ _. AllLead part.now part.now.rows) }
     ensures refused { IfErr result (IsHonest (AllLead part.now part.now.rows)) }
 {
@@ -187,7 +195,8 @@ fn has_views(part: &Part<'_>) -> bool
 /// row, and `Memory` if an allocation fails.
 #[tactic(auto, using(crate::proofs::GatheredRows::arrays))]
 pub fn viewed_strings(alloc: Global, part: &Part<'_>) -> Result<BinaryArray<i64>, Refused>
-    ensures rows { IfOk result (λ a. AreGathered part.now part.now.rows (places (λ x. x) a.offsets) a.values) }
+    ensures rows { IfOk result
+        (λ a. AreGathered part.now part.now.rows (places (λ x. x) a.offsets) a.values) }
     ensures mask { IfOk result (λ a. a.validity ≡ present_in part.now) }
     ensures good { IfOk result (λ _. AreViews part.now) }
     ensures refused { IfErr result (IsHonest (AreViews part.now)) }
@@ -201,11 +210,12 @@ pub fn viewed_strings(alloc: Global, part: &Part<'_>) -> Result<BinaryArray<i64>
     Ok(array)
 }
 
-/// Returns the array of a part's rows, which are texts that views lead to. The error is also `Parts`
-/// if the text of a present row is not UTF-8.
+/// Returns the array of a part's rows, which are texts that views lead to. The error is also
+/// `Parts` if the text of a present row is not UTF-8.
 #[tactic(auto, using(crate::proofs::GatheredRows::arrays))]
 pub fn viewed_texts(alloc: Global, part: &Part<'_>) -> Result<Utf8Array<i64>, Refused>
-    ensures rows { IfOk result (λ a. AreGathered part.now part.now.rows (places (λ x. x) a.offsets) a.values) }
+    ensures rows { IfOk result
+        (λ a. AreGathered part.now part.now.rows (places (λ x. x) a.offsets) a.values) }
     ensures mask { IfOk result (λ a. a.validity ≡ present_in part.now) }
     ensures refused { IfErr result (IsHonest (AreTextViews part.now)) }
 {

@@ -1,6 +1,7 @@
 -- Operations on columns, by their numbers in C.
 --
--- Comparison 1 is `Unequal`, count 3 is `LeadingZeros`, operator 2 is `Xor`, and nothing has number 6.
+-- Comparison 1 is `Unequal`, count 3 is `LeadingZeros`, operator 2 is `Xor`, and nothing has number
+-- 6.
 use Rattle.std.specs.Prelude.{ℕ, List, [], ◌∷◌, Option, Some, None, slice_index_or}
 use Rattle.arrow_columns.specs.declared.comparing.Test.{Test}
 use Rattle.arrow_columns.specs.declared.comparing.Test.TheVariants as test
@@ -22,7 +23,8 @@ test_number n = slice_index_or tests n None
 -- the counts by their numbers, from 0 on
 abbrev pub countings : List (Option Counting)
 countings =
-    Some counting.Ones ∷ Some counting.Zeros ∷ Some counting.LeadingOnes ∷ Some counting.LeadingZeros
+    Some counting.Ones ∷ Some counting.Zeros ∷ Some counting.LeadingOnes ∷ Some
+    counting.LeadingZeros
     ∷ Some counting.TrailingOnes ∷ Some counting.TrailingZeros ∷ []
 
 -- the count with a number, or None

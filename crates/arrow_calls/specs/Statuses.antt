@@ -1,9 +1,11 @@
 -- The statuses of calls.
 --
--- The status of `Room` is 3. A call that returns 3 promises that there was no room; of 4, a failed allocation, nothing is said.
+-- The status of `Room` is 3. A call that returns 3 promises that there was no room; of 4, a failed
+-- allocation, nothing is said.
 use Rattle.std.specs.Prelude.{◌≡◌, ◌≢◌, ℤ, pos, ⊤}
 use Rattle.arrow_calls.specs.declared.fault.Fault.{Fault}
-use Rattle.arrow_calls.specs.declared.fault.Fault.TheVariants.{Memory, NotServed, Parts, Room, Types}
+use Rattle.arrow_calls.specs.declared.fault.Fault.TheVariants.{Memory, NotServed, Parts, Room}
+use Rattle.arrow_calls.specs.declared.fault.Fault.TheVariants.{Types}
 use Rattle.arrow_parts.specs.declared.refused.Refused.{Refused}
 use Rattle.arrow_parts.specs.declared.refused.Refused.TheVariants as refused
 

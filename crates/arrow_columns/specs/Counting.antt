@@ -1,7 +1,9 @@
 -- Counts of bits.
 use Rattle.std.specs.Prelude.{ℕ, Bool, List, count_by, not}
 use Rattle.arrow_columns.specs.declared.counting.Counting.{Counting}
-use Rattle.arrow_columns.specs.declared.counting.Counting.TheVariants.{Ones, Zeros, LeadingOnes, LeadingZeros, TrailingOnes, TrailingZeros}
+use Rattle.arrow_columns.specs.declared.counting.Counting.TheVariants.{Ones, Zeros, LeadingOnes}
+use Rattle.arrow_columns.specs.declared.counting.Counting.TheVariants.{LeadingZeros, TrailingOnes}
+use Rattle.arrow_columns.specs.declared.counting.Counting.TheVariants.{TrailingZeros}
 use Rattle.polars_compute_bits.specs.Bitwise.{leading_run, trailing_run}
 
 -- the number that a count gives for the bits of a number, the lowest bit first

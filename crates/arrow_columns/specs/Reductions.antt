@@ -11,7 +11,8 @@ use Rattle.polars_compute_bits.specs.Sum.{total}
 
 -- the sum of the present rows, wrapped to a type; None if no row is present
 abbrev pub sum_if_any : ℤ → ℕ → List Row → Option ℤ
-sum_if_any least width rows = cond (none_present rows) None (Some (wrapped least width (total rows)))
+sum_if_any least width rows =
+    cond (none_present rows) None (Some (wrapped least width (total rows)))
 
 -- the bit that an operator makes of the bits of all rows at a place
 abbrev pub joins_bits : BitOperator → List Bool → Bool

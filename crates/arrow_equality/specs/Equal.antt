@@ -1,5 +1,6 @@
 -- Equal rows of two columns.
-use Rattle.std.specs.Prelude.{◌≡◌, ◌<◌, ◌≤◌, ◌*◌, ◌↔◌, ℕ, Bool, true, false, List, length, slice_index_or}
+use Rattle.std.specs.Prelude.{◌≡◌, ◌<◌, ◌≤◌, ◌*◌, ◌↔◌, ℕ, Bool, true, false, List, length}
+use Rattle.std.specs.Prelude.{slice_index_or}
 use Rattle.polars_arrays_nested.specs.declared.any_array.AnyArray.{AnyArray}
 use Rattle.polars_arrays_words.specs.Bits.{bit_of}
 use Rattle.arrow_arrays.specs.Columns.{Column, rows_of_parts}
@@ -27,7 +28,8 @@ pub record IsCount (left right : Column) (n : ℕ) : Type 0 where
 pub record IsComparison (left right : Column) (c : Compared) : Type 0 where
   pub one_length : left.len ≡ right.len
   pub size : length c.bits ≡ left.len
-  pub at_each : (i : ℕ) → i < left.len → (slice_index_or c.bits i false ≡ true) ↔ (left.row i ≡ right.row i)
+  pub at_each : (i : ℕ) → i < left.len → (slice_index_or c.bits i false ≡ true)
+      ↔ (left.row i ≡ right.row i)
   pub count : IsCount left right c.comparisons
 
 -- equal rows of the columns that parts stand for

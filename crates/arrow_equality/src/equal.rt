@@ -13,8 +13,8 @@ use arrow_parts::refused::Refused;
 use polars_arrays_nested::any_array::AnyArray;
 use std::alloc::Global;
 
-/// Compares two arrays, row by row. The error is `Types` if they are not of one type and length, and
-/// `Memory` if an allocation fails.
+/// Compares two arrays, row by row. The error is `Types` if they are not of one type and length,
+/// and `Memory` if an allocation fails.
 fn compare_arrays(alloc: Global, left: &AnyArray, right: &AnyArray) -> Result<Compared, Refused>
     requires left_good { IsGood left.now }
     requires right_good { IsGood right.now }
@@ -35,12 +35,12 @@ fn compare_parts(alloc: Global, left: &[Part<'_>], right: &[Part<'_>]) -> Result
     compare_arrays(alloc, &left, &right)
 }
 
-/// Sets bit `i` of `out` if rows `i` of two lent arrays are the same tree, where null is the same as
-/// null alone, and all bits behind the last row to 0. The first of `comparisons` becomes the number
-/// of leaves that were compared, at most the greatest `u64`.
+/// Sets bit `i` of `out` if rows `i` of two lent arrays are the same tree, where null is the same
+/// as null alone, and all bits behind the last row to 0. The first of `comparisons` becomes the
+/// number of leaves that were compared, at most the greatest `u64`.
 ///
-/// On an error both slices are unchanged. It is `Parts` if one of the arrays cannot be made, `Types`
-/// if the two are not of one type and length, `Room` if `out` has fewer bits than rows or
+/// On an error both slices are unchanged. It is `Parts` if one of the arrays cannot be made,
+/// `Types` if the two are not of one type and length, `Room` if `out` has fewer bits than rows or
 /// `comparisons` is empty, and `Memory` if an allocation fails.
 pub fn equal_rows(
     alloc: Global,

@@ -6,7 +6,8 @@ ghost use Rattle.polars_arrays_flat.specs.ArrayRows.{number_rows};
 ghost use Rattle.polars_arrays_flat.specs.Row.{Row, Int};
 ghost use Rattle.polars_arrays_flat.specs.Validity.{HasBits, is_present};
 ghost use Rattle.polars_compare_extremes.specs.BestNumber.{best_of};
-ghost use Rattle.polars_compare_extremes.specs.Extremes.{FindsBest, IsGreatest, IsLeast, NonePresent};
+ghost use Rattle.polars_compare_extremes.specs.Extremes.{FindsBest, IsGreatest, IsLeast};
+ghost use Rattle.polars_compare_extremes.specs.Extremes.{NonePresent};
 ghost use Rattle.polars_compare_extremes.specs.Places.{IsFirstPresent};
 ghost use Rattle.polars_compare_extremes.specs.Preference.{Prefers};
 

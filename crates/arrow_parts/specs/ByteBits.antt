@@ -1,5 +1,6 @@
 -- Bits of bytes, as in the Arrow layout: bit 0 is the lowest bit of the first byte.
-use Rattle.std.specs.Prelude.{ℕ, ◌+◌, ◌*◌, ◌/◌, ◌%◌, ◌^◌, ◌<◌, Bool, List, [], ◌∷◌, Option, Some, None, length, get_or, ⊤}
+use Rattle.std.specs.Prelude.{ℕ, ◌+◌, ◌*◌, ◌/◌, ◌%◌, ◌^◌, ◌<◌, Bool, List, [], ◌∷◌, Option, Some}
+use Rattle.std.specs.Prelude.{None, length, get_or, ⊤}
 use Rattle.polars_arrays_words.specs.Bits.{is_bit, first_of}
 
 -- bit p of bytes

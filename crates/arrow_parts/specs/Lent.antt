@@ -1,5 +1,6 @@
 -- What the slices of a part hold (the Arrow layout).
-use Rattle.std.specs.Prelude.{◌+◌, ◌-◌, ◌*◌, ◌^◌, ◌-ℤ◌, ℕ, ℤ, pos, Bool, List, [], ◌∷◌, Option, Some, None, map, nat_le, nat_lt, if◌then◌else◌}
+use Rattle.std.specs.Prelude.{◌+◌, ◌-◌, ◌*◌, ◌^◌, ◌-ℤ◌, ℕ, ℤ, pos, Bool, List, [], ◌∷◌, Option}
+use Rattle.std.specs.Prelude.{Some, None, map, nat_le, nat_lt, if◌then◌else◌}
 use Rattle.polars_arrays_bytes.specs.OffsetStrings.{places}
 use Rattle.arrow_parts.specs.ByteBits.{presence}
 use Rattle.arrow_parts.specs.declared.part.Bytes.{Bytes}

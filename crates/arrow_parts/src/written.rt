@@ -1,6 +1,7 @@
 //! Bits that are written into the caller's words.
 
-ghost use Rattle.std.specs.Prelude.{◌≡◌, ◌≤◌, ◌*◌, length, slice_index_or, false, IfErr, OnOk, OnErr};
+ghost use Rattle.std.specs.Prelude.{◌≡◌, ◌≤◌, ◌*◌, length, slice_index_or, false, IfErr, OnOk};
+ghost use Rattle.std.specs.Prelude.{OnErr};
 ghost use Rattle.polars_arrays_words.specs.Bits.{IsWord};
 ghost use Rattle.arrow_parts.specs.Written.{AreWritten};
 ghost use Rattle.arrow_parts.specs.declared.refused.Refused.TheVariants.{Room};

@@ -1,5 +1,6 @@
 -- States of distinct values in a caller's memory.
-use Rattle.std.specs.Prelude.{◌≡◌, ◌+ℤ◌, ◌%◌, ◌^◌, ◌<◌, ◌≤◌, ◌||◌, ℕ, ℤ, pos, eqb, not, List, length, map}
+use Rattle.std.specs.Prelude.{◌≡◌, ◌+ℤ◌, ◌%◌, ◌^◌, ◌<◌, ◌≤◌, ◌||◌, ℕ, ℤ, pos, eqb, not, List}
+use Rattle.std.specs.Prelude.{length, map}
 use Rattle.std.specs.Int.{w128, cast_unsigned}
 use Rattle.std.specs.List.{range_with_len}
 use Rattle.polars_arrays_flat.specs.Row.{Row}

@@ -1,6 +1,7 @@
 //! Contents of states: how many values were seen, and which.
 
-ghost use Rattle.std.specs.Prelude.{◌≡◌, ◌+◌, ◌<◌, ◌≤◌, ◌*◌, ◌^◌, ◌+ℤ◌, ◌≤ℤ◌, ◌<ℤ◌, ◌++◌, ℕ, ℤ, pos, cond, true, length, map, drop, slice_set};
+ghost use Rattle.std.specs.Prelude.{◌≡◌, ◌+◌, ◌<◌, ◌≤◌, ◌*◌, ◌^◌, ◌+ℤ◌, ◌≤ℤ◌, ◌<ℤ◌, ◌++◌, ℕ, ℤ};
+ghost use Rattle.std.specs.Prelude.{pos, cond, true, length, map, drop, slice_set};
 ghost use Rattle.arrow_unique.specs.Memory.{low_word, state_in};
 ghost use Rattle.polars_arrays_flat.specs.Row.{Row};
 ghost use Rattle.polars_compute_slots.specs.State.{finalised, set_of};
@@ -10,7 +11,8 @@ use polars_arrays_words::words::bit_from;
 
 /// Counts the numbers that were seen, of `count`.
 pub fn count_seen(count: usize, words: &[u64]) -> usize
-    ensures { (least : ℤ) (flag : ℕ) → result ≡ length (set_of (state_in least count words.now flag)) }
+    ensures { (least : ℤ) (flag : ℕ) → result
+        ≡ length (set_of (state_in least count words.now flag)) }
 {
     count_window(words, 0, count)
 }

@@ -1,10 +1,11 @@
 //! Ranges of states.
 
-ghost use Rattle.std.specs.Prelude.{◌≡◌, ◌+◌, ◌<◌, ◌^◌, ◌≤ℤ◌, ◌-ℤ◌, ◌+ℤ◌, pos, unsigned_abs, IfSome, IsNone};
+ghost use Rattle.std.specs.Prelude.{◌≡◌, ◌+◌, ◌<◌, ◌^◌, ◌≤ℤ◌, ◌-ℤ◌, ◌+ℤ◌, pos, unsigned_abs};
+ghost use Rattle.std.specs.Prelude.{IfSome, IsNone};
 ghost use Rattle.polars_compute_slots.specs.State.{RangeFits};
 
-/// Returns the number of whole numbers from `least` to `greatest`, or `None` if there is no state of
-/// them: they are not in order, or more than `usize::MAX - 1`.
+/// Returns the number of whole numbers from `least` to `greatest`, or `None` if there is no state
+/// of them: they are not in order, or more than `usize::MAX - 1`.
 pub fn count_between(least: i128, greatest: i128) -> Option<usize>
     ensures count { IfSome result (λ n. n ≡ unsigned_abs (greatest -ℤ least +ℤ pos 1)) }
     ensures fits { IfSome result (λ _. RangeFits least greatest) }

@@ -89,7 +89,8 @@ fn run_pair<T: HasPrimitiveArithmeticKernel>(
     left: PrimitiveArray<T>,
     right: PrimitiveArray<T>,
 ) -> Result<PrimitiveArray<T>, ComputeError>
-    requires { length (number_slots T.value left.values) ≡ length (number_slots T.value right.values) }
+    requires { length (number_slots T.value left.values)
+        ≡ length (number_slots T.value right.values) }
 {
     match operation {
         PairOperation::Add => left.wrapping_add(alloc, right),

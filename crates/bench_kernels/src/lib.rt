@@ -10,7 +10,8 @@
 /// Evaluates an expression for the entry of an enum with a given number. Each entry has its own
 /// code, so that a loop in the expression has its kernel chosen before it begins.
 macro_rules! by_number {
-    ($number:expr, $entries:ident: $($entry:ident)*, |$chosen:ident| $said:expr, $otherwise:expr) => {
+    ($number:expr, $entries:ident: $($entry:ident)*, |$chosen:ident| $said:expr, $otherwise:expr) =>
+        {
         match $number {
             $(number if number == $entries::$entry as u32 => {
                 let $chosen = $entries::$entry;

@@ -56,7 +56,8 @@ pub(crate) struct Numbers<'a, T: NativeType> {
     pub(crate) right: &'a PrimitiveArray<T>,
     pub(crate) scalar: &'a T,
     ghost comparable: { length left.now.values ≡ length right.now.values },
-    ghost as_long: { length (number_slots T.value right.now.values) ≡ length (number_slots T.value left.now.values) },
+    ghost as_long: { length (number_slots T.value right.now.values)
+        ≡ length (number_slots T.value left.now.values) },
 }
 
 /// Two arrays of truth values of equal length.

@@ -3,7 +3,8 @@
 
 ghost use Rattle.std.specs.Prelude.{◌+◌, ◌≤◌, All, IsTrue, length};
 ghost use Rattle.polars_arrays_flat.specs.ArrayRows.{number_rows};
-ghost use Rattle.polars_compute_slots.specs.State.{RangeFits, are_within, new_state, numbers_between, range_of};
+ghost use Rattle.polars_compute_slots.specs.State.{RangeFits, are_within, new_state};
+ghost use Rattle.polars_compute_slots.specs.State.{numbers_between, range_of};
 
 use crate::operands::{number_array, push};
 use crate::reductions::validity_from;
@@ -27,7 +28,9 @@ struct Chunks<'a, T: UniqueNumber> {
     least: T,
     greatest: T,
     ghost fits: { RangeFits (T.value least) (T.value greatest) },
-    ghost within: { All (λ array. IsTrue (are_within (range_of (new_state (numbers_between (T.value least) (T.value greatest)))) (number_rows T.value array))) arrays.now },
+    ghost within: { All (λ array. IsTrue
+        (are_within (range_of (new_state (numbers_between (T.value least) (T.value greatest))))
+        (number_rows T.value array))) arrays.now },
 }
 
 impl<T: UniqueNumber> Timed for Chunks<'_, T> {
@@ -50,7 +53,9 @@ fn all_accepted<T: UniqueNumber>(
     state: &PrimitiveRangedUniqueState<T>,
     arrays: &[PrimitiveArray<T>],
 ) -> bool
-    ensures { IsTrue result → All (λ array. IsTrue (are_within (range_of state.now) (number_rows T.value array))) arrays.now }
+    ensures { IsTrue result
+        → All (λ array. IsTrue (are_within (range_of state.now) (number_rows T.value array)))
+        arrays.now }
 {
     for i in 0..arrays.len() {
         if !state.accepts(&arrays[i]) {

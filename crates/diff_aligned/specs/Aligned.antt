@@ -1,8 +1,8 @@
 -- A report in aligned columns, no wider than the terminal.
 --
--- In 40 columns the one line {"kind":"counts","changed":0,"removed":0,"added":0,"same":4,"not_shown":0} is
--- 0 changed, 0 removed, 0 added,
--- 4 the same.
+-- In 40 columns the one line
+-- {"kind":"counts","changed":0,"removed":0,"added":0,"same":4,"not_shown":0} is 0 changed, 0
+-- removed, 0 added, 4 the same.
 use Rattle.std.specs.List.{flat_map}
 use Rattle.std.specs.Prelude.{ℕ, ◌-◌, List, [], ◌∷◌, ◌++◌, Option, Some, None, map}
 use Rattle.std.specs.Str.Lines.{lines}
@@ -62,7 +62,9 @@ row_lines width rows = map (row_pieces (rooms_for width rows)) rows
 -- the lines of a report
 unfoldable pub aligned_lines : Sheet → List ℕ → List (List Piece)
 aligned_lines t report =
-    map plain_line (given_by (head_by t) (lines report)) ++ row_lines t.width (given_by (rows_by t) (lines report)) ++ map plain_line (given_by (tail_by t) (lines report))
+    map plain_line (given_by (head_by t) (lines report))
+    ++ row_lines t.width (given_by (rows_by t) (lines report))
+    ++ map plain_line (given_by (tail_by t) (lines report))
 
 -- a report in aligned columns
 abbrev pub aligned_of : Sheet → List ℕ → List ℕ

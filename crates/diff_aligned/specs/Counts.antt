@@ -1,10 +1,9 @@
 -- What the last lines of a report say, and those of columns that one file has alone.
 --
--- {"kind":"counts","changed":1,"removed":2,"added":0,"same":5,"not_shown":7,"columns":{"city":1}} is
--- .. and 7 more
--- 1 changed, 2 removed, 0 added, 5 the same.
--- By column: city=1
-use Rattle.std.specs.Prelude.{ℕ, ◌==◌, if◌then◌else◌, List, [], ◌∷◌, ◌++◌, length, codes, Option, Some, None, option_and_then}
+-- {"kind":"counts","changed":1,"removed":2,"added":0,"same":5,"not_shown":7,"columns":{"city":1}}
+-- is .. and 7 more 1 changed, 2 removed, 0 added, 5 the same. By column: city=1
+use Rattle.std.specs.Prelude.{ℕ, ◌==◌, if◌then◌else◌, List, [], ◌∷◌, ◌++◌, length, codes, Option}
+use Rattle.std.specs.Prelude.{Some, None, option_and_then}
 use Rattle.std.specs.Str.{bytes_eq}
 use Rattle.json.specs.Find.{as_object, get}
 use Rattle.json.specs.Json.{Json, Members, no_members, member}
@@ -19,12 +18,15 @@ count_word name counted j = number_text name j ++ counted
 
 -- how many differences the report leaves out, if it does
 abbrev pub hidden_words : List ℕ → List (List ℕ)
-hidden_words count = if bytes_eq count (codes "0") then [] else (codes ".. and " ++ text_of count ++ codes " more") ∷ []
+hidden_words count =
+    if bytes_eq count (codes "0") then [] else (codes ".. and " ++ text_of count ++ codes " more") ∷
+    []
 
 -- how many rows are of each kind
 unfoldable pub kind_words : Json → List (List ℕ)
 kind_words j =
-    count_word (codes "changed") (codes " changed,") j ∷ count_word (codes "removed") (codes " removed,") j ∷ count_word (codes "added") (codes " added,") j
+    count_word (codes "changed") (codes " changed,") j ∷ count_word (codes "removed")
+    (codes " removed,") j ∷ count_word (codes "added") (codes " added,") j
     ∷ count_word (codes "same") (codes " the same.") j ∷ []
 
 -- the members of an object, each a word
@@ -40,7 +42,9 @@ column_words (Some (member name j rest)) = codes "By column:" ∷ pair_words (me
 
 -- how many lines of each file are passed over
 abbrev pub skipped_counts : Json → List (List ℕ)
-skipped_counts j = codes "Skipped lines:" ∷ count_word (codes "left_skipped") (codes " left,") j ∷ count_word (codes "right_skipped") (codes " right.") j ∷ []
+skipped_counts j =
+    codes "Skipped lines:" ∷ count_word (codes "left_skipped") (codes " left,") j ∷ count_word
+    (codes "right_skipped") (codes " right.") j ∷ []
 
 -- the same where the report says so
 unfoldable pub skipped_words : Json → List (List ℕ)
@@ -49,7 +53,8 @@ skipped_words j = if length (number_at (codes "left_skipped") j) == 0 then [] el
 -- the lines of the counts
 unfoldable pub counts_lines : ℕ → Json → List (List ℕ)
 counts_lines n j =
-    paragraph n (hidden_words (number_at (codes "not_shown") j)) ++ paragraph n (kind_words j) ++ paragraph n (column_words (option_and_then as_object (get (codes "columns") j)))
+    paragraph n (hidden_words (number_at (codes "not_shown") j)) ++ paragraph n (kind_words j)
+    ++ paragraph n (column_words (option_and_then as_object (get (codes "columns") j)))
     ++ paragraph n (skipped_words j)
 
 -- the file that has a column alone
@@ -59,4 +64,5 @@ file_with left right only_in = if bytes_eq only_in (codes "left") then left else
 -- the lines of a column that one file has alone
 unfoldable pub column_lines : ℕ → List ℕ → List ℕ → Json → List (List ℕ)
 column_lines n left right j =
-    paragraph n (codes "! column" ∷ name_text (string_at (codes "column") j) ∷ codes "only in" ∷ name_text (file_with left right (string_at (codes "only_in") j)) ∷ [])
+    paragraph n (codes "! column" ∷ name_text (string_at (codes "column") j) ∷ codes "only in" ∷
+    name_text (file_with left right (string_at (codes "only_in") j)) ∷ [])

@@ -14,11 +14,13 @@ least_width = 40
 
 -- no line of a row is wider than the terminal
 abbrev pub RowsHaveRoom : Type 0
-RowsHaveRoom = (n : ℕ) (rows : List Cells) → least_width ≤ n → All (λ line. width (line_text line) ≤ n) (row_lines n rows)
+RowsHaveRoom = (n : ℕ) (rows : List Cells) → least_width ≤ n
+    → All (λ line. width (line_text line) ≤ n) (row_lines n rows)
 
 -- nor is a line of words
 abbrev pub ParagraphsHaveRoom : Type 0
-ParagraphsHaveRoom = (n : ℕ) (words : List (List ℕ)) → All (λ line. width line ≤ n) (paragraph n words)
+ParagraphsHaveRoom = (n : ℕ) (words : List (List ℕ))
+    → All (λ line. width line ≤ n) (paragraph n words)
 
 -- no character of a text is a control character, or another one that is hidden
 abbrev pub TextsAreShown : Type 0

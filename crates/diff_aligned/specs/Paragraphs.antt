@@ -2,13 +2,16 @@
 --
 -- In 6 columns the words ab, cde and f are the lines `ab cde` and `f`.
 use Rattle.std.specs.List.{flat_map}
-use Rattle.std.specs.Prelude.{ℕ, ◌-◌, nat_lt, if◌then◌else◌, List, [], ◌∷◌, ◌++◌, codes, encode_utf8_all}
+use Rattle.std.specs.Prelude.{ℕ, ◌-◌, nat_lt, if◌then◌else◌, List, [], ◌∷◌, ◌++◌, codes}
+use Rattle.std.specs.Prelude.{encode_utf8_all}
 use Rattle.diff_widths.specs.Cut.{cut, width}
 
 -- the lines of words behind those that stand in a line
 abbrev pub filled : ℕ → List ℕ → List (List ℕ) → List (List ℕ)
 filled n line [] = line ∷ []
-filled n line (w ∷ ws) = if nat_lt (width (cut n w)) (n - width line) then filled n (line ++ 32 ∷ cut n w) ws else line ∷ filled n (cut n w) ws
+filled n line (w ∷ ws) =
+    if nat_lt (width (cut n w)) (n - width line) then filled n (line ++ 32 ∷ cut n w) ws else line ∷
+    filled n (cut n w) ws
 
 -- the lines of words, of which the first stands at the beginning of a line
 abbrev pub paragraph : ℕ → List (List ℕ) → List (List ℕ)

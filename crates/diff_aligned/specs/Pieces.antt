@@ -40,12 +40,15 @@ lines_bytes colored = flat_map (line_bytes colored)
 -- what stands behind the key of a row that changed: its part and the two sides
 unfoldable pub change_pieces : Rooms → Cells → List Piece
 change_pieces s r =
-    plain (filler s.key (cut s.key r.key) ++ codes "  " ++ padded s.part r.part ++ codes "  ") ∷ paint Red (cut s.left r.left)
-    ∷ plain (filler s.left (cut s.left r.left) ++ codes " -> ") ∷ paint Green (cut s.right r.right) ∷ []
+    plain (filler s.key (cut s.key r.key) ++ codes "  " ++ padded s.part r.part ++ codes "  ") ∷
+    paint Red (cut s.left r.left)
+    ∷ plain (filler s.left (cut s.left r.left) ++ codes " -> ") ∷ paint Green (cut s.right r.right)
+    ∷ []
 
 -- the line of a row that one file has alone, in one colour
 unfoldable pub lone_pieces : Color → List ℕ → Rooms → Cells → List Piece
-lone_pieces color mark s r = paint color (mark ++ padded s.key r.key ++ codes "  " ++ cut s.note r.note) ∷ []
+lone_pieces color mark s r =
+    paint color (mark ++ padded s.key r.key ++ codes "  " ++ cut s.note r.note) ∷ []
 
 -- the line of a row
 abbrev pub pieces_by : Mark → Rooms → Cells → List Piece

@@ -1,7 +1,8 @@
 -- How many columns of the terminal the parts of rows get.
 --
--- Between and before the four columns of a changed row stand 10 columns of marks and gaps. Each gets what it needs where there is room,
--- and else no less than its even share of what is left, as far as it needs that.
+-- Between and before the four columns of a changed row stand 10 columns of marks and gaps. Each
+-- gets what it needs where there is room, and else no less than its even share of what is left, as
+-- far as it needs that.
 use Rattle.std.specs.Prelude.{ℕ, ◌+◌, ◌-◌, ◌/◌, List, [], ◌∷◌, max, min}
 use Rattle.diff_widths.specs.Cut.{width}
 use Rattle.diff_aligned.specs.Rows.{Cells}
@@ -14,14 +15,23 @@ no_rooms = record { key = 0; part = 0; left = 0; right = 0; note = 0 }
 -- what is needed, with one row more
 abbrev pub with_row : Rooms → Cells → Rooms
 with_row s r =
-    record { key = max s.key (width r.key); part = max s.part (width r.part); left = max s.left (width r.left); right = max s.right (width r.right); note = max s.note (width r.note) }
+    record {
+      key = max s.key (width r.key);
+      part = max s.part (width r.part);
+      left =
+          max s.left (width r.left);
+      right = max s.right (width r.right);
+      note =
+          max s.note (width r.note);
+    }
 
 -- what some rows need
 abbrev pub needed : Rooms → List Cells → Rooms
 needed s [] = s
 needed s (r ∷ rs) = needed (with_row s r) rs
 
--- of so many free columns those for one of n parts, which needs so many, where the others leave so many
+-- of so many free columns those for one of n parts, which needs so many, where the others leave so
+-- many
 abbrev pub share : ℕ → ℕ → ℕ → ℕ → ℕ
 share n free need left = min need (max (free / n) left)
 
@@ -31,7 +41,14 @@ rooms_in free s =
     let key = share 4 free s.key (min (free - s.part - s.left - s.right) (free - s.note)) in
     let part = share 3 (free - key) s.part (free - key - s.left - s.right) in
     let left = share 2 (free - key - part) s.left (free - key - part - s.right) in
-    record { key = key; part = part; left = left; right = free - key - part - left; note = free + 6 - key }
+    record {
+      key = key;
+      part = part;
+      left = left;
+      right = free - key - part - left;
+      note =
+          free + 6 - key;
+    }
 
 -- what marks and gaps take
 abbrev pub gaps : ℕ

@@ -4,18 +4,24 @@
 use Rattle.std.specs.Fmt.{digit_glyph}
 use Rattle.std.specs.Int.{is_in_range}
 use Rattle.std.specs.List.{flat_map}
-use Rattle.std.specs.Prelude.{ℕ, ◌+◌, ◌-◌, ◌/◌, ◌%◌, ◌==◌, Bool, false, ◌||◌, nat_lt, if◌then◌else◌, List, [], ◌∷◌, ◌++◌, codes}
+use Rattle.std.specs.Prelude.{ℕ, ◌+◌, ◌-◌, ◌/◌, ◌%◌, ◌==◌, Bool, false, ◌||◌, nat_lt, if◌then◌else◌}
+use Rattle.std.specs.Prelude.{List, [], ◌∷◌, ◌++◌, codes}
 use Rattle.bstr.specs.Utf8.{lossy_chars}
 
--- a control character, or one that takes no column and says how others are shown: soft hyphens, joiners, marks of direction, selectors of forms and tags
+-- a control character, or one that takes no column and says how others are shown: soft hyphens,
+-- joiners, marks of direction, selectors of forms and tags
 unfoldable pub is_hidden : ℕ → Bool
 is_hidden c =
-    nat_lt c 0x20 || is_in_range 0x7F 0x9F c || c == 0xAD || c == 0x61C || is_in_range 0x180B 0x180F c || is_in_range 0x200B 0x200F c || is_in_range 0x2028 0x202E c
-    || is_in_range 0x2060 0x206F c || is_in_range 0xFE00 0xFE0F c || c == 0xFEFF || is_in_range 0xFFF9 0xFFFB c || is_in_range 0xE0000 0xE0FFF c
+    nat_lt c 0x20 || is_in_range 0x7F 0x9F c || c == 0xAD || c == 0x61C
+    || is_in_range 0x180B 0x180F c || is_in_range 0x200B 0x200F c || is_in_range 0x2028 0x202E c
+    || is_in_range 0x2060 0x206F c || is_in_range 0xFE00 0xFE0F c || c == 0xFEFF
+    || is_in_range 0xFFF9 0xFFFB c || is_in_range 0xE0000 0xE0FFF c
 
 -- the lowest 16 bits of a number as `\u` and four hexadecimal digits
 abbrev pub unit_escape : ℕ → List ℕ
-unit_escape u = codes "\\u" ++ digit_glyph false (u / 4096 % 16) ∷ digit_glyph false (u / 256 % 16) ∷ digit_glyph false (u / 16 % 16) ∷ digit_glyph false (u % 16) ∷ []
+unit_escape u = codes "\\u"
+    ++ digit_glyph false (u / 4096 % 16) ∷ digit_glyph false (u / 256 % 16) ∷ digit_glyph false
+    (u / 16 % 16) ∷ digit_glyph false (u % 16) ∷ []
 
 -- a character above U+FFFF as two surrogates
 abbrev pub surrogates : ℕ → List ℕ

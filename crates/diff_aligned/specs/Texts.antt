@@ -1,8 +1,10 @@
 -- The texts of values, names and keys.
 --
--- The string Oslo is "Oslo", the member id with 7 is id=7, and the member "a b" with null is "a b"=null.
+-- The string Oslo is "Oslo", the member id with 7 is id=7, and the member "a b" with null is "a
+-- b"=null.
 use Rattle.std.specs.List.{list_all}
-use Rattle.std.specs.Prelude.{ℕ, ◌==◌, Bool, not, ◌&&◌, nat_lt, if◌then◌else◌, List, [], ◌++◌, length, codes, Option, Some, None, option_and_then}
+use Rattle.std.specs.Prelude.{ℕ, ◌==◌, Bool, not, ◌&&◌, nat_lt, if◌then◌else◌, List, [], ◌++◌}
+use Rattle.std.specs.Prelude.{length, codes, Option, Some, None, option_and_then}
 use Rattle.json.specs.Find.{as_object, get}
 use Rattle.json.specs.Json.{Json, string, Members, no_members, member}
 use Rattle.json.specs.Print.{print}
@@ -14,9 +16,11 @@ use Rattle.diff_lines.specs.Parts.{number_at}
 unfoldable pub value_text : Json → List ℕ
 value_text j = text_of (print (json_tokens j))
 
--- a byte above a space that is no quote, comma, equals sign, backslash, 127 or 194, with which U+0080 to U+00BF begin
+-- a byte above a space that is no quote, comma, equals sign, backslash, 127 or 194, with which
+-- U+0080 to U+00BF begin
 abbrev pub is_word_byte : ℕ → Bool
-is_word_byte b = nat_lt 32 b && not (b == 34) && not (b == 44) && not (b == 61) && not (b == 92) && not (b == 127) && not (b == 194)
+is_word_byte b = nat_lt 32 b && not (b == 34) && not (b == 44) && not (b == 61) && not (b == 92)
+    && not (b == 127) && not (b == 194)
 
 -- some bytes, each of which may stand in a word
 abbrev pub is_word : List ℕ → Bool
@@ -55,7 +59,8 @@ number_text name j = text_of (number_at name j)
 
 -- a key, or the lines of both files where there is none
 abbrev pub key_or_lines : List ℕ → Json → List ℕ
-key_or_lines key j = if length key == 0 then codes "lines " ++ number_text (codes "left_line") j ++ codes " and " ++ number_text (codes "right_line") j else key
+key_or_lines key j = if length key == 0 then codes "lines " ++ number_text (codes "left_line") j
+    ++ codes " and " ++ number_text (codes "right_line") j else key
 
 -- what a changed row is named by
 unfoldable pub row_name : Json → List ℕ

@@ -2,7 +2,8 @@
 
 ghost use Rattle.std.specs.Prelude.{◌≡◌, ◌++◌, All, Err, IsSome, OnOk, map};
 ghost use Rattle.std.specs.Str.Lines.{lines};
-ghost use Rattle.diff_aligned.specs.Aligned.{aligned_of, given_by, head_by, row_lines, rows_by, tail_by};
+ghost use Rattle.diff_aligned.specs.Aligned.{aligned_of, given_by, head_by, row_lines, rows_by};
+ghost use Rattle.diff_aligned.specs.Aligned.{tail_by};
 ghost use Rattle.diff_aligned.specs.Paragraphs.{texts_bytes};
 ghost use Rattle.diff_aligned.specs.Pieces.{lines_bytes};
 ghost use Rattle.diff_aligned.specs.Rows.{rows_view};

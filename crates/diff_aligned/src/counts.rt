@@ -4,7 +4,9 @@ ghost use Rattle.std.specs.Prelude.{◌≡◌, ◌∷◌, [], ◌++◌, codes, m
 ghost use Rattle.json.specs.Find.{as_object, get};
 ghost use Rattle.json.specs.Tree.{HasNumbers, MembersHaveNumbers};
 ghost use Rattle.json.specs.Value.{members_view, value_view};
-ghost use Rattle.diff_aligned.specs.Counts.{column_lines, column_words, count_word, counts_lines, file_with, hidden_words, kind_words, pair_words, skipped_counts, skipped_words};
+ghost use Rattle.diff_aligned.specs.Counts.{column_lines, column_words, count_word, counts_lines};
+ghost use Rattle.diff_aligned.specs.Counts.{file_with, hidden_words, kind_words, pair_words};
+ghost use Rattle.diff_aligned.specs.Counts.{skipped_counts, skipped_words};
 ghost use Rattle.diff_aligned.specs.Paragraphs.{paragraph, texts_bytes};
 ghost use Rattle.diff_aligned.specs.Texts.{name_text, pair_text};
 
@@ -156,7 +158,8 @@ fn push_column_words(
 ) -> Result<(), AllocError>
     requires { HasNumbers (value_view counts.now) }
     ensures { OnOk result (map (λ v. v.items) words.new.items ≡ map (λ v. v.items) words.old.items
-        ++ column_words (option_and_then as_object (get (codes "columns") (value_view counts.now)))) }
+        ++ column_words
+        (option_and_then as_object (get (codes "columns") (value_view counts.now)))) }
 {
     match members_at(counts, "columns") {
         Some(members) => push_columns(alloc, words, members),

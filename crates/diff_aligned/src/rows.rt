@@ -4,7 +4,8 @@ ghost use Rattle.std.specs.Prelude.{◌≡◌, ◌++◌, ◌∷◌, [], codes, O
 ghost use Rattle.json.specs.Find.{as_array, as_object, get};
 ghost use Rattle.json.specs.Tree.{HasNumbers, ItemsHaveNumbers, MembersHaveNumbers};
 ghost use Rattle.json.specs.Value.{items_view, members_view, value_view};
-ghost use Rattle.diff_aligned.specs.Rows.{change_row, changed_rows, item_rows, lone_row, member_rows, rows_in_array, rows_in_object, rows_view};
+ghost use Rattle.diff_aligned.specs.Rows.{change_row, changed_rows, item_rows, lone_row};
+ghost use Rattle.diff_aligned.specs.Rows.{member_rows, rows_in_array, rows_in_object, rows_view};
 ghost use Rattle.diff_aligned.specs.Texts.{row_name};
 
 use crate::shown::push_ascii;

@@ -3,7 +3,8 @@
 ghost use Rattle.std.specs.Fmt.{digit_glyph};
 ghost use Rattle.std.specs.List.{flat_map};
 ghost use Rattle.std.specs.Prelude.{◌≡◌, ◌<◌, ◌++◌, false, OnOk};
-ghost use Rattle.diff_aligned.specs.Shown.{escape, is_hidden, shown_char, surrogates, text_of, unit_escape};
+ghost use Rattle.diff_aligned.specs.Shown.{escape, is_hidden, shown_char, surrogates, text_of};
+ghost use Rattle.diff_aligned.specs.Shown.{unit_escape};
 
 use bstr::ByteSlice;
 use std::alloc::AllocError;

@@ -5,7 +5,9 @@ ghost use Rattle.std.specs.Prelude.{◌≡◌, ◌++◌, [], codes, OnOk, option
 ghost use Rattle.json.specs.Find.{as_object, get};
 ghost use Rattle.json.specs.Tree.{HasNumbers, MembersHaveNumbers};
 ghost use Rattle.json.specs.Value.{members_view, value_view};
-ghost use Rattle.diff_aligned.specs.Texts.{is_word, is_word_byte, name_text, number_text, pair_text, pairs_after, pairs_text, row_name, side_text, value_text};
+ghost use Rattle.diff_aligned.specs.Texts.{is_word, is_word_byte, name_text, number_text};
+ghost use Rattle.diff_aligned.specs.Texts.{pair_text, pairs_after, pairs_text, row_name, side_text};
+ghost use Rattle.diff_aligned.specs.Texts.{value_text};
 
 use crate::shown::{push_ascii, push_text};
 use diff_lines::parts::{members_at, number_at, part_of};

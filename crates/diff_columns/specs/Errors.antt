@@ -1,7 +1,7 @@
 -- Why columns are not matched.
 --
--- With the key "id" the left columns "id", "city" and the right columns "id", "day", "day" are not matched, since
--- column 2 of the right side has the name of an earlier one.
+-- With the key "id" the left columns "id", "city" and the right columns "id", "day", "day" are not
+-- matched, since column 2 of the right side has the name of an earlier one.
 use Rattle.std.specs.Prelude.{ℕ, List, codes}
 use Rattle.diff_columns.specs.Names.{Names, AreMatchable, IsMissing, IsRepeated}
 use Rattle.diff_columns.specs.declared.error.ColumnError.{ColumnError}

@@ -1,9 +1,10 @@
 -- The names of a table's columns, each a list of bytes.
 --
--- Of the names "id", "city", "id" that of column 2 comes twice. To the names "id", "city" the keys "id", "day"
--- have one that is missing, key 1.
+-- Of the names "id", "city", "id" that of column 2 comes twice. To the names "id", "city" the keys
+-- "id", "day" have one that is missing, key 1.
 use Rattle.std.specs.Borrow.{Bor}
-use Rattle.std.specs.Prelude.{◌≡◌, ◌≢◌, ◌<◌, ℕ, List, [], All, AllPairs, Contains, get_or, length, map}
+use Rattle.std.specs.Prelude.{◌≡◌, ◌≢◌, ◌<◌, ℕ, List, [], All, AllPairs, Contains, get_or, length}
+use Rattle.std.specs.Prelude.{map}
 
 -- the names of columns, one after another
 abbrev pub Names : Type 0

@@ -10,8 +10,10 @@ use Rattle.diff_columns.specs.declared.choice.Choice.{Choice}
 abbrev pub IsPair : Choice → Names → Names → ℕ → ℕ → Type 0
 IsPair choice left right i j = IsChosen choice (name_at left i) × IsNamed right (name_at left i) j
 
--- of the first n left columns those that are compared are listed, each with the right one of its name
-pub record ArePairs (choice : Choice) (left right : Names) (n : ℕ) (left_columns right_columns : List ℕ) : Type 0 where
+-- of the first n left columns those that are compared are listed, each with the right one of its
+-- name
+pub record ArePairs (choice : Choice) (left right : Names) (n : ℕ)
+    (left_columns right_columns : List ℕ) : Type 0 where
   pub compared : ListsRising (IsCompared choice left right) n left_columns
   pub same_names : HaveSameNames left right left_columns right_columns
 

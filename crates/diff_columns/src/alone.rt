@@ -17,7 +17,8 @@ fn is_alone<N: ByteRows, O: ByteRows>(
     column: usize,
 ) -> bool
     requires { column < length (N.strings names.now) }
-    ensures { IsTrue result ↔ IsAlone choice.now (N.strings names.now) (O.strings others.now) column }
+    ensures { IsTrue result
+        ↔ IsAlone choice.now (N.strings names.now) (O.strings others.now) column }
 {
     let name = names.bytes(column);
     choice.has(name) && !has_column(others, name)
@@ -30,7 +31,9 @@ pub(crate) fn columns_alone<N: ByteRows, O: ByteRows>(
     others: &O,
     choice: &Choice<'_>,
 ) -> Result<Vec<usize>, AllocError>
-    ensures { IfOk result (λ alone. ListsRising (IsAlone choice.now (N.strings names.now) (O.strings others.now)) (length (N.strings names.now)) alone.items) }
+    ensures { IfOk result
+        (λ alone. ListsRising (IsAlone choice.now (N.strings names.now) (O.strings others.now))
+        (length (N.strings names.now)) alone.items) }
 {
     let mut alone = Vec::new(alloc);
     for i in 0..names.count() {

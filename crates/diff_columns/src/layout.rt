@@ -36,7 +36,9 @@ fn test_names<L: ByteRows, R: ByteRows>(
     right: &R,
     keys: &[&[u8]],
 ) -> Result<(), ColumnError>
-    ensures { MatchResult result (λ _. AreMatchable (L.strings left.now) (R.strings right.now) (names_of keys.now)) (IsColumnFault (L.strings left.now) (R.strings right.now) (names_of keys.now)) }
+    ensures { MatchResult result
+        (λ _. AreMatchable (L.strings left.now) (R.strings right.now) (names_of keys.now))
+        (IsColumnFault (L.strings left.now) (R.strings right.now) (names_of keys.now)) }
 {
     let side = Side::Left;
     if let Some(column) = column_repeated(left) {
@@ -62,7 +64,8 @@ fn layout_of<L: ByteRows, R: ByteRows>(
     right: &R,
     choice: &Choice<'_>,
 ) -> Result<Layout, AllocError>
-    requires { AreMatchable (L.strings left.now) (R.strings right.now) (names_of choice.now.keys.now) }
+    requires { AreMatchable (L.strings left.now) (R.strings right.now)
+        (names_of choice.now.keys.now) }
     ensures { IfOk result (IsLayout (L.strings left.now) (R.strings right.now) choice.now) }
 {
     let Pairs {
@@ -90,8 +93,11 @@ pub fn match_columns<L: ByteRows, R: ByteRows>(
     right: &R,
     choice: &Choice<'_>,
 ) -> Result<Layout, ColumnError>
-    ensures names { IfOk result (λ _. AreMatchable (L.strings left.now) (R.strings right.now) (names_of choice.now.keys.now)) }
-    ensures layout { MatchResult result (IsLayout (L.strings left.now) (R.strings right.now) choice.now) (IsColumnFault (L.strings left.now) (R.strings right.now) (names_of choice.now.keys.now)) }
+    ensures names { IfOk result
+        (λ _. AreMatchable (L.strings left.now) (R.strings right.now)
+        (names_of choice.now.keys.now)) }
+    ensures layout { MatchResult result (IsLayout (L.strings left.now) (R.strings right.now) choice.now)
+        (IsColumnFault (L.strings left.now) (R.strings right.now) (names_of choice.now.keys.now)) }
 {
     test_names(left, right, choice.keys)?;
     match layout_of(alloc, left, right, choice) {

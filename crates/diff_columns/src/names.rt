@@ -7,7 +7,8 @@ use polars_arrays_flat::byte_rows::ByteRows;
 
 /// Returns a column of this name, or `None`.
 pub(crate) fn column_named<N: ByteRows>(names: &N, name: &[u8]) -> Option<usize>
-    ensures { MatchOption result (¬ (Contains (N.strings names.now) name.now)) (IsNamed (N.strings names.now) name.now) }
+    ensures { MatchOption result (¬ (Contains (N.strings names.now) name.now))
+        (IsNamed (N.strings names.now) name.now) }
 {
     for c in 0..names.count() {
         if names.bytes(c) == name {
@@ -40,7 +41,8 @@ fn is_repeated<N: ByteRows>(names: &N, column: usize) -> bool
 
 /// Returns the first column that has the name of an earlier one, or `None`.
 pub(crate) fn column_repeated<N: ByteRows>(names: &N) -> Option<usize>
-    ensures { MatchOption result (AreDistinct (N.strings names.now)) (IsRepeated (N.strings names.now)) }
+    ensures { MatchOption result (AreDistinct (N.strings names.now))
+        (IsRepeated (N.strings names.now)) }
 {
     for column in 0..names.count() {
         if is_repeated(names, column) {
@@ -52,7 +54,8 @@ pub(crate) fn column_repeated<N: ByteRows>(names: &N) -> Option<usize>
 
 /// Returns the first key that is the name of no column, or `None`.
 pub(crate) fn key_missing<N: ByteRows>(names: &N, keys: &[&[u8]]) -> Option<usize>
-    ensures { MatchOption result (All (Contains (N.strings names.now)) (names_of keys.now)) (IsMissing (N.strings names.now) (names_of keys.now)) }
+    ensures { MatchOption result (All (Contains (N.strings names.now)) (names_of keys.now))
+        (IsMissing (N.strings names.now) (names_of keys.now)) }
 {
     for k in 0..keys.len() {
         if !has_column(names, keys[k]) {

@@ -24,7 +24,9 @@ fn partner<L: ByteRows, R: ByteRows>(
     column: usize,
 ) -> Option<usize>
     requires { column < length (L.strings left.now) }
-    ensures { MatchOption result (¬ (IsCompared choice.now (L.strings left.now) (R.strings right.now) column)) (IsPair choice.now (L.strings left.now) (R.strings right.now) column) }
+    ensures { MatchOption result
+        (¬ (IsCompared choice.now (L.strings left.now) (R.strings right.now) column))
+        (IsPair choice.now (L.strings left.now) (R.strings right.now) column) }
 {
     let name = left.bytes(column);
     if !choice.has(name) {
@@ -40,7 +42,9 @@ pub(crate) fn compared_pairs<L: ByteRows, R: ByteRows>(
     right: &R,
     choice: &Choice<'_>,
 ) -> Result<Pairs, AllocError>
-    ensures { IfOk result (λ pairs. ArePairs choice.now (L.strings left.now) (R.strings right.now) (length (L.strings left.now)) pairs.left_columns.items pairs.right_columns.items) }
+    ensures { IfOk result
+        (λ pairs. ArePairs choice.now (L.strings left.now) (R.strings right.now)
+        (length (L.strings left.now)) pairs.left_columns.items pairs.right_columns.items) }
 {
     let mut left_columns = Vec::new(alloc);
     let mut right_columns = Vec::new(alloc);

@@ -31,7 +31,9 @@ pub(crate) fn key_places<N: ByteRows>(
 ) -> Result<Vec<usize>, AllocError>
     requires within { All (λ c. c < length (N.strings names.now)) columns.now }
     requires places { All (HasPlace (N.strings names.now) columns.now) (names_of keys.now) }
-    ensures { IfOk result (λ places. AreKeyPlaces (N.strings names.now) columns.now (names_of keys.now) places.items) }
+    ensures { IfOk result
+        (λ places. AreKeyPlaces (N.strings names.now) columns.now (names_of keys.now)
+        places.items) }
 {
     let mut places = Vec::new(alloc);
     for k in 0..keys.len() {

@@ -47,7 +47,8 @@ abbrev pub IsOtherLength : (line expected found : ℕ) → CsvError → Type 0
 IsOtherLength line expected found error.Memory = ⊥
 IsOtherLength line expected found (error.Read cause) = ⊥
 IsOtherLength line expected found error.Delimiter = ⊥
-IsOtherLength line expected found (error.Length l e f) = (l ≡ line) × (e ≡ expected) × (f ≡ found) × (expected ≢ found)
+IsOtherLength line expected found (error.Length l e f) = (l ≡ line) × (e ≡ expected) × (f ≡ found)
+    × (expected ≢ found)
 IsOtherLength line expected found (error.OpenQuote l) = ⊥
 
 -- the error is not that of the byte between fields

@@ -1,7 +1,8 @@
 -- Texts that end within quotes, and what shows it.
 --
--- The text `a,"b` ends within quotes, and `a,"b"` does not. With a mark of a line feed and a quote behind them the last
--- record of the first is a and b with the line feed, and that of the second is one empty field.
+-- The text `a,"b` ends within quotes, and `a,"b"` does not. With a mark of a line feed and a quote
+-- behind them the last record of the first is a and b with the line feed, and that of the second is
+-- one empty field.
 use Rattle.std.specs.Prelude.{ℕ, Bool, true, false, List, [], ◌∷◌}
 use Rattle.csv.specs.Machine.{step}
 use Rattle.csv.specs.Reading.{strip_bom}

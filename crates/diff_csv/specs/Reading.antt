@@ -1,7 +1,7 @@
 -- A CSV text that is read record by record.
 --
--- After the first record of the text "id,n", "7,1" is given, the second one is read too. Once this is given, the mark
--- behind the text is read: a record of one empty field.
+-- After the first record of the text "id,n", "7,1" is given, the second one is read too. Once this
+-- is given, the mark behind the text is read: a record of one empty field.
 use Rattle.std.specs.Borrow.{Bor}
 use Rattle.std.specs.Io.Chain.{chain_remaining}
 use Rattle.std.specs.Prelude.{◌≡◌, ℕ, Bool, true, false, List, [], ◌∷◌, ◌++◌, Option, Some, None}
@@ -19,7 +19,8 @@ use Rattle.diff_csv.specs.declared.reading.Records.{Records}
 use Rattle.diff_csv.specs.declared.source.Source.{Source}
 
 -- a reader has read these records of the text, and goes on behind them
-pub record HasRead {R : Type 0} (remaining : R → Option (List ℕ)) (options : CsvOptions) (text : List ℕ) (reader : Reader R) (rows : List (List (List ℕ))) : Type 0 where
+pub record HasRead {R : Type 0} (remaining : R → Option (List ℕ)) (options : CsvOptions)
+    (text : List ℕ) (reader : Reader R) (rows : List (List (List ℕ))) : Type 0 where
   pub trim : reader.trim ≡ trim.None
   pub ready : Ready reader
   pub config : reader.config ≡ config_of options
@@ -28,30 +29,43 @@ pub record HasRead {R : Type 0} (remaining : R → Option (List ℕ)) (options :
   pub reached : Reached (config_of options) st.StartRecord (strip_bom text) rows reader.state unread
 
 -- what a read shows: one record more, or that there is none
-abbrev pub HasReadOne : {R : Type 0} → (R → Option (List ℕ)) → CsvOptions → List ℕ → Reader R → List (List (List ℕ)) → List (List ℕ) → Bool → Type 0
-HasReadOne remaining options text reader rows fields true = HasRead remaining options text reader (rows ++ fields ∷ [])
+abbrev pub HasReadOne : {R : Type 0} → (R → Option (List ℕ)) → CsvOptions → List ℕ → Reader R
+    → List (List (List ℕ)) → List (List ℕ) → Bool → Type 0
+HasReadOne remaining options text reader rows fields true =
+    HasRead remaining options text reader (rows ++ fields ∷ [])
 HasReadOne remaining options text reader rows fields false = AreRecordsOf options text rows
 
 -- the bytes that are left of a text and of the mark behind it
-abbrev pub marked_remaining : {R : Type 0} → (R → Option (List ℕ)) → Chain R (Bor (List ℕ)) → Option (List ℕ)
+abbrev pub marked_remaining : {R : Type 0} → (R → Option (List ℕ)) → Chain R (Bor (List ℕ))
+    → Option (List ℕ)
 marked_remaining remaining = chain_remaining remaining (λ (s : Bor (List ℕ)). Some s.now)
 
--- these records of the text are given, and the one behind them is read: the mark's, where the text has no more
-pub record IsReading {R : Type 0} (remaining : R → Option (List ℕ)) (options : CsvOptions) (text : List ℕ) (records : Records R) (rows : List (List (List ℕ))) : Type 0 where
+-- these records of the text are given, and the one behind them is read: the mark's, where the text
+-- has no more
+pub record IsReading {R : Type 0} (remaining : R → Option (List ℕ)) (options : CsvOptions)
+    (text : List ℕ) (records : Records R) (rows : List (List (List ℕ))) : Type 0 where
   pub delimiter : is_delimiter options.delimiter ≡ true
-  pub read : HasRead (marked_remaining remaining) options (text ++ mark) records.reader (rows ++ fields_of records.ahead.value ∷ [])
+  pub read : HasRead (marked_remaining remaining) options (text ++ mark) records.reader
+      (rows ++ fields_of records.ahead.value ∷ [])
 
 -- what a read shows: one record more, or that there is none and no quote is open
-abbrev pub ReadsOne : {R : Type 0} → (R → Option (List ℕ)) → CsvOptions → List ℕ → Records R → List (List (List ℕ)) → List (List ℕ) → Option ℕ → Type 0
-ReadsOne remaining options text records rows fields (Some line) = IsReading remaining options text records (rows ++ fields ∷ [])
-ReadsOne remaining options text records rows fields None = AreRecordsOf options text rows × (ends_open options text ≡ false)
+abbrev pub ReadsOne : {R : Type 0} → (R → Option (List ℕ)) → CsvOptions → List ℕ → Records R
+    → List (List (List ℕ)) → List (List ℕ) → Option ℕ → Type 0
+ReadsOne remaining options text records rows fields (Some line) =
+    IsReading remaining options text records (rows ++ fields ∷ [])
+ReadsOne remaining options text records rows fields None = AreRecordsOf options text rows
+    × (ends_open options text ≡ false)
 
 -- the first record is given, or the text has none
-abbrev pub IsBegun : {R : Type 0} → (R → Option (List ℕ)) → CsvOptions → List ℕ → Records R → Option Row → Type 0
-IsBegun remaining options text records None = AreRecordsOf options text [] × (ends_open options text ≡ false)
-IsBegun remaining options text records (Some first) = IsReading remaining options text records (fields_of first ∷ [])
+abbrev pub IsBegun : {R : Type 0} → (R → Option (List ℕ)) → CsvOptions → List ℕ → Records R
+    → Option Row → Type 0
+IsBegun remaining options text records None = AreRecordsOf options text []
+    × (ends_open options text ≡ false)
+IsBegun remaining options text records (Some first) =
+    IsReading remaining options text records (fields_of first ∷ [])
 
 -- a source that was opened over the text
-pub record IsOpen {R : Type 0} (remaining : R → Option (List ℕ)) (options : CsvOptions) (text : List ℕ) (source : Source R) : Type 0 where
+pub record IsOpen {R : Type 0} (remaining : R → Option (List ℕ)) (options : CsvOptions)
+    (text : List ℕ) (source : Source R) : Type 0 where
   pub header : source.has_header ≡ options.has_header
   pub begun : IsBegun remaining options text source.records source.first

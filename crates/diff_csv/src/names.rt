@@ -16,7 +16,9 @@ use std::alloc::{AllocError, Global};
 
 /// Appends the fields of a record.
 fn push_fields(strings: &mut Strings, row: &ByteRecord) -> Result<(), AllocError>
-    ensures { OnOk result ((all : List (List ℕ)) → AreStrings strings.old all → AreStrings strings.new (all ++ fields_of row.now)) }
+    ensures { OnOk result
+        ((all : List (List ℕ)) → AreStrings strings.old all
+        → AreStrings strings.new (all ++ fields_of row.now)) }
 {
     for field in row.iter() {
         strings.push(field)?;
@@ -26,7 +28,8 @@ fn push_fields(strings: &mut Strings, row: &ByteRecord) -> Result<(), AllocError
 
 /// Returns the fields of a record. The one error is `Memory`.
 pub(crate) fn field_names(alloc: Global, row: &ByteRecord) -> Result<BinaryArray<i64>, ComputeError>
-    ensures { MatchResult result (λ names. offset_strings (λ x. x) names ≡ fields_of row.now) IsMemory }
+    ensures { MatchResult result
+        (λ names. offset_strings (λ x. x) names ≡ fields_of row.now) IsMemory }
 {
     let mut names = Strings::new(alloc)?;
     push_fields(&mut names, row)?;
@@ -36,7 +39,8 @@ pub(crate) fn field_names(alloc: Global, row: &ByteRecord) -> Result<BinaryArray
 
 /// Returns the numbers from 1 up to `count` as texts. The one error is `Memory`.
 pub(crate) fn number_names(alloc: Global, count: usize) -> Result<BinaryArray<i64>, ComputeError>
-    ensures { MatchResult result (λ names. offset_strings (λ x. x) names ≡ map decimal (range_with_len 1 count)) IsMemory }
+    ensures { MatchResult result
+        (λ names. offset_strings (λ x. x) names ≡ map decimal (range_with_len 1 count)) IsMemory }
 {
     let mut names = Strings::new(alloc)?;
     for i in 0..count {

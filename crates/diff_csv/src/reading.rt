@@ -5,12 +5,14 @@
 //! makes one record more, of one empty field. Where it ends within quotes, the line feed joins the
 //! field that is open, so that the last record is another.
 
-ghost use Rattle.std.specs.Prelude.{◌≡◌, ◌↔◌, ◌++◌, ◌∷◌, [], true, ℕ, List, Some, IfErr, IfOk, MatchResult};
+ghost use Rattle.std.specs.Prelude.{◌≡◌, ◌↔◌, ◌++◌, ◌∷◌, [], true, ℕ, List, Some, IfErr, IfOk};
+ghost use Rattle.std.specs.Prelude.{MatchResult};
 ghost use Rattle.csv.specs.Records.{fields_of};
 ghost use Rattle.diff_csv.specs.Errors.{IsNoRecord, IsStop};
 ghost use Rattle.diff_csv.specs.Options.{is_delimiter};
 ghost use Rattle.diff_csv.specs.Quotes.{mark, mark_fields};
-ghost use Rattle.diff_csv.specs.Reading.{HasRead, HasReadOne, IsReading, ReadsOne, marked_remaining};
+ghost use Rattle.diff_csv.specs.Reading.{HasRead, HasReadOne, IsReading, ReadsOne};
+ghost use Rattle.diff_csv.specs.Reading.{marked_remaining};
 ghost use Rattle.diff_csv.specs.Records.{IsReadFault};
 ghost use Rattle.diff_csv.specs.declared.options.CsvOptions.{CsvOptions};
 
@@ -41,7 +43,8 @@ fn reader_of<R: Read>(
     input: R,
     options: CsvOptions,
 ) -> Reader<Chain<R, &'static [u8]>>
-    ensures { (text : List ℕ) → R.remaining input ≡ Some text → HasRead (marked_remaining R.remaining) options (text ++ mark) result [] }
+    ensures { (text : List ℕ) → R.remaining input ≡ Some text
+        → HasRead (marked_remaining R.remaining) options (text ++ mark) result [] }
 {
     ReaderBuilder::new()
         .has_headers(false)
@@ -53,7 +56,10 @@ fn reader_of<R: Read>(
 /// Reads the next record into `row`. Returns whether there was one.
 #[inline(always)]
 fn read_record<R: Read>(reader: &mut Reader<R>, row: &mut ByteRecord) -> Result<bool, CsvError>
-    ensures told { IfOk result (λ found. (options : CsvOptions) (text : List ℕ) (rows : List (List (List ℕ))) → HasRead R.remaining options text reader.old rows → HasReadOne R.remaining options text reader.new rows (fields_of row.new) found) }
+    ensures told { IfOk result
+        (λ found. (options : CsvOptions) (text : List ℕ) (rows : List (List (List ℕ)))
+        → HasRead R.remaining options text reader.old rows
+        → HasReadOne R.remaining options text reader.new rows (fields_of row.new) found) }
     ensures stop { IfErr result IsStop }
 {
     match reader.read_byte_record(row) {
@@ -90,7 +96,10 @@ impl<R: Drop> Drop for Records<R> {
 impl<R: Read + Drop> Records<R> {
     /// Begins a text. No record is given yet.
     pub(crate) fn new(alloc: Global, input: R, options: CsvOptions) -> Result<Records<R>, CsvError>
-        ensures { MatchResult result (λ records. (text : List ℕ) → R.remaining input ≡ Some text → is_delimiter options.delimiter ≡ true → IsReading R.remaining options text records []) IsStop }
+        ensures { MatchResult result
+            (λ records. (text : List ℕ) → R.remaining input ≡ Some text
+            → is_delimiter options.delimiter ≡ true → IsReading R.remaining options text records [])
+            IsStop }
     {
         let mut ahead = Box::new(alloc, ByteRecord::new(alloc))?;
         let mut reader = reader_of(alloc, input, options);
@@ -110,8 +119,12 @@ impl<R: Read + Drop> Records<R> {
     /// is no more record.
     pub(crate) fn read(&mut self, row: &mut Box<ByteRecord>) -> Result<Option<u64>, CsvError>
         ensures told { MatchResult result
-            (λ line. (options : CsvOptions) (text : List ℕ) (rows : List (List (List ℕ))) → IsReading R.remaining options text self.old rows → ReadsOne R.remaining options text self.new rows (fields_of row.new.value) line)
-            (λ error. (options : CsvOptions) (text : List ℕ) (rows : List (List (List ℕ))) → IsReading R.remaining options text self.old rows → IsReadFault options text error) }
+            (λ line. (options : CsvOptions) (text : List ℕ) (rows : List (List (List ℕ)))
+            → IsReading R.remaining options text self.old rows
+            → ReadsOne R.remaining options text self.new rows (fields_of row.new.value) line)
+            (λ error. (options : CsvOptions) (text : List ℕ) (rows : List (List (List ℕ)))
+            → IsReading R.remaining options text self.old rows
+            → IsReadFault options text error) }
         ensures fault { IfErr result IsNoRecord }
     {
         let line = self.line;

@@ -1,6 +1,7 @@
 //! The rows of a CSV text, one after another.
 
-ghost use Rattle.std.specs.Prelude.{◌≡◌, [], ◌∷◌, if◌then◌else◌, ℕ, List, Option, Some, length, IfErr, MatchResult};
+ghost use Rattle.std.specs.Prelude.{◌≡◌, [], ◌∷◌, if◌then◌else◌, ℕ, List, Option, Some, length};
+ghost use Rattle.std.specs.Prelude.{IfErr, MatchResult};
 ghost use Rattle.csv.specs.Records.{fields_of};
 ghost use Rattle.diff_csv.specs.Errors.{IsOtherLength, IsOutOfMemory, IsRowFault};
 ghost use Rattle.diff_csv.specs.Given.{GivesOne, HasGiven};
@@ -52,7 +53,9 @@ fn first_row(has_header: bool) -> Ahead
 
 /// Checks that a record has `width` fields. `line` is where it begins.
 fn check_length(row: &ByteRecord, width: usize, line: u64) -> Result<(), CsvError>
-    ensures { MatchResult result (λ _. length (fields_of row.now) ≡ width) (IsOtherLength line width (length (fields_of row.now))) }
+    ensures { MatchResult result
+        (λ _. length (fields_of row.now) ≡ width)
+        (IsOtherLength line width (length (fields_of row.now))) }
 {
     let found = row.len();
     if found == width {
@@ -74,7 +77,10 @@ impl<R: Read + Drop> RowReader<R> {
         first: Option<ByteRecord>,
         has_header: bool,
     ) -> Result<RowReader<R>, CsvError>
-        ensures { MatchResult result (λ reader. (options : CsvOptions) (text : List ℕ) → has_header ≡ options.has_header → IsBegun R.remaining options text records first → HasGiven R.remaining options text reader []) IsOutOfMemory }
+        ensures { MatchResult result
+            (λ reader. (options : CsvOptions) (text : List ℕ) → has_header ≡ options.has_header
+            → IsBegun R.remaining options text records first
+            → HasGiven R.remaining options text reader []) IsOutOfMemory }
     {
         let Some(record) = first else {
             let first = Box::new(alloc, ByteRecord::new(alloc))?;
@@ -100,8 +106,12 @@ impl<R: Read + Drop> RowReader<R> {
     fn read_later(&mut self, row: &mut Box<ByteRecord>) -> Result<Option<u64>, CsvError>
         requires { self.old.ahead ≡ Later }
         ensures told { MatchResult result
-            (λ line. (options : CsvOptions) (text : List ℕ) (rows : List (List (List ℕ))) → HasGiven R.remaining options text self.old rows → GivesOne R.remaining options text self.new rows (fields_of row.new.value) line)
-            (λ error. (options : CsvOptions) (text : List ℕ) (rows : List (List (List ℕ))) → HasGiven R.remaining options text self.old rows → IsReadFault options text error) }
+            (λ line. (options : CsvOptions) (text : List ℕ) (rows : List (List (List ℕ)))
+            → HasGiven R.remaining options text self.old rows
+            → GivesOne R.remaining options text self.new rows (fields_of row.new.value) line)
+            (λ error. (options : CsvOptions) (text : List ℕ) (rows : List (List (List ℕ)))
+            → HasGiven R.remaining options text self.old rows
+            → IsReadFault options text error) }
         ensures fault { IfErr result IsRowFault }
     {
         let Some(line) = self.records.read(row)? else {
@@ -112,14 +122,18 @@ impl<R: Read + Drop> RowReader<R> {
         Ok(Some(line))
     }
 
-    /// Gives the next row in `row`. Returns the line at which it begins, or `None` where there is no
-    /// more row. Fails with `Length` only at a record of another length than the first one's, with
-    /// `OpenQuote` only where the text ends within quotes, and never with `Delimiter`. After an error
-    /// the rest of the text can't be read.
+    /// Gives the next row in `row`. Returns the line at which it begins, or `None` where there is
+    /// no more row. Fails with `Length` only at a record of another length than the first one's,
+    /// with `OpenQuote` only where the text ends within quotes, and never with `Delimiter`. After
+    /// an error the rest of the text can't be read.
     pub fn read(&mut self, row: &mut Box<ByteRecord>) -> Result<Option<u64>, CsvError>
         ensures told { MatchResult result
-            (λ line. (options : CsvOptions) (text : List ℕ) (rows : List (List (List ℕ))) → HasGiven R.remaining options text self.old rows → GivesOne R.remaining options text self.new rows (fields_of row.new.value) line)
-            (λ error. (options : CsvOptions) (text : List ℕ) (rows : List (List (List ℕ))) → HasGiven R.remaining options text self.old rows → IsReadFault options text error) }
+            (λ line. (options : CsvOptions) (text : List ℕ) (rows : List (List (List ℕ)))
+            → HasGiven R.remaining options text self.old rows
+            → GivesOne R.remaining options text self.new rows (fields_of row.new.value) line)
+            (λ error. (options : CsvOptions) (text : List ℕ) (rows : List (List (List ℕ)))
+            → HasGiven R.remaining options text self.old rows
+            → IsReadFault options text error) }
         ensures fault { IfErr result IsRowFault }
     {
         match self.ahead {

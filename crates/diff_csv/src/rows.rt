@@ -1,6 +1,7 @@
 //! Rows of cells that are appended one after another.
 
-ghost use Rattle.std.specs.Prelude.{◌≡◌, ◌++◌, ◌∷◌, [], ℕ, suc, List, Option, get_or, length, IfOk, IfSome, OnOk};
+ghost use Rattle.std.specs.Prelude.{◌≡◌, ◌++◌, ◌∷◌, [], ℕ, suc, List, Option, get_or, length, IfOk};
+ghost use Rattle.std.specs.Prelude.{IfSome, OnOk};
 ghost use Rattle.csv.specs.Records.{fields_of};
 ghost use Rattle.diff_tables.specs.Keys.{cells_at};
 ghost use Rattle.diff_tables.specs.Strings.{AreStrings};
@@ -56,7 +57,8 @@ impl<'a> StringList for Cells<'a> {
 /// Returns whether a row of these cells is read: where it is in the part, if there is one.
 #[inline(always)]
 fn is_read(cells: &Cells<'_>, keys: &[usize], part: Option<Part>) -> bool
-    ensures { result ≡ is_read part keys.now (cells_at cells.now.columns.now (fields_of cells.now.row.now)) }
+    ensures { result
+        ≡ is_read part keys.now (cells_at cells.now.columns.now (fields_of cells.now.row.now)) }
 {
     match part {
         Some(part) => part.has_row(cells, keys),
@@ -67,7 +69,10 @@ fn is_read(cells: &Cells<'_>, keys: &[usize], part: Option<Part>) -> bool
 /// Appends a record's cells.
 #[inline(always)]
 fn push_cells(strings: &mut Strings, cells: &Cells<'_>) -> Result<(), AllocError>
-    ensures { OnOk result ((all : List (List ℕ)) → AreStrings strings.old all → AreStrings strings.new (all ++ cells_at cells.now.columns.now (fields_of cells.now.row.now))) }
+    ensures { OnOk result
+        ((all : List (List ℕ)) → AreStrings strings.old all
+        → AreStrings strings.new
+        (all ++ cells_at cells.now.columns.now (fields_of cells.now.row.now))) }
 {
     strings.push_all(cells)?;
     Ok(())
@@ -76,7 +81,8 @@ fn push_cells(strings: &mut Strings, cells: &Cells<'_>) -> Result<(), AllocError
 /// Appends the number of a row, where those of a part are read.
 #[inline(always)]
 fn push_number(numbers: &mut Vec<u64>, part: Option<Part>, number: u64) -> Result<(), AllocError>
-    ensures { OnOk result (IfSome part (λ _. numbers.new.items ≡ numbers.old.items ++ number ∷ [])) }
+    ensures { OnOk result
+        (IfSome part (λ _. numbers.new.items ≡ numbers.old.items ++ number ∷ [])) }
 {
     if let Some(_) = part {
         numbers.push(number)?;
@@ -87,7 +93,9 @@ fn push_number(numbers: &mut Vec<u64>, part: Option<Part>, number: u64) -> Resul
 impl Rows {
     /// Returns no rows.
     pub(crate) fn new(alloc: Global) -> Result<Rows, AllocError>
-        ensures { IfOk result (λ rows. (columns keys : List ℕ) (part : Option PartNumber) → HoldsRows columns keys part rows []) }
+        ensures { IfOk result
+            (λ rows. (columns keys : List ℕ) (part : Option PartNumber)
+            → HoldsRows columns keys part rows []) }
     {
         let cells = Strings::new(alloc)?;
         let lines = Vec::new(alloc);
@@ -108,8 +116,11 @@ impl Rows {
         line: u64,
         number: u64,
     ) -> Result<(), AllocError>
-        ensures { OnOk result ((rows : List (List (List ℕ))) → number ≡ suc (length rows) → HoldsRows wanted.now.columns.now wanted.now.keys.now wanted.now.part self.old rows
-            → HoldsRows wanted.now.columns.now wanted.now.keys.now wanted.now.part self.new (rows ++ fields_of row.now ∷ [])) }
+        ensures { OnOk result
+            ((rows : List (List (List ℕ))) → number ≡ suc (length rows)
+            → HoldsRows wanted.now.columns.now wanted.now.keys.now wanted.now.part self.old rows
+            → HoldsRows wanted.now.columns.now wanted.now.keys.now wanted.now.part self.new
+            (rows ++ fields_of row.now ∷ [])) }
     {
         let columns = wanted.columns;
         let cells = Cells { row, columns };

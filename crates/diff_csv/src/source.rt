@@ -1,6 +1,7 @@
 //! A CSV text from its first record on.
 
-ghost use Rattle.std.specs.Prelude.{◌≡◌, [], ℕ, List, Some, true, option_map, IfErr, IfOk, MatchResult};
+ghost use Rattle.std.specs.Prelude.{◌≡◌, [], ℕ, List, Some, true, option_map, IfErr, IfOk};
+ghost use Rattle.std.specs.Prelude.{MatchResult};
 ghost use Rattle.polars_arrays_bits.specs.Errors.{IsMemory};
 ghost use Rattle.polars_arrays_bytes.specs.OffsetStrings.{offset_strings};
 ghost use Rattle.diff_csv.specs.Errors.{IsNotLength, IsOutOfMemory, TellsDelimiter};
@@ -54,9 +55,13 @@ fn numbers_of(numbers: Vec<u64>, part: Option<Part>) -> Option<Vec<u64>>
 
 /// Returns the table of rows, with as many cells each as there are columns.
 fn table_of(alloc: Global, rows: Rows, wanted: &Wanted<'_>) -> Result<CsvTable, CsvError>
-    requires { (held : List (List (List ℕ))) × HoldsRows wanted.now.columns.now wanted.now.keys.now wanted.now.part rows held }
-    ensures { MatchResult result (λ table. (held : List (List (List ℕ))) → HoldsRows wanted.now.columns.now wanted.now.keys.now wanted.now.part rows held
-        → IsTableWith wanted.now.columns.now wanted.now.keys.now wanted.now.part held table) IsOutOfMemory }
+    requires { (held : List (List (List ℕ)))
+        × HoldsRows wanted.now.columns.now wanted.now.keys.now wanted.now.part rows held }
+    ensures { MatchResult result
+        (λ table. (held : List (List (List ℕ)))
+        → HoldsRows wanted.now.columns.now wanted.now.keys.now wanted.now.part rows held
+        → IsTableWith wanted.now.columns.now wanted.now.keys.now wanted.now.part held table)
+        IsOutOfMemory }
 {
     let Rows {
         cells,
@@ -80,8 +85,10 @@ fn read_rows<R: Read + Drop>(
     mut reader: RowReader<R>,
     wanted: &Wanted<'_>,
 ) -> Result<Rows, CsvError>
-    ensures { MatchResult result (ReadsAll R.remaining wanted.now.columns.now wanted.now.keys.now wanted.now.part reader)
-        (λ error. (options : CsvOptions) (text : List ℕ) → HasGiven R.remaining options text reader [] → IsReadFault options text error) }
+    ensures { MatchResult result
+        (ReadsAll R.remaining wanted.now.columns.now wanted.now.keys.now wanted.now.part reader)
+        (λ error. (options : CsvOptions) (text : List ℕ)
+        → HasGiven R.remaining options text reader [] → IsReadFault options text error) }
 {
     let mut rows = Rows::new(alloc)?;
     let mut row = Box::new(alloc, ByteRecord::new(alloc))?;
@@ -122,10 +129,16 @@ impl<R: Read + Drop> Source<R> {
     /// fields may not stand there, with `OpenQuote` only where the text ends within quotes that
     /// open in the first record, with `Read` where the reader fails, and else only with `Memory`.
     pub fn open(alloc: Global, input: R, options: CsvOptions) -> Result<Source<R>, CsvError>
-        ensures opened { IfOk result (λ source. (text : List ℕ) → R.remaining input ≡ Some text → IsOpen R.remaining options text source) }
+        ensures opened { IfOk result
+            (λ source. (text : List ℕ) → R.remaining input ≡ Some text
+            → IsOpen R.remaining options text source) }
         ensures fault { IfErr result IsNotLength }
-        ensures delimiter { MatchResult result (λ _. is_delimiter options.delimiter ≡ true) (TellsDelimiter (is_delimiter options.delimiter)) }
-        ensures trouble { IfErr result (λ error. (text : List ℕ) → R.remaining input ≡ Some text → IsReadFault options text error) }
+        ensures delimiter { MatchResult result
+            (λ _. is_delimiter options.delimiter ≡ true)
+            (TellsDelimiter (is_delimiter options.delimiter)) }
+        ensures trouble { IfErr result
+            (λ error. (text : List ℕ) → R.remaining input ≡ Some text
+            → IsReadFault options text error) }
     {
         if !is_delimiter(options.delimiter) {
             return Err(CsvError::Delimiter);
@@ -150,7 +163,10 @@ impl<R: Read + Drop> Source<R> {
     /// Returns the names of the columns: the fields of the first record, or their numbers from 1 on
     /// where there is no header. The one error is `Memory`.
     pub fn names(&self, alloc: Global) -> Result<BinaryArray<i64>, ComputeError>
-        ensures { MatchResult result (λ names. (options : CsvOptions) (text : List ℕ) (records : List (List (List ℕ))) → IsOpen R.remaining options text self.now → AreRecordsOf options text records → offset_strings (λ x. x) names ≡ names_of options.has_header records) IsMemory }
+        ensures { MatchResult result
+            (λ names. (options : CsvOptions) (text : List ℕ) (records : List (List (List ℕ)))
+            → IsOpen R.remaining options text self.now → AreRecordsOf options text records
+            → offset_strings (λ x. x) names ≡ names_of options.has_header records) IsMemory }
     {
         let Some(row) = &self.first else {
             let none = number_names(alloc, 0)?;
@@ -166,7 +182,9 @@ impl<R: Read + Drop> Source<R> {
 
     /// Returns a reader that gives the rows one by one. The one error is `Memory`.
     pub fn rows(self, alloc: Global) -> Result<RowReader<R>, CsvError>
-        ensures { MatchResult result (λ reader. (options : CsvOptions) (text : List ℕ) → IsOpen R.remaining options text self → HasGiven R.remaining options text reader []) IsOutOfMemory }
+        ensures { MatchResult result
+            (λ reader. (options : CsvOptions) (text : List ℕ) → IsOpen R.remaining options text self
+            → HasGiven R.remaining options text reader []) IsOutOfMemory }
     {
         let Source {
             records,
@@ -184,8 +202,11 @@ impl<R: Read + Drop> Source<R> {
     pub fn read(self, alloc: Global, wanted: &Wanted<'_>) -> Result<CsvTable, CsvError>
         ensures shape { IfOk result (HasShape wanted.now.columns.now) }
         ensures table { MatchResult result
-            (λ table. (options : CsvOptions) (text : List ℕ) → IsOpen R.remaining options text self → IsTableOf options text wanted.now.columns.now wanted.now.keys.now wanted.now.part table)
-            (λ error. (options : CsvOptions) (text : List ℕ) → IsOpen R.remaining options text self → IsReadFault options text error) }
+            (λ table. (options : CsvOptions) (text : List ℕ) → IsOpen R.remaining options text self
+            → IsTableOf options text wanted.now.columns.now wanted.now.keys.now wanted.now.part
+            table)
+            (λ error. (options : CsvOptions) (text : List ℕ) → IsOpen R.remaining options text self
+            → IsReadFault options text error) }
     {
         let reader = self.rows(alloc)?;
         let rows = read_rows(alloc, reader, wanted)?;

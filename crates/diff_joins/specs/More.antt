@@ -1,7 +1,8 @@
 -- What it is that two tables are matched row by row, as those whose keys rise are merged.
 --
--- Of the left key "a" and the right key "a" rows 0 and 0 are partners. Once a row "b" lies behind both, rows 1 and 1 are
--- partners too. Where it lies behind the left one alone, left row 1 is removed.
+-- Of the left key "a" and the right key "a" rows 0 and 0 are partners. Once a row "b" lies behind
+-- both, rows 1 and 1 are partners too. Where it lies behind the left one alone, left row 1 is
+-- removed.
 use Rattle.std.specs.Prelude.{◌≡◌, ◌≤◌, ℕ, List, [], ◌∷◌, ◌++◌, length}
 use Rattle.diff_keys.specs.Matching.{IsMatching}
 use Rattle.diff_keys.specs.Partners.{Keys, count_of}
@@ -30,15 +31,21 @@ pub record HasAdded (j : ℕ) (before after : Matching) : Type 0 where
 
 -- where two tables have as many rows of a key, one more row of it behind each is one more pair
 abbrev pub MatchesPair : Type 0
-MatchesPair = (left right : Keys) (key : List ℕ) (before after : Matching) → count_of key left ≡ count_of key right → IsMatching left right before
-    → HasPair (length left) (length right) before after → IsMatching (left ++ key ∷ []) (right ++ key ∷ []) after
+MatchesPair = (left right : Keys) (key : List ℕ) (before after : Matching) → count_of key left
+    ≡ count_of key right → IsMatching left right before
+    → HasPair (length left) (length right) before after
+    → IsMatching (left ++ key ∷ []) (right ++ key ∷ []) after
 
--- where the right table has no more rows of a key than the left one, one more row of it behind the left one is removed
+-- where the right table has no more rows of a key than the left one, one more row of it behind the
+-- left one is removed
 abbrev pub MatchesRemoved : Type 0
-MatchesRemoved = (left right : Keys) (key : List ℕ) (before after : Matching) → count_of key right ≤ count_of key left → IsMatching left right before
+MatchesRemoved = (left right : Keys) (key : List ℕ) (before after : Matching)
+    → count_of key right ≤ count_of key left → IsMatching left right before
     → HasRemoved (length left) before after → IsMatching (left ++ key ∷ []) right after
 
--- where the left table has no more rows of a key than the right one, one more row of it behind the right one is added
+-- where the left table has no more rows of a key than the right one, one more row of it behind the
+-- right one is added
 abbrev pub MatchesAdded : Type 0
-MatchesAdded = (left right : Keys) (key : List ℕ) (before after : Matching) → count_of key left ≤ count_of key right → IsMatching left right before
+MatchesAdded = (left right : Keys) (key : List ℕ) (before after : Matching)
+    → count_of key left ≤ count_of key right → IsMatching left right before
     → HasAdded (length right) before after → IsMatching left (right ++ key ∷ []) after

@@ -2,7 +2,8 @@
 //! nothing; their contracts are the laws.
 
 ghost use Rattle.diff_joins.specs.Laws.{JoinsComparisons, JoinsMatchings, JoinsPartners};
-ghost use Rattle.diff_joins.specs.Merge.{MergesAdded, MergesNone, MergesOn, MergesPair, MergesRemoved};
+ghost use Rattle.diff_joins.specs.Merge.{MergesAdded, MergesNone, MergesOn, MergesPair};
+ghost use Rattle.diff_joins.specs.Merge.{MergesRemoved};
 ghost use Rattle.diff_joins.specs.More.{MatchesAdded, MatchesPair, MatchesRemoved};
 
 /// Law: where two left tables and two right tables lie one behind another, and no row of the first

@@ -8,4 +8,5 @@ use Rattle.diff_json.specs.Strings.{json_string}
 
 -- the line of a column that only one input has
 unfoldable pub column_object : Side → List ℕ → List ℕ
-column_object side name = codes "{\"kind\":\"column\",\"column\":" ++ json_string name ++ codes ",\"only_in\":\"" ++ word_of side ++ codes "\"}\n"
+column_object side name = codes "{\"kind\":\"column\",\"column\":" ++ json_string name
+    ++ codes ",\"only_in\":\"" ++ word_of side ++ codes "\"}\n"

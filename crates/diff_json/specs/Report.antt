@@ -13,9 +13,11 @@ use Rattle.diff_json.specs.Lines.{changed_object, side_object}
 
 -- the lines of all differences: changed rows in left order, then removed ones, then added ones
 abbrev pub difference_objects : Sides → Comparison → List (List ℕ)
-difference_objects s c = map (changed_object s c.matching) c.changed.items ++ map (side_object (codes "removed") (naming_of s) s.left) c.matching.removed.items
+difference_objects s c = map (changed_object s c.matching) c.changed.items
+    ++ map (side_object (codes "removed") (naming_of s) s.left) c.matching.removed.items
     ++ map (side_object (codes "added") (naming_of s) s.right) c.matching.added.items
 
 -- the first lines, and the counts
 unfoldable pub json_text : Sides → Comparison → List ℕ → ℕ → List ℕ
-json_text s c counts limit = concat (take limit (difference_objects s c)) ++ counts_object (naming_of s) c counts limit
+json_text s c counts limit = concat (take limit (difference_objects s c))
+    ++ counts_object (naming_of s) c counts limit

@@ -1,10 +1,12 @@
 -- Strings of JSON, in which each control character is escaped.
 --
--- The bytes a, ", line feed, 27 and 255 have the string "a\"\n\u001b", with U+FFFD before the last quote.
+-- The bytes a, ", line feed, 27 and 255 have the string "a\"\n\u001b", with U+FFFD before the last
+-- quote.
 use Rattle.std.specs.Char.{encode_utf8, is_control}
 use Rattle.std.specs.Fmt.{digit_glyph}
 use Rattle.std.specs.List.{flat_map}
-use Rattle.std.specs.Prelude.{ℕ, ◌/◌, ◌%◌, false, if◌then◌else◌, List, [], ◌∷◌, ◌++◌, Option, Some, None, codes}
+use Rattle.std.specs.Prelude.{ℕ, ◌/◌, ◌%◌, false, if◌then◌else◌, List, [], ◌∷◌, ◌++◌, Option, Some}
+use Rattle.std.specs.Prelude.{None, codes}
 use Rattle.bstr.specs.Utf8.{lossy_chars}
 use Rattle.diff_words.specs.Quoted.{letter_of}
 

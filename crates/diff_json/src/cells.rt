@@ -15,7 +15,8 @@ pub(crate) fn push_cell(
     null: &Option<Vec<u8>>,
     cell: &[u8],
 ) -> Result<(), AllocError>
-    ensures { OnOk result (out.new.items ≡ out.old.items ++ json_cell (option_map (λ v. v.items) null.now) cell.now) }
+    ensures { OnOk result
+        (out.new.items ≡ out.old.items ++ json_cell (option_map (λ v. v.items) null.now) cell.now) }
 {
     if is_null(null, cell) {
         out.extend_from_slice(b"null")?;

@@ -1,6 +1,7 @@
 //! The columns in which two rows differ.
 
-ghost use Rattle.std.specs.Prelude.{◌≡◌, ◌<◌, ◌+◌, ◌++◌, [], if◌then◌else◌, length, codes, IfOk, OnOk};
+ghost use Rattle.std.specs.Prelude.{◌≡◌, ◌<◌, ◌+◌, ◌++◌, [], if◌then◌else◌, length, codes, IfOk};
+ghost use Rattle.std.specs.Prelude.{OnOk};
 ghost use Rattle.diff_words.specs.Lists.{gap};
 ghost use Rattle.diff_report.specs.Pairs.{columns_of, is_apart};
 ghost use Rattle.diff_report.specs.Sides.{AreSides, naming_of, row_of};
@@ -25,7 +26,10 @@ fn push_change(
     requires left { i < length sides.now.left.table.rows }
     requires right { j < length sides.now.right.table.rows }
     requires column { column < length (naming_of sides.now).names }
-    ensures { OnOk result (out.new.items ≡ out.old.items ++ change_member (naming_of sides.now) (row_of sides.now.left i) (row_of sides.now.right j) column) }
+    ensures { OnOk result
+        (out.new.items ≡ out.old.items
+        ++ change_member (naming_of sides.now) (row_of sides.now.left i) (row_of sides.now.right j)
+        column) }
 {
     push_string(out, sides.names.bytes(column))?;
     out.extend_from_slice(br#":{"left":"#)?;
@@ -52,7 +56,9 @@ fn push_if_changed(
     requires column { column < length (naming_of sides.now).names }
     requires room { written < usize.MAX }
     ensures text { OnOk result (out.new.items ≡ out.old.items ++ (if is_apart sides.now i j column
-        then gap (codes ",") written ++ change_member (naming_of sides.now) (row_of sides.now.left i) (row_of sides.now.right j) column else [])) }
+        then gap (codes ",") written
+        ++ change_member (naming_of sides.now) (row_of sides.now.left i)
+        (row_of sides.now.right j) column else [])) }
     ensures count { IfOk result (λ n. n ≡ written + (if is_apart sides.now i j column then 1 else 0)) }
 {
     if sides.compared_left().cell(i, column) == sides.compared_right().cell(j, column) {
@@ -73,7 +79,10 @@ pub(crate) fn push_changes(
     requires sides { AreSides sides.now }
     requires left { i < length sides.now.left.table.rows }
     requires right { j < length sides.now.right.table.rows }
-    ensures { OnOk result (out.new.items ≡ out.old.items ++ change_members (naming_of sides.now) (columns_of sides.now i j) (row_of sides.now.left i) (row_of sides.now.right j)) }
+    ensures { OnOk result
+        (out.new.items ≡ out.old.items
+        ++ change_members (naming_of sides.now) (columns_of sides.now i j) (row_of sides.now.left i)
+        (row_of sides.now.right j)) }
 {
     let mut written = 0;
     for column in 0..sides.left.table.width() {

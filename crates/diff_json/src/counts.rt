@@ -1,10 +1,12 @@
 //! The line with the counts.
 
-ghost use Rattle.std.specs.Prelude.{◌≡◌, ◌<◌, ◌≤◌, ◌+◌, ◌++◌, [], if◌then◌else◌, length, codes, IfOk, OnOk};
+ghost use Rattle.std.specs.Prelude.{◌≡◌, ◌<◌, ◌≤◌, ◌+◌, ◌++◌, [], if◌then◌else◌, length, codes};
+ghost use Rattle.std.specs.Prelude.{IfOk, OnOk};
 ghost use Rattle.diff_words.specs.Lists.{gap};
 ghost use Rattle.diff_report.specs.Sides.{naming_of};
 ghost use Rattle.diff_report.specs.Summary.{is_counted};
-ghost use Rattle.diff_json.specs.Counts.{column_member, column_members, counts_object, totals_members};
+ghost use Rattle.diff_json.specs.Counts.{column_member, column_members, counts_object};
+ghost use Rattle.diff_json.specs.Counts.{totals_members};
 
 use crate::numbers::push_number;
 use crate::strings::push_string;
@@ -27,7 +29,10 @@ fn push_if_counted(
     requires names { column < length (naming_of sides.now).names }
     requires counts { column < length counts.now }
     requires room { written < usize.MAX }
-    ensures text { OnOk result (out.new.items ≡ out.old.items ++ (if is_counted counts.now column then gap (codes ",") written ++ column_member (naming_of sides.now) counts.now column else [])) }
+    ensures text { OnOk result
+        (out.new.items ≡ out.old.items
+        ++ (if is_counted counts.now column then gap (codes ",") written
+        ++ column_member (naming_of sides.now) counts.now column else [])) }
     ensures count { IfOk result (λ n. n ≡ written + (if is_counted counts.now column then 1 else 0)) }
 {
     if counts[column] == 0 {
@@ -42,7 +47,8 @@ fn push_if_counted(
 /// Appends the columns that differ, and how often.
 fn push_by_column(out: &mut Vec<u8>, sides: &Sides, counts: &[usize]) -> Result<(), AllocError>
     requires { length counts.now ≡ length (naming_of sides.now).names }
-    ensures { OnOk result (out.new.items ≡ out.old.items ++ column_members (naming_of sides.now) counts.now) }
+    ensures { OnOk result
+        (out.new.items ≡ out.old.items ++ column_members (naming_of sides.now) counts.now) }
 {
     let mut written = 0;
     for column in 0..counts.len() {
@@ -62,7 +68,8 @@ pub fn push_totals(
     same: usize,
     not_shown: u128,
 ) -> Result<(), AllocError>
-    ensures { OnOk result (out.new.items ≡ out.old.items ++ totals_members changed removed added same not_shown) }
+    ensures { OnOk result
+        (out.new.items ≡ out.old.items ++ totals_members changed removed added same not_shown) }
 {
     push_number(out, br#""changed":"#, changed)?;
     push_number(out, br#","removed":"#, removed)?;
@@ -81,9 +88,12 @@ pub fn push_counts(
     counts: &[usize],
     limit: usize,
 ) -> Result<(), AllocError>
-    requires few { length comparison.now.changed.items ≤ length comparison.now.matching.left_rows.items }
+    requires few { length comparison.now.changed.items ≤ length
+        comparison.now.matching.left_rows.items }
     requires counts { length counts.now ≡ length (naming_of sides.now).names }
-    ensures { OnOk result (out.new.items ≡ out.old.items ++ counts_object (naming_of sides.now) comparison.now counts.now limit) }
+    ensures { OnOk result
+        (out.new.items ≡ out.old.items
+        ++ counts_object (naming_of sides.now) comparison.now counts.now limit) }
 {
     let (matching, changed) = (&comparison.matching, comparison.changed.len());
     let (removed, added) = (matching.removed.len(), matching.added.len());

@@ -21,7 +21,9 @@ fn push_key(
     requires side { IsSide (naming_of sides.now) side.now }
     requires row { i < length side.now.table.rows }
     requires column { column < length (naming_of sides.now).names }
-    ensures { OnOk result (out.new.items ≡ out.old.items ++ key_member (naming_of sides.now) (row_of side.now i) column) }
+    ensures { OnOk result
+        (out.new.items ≡ out.old.items
+        ++ key_member (naming_of sides.now) (row_of side.now i) column) }
 {
     push_string(out, sides.names.bytes(column))?;
     out.push(b':')?;
@@ -39,7 +41,8 @@ pub(crate) fn push_keys(
     requires sides { AreSides sides.now }
     requires side { IsSide (naming_of sides.now) side.now }
     requires row { i < length side.now.table.rows }
-    ensures { OnOk result (out.new.items ≡ out.old.items ++ key_members (naming_of sides.now) (row_of side.now i)) }
+    ensures { OnOk result
+        (out.new.items ≡ out.old.items ++ key_members (naming_of sides.now) (row_of side.now i)) }
 {
     for k in 0..sides.keys.len() {
         push_gap(out, b",", k)?;

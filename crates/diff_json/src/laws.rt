@@ -15,31 +15,47 @@ ghost use Rattle.diff_json.specs.Plain.{IsLine};
 /// Law: the line of two rows that differ in some columns is one line, which is read back as its
 /// members.
 pub fn law_pair()
-    ensures read { (n : Naming) (columns : List ℕ) (i left_line : ℕ) (left : List (List ℕ)) (j right_line : ℕ) (right : List (List ℕ)) → i < 2 ^ 64 → left_line < 2 ^ 64 → j < 2 ^ 64 → right_line < 2 ^ 64
-        → document (pair_object n columns i left_line left j right_line right) ≡ Some (pair_value n columns i left_line left j right_line right) }
-    ensures line { (n : Naming) (columns : List ℕ) (i left_line : ℕ) (left : List (List ℕ)) (j right_line : ℕ) (right : List (List ℕ)) → i < 2 ^ 64 → left_line < 2 ^ 64 → j < 2 ^ 64 → right_line < 2 ^ 64
+    ensures read { (n : Naming) (columns : List ℕ) (i left_line : ℕ) (left : List (List ℕ))
+        (j right_line : ℕ) (right : List (List ℕ)) → i < 2 ^ 64 → left_line < 2 ^ 64 → j < 2 ^ 64
+        → right_line < 2 ^ 64
+        → document (pair_object n columns i left_line left j right_line right)
+        ≡ Some (pair_value n columns i left_line left j right_line right) }
+    ensures line { (n : Naming) (columns : List ℕ) (i left_line : ℕ) (left : List (List ℕ))
+        (j right_line : ℕ) (right : List (List ℕ)) → i < 2 ^ 64 → left_line < 2 ^ 64 → j < 2 ^ 64
+        → right_line < 2 ^ 64
         → IsLine (pair_object n columns i left_line left j right_line right) }
 {}
 
 /// Law: the line of a row that only one side has is one line, which is read back as its members.
 pub fn law_row()
-    ensures removed_line { (n : Naming) (i line : ℕ) (cells : List (List ℕ)) → i < 2 ^ 64 → line < 2 ^ 64 → IsLine (row_object (codes "removed") n i line cells) }
-    ensures added_line { (n : Naming) (i line : ℕ) (cells : List (List ℕ)) → i < 2 ^ 64 → line < 2 ^ 64 → IsLine (row_object (codes "added") n i line cells) }
-    ensures removed { (n : Naming) (i line : ℕ) (cells : List (List ℕ)) → i < 2 ^ 64 → line < 2 ^ 64 → document (row_object (codes "removed") n i line cells) ≡ Some (row_value (codes "removed") n i line cells) }
-    ensures added { (n : Naming) (i line : ℕ) (cells : List (List ℕ)) → i < 2 ^ 64 → line < 2 ^ 64 → document (row_object (codes "added") n i line cells) ≡ Some (row_value (codes "added") n i line cells) }
+    ensures removed_line { (n : Naming) (i line : ℕ) (cells : List (List ℕ)) → i < 2 ^ 64 → line < 2 ^ 64
+        → IsLine (row_object (codes "removed") n i line cells) }
+    ensures added_line { (n : Naming) (i line : ℕ) (cells : List (List ℕ)) → i < 2 ^ 64 → line < 2 ^ 64
+        → IsLine (row_object (codes "added") n i line cells) }
+    ensures removed { (n : Naming) (i line : ℕ) (cells : List (List ℕ)) → i < 2 ^ 64 → line < 2 ^ 64
+        → document (row_object (codes "removed") n i line cells)
+        ≡ Some (row_value (codes "removed") n i line cells) }
+    ensures added { (n : Naming) (i line : ℕ) (cells : List (List ℕ)) → i < 2 ^ 64 → line < 2 ^ 64
+        → document (row_object (codes "added") n i line cells)
+        ≡ Some (row_value (codes "added") n i line cells) }
 {}
 
 /// Law: the line of a column that only one input has is one line, which is read back as its
 /// members.
 pub fn law_column()
     ensures line { (side : Side) (name : List ℕ) → IsLine (column_object side name) }
-    ensures read { (side : Side) (name : List ℕ) → document (column_object side name) ≡ Some (column_value side name) }
+    ensures read { (side : Side) (name : List ℕ) → document (column_object side name)
+        ≡ Some (column_value side name) }
 {}
 
 /// Law: the line with the counts is one line, which is read back as its members.
 pub fn law_counts()
-    ensures line { (n : Naming) (c : Comparison) (counts : List ℕ) (limit : ℕ) → difference_count c < 2 ^ 64 → length c.matching.left_rows.items < 2 ^ 64 → ((column : ℕ) → slice_index counts column < 2 ^ 64)
+    ensures line { (n : Naming) (c : Comparison) (counts : List ℕ) (limit : ℕ)
+        → difference_count c < 2 ^ 64 → length c.matching.left_rows.items < 2 ^ 64
+        → ((column : ℕ) → slice_index counts column < 2 ^ 64)
         → IsLine (counts_object n c counts limit) }
-    ensures read { (n : Naming) (c : Comparison) (counts : List ℕ) (limit : ℕ) → difference_count c < 2 ^ 64 → length c.matching.left_rows.items < 2 ^ 64 → ((column : ℕ) → slice_index counts column < 2 ^ 64)
+    ensures read { (n : Naming) (c : Comparison) (counts : List ℕ) (limit : ℕ)
+        → difference_count c < 2 ^ 64 → length c.matching.left_rows.items < 2 ^ 64
+        → ((column : ℕ) → slice_index counts column < 2 ^ 64)
         → document (counts_object n c counts limit) ≡ Some (counts_value n c counts limit) }
 {}

@@ -40,7 +40,8 @@ pub fn push_alone(
     requires sides { AreSides sides.now }
     requires side { IsSide (naming_of sides.now) side.now }
     requires row { i < length side.now.table.rows }
-    ensures { OnOk result (out.new.items ≡ out.old.items ++ side_object kind.now (naming_of sides.now) side.now i) }
+    ensures { OnOk result
+        (out.new.items ≡ out.old.items ++ side_object kind.now (naming_of sides.now) side.now i) }
 {
     out.extend_from_slice(br#"{"kind":""#)?;
     out.extend_from_slice(kind)?;

@@ -1,8 +1,11 @@
--- Right rows that wait for a partner, in chains: those whose keys are in one class, in rising order.
+-- Right rows that wait for a partner, in chains: those whose keys are in one class, in rising
+-- order.
 --
--- Of the right keys "a", "b", "a", of which "a" and "b" are in one class, rows 1 and 2 wait once a left row of the key
--- "a" has found its partner. The head of the class is then row 1, and the next one is row 2.
-use Rattle.std.specs.Prelude.{◌≡◌, ◌<◌, ◌≤◌, ◌%◌, ℕ, suc, List, Option, Some, None, get_or, length, take}
+-- Of the right keys "a", "b", "a", of which "a" and "b" are in one class, rows 1 and 2 wait once a
+-- left row of the key "a" has found its partner. The head of the class is then row 1, and the next
+-- one is row 2.
+use Rattle.std.specs.Prelude.{◌≡◌, ◌<◌, ◌≤◌, ◌%◌, ℕ, suc, List, Option, Some, None, get_or, length}
+use Rattle.std.specs.Prelude.{take}
 use Rattle.diff_keys.specs.Hashes.{key_hash}
 use Rattle.diff_keys.specs.Partners.{Keys, count_of, key_at, number_of}
 use Rattle.diff_keys.specs.Waiting.{nth}
@@ -12,7 +15,8 @@ use Rattle.diff_keys.specs.declared.waiting.Waiting.{Waiting}
 abbrev pub class_of : ℕ → List ℕ → ℕ
 class_of count key = key_hash key % count
 
--- right row x waits once the first i left rows have found their partners: as many rows of its key come before it
+-- right row x waits once the first i left rows have found their partners: as many rows of its key
+-- come before it
 abbrev pub Waits : Keys → Keys → ℕ → ℕ → Type 0
 Waits left right i x = count_of (key_at right x) (take i left) ≤ number_of right x
 
@@ -36,8 +40,11 @@ IsIn keys count P c x = P x × (class_of count (key_at keys x) ≡ c)
 pub record AreChained (keys : Keys) (P : ℕ → Type 0) (heads next : List (Option ℕ)) : Type 0 where
   pub some : 0 < length heads
   pub len : length next ≡ length keys
-  pub first : (c : ℕ) → c < length heads → IsFirst (IsIn keys (length heads) P c) 0 (length keys) (get_or heads c None)
-  pub later : (t : ℕ) → t < length keys → P t → IsFirst (IsIn keys (length heads) P (class_of (length heads) (key_at keys t))) (suc t) (length keys) (get_or next t None)
+  pub first : (c : ℕ) → c < length heads
+      → IsFirst (IsIn keys (length heads) P c) 0 (length keys) (get_or heads c None)
+  pub later : (t : ℕ) → t < length keys → P t
+      → IsFirst (IsIn keys (length heads) P (class_of (length heads) (key_at keys t))) (suc t)
+      (length keys) (get_or next t None)
 
 -- the right rows that wait once the first i left rows have found their partners are chained
 abbrev pub AreWaiting : Keys → Keys → ℕ → Waiting → Type 0

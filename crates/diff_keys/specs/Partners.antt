@@ -1,8 +1,10 @@
--- Which rows of two tables are partners. A table is here the list of its rows' keys, each a list of bytes.
+-- Which rows of two tables are partners. A table is here the list of its rows' keys, each a list of
+-- bytes.
 --
--- Of the left keys "a", "b", "a" and the right keys "a", "a", "a", row 0 of the left is the partner of row 0 of
--- the right and row 2 of row 1. Row 1 of the left and row 2 of the right have none.
-use Rattle.std.specs.Prelude.{◌≡◌, ◌<◌, ℕ, suc, Bool, true, false, List, [], ◌∷◌, Option, Some, None, get_or, length, take}
+-- Of the left keys "a", "b", "a" and the right keys "a", "a", "a", row 0 of the left is the partner
+-- of row 0 of the right and row 2 of row 1. Row 1 of the left and row 2 of the right have none.
+use Rattle.std.specs.Prelude.{◌≡◌, ◌<◌, ℕ, suc, Bool, true, false, List, [], ◌∷◌, Option, Some}
+use Rattle.std.specs.Prelude.{None, get_or, length, take}
 use Rattle.std.specs.Str.{bytes_eq}
 
 -- the keys of a table's rows

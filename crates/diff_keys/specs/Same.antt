@@ -1,7 +1,8 @@
 -- Rows of two tables that are the same, key by key.
 --
--- By their first cells the rows "a" "1", "b" "2", "a" "3" and the rows "b" "2", "a" "1", "a" "3" are
--- the same: of the key "a" both tables have "a" "1" and then "a" "3", and of the key "b" "b" "2".
+-- By their first cells the rows "a" "1", "b" "2", "a" "3" and the rows "b" "2", "a" "1", "a" "3"
+-- are the same: of the key "a" both tables have "a" "1" and then "a" "3", and of the key "b" "b"
+-- "2".
 use Rattle.std.specs.List.{filter}
 use Rattle.std.specs.Prelude.{◌≡◌, ℕ, List}
 use Rattle.std.specs.Str.{bytes_eq}

@@ -1,5 +1,6 @@
 -- The row of a key with a number, as the search for partners keeps it.
-use Rattle.std.specs.Prelude.{ℕ, zero, suc, Bool, true, false, List, [], ◌∷◌, Option, Some, None, take, option_map}
+use Rattle.std.specs.Prelude.{ℕ, zero, suc, Bool, true, false, List, [], ◌∷◌, Option, Some, None}
+use Rattle.std.specs.Prelude.{take, option_map}
 use Rattle.std.specs.Str.{bytes_eq}
 use Rattle.diff_keys.specs.Partners.{Keys, count_of}
 

@@ -16,7 +16,9 @@ pub(crate) struct Pairs {
 /// Lists the rows that found a partner, and their partners.
 pub(crate) fn pairs_found(alloc: Global, found: &[Option<u32>]) -> Result<Pairs, AllocError>
     requires { length found.now ≤ 2 ^ 32 }
-    ensures { IfOk result (λ pairs. ListsFound found.now (length found.now) pairs.left_rows.items pairs.right_rows.items) }
+    ensures { IfOk result
+        (λ pairs. ListsFound found.now (length found.now) pairs.left_rows.items
+        pairs.right_rows.items) }
 {
     let mut left_rows = Vec::new(alloc);
     let mut right_rows = Vec::new(alloc);
@@ -35,7 +37,8 @@ pub(crate) fn pairs_found(alloc: Global, found: &[Option<u32>]) -> Result<Pairs,
 /// Lists the rows that found no partner.
 pub(crate) fn rows_alone(alloc: Global, found: &[Option<u32>]) -> Result<Vec<u32>, AllocError>
     requires { length found.now ≤ 2 ^ 32 }
-    ensures { IfOk result (λ alone. ListsRising (HasNone found.now) (length found.now) alone.items) }
+    ensures { IfOk result
+        (λ alone. ListsRising (HasNone found.now) (length found.now) alone.items) }
 {
     let mut alone = Vec::new(alloc);
     for i in 0..found.len() {
@@ -61,7 +64,8 @@ fn flags_of(alloc: Global, count: usize, rows: &[u32]) -> Result<Vec<bool>, Allo
 /// Lists the places of the flags that are not set.
 fn places_unset(alloc: Global, flags: &[bool]) -> Result<Vec<u32>, AllocError>
     requires { length flags.now ≤ 2 ^ 32 }
-    ensures { IfOk result (λ places. ListsRising (IsUnset flags.now) (length flags.now) places.items) }
+    ensures { IfOk result
+        (λ places. ListsRising (IsUnset flags.now) (length flags.now) places.items) }
 {
     let mut places = Vec::new(alloc);
     for j in 0..flags.len() {

@@ -60,7 +60,8 @@ pub fn match_rows<L: ByteRows, R: ByteRows>(
     right: &R,
 ) -> Result<Matching, MatchError>
     ensures few { IfOk result (λ _. AreFew (L.strings left.now) (R.strings right.now)) }
-    ensures matching { MatchResult result (IsMatching (L.strings left.now) (R.strings right.now)) (IsMatchFault (L.strings left.now) (R.strings right.now)) }
+    ensures matching { MatchResult result (IsMatching (L.strings left.now) (R.strings right.now))
+        (IsMatchFault (L.strings left.now) (R.strings right.now)) }
 {
     if left.count() > MOST_ROWS || right.count() > MOST_ROWS {
         return Err(MatchError::TooManyRows);

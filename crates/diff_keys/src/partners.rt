@@ -1,6 +1,7 @@
 //! The partner of each row of a table.
 
-ghost use Rattle.std.specs.Prelude.{◌≡◌, ◌<◌, ◌≤◌, ◌^◌, ℕ, All, length, map, vec_len, get_or, None, IfOk, IfSome};
+ghost use Rattle.std.specs.Prelude.{◌≡◌, ◌<◌, ◌≤◌, ◌^◌, ℕ, All, length, map, vec_len, get_or, None};
+ghost use Rattle.std.specs.Prelude.{IfOk, IfSome};
 ghost use Rattle.diff_keys.specs.Chains.{AreWaiting};
 ghost use Rattle.diff_keys.specs.Found.{AreClasses, AreGuesses, AreRows, HaveFound};
 ghost use Rattle.diff_keys.specs.Partners.{HasKey, IsPartner};
@@ -21,7 +22,8 @@ fn classes_for<L: ByteRows>(
     requires some { 0 < count }
     requires rise { start ≤ end }
     requires within { end ≤ length (L.strings left.now) }
-    ensures { IfOk result (λ classes. AreClasses (L.strings left.now) count start end classes.items) }
+    ensures { IfOk result
+        (λ classes. AreClasses (L.strings left.now) count start end classes.items) }
 {
     let mut classes = Vec::with_capacity(alloc, end - start)?;
     for i in start..end {
@@ -37,7 +39,8 @@ fn heads_of(
     waiting: &Waiting,
 ) -> Result<Vec<Option<u32>>, AllocError>
     requires { All (λ c. c < length waiting.now.heads.items) classes.now }
-    ensures { IfOk result (λ rows. rows.items ≡ map (λ c. get_or waiting.now.heads.items c None) classes.now) }
+    ensures { IfOk result
+        (λ rows. rows.items ≡ map (λ c. get_or waiting.now.heads.items c None) classes.now) }
 {
     let mut rows = Vec::with_capacity(alloc, classes.len())?;
     for k in 0..classes.len() {
@@ -71,7 +74,8 @@ fn guesses_for<L: ByteRows, R: ByteRows>(
     requires rows { AreRows (R.strings right.now) start end rows.now }
     requires rise { start ≤ end }
     requires within { end ≤ length (L.strings left.now) }
-    ensures { IfOk result (λ guesses. AreGuesses (L.strings left.now) (R.strings right.now) start end guesses.items) }
+    ensures { IfOk result
+        (λ guesses. AreGuesses (L.strings left.now) (R.strings right.now) start end guesses.items) }
 {
     let mut guesses = Vec::with_capacity(alloc, end - start)?;
     for i in start..end {
@@ -96,7 +100,9 @@ fn push_partners<L: ByteRows, R: ByteRows>(
     requires within { end ≤ length (L.strings left.now) }
     requires classes { AreClasses (L.strings left.now) (length waiting.old.heads.items) start end classes.now }
     requires guesses { AreGuesses (L.strings left.now) (R.strings right.now) start end guesses.now }
-    ensures { IfOk result (λ _. HaveFound (L.strings left.now) (R.strings right.now) end waiting.new found.new.items) }
+    ensures { IfOk result
+        (λ _. HaveFound (L.strings left.now) (R.strings right.now) end waiting.new
+        found.new.items) }
 {
     for i in start..end {
         let (class, guess) = (classes[i - start], guesses[i - start]);
@@ -119,7 +125,9 @@ fn push_block<L: ByteRows, R: ByteRows>(
     requires found { HaveFound (L.strings left.now) (R.strings right.now) start waiting.old found.old.items }
     requires rise { start ≤ end }
     requires within { end ≤ length (L.strings left.now) }
-    ensures { IfOk result (λ _. HaveFound (L.strings left.now) (R.strings right.now) end waiting.new found.new.items) }
+    ensures { IfOk result
+        (λ _. HaveFound (L.strings left.now) (R.strings right.now) end waiting.new
+        found.new.items) }
 {
     let classes = classes_for(alloc, left, start, end, waiting.heads.len())?;
     let rows = heads_of(alloc, &classes, waiting)?;
@@ -136,7 +144,9 @@ fn push_all<L: ByteRows, R: ByteRows>(
     waiting: &mut Waiting,
 ) -> Result<(), AllocError>
     requires { HaveFound (L.strings left.now) (R.strings right.now) 0 waiting.old found.old.items }
-    ensures { IfOk result (λ _. HaveFound (L.strings left.now) (R.strings right.now) (length (L.strings left.now)) waiting.new found.new.items) }
+    ensures { IfOk result
+        (λ _. HaveFound (L.strings left.now) (R.strings right.now) (length (L.strings left.now))
+        waiting.new found.new.items) }
 {
     let mut start = 0;
     while start < left.count() {
@@ -155,7 +165,9 @@ pub(crate) fn partners<L: ByteRows, R: ByteRows>(
 ) -> Result<Vec<Option<u32>>, AllocError>
     requires { length (R.strings right.now) ≤ 2 ^ 32 }
     ensures one_each { IfOk result (λ found. vec_len found ≡ length (L.strings left.now)) }
-    ensures partners { IfOk result (λ found. (i : ℕ) → i < length (L.strings left.now) → IsPartner (L.strings left.now) (R.strings right.now) i (get_or found.items i None)) }
+    ensures partners { IfOk result
+        (λ found. (i : ℕ) → i < length (L.strings left.now)
+        → IsPartner (L.strings left.now) (R.strings right.now) i (get_or found.items i None)) }
 {
     let mut waiting = all_waiting(alloc, right)?;
     let mut found = Vec::with_capacity(alloc, left.count())?;

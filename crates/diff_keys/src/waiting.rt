@@ -1,6 +1,7 @@
 //! The rows of a table that wait for a partner.
 
-ghost use Rattle.std.specs.Prelude.{◌≡◌, ◌≢◌, ◌<◌, ◌≤◌, ◌^◌, ℕ, Some, None, get_or, length, IfOk, IfSome};
+ghost use Rattle.std.specs.Prelude.{◌≡◌, ◌≢◌, ◌<◌, ◌≤◌, ◌^◌, ℕ, Some, None, get_or, length, IfOk};
+ghost use Rattle.std.specs.Prelude.{IfSome};
 ghost use Rattle.diff_keys.specs.Chains.{AreChained, AreWaiting, HasTaken, class_of};
 ghost use Rattle.diff_keys.specs.Partners.{HasKey, Keys, key_at};
 
@@ -8,8 +9,8 @@ use crate::hash::key_hash;
 use polars_arrays_flat::byte_rows::ByteRows;
 use std::alloc::{AllocError, Global};
 
-/// The rows of a table that wait for a partner. Keys fall into classes by their hashes, and the rows
-/// of each class are chained in rising order.
+/// The rows of a table that wait for a partner. Keys fall into classes by their hashes, and the
+/// rows of each class are chained in rising order.
 #[derive(Drop)]
 pub(crate) struct Waiting {
     // The first row of each class.
@@ -33,7 +34,8 @@ pub(crate) fn class_of(key: &[u8], count: usize) -> usize
 /// Returns all rows of a table as waiting.
 pub(crate) fn all_waiting<R: ByteRows>(alloc: Global, keys: &R) -> Result<Waiting, AllocError>
     requires { length (R.strings keys.now) ≤ 2 ^ 32 }
-    ensures { IfOk result (λ rows. AreChained (R.strings keys.now) (λ x. 0 ≤ x) rows.heads.items rows.next.items) }
+    ensures { IfOk result
+        (λ rows. AreChained (R.strings keys.now) (λ x. 0 ≤ x) rows.heads.items rows.next.items) }
 {
     let count = keys.count();
     let classes = count.saturating_mul(CLASSES).saturating_add(1);
@@ -72,7 +74,9 @@ impl Waiting {
         requires waiting { (left : Keys) × (i : ℕ) × AreWaiting left (R.strings keys.now) i self.old }
         requires class { class ≡ class_of (length self.old.heads.items) key.now }
         requires guess { IfSome guess (HasKey (R.strings keys.now) key.now) }
-        ensures taken { (left : Keys) (i : ℕ) → i < length left → key_at left i ≡ key.now → AreWaiting left (R.strings keys.now) i self.old → HasTaken left (R.strings keys.now) i result self.new }
+        ensures taken { (left : Keys) (i : ℕ) → i < length left → key_at left i ≡ key.now
+            → AreWaiting left (R.strings keys.now) i self.old
+            → HasTaken left (R.strings keys.now) i result self.new }
         ensures classes { length self.new.heads.items ≡ length self.old.heads.items }
     {
         let head = self.heads[class]?;
@@ -89,9 +93,12 @@ impl Waiting {
     fn take_behind<R: ByteRows>(&mut self, keys: &R, key: &[u8], head: u32) -> Option<u32>
         requires waiting { (left : Keys) × (i : ℕ) × AreWaiting left (R.strings keys.now) i self.old }
         requires some { 0 < length self.old.heads.items }
-        requires head { get_or self.old.heads.items (class_of (length self.old.heads.items) key.now) None ≡ Some head }
+        requires head { get_or self.old.heads.items (class_of (length self.old.heads.items) key.now) None
+            ≡ Some head }
         requires other { key_at (R.strings keys.now) head ≢ key.now }
-        ensures taken { (left : Keys) (i : ℕ) → i < length left → key_at left i ≡ key.now → AreWaiting left (R.strings keys.now) i self.old → HasTaken left (R.strings keys.now) i result self.new }
+        ensures taken { (left : Keys) (i : ℕ) → i < length left → key_at left i ≡ key.now
+            → AreWaiting left (R.strings keys.now) i self.old
+            → HasTaken left (R.strings keys.now) i result self.new }
         ensures classes { self.new.heads ≡ self.old.heads }
     {
         let mut before = head as usize;

@@ -1,7 +1,9 @@
 -- The lines of a report as JSON lines.
 --
--- {"kind":"column","column":"note","only_in":"left"} is a line of the kind Column, and {"kind":"row"} is none.
-use Rattle.std.specs.Prelude.{ℕ, if◌then◌else◌, List, codes, Option, Some, None, option_and_then, option_map, All, IsSome}
+-- {"kind":"column","column":"note","only_in":"left"} is a line of the kind Column, and
+-- {"kind":"row"} is none.
+use Rattle.std.specs.Prelude.{ℕ, if◌then◌else◌, List, codes, Option, Some, None, option_and_then}
+use Rattle.std.specs.Prelude.{option_map, All, IsSome}
 use Rattle.std.specs.Str.{bytes_eq, IsUtf8}
 use Rattle.std.specs.Str.Lines.{lines}
 use Rattle.json.specs.Json.{Json, if_last, value}
@@ -29,7 +31,8 @@ line_value line = option_and_then (λ p. if_last p.0 p.1) (value most_depth (tok
 
 -- the kind of a line and its value, where it is JSON with a kind
 unfoldable pub line_of : List ℕ → Option (Kind × Json)
-line_of line = option_and_then (λ j. option_map (λ k. (k, j)) (kind_named (string_at (codes "kind") j))) (line_value line)
+line_of line = option_and_then
+    (λ j. option_map (λ k. (k, j)) (kind_named (string_at (codes "kind") j))) (line_value line)
 
 -- a text is a report: each line is JSON with a kind
 pub record IsReport (text : List ℕ) : Type 0 where

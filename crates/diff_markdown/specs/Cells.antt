@@ -1,8 +1,11 @@
--- What stands in the cells of a table: JSON within code spans, so that nothing of it is a mention, a link, an emoji or HTML.
+-- What stands in the cells of a table: JSON within code spans, so that nothing of it is a mention,
+-- a link, an emoji or HTML.
 --
--- The string Oslo is `"Oslo"`, the member id with 7 is `id=7`, and the member "a b" with null is `"a b"=null`.
+-- The string Oslo is `"Oslo"`, the member id with 7 is `id=7`, and the member "a b" with null is
+-- `"a b"=null`.
 use Rattle.std.specs.List.{list_all}
-use Rattle.std.specs.Prelude.{ℕ, ◌==◌, Bool, not, ◌&&◌, nat_lt, if◌then◌else◌, List, [], ◌++◌, length, codes, Option, Some, None, option_and_then}
+use Rattle.std.specs.Prelude.{ℕ, ◌==◌, Bool, not, ◌&&◌, nat_lt, if◌then◌else◌, List, [], ◌++◌}
+use Rattle.std.specs.Prelude.{length, codes, Option, Some, None, option_and_then}
 use Rattle.json.specs.Find.{as_object}
 use Rattle.json.specs.Json.{Json, string, Members, no_members, member}
 use Rattle.json.specs.Print.{print}
@@ -13,10 +16,12 @@ use Rattle.diff_markdown.specs.Escapes.{safe}
 unfoldable pub value_text : Json → List ℕ
 value_text j = safe (print (json_tokens j))
 
--- a byte above a space that is no quote, comma, equals sign, backslash, backquote, bar, 127 or 194, with which U+0080 to U+00BF begin
+-- a byte above a space that is no quote, comma, equals sign, backslash, backquote, bar, 127 or 194,
+-- with which U+0080 to U+00BF begin
 abbrev pub is_word_byte : ℕ → Bool
 is_word_byte b =
-    nat_lt 32 b && not (b == 34) && not (b == 44) && not (b == 61) && not (b == 92) && not (b == 96) && not (b == 124) && not (b == 127) && not (b == 194)
+    nat_lt 32 b && not (b == 34) && not (b == 44) && not (b == 61) && not (b == 92) && not (b == 96)
+    && not (b == 124) && not (b == 127) && not (b == 194)
 
 -- some bytes, each of which may stand in a word
 abbrev pub is_word : List ℕ → Bool

@@ -1,7 +1,7 @@
 -- What the head of a report says.
 --
--- {"kind":"counts","changed":1,"removed":2,"added":0,"same":5,"not_shown":0,"columns":{"city":1}} is
--- : 1 changed, 2 removed, 0 added, 5 the same. By column: `city=1`.
+-- {"kind":"counts","changed":1,"removed":2,"added":0,"same":5,"not_shown":0,"columns":{"city":1}}
+-- is : 1 changed, 2 removed, 0 added, 5 the same. By column: `city=1`.
 use Rattle.std.specs.Prelude.{ℕ, ◌==◌, if◌then◌else◌, List, [], ◌++◌, length, codes}
 use Rattle.std.specs.Str.{bytes_eq}
 use Rattle.json.specs.Find.{get}
@@ -14,7 +14,9 @@ use Rattle.diff_markdown.specs.Rows.{number_cell}
 -- how many rows are of each kind
 unfoldable pub kinds_text : Json → List ℕ
 kinds_text j =
-    codes ": " ++ number_cell (codes "changed") j ++ codes " changed, " ++ number_cell (codes "removed") j ++ codes " removed, " ++ number_cell (codes "added") j ++ codes " added, "
+    codes ": " ++ number_cell (codes "changed") j ++ codes " changed, "
+    ++ number_cell (codes "removed") j ++ codes " removed, " ++ number_cell (codes "added") j
+    ++ codes " added, "
     ++ number_cell (codes "same") j ++ codes " the same."
 
 -- how many cells differ in each column, if any does
@@ -25,12 +27,15 @@ columns_note pairs = if length pairs == 0 then [] else codes " By column: " ++ p
 unfoldable pub skipped_note : Json → List ℕ
 skipped_note j =
     if length (number_at (codes "left_skipped") j) == 0 then []
-    else codes " Skipped lines: " ++ number_cell (codes "left_skipped") j ++ codes " left, " ++ number_cell (codes "right_skipped") j ++ codes " right."
+    else codes " Skipped lines: " ++ number_cell (codes "left_skipped") j ++ codes " left, "
+    ++ number_cell (codes "right_skipped") j ++ codes " right."
 
 -- how many differences the report leaves out, if it does
 abbrev pub hidden_note : List ℕ → List ℕ
-hidden_note count = if bytes_eq count (codes "0") then [] else codes " Not shown: " ++ safe count ++ codes " more."
+hidden_note count = if bytes_eq count (codes "0") then [] else codes " Not shown: " ++ safe count
+    ++ codes " more."
 
 -- the counts of a report
 unfoldable pub counts_text : Json → List ℕ
-counts_text j = kinds_text j ++ columns_note (pairs_cell (get (codes "columns") j)) ++ skipped_note j ++ hidden_note (number_at (codes "not_shown") j)
+counts_text j = kinds_text j ++ columns_note (pairs_cell (get (codes "columns") j))
+    ++ skipped_note j ++ hidden_note (number_at (codes "not_shown") j)

@@ -1,9 +1,10 @@
 -- A report as Markdown: a line with the counts, and a table of the differences.
 --
--- With the one line {"kind":"counts","changed":0,"removed":0,"added":0,"same":4,"not_shown":0} the report of a.csv and b.csv is
--- `a.csv` and `b.csv`: 0 changed, 0 removed, 0 added, 4 the same.
+-- With the one line {"kind":"counts","changed":0,"removed":0,"added":0,"same":4,"not_shown":0} the
+-- report of a.csv and b.csv is `a.csv` and `b.csv`: 0 changed, 0 removed, 0 added, 4 the same.
 use Rattle.std.specs.List.{flat_map}
-use Rattle.std.specs.Prelude.{ℕ, ◌==◌, if◌then◌else◌, List, [], ◌++◌, length, codes, Option, Some, None}
+use Rattle.std.specs.Prelude.{ℕ, ◌==◌, if◌then◌else◌, List, [], ◌++◌, length, codes, Option, Some}
+use Rattle.std.specs.Prelude.{None}
 use Rattle.std.specs.Str.Lines.{lines}
 use Rattle.json.specs.Json.{Json}
 use Rattle.diff_lines.specs.declared.line.Kind.{Kind}
@@ -49,8 +50,10 @@ counts_of = flat_map (λ l. counts_in (line_of l))
 
 -- a table of these rows, if there are any
 abbrev pub table : List ℕ → List ℕ
-table rows = if length rows == 0 then [] else codes "\n| | Key | Part | Left | Right |\n|---|---|---|---|---|\n" ++ rows
+table rows = if length rows ==
+    0 then [] else codes "\n| | Key | Part | Left | Right |\n|---|---|---|---|---|\n" ++ rows
 
 -- a report of two files as Markdown
 unfoldable pub markdown_of : List ℕ → List ℕ → List ℕ → List ℕ
-markdown_of left right report = name_cell left ++ codes " and " ++ name_cell right ++ counts_of (lines report) ++ codes "\n" ++ table (rows_of (lines report))
+markdown_of left right report = name_cell left ++ codes " and " ++ name_cell right
+    ++ counts_of (lines report) ++ codes "\n" ++ table (rows_of (lines report))

@@ -5,7 +5,8 @@ ghost use Rattle.std.specs.Prelude.{◌≡◌, ◌++◌, [], OnOk};
 ghost use Rattle.json.specs.Find.{get};
 ghost use Rattle.json.specs.Tree.{HasNumbers, MembersHaveNumbers};
 ghost use Rattle.json.specs.Value.{members_view, value_view};
-ghost use Rattle.diff_markdown.specs.Cells.{is_word, is_word_byte, name_cell, name_text, pair_cell, pairs_after, pairs_cell, side_cell, value_text};
+ghost use Rattle.diff_markdown.specs.Cells.{is_word, is_word_byte, name_cell, name_text, pair_cell};
+ghost use Rattle.diff_markdown.specs.Cells.{pairs_after, pairs_cell, side_cell, value_text};
 ghost use Rattle.diff_markdown.specs.Rows.{number_cell};
 
 use crate::escapes::push_safe;

@@ -3,7 +3,8 @@
 ghost use Rattle.std.specs.Prelude.{◌≡◌, ◌++◌, OnOk};
 ghost use Rattle.json.specs.Tree.{HasNumbers};
 ghost use Rattle.json.specs.Value.{value_view};
-ghost use Rattle.diff_markdown.specs.Counts.{columns_note, counts_text, hidden_note, kinds_text, skipped_note};
+ghost use Rattle.diff_markdown.specs.Counts.{columns_note, counts_text, hidden_note, kinds_text};
+ghost use Rattle.diff_markdown.specs.Counts.{skipped_note};
 
 use crate::cells::{push_number, push_pairs_cell};
 use crate::escapes::push_safe;

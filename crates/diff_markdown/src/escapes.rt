@@ -2,7 +2,8 @@
 
 ghost use Rattle.std.specs.Fmt.{digit_glyph};
 ghost use Rattle.std.specs.Prelude.{◌≡◌, ◌<◌, ◌++◌, false, get_or, OnOk};
-ghost use Rattle.diff_markdown.specs.Escapes.{is_escaped, is_high_control, safe, safe_byte, unicode_escape};
+ghost use Rattle.diff_markdown.specs.Escapes.{is_escaped, is_high_control, safe, safe_byte};
+ghost use Rattle.diff_markdown.specs.Escapes.{unicode_escape};
 
 use std::alloc::AllocError;
 

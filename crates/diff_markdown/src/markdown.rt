@@ -65,11 +65,11 @@ fn push_table(out: &mut Vec<u8>, rows: &[u8]) -> Result<(), AllocError>
     Ok(())
 }
 
-/// Appends a report of two files as Markdown. `report` is the report as JSON lines, and the two names
-/// are those of the files.
+/// Appends a report of two files as Markdown. `report` is the report as JSON lines, and the two
+/// names are those of the files.
 ///
-/// Fails where a line of the report is no JSON, nests deeper than 256 or has no kind. A failure may leave
-/// some text written.
+/// Fails where a line of the report is no JSON, nests deeper than 256 or has no kind. A failure may
+/// leave some text written.
 #[tactic(auto, unfolding(crate::specs::Markdown::markdown_of))]
 pub fn push_markdown(
     alloc: Global,

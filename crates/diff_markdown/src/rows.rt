@@ -4,7 +4,9 @@ ghost use Rattle.std.specs.Prelude.{◌≡◌, ◌++◌, codes, OnOk, option_and
 ghost use Rattle.json.specs.Find.{as_array, as_object, get};
 ghost use Rattle.json.specs.Tree.{HasNumbers, ItemsHaveNumbers, MembersHaveNumbers};
 ghost use Rattle.json.specs.Value.{items_view, members_view, value_view};
-ghost use Rattle.diff_markdown.specs.Rows.{added_row, change_row, changed_rows, column_row, item_rows, lacking, lone_row, member_rows, removed_row, row_name, rows_in_array, rows_in_object};
+ghost use Rattle.diff_markdown.specs.Rows.{added_row, change_row, changed_rows, column_row};
+ghost use Rattle.diff_markdown.specs.Rows.{item_rows, lacking, lone_row, member_rows, removed_row};
+ghost use Rattle.diff_markdown.specs.Rows.{row_name, rows_in_array, rows_in_object};
 
 use crate::cells::{push_name_cell, push_number, push_pairs_cell, push_side};
 use diff_lines::parts::{items_at, members_at, string_at};

@@ -1,7 +1,9 @@
 -- Texts whose rows are gone over one by one.
 --
--- Behind the row "7" "1" of the text "id,n", "7,1", "8,2" the row "8" "2" is next, and behind this there is none.
-use Rattle.std.specs.Prelude.{◌≡◌, ◌⊎◌, ℕ, suc, Bool, true, false, List, [], ◌∷◌, Option, Some, None, IfSome, All, length, map, option_map, unwrap_or}
+-- Behind the row "7" "1" of the text "id,n", "7,1", "8,2" the row "8" "2" is next, and behind this
+-- there is none.
+use Rattle.std.specs.Prelude.{◌≡◌, ◌⊎◌, ℕ, suc, Bool, true, false, List, [], ◌∷◌, Option, Some}
+use Rattle.std.specs.Prelude.{None, IfSome, All, length, map, option_map, unwrap_or}
 use Rattle.csv.specs.Records.{fields_of}
 use Rattle.diff_csv.specs.Given.{GivesOne}
 use Rattle.diff_csv.specs.declared.options.CsvOptions.{CsvOptions}
@@ -34,7 +36,8 @@ pub record AreBelow (keys : List (List ℕ)) (next : Option (List ℕ)) : Type 0
   pub below : All (λ key. ComesBefore key_less key next) keys
 
 -- these rows of the text are behind, and the next one is at hand, where there is one
-pub record IsAt {R : Type 0} (remaining : R → Option (List ℕ)) (options : CsvOptions) (text : List ℕ) (rows : List Seen) (c : Cursor R) : Type 0 where
+pub record IsAt {R : Type 0} (remaining : R → Option (List ℕ)) (options : CsvOptions)
+    (text : List ℕ) (rows : List Seen) (c : Cursor R) : Type 0 where
   pub records : List (List (List ℕ))
   pub given : GivesOne remaining options text c.reader records (fields_of c.row.value) c.line
   pub cells : all_cells rows ≡ map (cells_at c.columns.now) records

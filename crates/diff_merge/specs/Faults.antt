@@ -1,6 +1,7 @@
 -- Why two texts are not merged.
 --
--- With the key "id" the text "id,n", "8,1", "7,2" is not merged with any other, since 7 is less than 8.
+-- With the key "id" the text "id,n", "8,1", "7,2" is not merged with any other, since 7 is less
+-- than 8.
 use Rattle.std.specs.Prelude.{◌≡◌, ℕ, Bool, true, List, [], ◌∷◌, ◌++◌, ⊤}
 use Rattle.diff_columns.specs.declared.error.Side.{Side}
 use Rattle.diff_csv.specs.Records.{Begin, IsReadFault, data_rows}
@@ -19,7 +20,8 @@ abbrev pub key_of : List ℕ → List ℕ → List (List ℕ) → List ℕ
 key_of columns keys record_read = row_key keys (cells_at columns record_read)
 
 -- two adjacent rows of a text, whose first records are these
-pub record HasAdjacent (options : CsvOptions) (text : List ℕ) (first next : List (List ℕ)) : Type 0 where
+pub record HasAdjacent (options : CsvOptions) (text : List ℕ) (first next : List (List ℕ)) :
+    Type 0 where
   pub records : List (List (List ℕ))
   pub rows : List (List (List ℕ))
   pub begin : Begin options text records
@@ -51,12 +53,16 @@ abbrev pub IsKeyFault : Side → Bool → List ℕ → List ℕ → MergeError �
 IsKeyFault side unique before key error.Memory = ⊥
 IsKeyFault side unique before key (error.Csv s cause) = ⊥
 IsKeyFault side unique before key (error.Falls s line) = (s ≡ side) × (key_less key before ≡ true)
-IsKeyFault side unique before key (error.KeyTwice s first again) = (s ≡ side) × (unique ≡ true) × (before ≡ key)
+IsKeyFault side unique before key (error.KeyTwice s first again) = (s ≡ side) × (unique ≡ true)
+    × (before ≡ key)
 
--- why the rows of a text are not given: it can't be read, or a key falls, or comes twice where keys have to be unique; or
--- an allocation failed
+-- why the rows of a text are not given: it can't be read, or a key falls, or comes twice where keys
+-- have to be unique; or an allocation failed
 abbrev pub IsCursorFault : Side → CsvOptions → List ℕ → List ℕ → List ℕ → Bool → MergeError → Type 0
 IsCursorFault side options text columns keys unique error.Memory = ⊤
-IsCursorFault side options text columns keys unique (error.Csv s cause) = (s ≡ side) × IsReadFault options text cause
-IsCursorFault side options text columns keys unique (error.Falls s line) = (s ≡ side) × HasFall options text columns keys
-IsCursorFault side options text columns keys unique (error.KeyTwice s first again) = (s ≡ side) × (unique ≡ true) × HasTwice options text columns keys
+IsCursorFault side options text columns keys unique (error.Csv s cause) = (s ≡ side)
+    × IsReadFault options text cause
+IsCursorFault side options text columns keys unique (error.Falls s line) = (s ≡ side)
+    × HasFall options text columns keys
+IsCursorFault side options text columns keys unique (error.KeyTwice s first again) = (s ≡ side)
+    × (unique ≡ true) × HasTwice options text columns keys

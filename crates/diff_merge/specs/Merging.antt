@@ -1,7 +1,9 @@
 -- Two texts that are merged.
 --
--- The rows "7", "8" and "7", "9" with the keys 7, 8 and 7, 9 are told of as a pair, a removed row, and an added one.
-use Rattle.std.specs.Prelude.{◌≡◌, ◌≤◌, ◌<◌, ◌^◌, ℕ, suc, Bool, true, false, List, [], ◌∷◌, Option, Some, None, length, map, ⊤}
+-- The rows "7", "8" and "7", "9" with the keys 7, 8 and 7, 9 are told of as a pair, a removed row,
+-- and an added one.
+use Rattle.std.specs.Prelude.{◌≡◌, ◌≤◌, ◌<◌, ◌^◌, ℕ, suc, Bool, true, false, List, [], ◌∷◌, Option}
+use Rattle.std.specs.Prelude.{Some, None, length, map, ⊤}
 use Rattle.diff_columns.specs.declared.error.Side.{Side}
 use Rattle.diff_columns.specs.declared.error.Side.TheVariants.{Left, Right}
 use Rattle.diff_csv.specs.Given.{AreRowsOf}
@@ -22,7 +24,8 @@ use Rattle.diff_merge.specs.declared.merge.Step.{Step}
 use Rattle.diff_merge.specs.declared.merge.Step.TheVariants as step
 use Rattle.diff_tables.specs.Keys.{cells_at}
 
--- what comes next: rows of both texts that have one key, or a row whose key is less than the other text's next one
+-- what comes next: rows of both texts that have one key, or a row whose key is less than the other
+-- text's next one
 abbrev pub IsStep : Option (List ℕ) → Option (List ℕ) → Step → Type 0
 IsStep left right step.End = (left ≡ None) × (right ≡ None)
 IsStep left right step.Pair = (key : List ℕ) × (left ≡ Some key) × (right ≡ Some key)
@@ -44,32 +47,40 @@ pub record HasFew (n : ℕ) (m : Matching) : Type 0 where
   pub added : length m.added.items ≤ n
 
 -- after n steps these rows of both texts are behind, and a sink was told of them
-pub record IsMergeAt {L R S : Type 0} (left_remaining : L → Option (List ℕ)) (right_remaining : R → Option (List ℕ)) (holds : S → List Seen → List Seen → Matching → Type 0)
-    (options : CsvOptions) (left_text right_text : List ℕ) (n : ℕ) (left : Cursor L) (right : Cursor R) (sink : S) : Type 0 where
+pub record IsMergeAt {L R S : Type 0} (left_remaining : L → Option (List ℕ))
+    (right_remaining : R → Option (List ℕ)) (holds : S → List Seen → List Seen → Matching → Type 0)
+    (options : CsvOptions) (left_text right_text : List ℕ) (n : ℕ) (left : Cursor L)
+    (right : Cursor R) (sink : S) : Type 0 where
   pub left_rows : List Seen
   pub right_rows : List Seen
   pub matching : Matching
   pub left_at : IsAt left_remaining options left_text left_rows left
   pub right_at : IsAt right_remaining options right_text right_rows right
-  pub merged : IsMerged key_less (keys_of left.keys.now left_rows) (keys_of right.keys.now right_rows) (next_key left) (next_key right) matching
+  pub merged : IsMerged key_less (keys_of left.keys.now left_rows)
+      (keys_of right.keys.now right_rows) (next_key left) (next_key right) matching
   pub held : holds sink left_rows right_rows matching
   pub few : HasFew n matching
 
--- these are all rows of a text, in some columns, and no key comes twice where keys have to be unique
-pub record AreAll (options : CsvOptions) (text : List ℕ) (columns keys : List ℕ) (unique : Bool) (rows : List Seen) : Type 0 where
+-- these are all rows of a text, in some columns, and no key comes twice where keys have to be
+-- unique
+pub record AreAll (options : CsvOptions) (text : List ℕ) (columns keys : List ℕ) (unique : Bool)
+    (rows : List Seen) : Type 0 where
   pub records : List (List (List ℕ))
   pub all : AreRowsOf options text records
   pub cells : all_cells rows ≡ map (cells_at columns) records
   pub unique_keys : unique ≡ true → AllDiffer (keys_of keys rows)
 
 -- a sink was told of all rows of two texts, as they are matched by key
-pub record IsMergeOf {L R S : Type 0} (holds : S → List Seen → List Seen → Matching → Type 0) (options : CsvOptions) (left_text right_text : List ℕ) (left : Cursor L) (right : Cursor R) (sink : S) : Type 0 where
+pub record IsMergeOf {L R S : Type 0} (holds : S → List Seen → List Seen → Matching → Type 0)
+    (options : CsvOptions) (left_text right_text : List ℕ) (left : Cursor L) (right : Cursor R)
+    (sink : S) : Type 0 where
   pub left_rows : List Seen
   pub right_rows : List Seen
   pub matching : Matching
   pub left_all : AreAll options left_text left.columns.now left.keys.now left.unique left_rows
   pub right_all : AreAll options right_text right.columns.now right.keys.now right.unique right_rows
-  pub matched : IsMatching (keys_of left.keys.now left_rows) (keys_of right.keys.now right_rows) matching
+  pub matched :
+      IsMatching (keys_of left.keys.now left_rows) (keys_of right.keys.now right_rows) matching
   pub held : holds sink left_rows right_rows matching
 
 -- one of two facts, by the side
@@ -77,9 +88,16 @@ abbrev pub OnSide : Side → Type 0 → Type 0 → Type 0
 OnSide Left P Q = P
 OnSide Right P Q = Q
 
--- why two texts are not merged: one can't be read, or a key falls or comes twice; or an allocation failed
-abbrev pub IsMergeFault : {L R : Type 0} → CsvOptions → List ℕ → List ℕ → Cursor L → Cursor R → MergeError → Type 0
+-- why two texts are not merged: one can't be read, or a key falls or comes twice; or an allocation
+-- failed
+abbrev pub IsMergeFault : {L R : Type 0} → CsvOptions → List ℕ → List ℕ → Cursor L → Cursor R
+    → MergeError → Type 0
 IsMergeFault options left_text right_text left right error.Memory = ⊤
-IsMergeFault options left_text right_text left right (error.Csv side cause) = OnSide side (IsReadFault options left_text cause) (IsReadFault options right_text cause)
-IsMergeFault options left_text right_text left right (error.Falls side line) = OnSide side (HasFall options left_text left.columns.now left.keys.now) (HasFall options right_text right.columns.now right.keys.now)
-IsMergeFault options left_text right_text left right (error.KeyTwice side first again) = OnSide side ((left.unique ≡ true) × HasTwice options left_text left.columns.now left.keys.now) ((right.unique ≡ true) × HasTwice options right_text right.columns.now right.keys.now)
+IsMergeFault options left_text right_text left right (error.Csv side cause) =
+    OnSide side (IsReadFault options left_text cause) (IsReadFault options right_text cause)
+IsMergeFault options left_text right_text left right (error.Falls side line) =
+    OnSide side (HasFall options left_text left.columns.now left.keys.now)
+    (HasFall options right_text right.columns.now right.keys.now)
+IsMergeFault options left_text right_text left right (error.KeyTwice side first again) =
+    OnSide side ((left.unique ≡ true) × HasTwice options left_text left.columns.now left.keys.now)
+    ((right.unique ≡ true) × HasTwice options right_text right.columns.now right.keys.now)

@@ -1,6 +1,7 @@
 //! Sorted texts whose rows are gone over one by one.
 
-ghost use Rattle.std.specs.Prelude.{◌≡◌, [], ◌∷◌, ◌++◌, ℕ, suc, List, IfErr, IfOk, IsSome, MatchResult, OnOk, unwrap_or};
+ghost use Rattle.std.specs.Prelude.{◌≡◌, [], ◌∷◌, ◌++◌, ℕ, suc, List, IfErr, IfOk, IsSome};
+ghost use Rattle.std.specs.Prelude.{MatchResult, OnOk, unwrap_or};
 ghost use Rattle.csv.specs.Records.{fields_of};
 ghost use Rattle.diff_csv.specs.Given.{GivesOne, HasGiven};
 ghost use Rattle.diff_csv.specs.Reading.{IsOpen};
@@ -62,8 +63,12 @@ fn read_row<R: Read + Drop>(
     side: Side,
 ) -> Result<Option<u64>, MergeError>
     ensures { MatchResult result
-        (λ line. (options : CsvOptions) (text : List ℕ) (rows : List (List (List ℕ))) → HasGiven R.remaining options text reader.old rows → GivesOne R.remaining options text reader.new rows (fields_of row.new.value) line)
-        (λ error. (options : CsvOptions) (text : List ℕ) (rows : List (List (List ℕ))) → HasGiven R.remaining options text reader.old rows → IsTextFault side options text error) }
+        (λ line. (options : CsvOptions) (text : List ℕ) (rows : List (List (List ℕ)))
+        → HasGiven R.remaining options text reader.old rows
+        → GivesOne R.remaining options text reader.new rows (fields_of row.new.value) line)
+        (λ error. (options : CsvOptions) (text : List ℕ) (rows : List (List (List ℕ)))
+        → HasGiven R.remaining options text reader.old rows
+        → IsTextFault side options text error) }
 {
     match reader.read(row) {
         Ok(line) => Ok(line),
@@ -79,7 +84,8 @@ fn test_order(
     side: Side,
     lines: (u64, u64),
 ) -> Result<(), MergeError>
-    ensures { MatchResult result (λ _. GoesOn unique before.now key.now) (IsKeyFault side unique before.now key.now) }
+    ensures { MatchResult result
+        (λ _. GoesOn unique before.now key.now) (IsKeyFault side unique before.now key.now) }
 {
     let (first, again) = lines;
     match before.cmp(key) {
@@ -102,9 +108,14 @@ impl<'a, R: Read + Drop> Cursor<'a, R> {
         wanted: Wanted<'a>,
     ) -> Result<Cursor<'a, R>, MergeError>
         ensures begun { MatchResult result
-            (λ c. (options : CsvOptions) (text : List ℕ) → IsOpen R.remaining options text source → IsAt R.remaining options text [] c)
-            (λ error. (options : CsvOptions) (text : List ℕ) → IsOpen R.remaining options text source → IsTextFault wanted.entry.side options text error) }
-        ensures wanted { IfOk result (λ c. (c.columns ≡ wanted.entry.columns) × (c.keys ≡ wanted.entry.keys) × (c.unique ≡ wanted.entry.unique) × (c.side ≡ wanted.entry.side)) }
+            (λ c. (options : CsvOptions) (text : List ℕ) → IsOpen R.remaining options text source
+            → IsAt R.remaining options text [] c)
+            (λ error. (options : CsvOptions) (text : List ℕ)
+            → IsOpen R.remaining options text source
+            → IsTextFault wanted.entry.side options text error) }
+        ensures wanted { IfOk result
+            (λ c. (c.columns ≡ wanted.entry.columns) × (c.keys ≡ wanted.entry.keys)
+            × (c.unique ≡ wanted.entry.unique) × (c.side ≡ wanted.entry.side)) }
     {
         let Ok(mut reader) = source.rows(alloc) else {
             return Err(MergeError::Memory);
@@ -153,8 +164,13 @@ impl<'a, R: Read + Drop> Cursor<'a, R> {
     pub fn advance(&mut self) -> Result<(), MergeError>
         requires { IsSome self.old.line }
         ensures on { MatchResult result
-            (λ _. (options : CsvOptions) (text : List ℕ) (rows : List Seen) → IsAt R.remaining options text rows self.old → IsAt R.remaining options text (rows ++ next_seen self.old ∷ []) self.new)
-            (λ error. (options : CsvOptions) (text : List ℕ) (rows : List Seen) → IsAt R.remaining options text rows self.old → IsCursorFault self.old.side options text self.old.columns.now self.old.keys.now self.old.unique error) }
+            (λ _. (options : CsvOptions) (text : List ℕ) (rows : List Seen)
+            → IsAt R.remaining options text rows self.old
+            → IsAt R.remaining options text (rows ++ next_seen self.old ∷ []) self.new)
+            (λ error. (options : CsvOptions) (text : List ℕ) (rows : List Seen)
+            → IsAt R.remaining options text rows self.old
+            → IsCursorFault self.old.side options text self.old.columns.now self.old.keys.now
+            self.old.unique error) }
         ensures rises { OnOk result (ComesBehind key_less (next_key self.old) (next_key self.new)) }
         ensures alike { OnOk result (IsAlike self.old self.new) }
     {

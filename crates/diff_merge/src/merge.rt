@@ -1,6 +1,7 @@
 //! The merge of two sorted texts.
 
-ghost use Rattle.std.specs.Prelude.{◌≡◌, ◌+◌, ◌<◌, ◌^◌, [], ℕ, false, List, MatchResult, IfOk, OnOk, None, Some};
+ghost use Rattle.std.specs.Prelude.{◌≡◌, ◌+◌, ◌<◌, ◌^◌, [], ℕ, false, List, MatchResult, IfOk};
+ghost use Rattle.std.specs.Prelude.{OnOk, None, Some};
 ghost use Rattle.diff_columns.specs.declared.error.Side.TheVariants.{Left, Right};
 ghost use Rattle.diff_csv.specs.declared.options.CsvOptions.{CsvOptions};
 ghost use Rattle.diff_joins.specs.Merge.{ComesBefore};
@@ -31,8 +32,8 @@ pub(crate) enum Step {
     End,
 }
 
-/// Returns what comes next: the row of the lesser of the two next keys, or both rows where these are
-/// the same.
+/// Returns what comes next: the row of the lesser of the two next keys, or both rows where these
+/// are the same.
 fn next_step<L: Read + Drop, R: Read + Drop>(left: &Cursor<'_, L>, right: &Cursor<'_, R>) -> Step
     ensures { IsStep (next_key left.now) (next_key right.now) result }
 {
@@ -58,9 +59,14 @@ fn take_pair<L: Read + Drop, R: Read + Drop, S: Sink>(
     requires left_side { left.old.side ≡ Left }
     requires right_side { right.old.side ≡ Right }
     ensures step { MatchResult result
-        (λ _. (options : CsvOptions) (left_text right_text : List ℕ) (n : ℕ) → n < 2 ^ 62 → IsMergeAt L.remaining R.remaining S.holds options left_text right_text n left.old right.old sink.old
-        → IsMergeAt L.remaining R.remaining S.holds options left_text right_text (n + 1) left.new right.new sink.new)
-        (λ error. (options : CsvOptions) (left_text right_text : List ℕ) (n : ℕ) → IsMergeAt L.remaining R.remaining S.holds options left_text right_text n left.old right.old sink.old
+        (λ _. (options : CsvOptions) (left_text right_text : List ℕ) (n : ℕ) → n < 2 ^ 62
+        → IsMergeAt L.remaining R.remaining S.holds options left_text right_text n left.old
+        right.old sink.old
+        → IsMergeAt L.remaining R.remaining S.holds options left_text right_text (n + 1) left.new
+        right.new sink.new)
+        (λ error. (options : CsvOptions) (left_text right_text : List ℕ) (n : ℕ)
+        → IsMergeAt L.remaining R.remaining S.holds options left_text right_text n left.old
+        right.old sink.old
         → IsMergeFault options left_text right_text left.old right.old error) }
     ensures left_alike { OnOk result (IsAlike left.old left.new) }
     ensures right_alike { OnOk result (IsAlike right.old right.new) }
@@ -79,12 +85,18 @@ fn take_removed<L: Read + Drop, R: Read + Drop, S: Sink>(
     right: &Cursor<'_, R>,
     sink: &mut S,
 ) -> Result<(), MergeError>
-    requires lesser { (key : List ℕ) × (next_key left.old ≡ Some key) × ComesBefore key_less key (next_key right.now) }
+    requires lesser { (key : List ℕ) × (next_key left.old ≡ Some key)
+        × ComesBefore key_less key (next_key right.now) }
     requires left_side { left.old.side ≡ Left }
     ensures step { MatchResult result
-        (λ _. (options : CsvOptions) (left_text right_text : List ℕ) (n : ℕ) → n < 2 ^ 62 → IsMergeAt L.remaining R.remaining S.holds options left_text right_text n left.old right.now sink.old
-        → IsMergeAt L.remaining R.remaining S.holds options left_text right_text (n + 1) left.new right.now sink.new)
-        (λ error. (options : CsvOptions) (left_text right_text : List ℕ) (n : ℕ) → IsMergeAt L.remaining R.remaining S.holds options left_text right_text n left.old right.now sink.old
+        (λ _. (options : CsvOptions) (left_text right_text : List ℕ) (n : ℕ) → n < 2 ^ 62
+        → IsMergeAt L.remaining R.remaining S.holds options left_text right_text n left.old
+        right.now sink.old
+        → IsMergeAt L.remaining R.remaining S.holds options left_text right_text (n + 1) left.new
+        right.now sink.new)
+        (λ error. (options : CsvOptions) (left_text right_text : List ℕ) (n : ℕ)
+        → IsMergeAt L.remaining R.remaining S.holds options left_text right_text n left.old
+        right.now sink.old
         → IsMergeFault options left_text right_text left.old right.now error) }
     ensures left_alike { OnOk result (IsAlike left.old left.new) }
 {
@@ -100,12 +112,18 @@ fn take_added<L: Read + Drop, R: Read + Drop, S: Sink>(
     right: &mut Cursor<'_, R>,
     sink: &mut S,
 ) -> Result<(), MergeError>
-    requires lesser { (key : List ℕ) × (next_key right.old ≡ Some key) × ComesBefore key_less key (next_key left.now) }
+    requires lesser { (key : List ℕ) × (next_key right.old ≡ Some key)
+        × ComesBefore key_less key (next_key left.now) }
     requires right_side { right.old.side ≡ Right }
     ensures step { MatchResult result
-        (λ _. (options : CsvOptions) (left_text right_text : List ℕ) (n : ℕ) → n < 2 ^ 62 → IsMergeAt L.remaining R.remaining S.holds options left_text right_text n left.now right.old sink.old
-        → IsMergeAt L.remaining R.remaining S.holds options left_text right_text (n + 1) left.now right.new sink.new)
-        (λ error. (options : CsvOptions) (left_text right_text : List ℕ) (n : ℕ) → IsMergeAt L.remaining R.remaining S.holds options left_text right_text n left.now right.old sink.old
+        (λ _. (options : CsvOptions) (left_text right_text : List ℕ) (n : ℕ) → n < 2 ^ 62
+        → IsMergeAt L.remaining R.remaining S.holds options left_text right_text n left.now
+        right.old sink.old
+        → IsMergeAt L.remaining R.remaining S.holds options left_text right_text (n + 1) left.now
+        right.new sink.new)
+        (λ error. (options : CsvOptions) (left_text right_text : List ℕ) (n : ℕ)
+        → IsMergeAt L.remaining R.remaining S.holds options left_text right_text n left.now
+        right.old sink.old
         → IsMergeFault options left_text right_text left.now right.old error) }
     ensures right_alike { OnOk result (IsAlike right.old right.new) }
 {
@@ -124,13 +142,19 @@ fn take_step<L: Read + Drop, R: Read + Drop, S: Sink>(
     requires left_side { left.old.side ≡ Left }
     requires right_side { right.old.side ≡ Right }
     ensures step { MatchResult result
-        (λ _. (options : CsvOptions) (left_text right_text : List ℕ) (n : ℕ) → n < 2 ^ 62 → IsMergeAt L.remaining R.remaining S.holds options left_text right_text n left.old right.old sink.old
-        → IsMergeAt L.remaining R.remaining S.holds options left_text right_text (n + 1) left.new right.new sink.new)
-        (λ error. (options : CsvOptions) (left_text right_text : List ℕ) (n : ℕ) → IsMergeAt L.remaining R.remaining S.holds options left_text right_text n left.old right.old sink.old
+        (λ _. (options : CsvOptions) (left_text right_text : List ℕ) (n : ℕ) → n < 2 ^ 62
+        → IsMergeAt L.remaining R.remaining S.holds options left_text right_text n left.old
+        right.old sink.old
+        → IsMergeAt L.remaining R.remaining S.holds options left_text right_text (n + 1) left.new
+        right.new sink.new)
+        (λ error. (options : CsvOptions) (left_text right_text : List ℕ) (n : ℕ)
+        → IsMergeAt L.remaining R.remaining S.holds options left_text right_text n left.old
+        right.old sink.old
         → IsMergeFault options left_text right_text left.old right.old error) }
     ensures left_alike { OnOk result (IsAlike left.old left.new) }
     ensures right_alike { OnOk result (IsAlike right.old right.new) }
-    ensures end { IfOk result (λ more. more ≡ false → (next_key left.new ≡ None) × (next_key right.new ≡ None)) }
+    ensures end { IfOk result
+        (λ more. more ≡ false → (next_key left.new ≡ None) × (next_key right.new ≡ None)) }
 {
     match next_step(left, right) {
         Step::Pair => {
@@ -160,10 +184,16 @@ pub fn merge<L: Read + Drop, R: Read + Drop, S: Sink>(
     requires left_side { left.old.side ≡ Left }
     requires right_side { right.old.side ≡ Right }
     ensures { MatchResult result
-        (λ _. (options : CsvOptions) (left_text right_text : List ℕ) → IsAt L.remaining options left_text [] left.old → IsAt R.remaining options right_text [] right.old
-        → ((m : Matching) → IsEmpty m → S.holds sink.old [] [] m) → IsMergeOf S.holds options left_text right_text left.old right.old sink.new)
-        (λ error. (options : CsvOptions) (left_text right_text : List ℕ) → IsAt L.remaining options left_text [] left.old → IsAt R.remaining options right_text [] right.old
-        → ((m : Matching) → IsEmpty m → S.holds sink.old [] [] m) → IsMergeFault options left_text right_text left.old right.old error) }
+        (λ _. (options : CsvOptions) (left_text right_text : List ℕ)
+        → IsAt L.remaining options left_text [] left.old
+        → IsAt R.remaining options right_text [] right.old
+        → ((m : Matching) → IsEmpty m → S.holds sink.old [] [] m)
+        → IsMergeOf S.holds options left_text right_text left.old right.old sink.new)
+        (λ error. (options : CsvOptions) (left_text right_text : List ℕ)
+        → IsAt L.remaining options left_text [] left.old
+        → IsAt R.remaining options right_text [] right.old
+        → ((m : Matching) → IsEmpty m → S.holds sink.old [] [] m)
+        → IsMergeFault options left_text right_text left.old right.old error) }
 {
     for number in 0..MOST_STEPS {
         if !take_step(left, right, sink)? {

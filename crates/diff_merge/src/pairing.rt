@@ -15,8 +15,8 @@ use crate::sink::Sink;
 use std::alloc::{AllocError, Global};
 use std::io::Read;
 
-/// The rows of two texts, matched: row `left_rows[k]` of the left one and row `right_rows[k]` of the
-/// right one are partners. Rows are numbered from 0 on.
+/// The rows of two texts, matched: row `left_rows[k]` of the left one and row `right_rows[k]` of
+/// the right one are partners. Rows are numbered from 0 on.
 #[derive(Drop)]
 pub struct Pairing {
     /// The left rows that have a partner, in rising order.
@@ -65,8 +65,14 @@ pub fn match_sorted<L: Read + Drop, R: Read + Drop>(
     requires left_side { left.old.side ≡ Left }
     requires right_side { right.old.side ≡ Right }
     ensures { MatchResult result
-        (λ pairing. (options : CsvOptions) (left_text right_text : List ℕ) → IsAt L.remaining options left_text [] left.old → IsAt R.remaining options right_text [] right.old → IsPairingOf options left_text right_text left.old right.old pairing)
-        (λ error. (options : CsvOptions) (left_text right_text : List ℕ) → IsAt L.remaining options left_text [] left.old → IsAt R.remaining options right_text [] right.old → IsMergeFault options left_text right_text left.old right.old error) }
+        (λ pairing. (options : CsvOptions) (left_text right_text : List ℕ)
+        → IsAt L.remaining options left_text [] left.old
+        → IsAt R.remaining options right_text [] right.old
+        → IsPairingOf options left_text right_text left.old right.old pairing)
+        (λ error. (options : CsvOptions) (left_text right_text : List ℕ)
+        → IsAt L.remaining options left_text [] left.old
+        → IsAt R.remaining options right_text [] right.old
+        → IsMergeFault options left_text right_text left.old right.old error) }
 {
     let mut pairing = Pairing {
         left_rows: Vec::new(alloc),

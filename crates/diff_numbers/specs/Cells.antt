@@ -1,8 +1,9 @@
 -- What cells are compared by.
 --
--- The cells 12, 12.00 and 1.2e1 are numbers, and where numbers count all are compared by 12. The cell 007 is no
--- number, and is compared by 007.
-use Rattle.std.specs.Prelude.{◌≡◌, ℕ, Bool, true, false, ◌&&◌, if◌then◌else◌, List, [], ◌∷◌, Option, None, Some}
+-- The cells 12, 12.00 and 1.2e1 are numbers, and where numbers count all are compared by 12. The
+-- cell 007 is no number, and is compared by 007.
+use Rattle.std.specs.Prelude.{◌≡◌, ℕ, Bool, true, false, ◌&&◌, if◌then◌else◌, List, [], ◌∷◌, Option}
+use Rattle.std.specs.Prelude.{None, Some}
 use Rattle.json.specs.Word.{after_number}
 use Rattle.json_decimals.specs.Texts.{HasWideExponent, normal_number}
 
@@ -16,7 +17,8 @@ is_end (Some (b ∷ rest)) = false
 abbrev pub is_number : List ℕ → Bool
 is_number cell = is_end (after_number cell)
 
--- what a cell is compared by: a number by its normal text, where numbers count, and else the cell by itself
+-- what a cell is compared by: a number by its normal text, where numbers count, and else the cell
+-- by itself
 abbrev pub comparable : Bool → List ℕ → List ℕ
 comparable numeric cell = if numeric && is_number cell then normal_number cell else cell
 

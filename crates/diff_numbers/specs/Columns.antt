@@ -10,6 +10,7 @@ use Rattle.diff_columns.specs.Names.{Names}
 abbrev pub is_named : Names → List ℕ → Bool
 is_named names name = list_any (λ other. bytes_eq other name) names
 
--- for each column whether its numbers count: its name is not among those of the columns that are compared as texts
+-- for each column whether its numbers count: its name is not among those of the columns that are
+-- compared as texts
 abbrev pub number_columns : Names → Names → List Bool
 number_columns texts names = map (λ name. not (is_named texts name)) names

@@ -9,7 +9,8 @@ abbrev pub IsMemory : ComparableError → Type 0
 IsMemory e = e ≡ Memory
 
 -- the cell at a row and a column is a number with a wide exponent, and numbers count in the column
-pub record IsWideAt (numeric : List Bool) (rows : List (List (List ℕ))) (row column : ℕ) : Type 0 where
+pub record IsWideAt (numeric : List Bool) (rows : List (List (List ℕ))) (row column : ℕ) :
+    Type 0 where
   pub row_within : row < length rows
   pub column_within : column < length numeric
   pub counts : get_or numeric column false ≡ true

@@ -8,10 +8,13 @@ use Rattle.diff_numbers.specs.Cells.{comparable}
 abbrev pub AreEqualNumbers : List ℕ → List ℕ → Type 0
 AreEqualNumbers s t = IsNumber s × IsNumber t × AreEqual (decimal_of s) (decimal_of t)
 
--- where numbers count, two cells are compared as the same where they are one text or numbers worth the same, and only there
+-- where numbers count, two cells are compared as the same where they are one text or numbers worth
+-- the same, and only there
 abbrev pub CellsTell : Type 0
-CellsTell = (s t : List ℕ) → (comparable true s ≡ comparable true t) ↔ ((s ≡ t) ⊎ AreEqualNumbers s t)
+CellsTell = (s t : List ℕ) → (comparable true s ≡ comparable true t)
+    ↔ ((s ≡ t) ⊎ AreEqualNumbers s t)
 
 -- so two numbers are compared as the same where they are worth the same, and only there
 abbrev pub NumbersTell : Type 0
-NumbersTell = (s t : List ℕ) → IsNumber s → IsNumber t → (comparable true s ≡ comparable true t) ↔ AreEqual (decimal_of s) (decimal_of t)
+NumbersTell = (s t : List ℕ) → IsNumber s → IsNumber t → (comparable true s ≡ comparable true t)
+    ↔ AreEqual (decimal_of s) (decimal_of t)

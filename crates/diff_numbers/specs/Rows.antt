@@ -8,7 +8,8 @@ use Rattle.diff_tables.specs.Tables.{TableRows}
 
 -- what the cell of a row in a column is compared by
 abbrev pub comparable_at : List Bool → List (List ℕ) → ℕ → List ℕ
-comparable_at numeric cells column = comparable (get_or numeric column false) (get_or cells column [])
+comparable_at numeric cells column =
+    comparable (get_or numeric column false) (get_or cells column [])
 
 -- what a row is compared by, with a cell for each column
 abbrev pub comparable_row : List Bool → List (List ℕ) → List (List ℕ)

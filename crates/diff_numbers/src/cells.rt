@@ -1,6 +1,7 @@
 //! Cells, and what they are compared by.
 
-ghost use Rattle.std.specs.Prelude.{◌≡◌, ◌++◌, ◌∷◌, [], ℕ, List, true, false, Err, MatchOption, OnOk};
+ghost use Rattle.std.specs.Prelude.{◌≡◌, ◌++◌, ◌∷◌, [], ℕ, List, true, false, Err, MatchOption};
+ghost use Rattle.std.specs.Prelude.{OnOk};
 ghost use Rattle.diff_numbers.specs.Cells.{IsNumeral, IsWideNumber, comparable, is_number};
 ghost use Rattle.diff_tables.specs.Strings.{AreStrings};
 ghost use Rattle.json_decimals.specs.Texts.{normal_number};
@@ -12,7 +13,8 @@ use json_decimals::numbers::push_normal_number;
 
 /// Returns the text of a cell that is a number.
 pub fn number_in(cell: &[u8]) -> Option<&str>
-    ensures { MatchOption result (is_number cell.now ≡ false) (λ text. IsNumeral cell.now text.now) }
+    ensures { MatchOption result (is_number cell.now ≡ false)
+        (λ text. IsNumeral cell.now text.now) }
 {
     let Ok(text) = str::from_utf8(cell) else {
         return None;
@@ -23,7 +25,9 @@ pub fn number_in(cell: &[u8]) -> Option<&str>
 /// Appends the normal text of a number, which is made in `room`.
 fn push_number(cells: &mut Strings, room: &mut Vec<u8>, text: &str) -> Result<(), NumberError>
     requires { is_number text.now ≡ true }
-    ensures ok { OnOk result ((all : List (List ℕ)) → AreStrings cells.old all → AreStrings cells.new (all ++ normal_number text.now ∷ [])) }
+    ensures ok { OnOk result
+        ((all : List (List ℕ)) → AreStrings cells.old all
+        → AreStrings cells.new (all ++ normal_number text.now ∷ [])) }
     ensures wide { result ≡ Err NumberError.WideExponent → IsWideNumber text.now }
 {
     room.clear();
@@ -40,7 +44,9 @@ pub(crate) fn push_comparable(
     cell: &[u8],
     numeric: bool,
 ) -> Result<(), NumberError>
-    ensures ok { OnOk result ((all : List (List ℕ)) → AreStrings cells.old all → AreStrings cells.new (all ++ comparable numeric cell.now ∷ [])) }
+    ensures ok { OnOk result
+        ((all : List (List ℕ)) → AreStrings cells.old all
+        → AreStrings cells.new (all ++ comparable numeric cell.now ∷ [])) }
     ensures counts { result ≡ Err NumberError.WideExponent → numeric ≡ true }
     ensures wide { result ≡ Err NumberError.WideExponent → IsWideNumber cell.now }
 {

@@ -23,7 +23,9 @@ pub fn number_columns(
     names: &BinaryArray<i64>,
     texts: &[&[u8]],
 ) -> Result<Vec<bool>, AllocError>
-    ensures { IfOk result (λ numeric. numeric.items ≡ number_columns (names_of texts.now) (offset_strings (λ x. x) names.now)) }
+    ensures { IfOk result
+        (λ numeric. numeric.items
+        ≡ number_columns (names_of texts.now) (offset_strings (λ x. x) names.now)) }
 {
     let mut numeric = Vec::with_capacity(alloc, names.count())?;
     for column in 0..names.count() {

@@ -24,7 +24,9 @@ fn push_cell(
     requires width { length numeric.now ≡ table.now.width }
     requires column { column < length numeric.now }
     ensures { MatchResult result
-        (λ _. (all : List (List ℕ)) → AreStrings cells.old all → AreStrings cells.new (all ++ comparable_at numeric.now (get_or table.now.rows row []) column ∷ []))
+        (λ _. (all : List (List ℕ)) → AreStrings cells.old all
+        → AreStrings cells.new
+        (all ++ comparable_at numeric.now (get_or table.now.rows row []) column ∷ []))
         (IsCellFault numeric.now table.now.rows) }
 {
     match push_comparable(cells, room, table.cell(row, column), numeric[column]) {
@@ -45,7 +47,9 @@ pub(crate) fn push_row(
     requires row { row < length table.now.rows }
     requires width { length numeric.now ≡ table.now.width }
     ensures { MatchResult result
-        (λ _. (all : List (List ℕ)) → AreStrings cells.old all → AreStrings cells.new (all ++ comparable_row numeric.now (get_or table.now.rows row [])))
+        (λ _. (all : List (List ℕ)) → AreStrings cells.old all
+        → AreStrings cells.new
+        (all ++ comparable_row numeric.now (get_or table.now.rows row [])))
         (IsCellFault numeric.now table.now.rows) }
 {
     for column in 0..numeric.len() {

@@ -19,7 +19,9 @@ fn comparable_cells(
     numeric: &[bool],
 ) -> Result<Strings, ComparableError>
     requires { length numeric.now ≡ table.now.width }
-    ensures { MatchResult result (λ cells. AreStrings cells (flat_map (comparable_row numeric.now) table.now.rows)) (IsCellFault numeric.now table.now.rows) }
+    ensures { MatchResult result
+        (λ cells. AreStrings cells (flat_map (comparable_row numeric.now) table.now.rows))
+        (IsCellFault numeric.now table.now.rows) }
 {
     let mut cells = Strings::new(alloc)?;
     let mut room = Vec::new(alloc);
@@ -40,7 +42,8 @@ pub fn comparable_table(
     numeric: &[bool],
 ) -> Result<Table, ComparableError>
     requires { length numeric.now ≡ table.now.width }
-    ensures { MatchResult result (IsComparableTable numeric.now table.now) (IsCellFault numeric.now table.now.rows) }
+    ensures { MatchResult result (IsComparableTable numeric.now table.now)
+        (IsCellFault numeric.now table.now.rows) }
 {
     let cells = comparable_cells(alloc, table, numeric)?;
     match Table::new(alloc, table.width(), table.count(), cells) {

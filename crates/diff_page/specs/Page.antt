@@ -1,7 +1,7 @@
 -- The page of a report.
 --
--- A report is JSON, where < stands in strings alone. Written as \u003c it is the same character to JSON, and no tag to a browser:
--- the text a<b is a\u003cb in a page.
+-- A report is JSON, where < stands in strings alone. Written as \u003c it is the same character to
+-- JSON, and no tag to a browser: the text a<b is a\u003cb in a page.
 use Rattle.std.specs.Prelude.{ℕ, ◌≡◌, ◌==◌, false, if◌then◌else◌, List, [], ◌∷◌, ◌++◌, All, codes}
 use Rattle.diff_json.specs.Strings.{json_string}
 use Rattle.diff_page.specs.declared.frame.TheConstants.{HEAD, BODY, MIDDLE, END}
@@ -23,7 +23,8 @@ HasNoTag text = All (λ b. (b == 60) ≡ false) text
 
 -- the line of JSON that names two inputs
 abbrev pub files_object : List ℕ → List ℕ → List ℕ
-files_object left right = codes "{\"kind\":\"files\",\"left\":" ++ json_string left ++ codes ",\"right\":" ++ json_string right ++ codes "}\n"
+files_object left right = codes "{\"kind\":\"files\",\"left\":" ++ json_string left
+    ++ codes ",\"right\":" ++ json_string right ++ codes "}\n"
 
 -- what stands before the report in a page
 unfoldable pub opening : List ℕ
@@ -35,4 +36,5 @@ closing = MIDDLE.now ++ SCRIPT.now ++ END.now
 
 -- the page of a report: within the frame, the names of the inputs and the report
 abbrev pub page_of : List ℕ → List ℕ → List ℕ → List ℕ
-page_of left right report = opening ++ untagged (files_object left right) ++ untagged report ++ closing
+page_of left right report = opening ++ untagged (files_object left right) ++ untagged report
+    ++ closing

@@ -1,7 +1,8 @@
 //! The page of a report.
 
 ghost use Rattle.std.specs.Prelude.{◌≡◌, ◌++◌, OnOk};
-ghost use Rattle.diff_page.specs.Page.{closing, files_object, opening, page_of, untagged, untagged_byte};
+ghost use Rattle.diff_page.specs.Page.{closing, files_object, opening, page_of, untagged};
+ghost use Rattle.diff_page.specs.Page.{untagged_byte};
 
 use crate::frame::{BODY, END, HEAD, MIDDLE};
 use crate::script::SCRIPT;
@@ -63,9 +64,9 @@ fn push_closing(out: &mut Vec<u8>) -> Result<(), AllocError>
     Ok(())
 }
 
-/// Appends the page of a report. `report` is the report as JSON lines, and the two names are those of
-/// the inputs. In the page the report stands as JSON lines too, with the names before it, and no tag
-/// begins in it.
+/// Appends the page of a report. `report` is the report as JSON lines, and the two names are those
+/// of the inputs. In the page the report stands as JSON lines too, with the names before it, and no
+/// tag begins in it.
 pub fn push_page(
     out: &mut Vec<u8>,
     left: &[u8],

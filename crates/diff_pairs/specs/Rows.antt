@@ -10,4 +10,5 @@ row_cells w strings i = window (w * i) w strings
 
 -- the two rows of pair p have other cells
 abbrev pub HaveOtherCells : ℕ → List (List ℕ) → List (List ℕ) → List ℕ → List ℕ → ℕ → Type 0
-HaveOtherCells w left right left_rows right_rows p = ¬ (row_cells w left (slice_index left_rows p) ≡ row_cells w right (slice_index right_rows p))
+HaveOtherCells w left right left_rows right_rows p =
+    ¬ (row_cells w left (slice_index left_rows p) ≡ row_cells w right (slice_index right_rows p))

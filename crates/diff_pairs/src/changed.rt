@@ -53,7 +53,9 @@ pub fn changed_pairs(
     requires one_length { length left_rows.items ≡ length right_rows.items }
     requires left_within { NameRows (len_of left) left_rows.items }
     requires right_within { NameRows (len_of right) right_rows.items }
-    ensures { MatchResult result (λ changed. ListsRising (IsChanged left right left_rows.items right_rows.items) (length left_rows.items) changed.items) IsMemory }
+    ensures { MatchResult result
+        (λ changed. ListsRising (IsChanged left right left_rows.items right_rows.items)
+        (length left_rows.items) changed.items) IsMemory }
 {
     let same = same_pairs(alloc, left, left_rows, right, right_rows)?;
     unset_places(alloc, &same)

@@ -34,8 +34,12 @@ fn lists_of(
     count: usize,
     cells: AnyArray,
 ) -> Result<FixedSizeListArray, ComputeError>
-    requires { (far : Bool) × (strings : List (List ℕ)) × HoldsCells far strings cells × (length strings ≡ width * count) }
-    ensures { MatchResult result (λ lists. (far : Bool) (strings : List (List ℕ)) → HoldsCells far strings cells → length strings ≡ width * count → HoldsRows far width count strings (FixedSizeList lists)) IsMemory }
+    requires { (far : Bool) × (strings : List (List ℕ)) × HoldsCells far strings cells
+        × (length strings ≡ width * count) }
+    ensures { MatchResult result
+        (λ lists. (far : Bool) (strings : List (List ℕ)) → HoldsCells far strings cells
+        → length strings ≡ width * count → HoldsRows far width count strings (FixedSizeList lists))
+        IsMemory }
 {
     let values = Box::new(alloc, cells)?;
     match FixedSizeListArray::try_new(width, count, values, None) {
@@ -53,7 +57,9 @@ fn list_array(
 ) -> Result<FixedSizeListArray, ComputeError>
     requires rows { AreRows rows }
     requires wide { are_far rows.cells ≡ true → wide ≡ true }
-    ensures { MatchResult result (λ lists. HoldsRows wide rows.entry.width rows.entry.count (strings_of rows.entry.cells) (FixedSizeList lists)) IsMemory }
+    ensures { MatchResult result
+        (λ lists. HoldsRows wide rows.entry.width rows.entry.count (strings_of rows.entry.cells)
+        (FixedSizeList lists)) IsMemory }
 {
     match cell_array(alloc, rows.cells, wide) {
         Ok(cells) => lists_of(alloc, rows.width, rows.count, cells),
@@ -75,8 +81,16 @@ fn changed_lists(
     requires wide { are_far right.cells ≡ true → wide ≡ true }
     requires one_length { length left_rows.items ≡ length right_rows.items }
     requires right_within { NameRows right.count right_rows.items }
-    requires left { (count : ℕ) × (strings : List (List ℕ)) × HoldsRows wide right.width count strings (FixedSizeList left) × NameRows count left_rows.items }
-    ensures { MatchResult result (λ changed. (count : ℕ) (strings : List (List ℕ)) → HoldsRows wide right.entry.width count strings (FixedSizeList left) → NameRows count left_rows.items → ListsRising (HaveOtherCells right.entry.width strings (strings_of right.entry.cells) left_rows.items right_rows.items) (length left_rows.items) changed.items) IsMemory }
+    requires left { (count : ℕ) × (strings : List (List ℕ))
+        × HoldsRows wide right.width count strings (FixedSizeList left)
+        × NameRows count left_rows.items }
+    ensures { MatchResult result
+        (λ changed. (count : ℕ) (strings : List (List ℕ))
+        → HoldsRows wide right.entry.width count strings (FixedSizeList left)
+        → NameRows count left_rows.items
+        → ListsRising
+        (HaveOtherCells right.entry.width strings (strings_of right.entry.cells) left_rows.items
+        right_rows.items) (length left_rows.items) changed.items) IsMemory }
 {
     match list_array(alloc, right, wide) {
         Ok(right) => {
@@ -106,7 +120,11 @@ pub fn changed_rows(
     requires one_length { length left_rows.items ≡ length right_rows.items }
     requires left_within { NameRows left.count left_rows.items }
     requires right_within { NameRows right.count right_rows.items }
-    ensures { MatchResult result (λ changed. ListsRising (HaveOtherCells right.entry.width (strings_of left.entry.cells) (strings_of right.entry.cells) left_rows.items right_rows.items) (length left_rows.items) changed.items) IsMemory }
+    ensures { MatchResult result
+        (λ changed. ListsRising
+        (HaveOtherCells right.entry.width (strings_of left.entry.cells)
+        (strings_of right.entry.cells) left_rows.items right_rows.items) (length left_rows.items)
+        changed.items) IsMemory }
 {
     // Both arrays have to be of one type.
     let wide = are_far(left.cells) || are_far(right.cells);

@@ -11,7 +11,8 @@ use std::alloc::Global;
 
 /// Lists the places whose bit is not set.
 pub(crate) fn unset_places(alloc: Global, bits: &Bitmap) -> Result<Vec<usize>, ComputeError>
-    ensures { MatchResult result (λ places. ListsRising (IsUnset bits.now) (length bits.now) places.items) IsMemory }
+    ensures { MatchResult result
+        (λ places. ListsRising (IsUnset bits.now) (length bits.now) places.items) IsMemory }
 {
     let mut places = Vec::new(alloc);
     for p in 0..bits.len() {

@@ -1,7 +1,7 @@
 -- Parts of a table, by the keys of its rows.
 --
--- The key "a" has the hash af63dc4c8601ec8c, which is even, so that it is in part 2 of 2 and not in part 1. Of the keys
--- "a", "b", "a" those that are "a" have the numbers 1 and 3.
+-- The key "a" has the hash af63dc4c8601ec8c, which is even, so that it is in part 2 of 2 and not in
+-- part 1. Of the keys "a", "b", "a" those that are "a" have the numbers 1 and 3.
 use Rattle.std.specs.Prelude.{◌≤◌, ◌%◌, ◌==◌, ℕ, suc, Bool, true, false, List, [], ◌∷◌}
 use Rattle.diff_keys.specs.Hashes.{key_hash}
 
@@ -14,7 +14,8 @@ pub record PartNumber : Type 0 where
 abbrev pub IsPart : PartNumber → Type 0
 IsPart part = (1 ≤ part.index) × (part.index ≤ part.count)
 
--- whether a part has the rows with keys of this hash: the hash has the remainder of the part's number
+-- whether a part has the rows with keys of this hash: the hash has the remainder of the part's
+-- number
 abbrev pub has_hash : PartNumber → ℕ → Bool
 has_hash part hash = hash % part.count == part.index % part.count
 

@@ -1,7 +1,7 @@
 -- The rows that a part of a table has.
 --
--- The key of "a" alone in column 0 is "a" and its end, 0 and 0, which has an even hash. So of the rows "a" "1" and
--- "a" "2" part 2 of 2 has both, of the numbers 1 and 2, and part 1 has none.
+-- The key of "a" alone in column 0 is "a" and its end, 0 and 0, which has an even hash. So of the
+-- rows "a" "1" and "a" "2" part 2 of 2 has both, of the numbers 1 and 2, and part 1 has none.
 use Rattle.std.specs.List.{filter}
 use Rattle.std.specs.Prelude.{ℕ, Bool, List, Option, Some, None}
 use Rattle.diff_parts.specs.Parts.{PartNumber, in_part, numbers_kept}

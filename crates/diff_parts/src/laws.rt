@@ -1,7 +1,8 @@
 //! Laws: the comparisons of the parts of two tables make the comparison of the tables. These
 //! functions do nothing; their contracts are the laws.
 
-ghost use Rattle.diff_parts.specs.Laws.{EachKeyHasAPart, KeepsAdded, KeepsPartners, KeepsPlaces, KeepsRemoved, KeepsRows};
+ghost use Rattle.diff_parts.specs.Laws.{EachKeyHasAPart, KeepsAdded, KeepsPartners, KeepsPlaces};
+ghost use Rattle.diff_parts.specs.Laws.{KeepsRemoved, KeepsRows};
 
 /// Law: each key is in exactly one of the parts.
 pub fn law_one_part()

@@ -29,7 +29,8 @@ impl Model for Part {
 impl Part {
     /// Returns part `index` of `count`, where there is one.
     pub fn new(index: u64, count: u64) -> Option<Part>
-        ensures { SomeIff result (IsPart (record { index = index; count = count })) (record { index = index; count = count }) }
+        ensures { SomeIff result (IsPart (record { index = index; count = count }))
+            (record { index = index; count = count }) }
     {
         if index == 0 || count < index {
             return None;

@@ -10,7 +10,9 @@ use Rattle.diff_report.specs.declared.sides.Sides.{Sides}
 
 -- how many of the pairs at these places differ in a column
 abbrev pub count_at : Sides → Matching → List ℕ → ℕ → ℕ
-count_at s m places column = count_by (λ k. is_apart s (slice_index m.left_rows.items k) (slice_index m.right_rows.items k) column) places
+count_at s m places column = count_by
+    (λ k. is_apart s (slice_index m.left_rows.items k) (slice_index m.right_rows.items k) column)
+    places
 
 -- the same for each column
 abbrev pub column_counts : Sides → Matching → List ℕ → List ℕ
@@ -19,4 +21,5 @@ column_counts s m places = map (count_at s m places) (range_with_len 0 (length (
 -- numbers are 1 more where p holds of their place, and else the same
 pub record AddsWhere (p : ℕ → Bool) (old new : List ℕ) : Type 0 where
   pub as_many : length new ≡ length old
-  pub each : (k : ℕ) → k < length old → slice_index new k ≡ slice_index old k + (if p k then 1 else 0)
+  pub each : (k : ℕ) → k < length old → slice_index new k
+      ≡ slice_index old k + (if p k then 1 else 0)

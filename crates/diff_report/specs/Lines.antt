@@ -1,8 +1,7 @@
 -- The lines of differences.
 --
--- ~ id=4411  city "Oslo" -> "Bergen"
--- - id=77  old.csv line 78
--- In colours ~ id=4411 is yellow, the left cell and the line of id=77 are red, and the right cell is green.
+-- ~ id=4411  city "Oslo" -> "Bergen" - id=77  old.csv line 78 In colours ~ id=4411 is yellow, the
+-- left cell and the line of id=77 are red, and the right cell is green.
 use Rattle.std.specs.Fmt.{decimal}
 use Rattle.std.specs.Prelude.{ℕ, ◌==◌, if◌then◌else◌, List, [], ◌∷◌, ◌++◌, map, slice_index, codes}
 use Rattle.diff_keys.specs.declared.matching.Matching.{Matching}
@@ -18,9 +17,11 @@ use Rattle.diff_report.specs.Sides.{naming_of, row_of}
 use Rattle.diff_report.specs.declared.sides.Side.{Side}
 use Rattle.diff_report.specs.declared.sides.Sides.{Sides}
 
--- the line of two rows that differ in some columns: what left row i is named by, and each of these columns
+-- the line of two rows that differ in some columns: what left row i is named by, and each of these
+-- columns
 abbrev pub pair_line : Naming → List ℕ → ℕ → List (List ℕ) → List (List ℕ) → List ℕ
-pair_line n columns i left right = painted n.colored Yellow (codes "~ " ++ row_text n i left) ++ codes "  " ++ listed (codes ", ") (map (change_text n left right) columns) ++ 10 ∷ []
+pair_line n columns i left right = painted n.colored Yellow (codes "~ " ++ row_text n i left)
+    ++ codes "  " ++ listed (codes ", ") (map (change_text n left right) columns) ++ 10 ∷ []
 
 -- the line of left row i and right row j
 abbrev pub line_of : Sides → ℕ → ℕ → List ℕ
@@ -36,7 +37,8 @@ mark_color mark = if mark == 45 then Red else Green
 
 -- row i of one side, with its file and the line at which it begins
 unfoldable pub side_text : ℕ → Naming → Side → ℕ → List ℕ
-side_text mark n side i = mark ∷ 32 ∷ [] ++ row_text n i (row_of side i) ++ codes "  " ++ word_text side.name.items ++ codes " line " ++ decimal (slice_index side.lines.items i)
+side_text mark n side i = mark ∷ 32 ∷ [] ++ row_text n i (row_of side i) ++ codes "  "
+    ++ word_text side.name.items ++ codes " line " ++ decimal (slice_index side.lines.items i)
 
 -- the line of row i of one side
 unfoldable pub side_line : ℕ → Naming → Side → ℕ → List ℕ

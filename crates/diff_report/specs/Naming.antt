@@ -1,7 +1,8 @@
 -- What rows and cells are named by, and whether in colours.
 use Rattle.std.specs.Prelude.{ℕ, Bool, List, Option}
 
--- the names of the columns, the key columns, the cell that stands for no value, where there is one, and whether there are colours
+-- the names of the columns, the key columns, the cell that stands for no value, where there is one,
+-- and whether there are colours
 pub record Naming : Type 0 where
   pub names : List (List ℕ)
   pub keys : List ℕ

@@ -1,6 +1,7 @@
 -- Two tables of the same columns, and row numbers that name their rows.
 use Rattle.std.specs.Option.{option_map}
-use Rattle.std.specs.Prelude.{◌≡◌, ◌<◌, ◌≤◌, ◌+◌, ℕ, List, [], Option, None, Some, All, IfSome, length, get_or, slice_index}
+use Rattle.std.specs.Prelude.{◌≡◌, ◌<◌, ◌≤◌, ◌+◌, ℕ, List, [], Option, None, Some, All, IfSome}
+use Rattle.std.specs.Prelude.{length, get_or, slice_index}
 use Rattle.diff_keys.specs.declared.matching.Matching.{Matching}
 use Rattle.diff_tables.specs.Comparison.{ArePairs}
 use Rattle.diff_tables.specs.Tables.{TableRows}
@@ -13,13 +14,21 @@ use Rattle.diff_report.specs.declared.sides.Sides.{Sides}
 
 -- what the rows and cells of two tables are named by
 abbrev pub naming_of : Sides → Naming
-naming_of s = record { names = offset_strings (λ x. x) s.names; keys = s.keys.items; null = option_map (λ v. v.items) s.null; colored = s.colored }
+naming_of s =
+    record {
+      names = offset_strings (λ x. x) s.names;
+      keys = s.keys.items;
+      null = option_map
+          (λ v. v.items) s.null;
+      colored = s.colored;
+    }
 
 -- row i of a table
 abbrev pub row_of : Side → ℕ → List (List ℕ)
 row_of side i = get_or side.table.rows i []
 
--- the number of row i among all rows of a file, from 1 on: where some rows are left out the others' numbers are listed
+-- the number of row i among all rows of a file, from 1 on: where some rows are left out the others'
+-- numbers are listed
 abbrev pub number_in : Option (List ℕ) → ℕ → ℕ
 number_in None i = i + 1
 number_in (Some numbers) i = slice_index numbers i
@@ -77,7 +86,8 @@ pub record AreSides (s : Sides) : Type 0 where
 
 -- the row numbers of a comparison name rows of the tables
 pub record NamesRows (s : Sides) (c : Comparison) : Type 0 where
-  pub pairs : ArePairs s.left.table.rows s.right.table.rows c.matching.left_rows.items c.matching.right_rows.items
+  pub pairs : ArePairs s.left.table.rows s.right.table.rows c.matching.left_rows.items
+      c.matching.right_rows.items
   pub changed : All (λ k. k < length c.matching.left_rows.items) c.changed.items
   pub few : length c.changed.items ≤ length c.matching.left_rows.items
   pub removed : All (λ i. i < length s.left.table.rows) c.matching.removed.items

@@ -3,7 +3,8 @@
 -- 2 changed, 1 removed, 1 added, 998999 the same.  By column: city 1, amount 2.
 use Rattle.std.specs.Fmt.{decimal}
 use Rattle.std.specs.List.{range_with_len}
-use Rattle.std.specs.Prelude.{ℕ, ◌+◌, ◌-◌, ◌==◌, nat_lt, Bool, not, ◌&&◌, if◌then◌else◌, List, [], ◌∷◌, ◌++◌, length, map, filter, get_or, slice_index, codes}
+use Rattle.std.specs.Prelude.{ℕ, ◌+◌, ◌-◌, ◌==◌, nat_lt, Bool, not, ◌&&◌, if◌then◌else◌, List, []}
+use Rattle.std.specs.Prelude.{◌∷◌, ◌++◌, length, map, filter, get_or, slice_index, codes}
 use Rattle.diff_keys.specs.declared.matching.Matching.{Matching}
 use Rattle.diff_tables.specs.declared.compare.Comparison.{Comparison}
 use Rattle.diff_words.specs.Lists.{listed}
@@ -16,12 +17,16 @@ difference_count m changed = changed + length m.removed.items + length m.added.i
 
 -- how many of some differences have no line, where some have one and others none
 unfoldable pub rest_text : ℕ → ℕ → List ℕ
-rest_text limit count = if nat_lt 0 limit && nat_lt limit count then codes ".. and " ++ decimal (count - limit) ++ codes " more\n" else []
+rest_text limit count = if nat_lt 0 limit && nat_lt limit count then codes ".. and "
+    ++ decimal (count - limit) ++ codes " more\n" else []
 
 -- how many rows are changed, removed, added, and the same
 unfoldable pub totals_text : Comparison → List ℕ
-totals_text c = decimal (length c.changed.items) ++ codes " changed, " ++ decimal (length c.matching.removed.items) ++ codes " removed, "
-    ++ decimal (length c.matching.added.items) ++ codes " added, " ++ decimal (length c.matching.left_rows.items - length c.changed.items) ++ codes " the same."
+totals_text c = decimal (length c.changed.items) ++ codes " changed, "
+    ++ decimal (length c.matching.removed.items) ++ codes " removed, "
+    ++ decimal (length c.matching.added.items) ++ codes " added, "
+    ++ decimal (length c.matching.left_rows.items - length c.changed.items)
+    ++ codes " the same."
 
 -- a column has a count that is not 0
 abbrev pub is_counted : List ℕ → ℕ → Bool
@@ -33,12 +38,15 @@ columns_counted counts = filter (is_counted counts) (range_with_len 0 (length co
 
 -- the name of a column, and its count
 abbrev pub count_text : Naming → List ℕ → ℕ → List ℕ
-count_text n counts column = word_text (get_or n.names column []) ++ 32 ∷ [] ++ decimal (slice_index counts column)
+count_text n counts column = word_text (get_or n.names column []) ++ 32 ∷ []
+    ++ decimal (slice_index counts column)
 
 -- the counts of the columns
 unfoldable pub by_column : Naming → List ℕ → List ℕ
-by_column n counts = codes "  By column: " ++ listed (codes ", ") (map (count_text n counts) (columns_counted counts)) ++ codes "."
+by_column n counts = codes "  By column: "
+    ++ listed (codes ", ") (map (count_text n counts) (columns_counted counts)) ++ codes "."
 
 -- the last line: the totals, and the columns where something is changed
 unfoldable pub summary_text : Naming → Comparison → List ℕ → List ℕ
-summary_text n c counts = totals_text c ++ (if length c.changed.items == 0 then [] else by_column n counts) ++ 10 ∷ []
+summary_text n c counts = totals_text c
+    ++ (if length c.changed.items == 0 then [] else by_column n counts) ++ 10 ∷ []

@@ -4,7 +4,8 @@ ghost use Rattle.std.specs.Prelude.{◌≡◌, ◌<◌, ◌-◌, ◌^◌, All, l
 ghost use Rattle.diff_tables.specs.Comparison.{IsComparison};
 ghost use Rattle.diff_report.specs.Counts.{AddsWhere, column_counts};
 ghost use Rattle.diff_report.specs.Pairs.{is_apart};
-ghost use Rattle.diff_report.specs.Sides.{AreSides, NamesRows, compared_left, compared_right, naming_of};
+ghost use Rattle.diff_report.specs.Sides.{AreSides, NamesRows, compared_left, compared_right};
+ghost use Rattle.diff_report.specs.Sides.{naming_of};
 
 use crate::pairs::differ_at;
 use crate::sides::Sides;
@@ -33,7 +34,9 @@ fn counts_of(
 ) -> Result<Vec<usize>, AllocError>
     requires sides { AreSides sides.now }
     requires rows { NamesRows sides.now comparison.now }
-    ensures { IfOk result (λ counts. counts.items ≡ column_counts sides.now comparison.now.matching comparison.now.changed.items) }
+    ensures { IfOk result
+        (λ counts. counts.items
+        ≡ column_counts sides.now comparison.now.matching comparison.now.changed.items) }
 {
     let mut counts: Vec<usize> = vec![in alloc; 0; sides.left.table.width()]?;
     for n in 0..comparison.changed.len() {
@@ -52,8 +55,11 @@ pub fn count_by_column(
     comparison: &Comparison,
 ) -> Result<Vec<usize>, AllocError>
     requires sides { AreSides sides.now }
-    requires comparison { IsComparison sides.now.keys.items (compared_left sides.now) (compared_right sides.now) comparison.now }
-    ensures counts { IfOk result (λ counts. counts.items ≡ column_counts sides.now comparison.now.matching comparison.now.changed.items) }
+    requires comparison { IsComparison sides.now.keys.items (compared_left sides.now) (compared_right sides.now)
+        comparison.now }
+    ensures counts { IfOk result
+        (λ counts. counts.items
+        ≡ column_counts sides.now comparison.now.matching comparison.now.changed.items) }
     ensures as_many { IfOk result (λ counts. length counts.items ≡ length (naming_of sides.now).names) }
 {
     let counts = counts_of(alloc, sides, comparison)?;

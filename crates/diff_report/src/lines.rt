@@ -65,7 +65,8 @@ fn push_side_text(
     requires sides { AreSides sides.now }
     requires side { IsSide (naming_of sides.now) side.now }
     requires row { i < length side.now.table.rows }
-    ensures { OnOk result (out.new.items ≡ out.old.items ++ side_text mark (naming_of sides.now) side.now i) }
+    ensures { OnOk result
+        (out.new.items ≡ out.old.items ++ side_text mark (naming_of sides.now) side.now i) }
 {
     out.push(mark)?;
     out.push(b' ')?;
@@ -90,7 +91,8 @@ pub fn push_side_line(
     requires sides { AreSides sides.now }
     requires side { IsSide (naming_of sides.now) side.now }
     requires row { i < length side.now.table.rows }
-    ensures { OnOk result (out.new.items ≡ out.old.items ++ side_line mark (naming_of sides.now) side.now i) }
+    ensures { OnOk result
+        (out.new.items ≡ out.old.items ++ side_line mark (naming_of sides.now) side.now i) }
 {
     push_color(out, sides.colored, mark_color(mark))?;
     push_side_text(out, mark, sides, side, i)?;

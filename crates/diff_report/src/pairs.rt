@@ -1,6 +1,7 @@
 //! The columns in which two rows differ.
 
-ghost use Rattle.std.specs.Prelude.{◌≡◌, ◌<◌, ◌+◌, ◌++◌, [], if◌then◌else◌, length, map, codes, IfOk, OnOk};
+ghost use Rattle.std.specs.Prelude.{◌≡◌, ◌<◌, ◌+◌, ◌++◌, [], if◌then◌else◌, length, map, codes};
+ghost use Rattle.std.specs.Prelude.{IfOk, OnOk};
 ghost use Rattle.diff_words.specs.Lists.{gap, listed};
 ghost use Rattle.diff_report.specs.Pairs.{change_text, columns_of, is_apart};
 ghost use Rattle.diff_report.specs.Sides.{AreSides, naming_of, row_of};
@@ -37,7 +38,10 @@ fn push_change(
     requires left { i < length sides.now.left.table.rows }
     requires right { j < length sides.now.right.table.rows }
     requires column { column < length (naming_of sides.now).names }
-    ensures { OnOk result (out.new.items ≡ out.old.items ++ change_text (naming_of sides.now) (row_of sides.now.left i) (row_of sides.now.right j) column) }
+    ensures { OnOk result
+        (out.new.items ≡ out.old.items
+        ++ change_text (naming_of sides.now) (row_of sides.now.left i) (row_of sides.now.right j)
+        column) }
 {
     push_word(out, sides.names.bytes(column))?;
     out.push(b' ')?;
@@ -65,7 +69,9 @@ fn push_if_changed(
     requires column { column < length (naming_of sides.now).names }
     requires room { written < usize.MAX }
     ensures text { OnOk result (out.new.items ≡ out.old.items ++ (if is_apart sides.now i j column
-        then gap (codes ", ") written ++ change_text (naming_of sides.now) (row_of sides.now.left i) (row_of sides.now.right j) column else [])) }
+        then gap (codes ", ") written
+        ++ change_text (naming_of sides.now) (row_of sides.now.left i)
+        (row_of sides.now.right j) column else [])) }
     ensures count { IfOk result (λ n. n ≡ written + (if is_apart sides.now i j column then 1 else 0)) }
 {
     if !differ_at(sides, i, j, column) {
@@ -87,7 +93,8 @@ pub(crate) fn push_changes(
     requires left { i < length sides.now.left.table.rows }
     requires right { j < length sides.now.right.table.rows }
     ensures { OnOk result (out.new.items ≡ out.old.items ++ listed (codes ", ")
-        (map (change_text (naming_of sides.now) (row_of sides.now.left i) (row_of sides.now.right j))
+        (map (change_text (naming_of sides.now) (row_of sides.now.left i)
+        (row_of sides.now.right j))
         (columns_of sides.now i j))) }
 {
     let mut written = 0;

@@ -23,7 +23,9 @@ fn push_key(
     requires side { IsSide (naming_of sides.now) side.now }
     requires row { i < length side.now.table.rows }
     requires column { column < length (naming_of sides.now).names }
-    ensures { OnOk result (out.new.items ≡ out.old.items ++ key_text (naming_of sides.now) (row_of side.now i) column) }
+    ensures { OnOk result
+        (out.new.items ≡ out.old.items
+        ++ key_text (naming_of sides.now) (row_of side.now i) column) }
 {
     push_word(out, sides.names.bytes(column))?;
     out.push(b'=')?;
@@ -36,7 +38,10 @@ fn push_keys(out: &mut Vec<u8>, sides: &Sides, side: &Side, i: usize) -> Result<
     requires sides { AreSides sides.now }
     requires side { IsSide (naming_of sides.now) side.now }
     requires row { i < length side.now.table.rows }
-    ensures { OnOk result (out.new.items ≡ out.old.items ++ listed (codes ",") (map (key_text (naming_of sides.now) (row_of side.now i)) sides.now.keys.items)) }
+    ensures { OnOk result
+        (out.new.items ≡ out.old.items
+        ++ listed (codes ",")
+        (map (key_text (naming_of sides.now) (row_of side.now i)) sides.now.keys.items)) }
 {
     for k in 0..sides.keys.len() {
         push_gap(out, b",", k)?;
@@ -56,7 +61,8 @@ pub(crate) fn push_row(
     requires sides { AreSides sides.now }
     requires side { IsSide (naming_of sides.now) side.now }
     requires row { i < length side.now.table.rows }
-    ensures { OnOk result (out.new.items ≡ out.old.items ++ row_text (naming_of sides.now) i (row_of side.now i)) }
+    ensures { OnOk result
+        (out.new.items ≡ out.old.items ++ row_text (naming_of sides.now) i (row_of side.now i)) }
 {
     if sides.keys.is_empty() {
         out.extend_from_slice(b"row ")?;

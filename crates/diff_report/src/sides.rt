@@ -2,7 +2,8 @@
 
 ghost use Rattle.std.specs.Prelude.{◌≡◌, ◌<◌, length};
 ghost use Rattle.diff_report.specs.Naming.{Naming};
-ghost use Rattle.diff_report.specs.Sides.{AreSides, IsSide, compared_left, compared_right, naming_of, number_of};
+ghost use Rattle.diff_report.specs.Sides.{AreSides, IsSide, compared_left, compared_right};
+ghost use Rattle.diff_report.specs.Sides.{naming_of, number_of};
 
 use diff_tables::table::Table;
 use polars_arrays_bytes::binary::BinaryArray;

@@ -1,10 +1,12 @@
 //! The summary behind the lines.
 
 ghost use Rattle.std.specs.Fmt.{decimal};
-ghost use Rattle.std.specs.Prelude.{◌≡◌, ◌<◌, ◌≤◌, ◌+◌, ◌++◌, [], if◌then◌else◌, length, map, codes, IfOk, OnOk};
+ghost use Rattle.std.specs.Prelude.{◌≡◌, ◌<◌, ◌≤◌, ◌+◌, ◌++◌, [], if◌then◌else◌, length, map};
+ghost use Rattle.std.specs.Prelude.{codes, IfOk, OnOk};
 ghost use Rattle.diff_words.specs.Lists.{gap, listed};
 ghost use Rattle.diff_report.specs.Sides.{naming_of};
-ghost use Rattle.diff_report.specs.Summary.{by_column, count_text, difference_count, is_counted, rest_text, summary_text, totals_text};
+ghost use Rattle.diff_report.specs.Summary.{by_column, count_text, difference_count, is_counted};
+ghost use Rattle.diff_report.specs.Summary.{rest_text, summary_text, totals_text};
 
 use crate::sides::Sides;
 use diff_keys::matching::Matching;
@@ -48,7 +50,8 @@ fn push_count(out: &mut Vec<u8>, count: usize, what: &[u8]) -> Result<(), AllocE
 /// Appends how many rows are changed, removed, added, and the same.
 #[tactic(auto, unfolding(crate::specs::Summary::totals_text))]
 fn push_totals(out: &mut Vec<u8>, comparison: &Comparison) -> Result<(), AllocError>
-    requires { length comparison.now.changed.items ≤ length comparison.now.matching.left_rows.items }
+    requires { length comparison.now.changed.items ≤ length
+        comparison.now.matching.left_rows.items }
     ensures { OnOk result (out.new.items ≡ out.old.items ++ totals_text comparison.now) }
 {
     let same = comparison.matching.left_rows.len() - comparison.changed.len();
@@ -71,7 +74,10 @@ fn push_if_counted(
     requires names { column < length (naming_of sides.now).names }
     requires counts { column < length counts.now }
     requires room { written < usize.MAX }
-    ensures text { OnOk result (out.new.items ≡ out.old.items ++ (if is_counted counts.now column then gap (codes ", ") written ++ count_text (naming_of sides.now) counts.now column else [])) }
+    ensures text { OnOk result
+        (out.new.items ≡ out.old.items
+        ++ (if is_counted counts.now column then gap (codes ", ") written
+        ++ count_text (naming_of sides.now) counts.now column else [])) }
     ensures count { IfOk result (λ n. n ≡ written + (if is_counted counts.now column then 1 else 0)) }
 {
     if counts[column] == 0 {
@@ -87,7 +93,8 @@ fn push_if_counted(
 /// Appends the columns that differ, and how often.
 fn push_by_column(out: &mut Vec<u8>, sides: &Sides, counts: &[usize]) -> Result<(), AllocError>
     requires { length counts.now ≡ length (naming_of sides.now).names }
-    ensures { OnOk result (out.new.items ≡ out.old.items ++ by_column (naming_of sides.now) counts.now) }
+    ensures { OnOk result
+        (out.new.items ≡ out.old.items ++ by_column (naming_of sides.now) counts.now) }
 {
     out.extend_from_slice(b"  By column: ")?;
     let mut written = 0;
@@ -107,9 +114,12 @@ pub fn push_summary(
     comparison: &Comparison,
     counts: &[usize],
 ) -> Result<(), AllocError>
-    requires few { length comparison.now.changed.items ≤ length comparison.now.matching.left_rows.items }
+    requires few { length comparison.now.changed.items ≤ length
+        comparison.now.matching.left_rows.items }
     requires counts { length counts.now ≡ length (naming_of sides.now).names }
-    ensures { OnOk result (out.new.items ≡ out.old.items ++ summary_text (naming_of sides.now) comparison.now counts.now) }
+    ensures { OnOk result
+        (out.new.items ≡ out.old.items
+        ++ summary_text (naming_of sides.now) comparison.now counts.now) }
 {
     push_totals(out, comparison)?;
     if !comparison.changed.is_empty() {

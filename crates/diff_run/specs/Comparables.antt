@@ -1,7 +1,7 @@
 -- What the rows of two inputs are compared by.
 --
--- With the columns "id", "n", where numbers count in all but "id", the row "7.0" "1.50" is compared by "7.0" "15e-1".
--- Where they do not count, it is compared by itself.
+-- With the columns "id", "n", where numbers count in all but "id", the row "7.0" "1.50" is compared
+-- by "7.0" "15e-1". Where they do not count, it is compared by itself.
 use Rattle.std.specs.Borrow.{Bor}
 use Rattle.std.specs.Prelude.{◌≡◌, ℕ, Bool, List, [], Option, None, Some, IfSome, length, get_or, ⊤}
 use Rattle.diff_columns.specs.Names.{Names, names_of}
@@ -18,9 +18,10 @@ use Rattle.diff_run.specs.declared.error.RunError.TheVariants as error
 use Rattle.diff_run.specs.declared.inputs.Both.{Both}
 use Rattle.diff_run.specs.declared.options.Options.{Options}
 
--- what rows with these columns are compared by: themselves, or where numbers count in all columns but some, by their
--- comparable rows
-abbrev pub rows_by : Option (Bor (List (Bor (List ℕ)))) → Names → List (List (List ℕ)) → List (List (List ℕ))
+-- what rows with these columns are compared by: themselves, or where numbers count in all columns
+-- but some, by their comparable rows
+abbrev pub rows_by : Option (Bor (List (Bor (List ℕ)))) → Names → List (List (List ℕ))
+    → List (List (List ℕ))
 rows_by None names rows = rows
 rows_by (Some texts) names rows = comparable_rows (number_columns (names_of texts.now) names) rows
 
@@ -35,15 +36,19 @@ pub record AreBothBy (numeric : List Bool) (both : Both) (by : Comparables) : Ty
   pub right : IsComparableTable numeric both.right.table by.right
 
 -- the inputs are compared by the tables, or by themselves where there are none, as the options say
-pub record AreComparables (options : Options) (names : Names) (both : Both) (by : Option Comparables) : Type 0 where
-  pub left : left_rows_by both.left.table.rows by ≡ rows_by options.numbers names both.left.table.rows
-  pub right : right_rows_by both.right.table.rows by ≡ rows_by options.numbers names both.right.table.rows
+pub record AreComparables (options : Options) (names : Names) (both : Both)
+    (by : Option Comparables) : Type 0 where
+  pub left : left_rows_by both.left.table.rows by
+      ≡ rows_by options.numbers names both.left.table.rows
+  pub right : right_rows_by both.right.table.rows by
+      ≡ rows_by options.numbers names both.right.table.rows
   pub large : IfSome by (AreAsLarge both.left.table both.right.table)
 
 -- the error names the column of a number on this side, or an allocation failed
 abbrev pub NamesWideNumber : Names → ℕ → Side → RunError → Type 0
 NamesWideNumber names column side error.Memory = ⊤
-NamesWideNumber names column side (error.WideExponent s line name) = (s ≡ side) × (name.items ≡ get_or names column [])
+NamesWideNumber names column side (error.WideExponent s line name) = (s ≡ side)
+    × (name.items ≡ get_or names column [])
 NamesWideNumber names column side error.TooManyRows = ⊥
 NamesWideNumber names column side (error.KeyTwice s first again) = ⊥
 NamesWideNumber names column side (error.Csv s cause) = ⊥
@@ -51,7 +56,8 @@ NamesWideNumber names column side (error.Columns cause) = ⊥
 NamesWideNumber names column side (error.Write cause) = ⊥
 
 -- a number in the column of this name counts, and its exponent is wide
-pub record HasWideNumber (numeric : List Bool) (names : Names) (rows : List (List (List ℕ))) (name : List ℕ) : Type 0 where
+pub record HasWideNumber (numeric : List Bool) (names : Names) (rows : List (List (List ℕ)))
+    (name : List ℕ) : Type 0 where
   pub row : ℕ
   pub column : ℕ
   pub wide : IsWideAt numeric rows row column
@@ -60,7 +66,8 @@ pub record HasWideNumber (numeric : List Bool) (names : Names) (rows : List (Lis
 -- a number on this side counts, and its exponent is wide; or an allocation failed
 abbrev pub IsTableFault : List Bool → Names → List (List (List ℕ)) → Side → RunError → Type 0
 IsTableFault numeric names rows side error.Memory = ⊤
-IsTableFault numeric names rows side (error.WideExponent s line name) = (s ≡ side) × HasWideNumber numeric names rows name.items
+IsTableFault numeric names rows side (error.WideExponent s line name) = (s ≡ side)
+    × HasWideNumber numeric names rows name.items
 IsTableFault numeric names rows side error.TooManyRows = ⊥
 IsTableFault numeric names rows side (error.KeyTwice s first again) = ⊥
 IsTableFault numeric names rows side (error.Csv s cause) = ⊥
@@ -75,7 +82,8 @@ table_on Right both = both.right
 -- the same of one of both sides
 abbrev pub IsNumberFault : List Bool → Names → Both → RunError → Type 0
 IsNumberFault numeric names both error.Memory = ⊤
-IsNumberFault numeric names both (error.WideExponent side line name) = HasWideNumber numeric names (table_on side both).table.rows name.items
+IsNumberFault numeric names both (error.WideExponent side line name) =
+    HasWideNumber numeric names (table_on side both).table.rows name.items
 IsNumberFault numeric names both error.TooManyRows = ⊥
 IsNumberFault numeric names both (error.KeyTwice side first again) = ⊥
 IsNumberFault numeric names both (error.Csv side cause) = ⊥
@@ -83,7 +91,8 @@ IsNumberFault numeric names both (error.Columns cause) = ⊥
 IsNumberFault numeric names both (error.Write cause) = ⊥
 
 -- the same where numbers count, in all columns but some
-pub record IsComparedFault (options : Options) (names : Names) (both : Both) (e : RunError) : Type 0 where
+pub record IsComparedFault (options : Options) (names : Names) (both : Both) (e : RunError) :
+    Type 0 where
   pub texts : Bor (List (Bor (List ℕ)))
   pub asked : options.numbers ≡ Some texts
   pub fault : IsNumberFault (number_columns (names_of texts.now) names) names both e

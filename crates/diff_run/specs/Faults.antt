@@ -1,7 +1,8 @@
 -- Why two inputs are not compared.
 --
--- With the key "id" the texts "id,n", "7,1" and "day,n", "3,8" are not compared, since no column of the right one is
--- named id; nor are "id,n", "7" and any other, since the second record of the left one has one field.
+-- With the key "id" the texts "id,n", "7,1" and "day,n", "3,8" are not compared, since no column of
+-- the right one is named id; nor are "id,n", "7" and any other, since the second record of the left
+-- one has one field.
 use Rattle.std.specs.Borrow.{Bor}
 use Rattle.std.specs.Prelude.{◌≡◌, ◌≤◌, ◌^◌, ℕ, true, List, Some, length, ⊤}
 use Rattle.diff_columns.specs.Errors.{IsColumnFault}
@@ -38,8 +39,10 @@ text_on Right left right = right
 
 -- the columns of the two texts can't be matched
 abbrev pub IsNamesFault : Options → List ℕ → List ℕ → ColumnError → Type 0
-IsNamesFault options left_text right_text cause = (left right : List (List (List ℕ))) → AreRecordsOf options.csv left_text left → AreRecordsOf options.csv right_text right
-    → IsColumnFault (csv.names_of options.csv.has_header left) (csv.names_of options.csv.has_header right) (names_of options.choice.keys.now) cause
+IsNamesFault options left_text right_text cause = (left right : List (List (List ℕ)))
+    → AreRecordsOf options.csv left_text left → AreRecordsOf options.csv right_text right
+    → IsColumnFault (csv.names_of options.csv.has_header left)
+    (csv.names_of options.csv.has_header right) (names_of options.choice.keys.now) cause
 
 -- each row of the two tables has a number below 2^32
 abbrev pub HaveFewRows : Sides → Type 0
@@ -64,12 +67,13 @@ IsSideFault rows keys side (error.Csv s cause) = ⊥
 IsSideFault rows keys side (error.Columns cause) = ⊥
 IsSideFault rows keys side (error.Write cause) = ⊥
 
--- the rows of the two tables are too many, two of one table have one key where keys have to be unique, or an allocation
--- failed
+-- the rows of the two tables are too many, two of one table have one key where keys have to be
+-- unique, or an allocation failed
 abbrev pub IsRowsFault : Options → Sides → RunError → Type 0
 IsRowsFault options s error.Memory = ⊤
 IsRowsFault options s error.TooManyRows = ¬ (HaveFewRows s)
-IsRowsFault options s (error.KeyTwice side first again) = (options.unique ≡ true) × HasKeyTwice (compared_on side s) s.keys.items
+IsRowsFault options s (error.KeyTwice side first again) = (options.unique ≡ true)
+    × HasKeyTwice (compared_on side s) s.keys.items
 IsRowsFault options s (error.WideExponent side line name) = ⊥
 IsRowsFault options s (error.Csv side cause) = ⊥
 IsRowsFault options s (error.Columns cause) = ⊥
@@ -85,7 +89,8 @@ pub record HasTooManyRows (options : Options) (left_text right_text : List ℕ) 
   pub many : ¬ (HaveFewRows sides)
 
 -- of the table of one of two texts two rows have one key, and keys have to be unique
-pub record IsKeyFault (options : Options) (left_text right_text : List ℕ) (side : Side) : Type 0 where
+pub record IsKeyFault (options : Options) (left_text right_text : List ℕ) (side : Side) :
+    Type 0 where
   pub left_name : List ℕ
   pub right_name : List ℕ
   pub layout : Layout
@@ -94,34 +99,48 @@ pub record IsKeyFault (options : Options) (left_text right_text : List ℕ) (sid
   pub twice : HasKeyTwice (compared_on side sides) sides.keys.items
   pub asked : options.unique ≡ true
 
--- the rows of the text on a side, or those of a part, each as its cells in the columns that are compared
-abbrev pub rows_on : Side → Options → Layout → List (List (List ℕ)) → List (List (List ℕ)) → List (List (List ℕ))
-rows_on Left options layout left right = rows_in options.part layout.keys.items (rows_of options.csv.has_header left layout.left.items)
-rows_on Right options layout left right = rows_in options.part layout.keys.items (rows_of options.csv.has_header right layout.right.items)
+-- the rows of the text on a side, or those of a part, each as its cells in the columns that are
+-- compared
+abbrev pub rows_on : Side → Options → Layout → List (List (List ℕ)) → List (List (List ℕ))
+    → List (List (List ℕ))
+rows_on Left options layout left right =
+    rows_in options.part layout.keys.items (rows_of options.csv.has_header left layout.left.items)
+rows_on Right options layout left right =
+    rows_in options.part layout.keys.items (rows_of options.csv.has_header right layout.right.items)
 
 -- on this side a number in the column of this name counts, and its exponent is wide
-pub record IsWideFault (options : Options) (left_text right_text : List ℕ) (side : Side) (name : List ℕ) : Type 0 where
+pub record IsWideFault (options : Options) (left_text right_text : List ℕ) (side : Side)
+    (name : List ℕ) : Type 0 where
   pub left_records : List (List (List ℕ))
   pub right_records : List (List (List ℕ))
   pub left_all : AreRecordsOf options.csv left_text left_records
   pub right_all : AreRecordsOf options.csv right_text right_records
   pub layout : Layout
-  pub laid_out : IsLayout (csv.names_of options.csv.has_header left_records) (csv.names_of options.csv.has_header right_records) options.choice layout
+  pub laid_out :
+      IsLayout (csv.names_of options.csv.has_header left_records)
+      (csv.names_of options.csv.has_header right_records) options.choice layout
   pub texts : Bor (List (Bor (List ℕ)))
   pub asked : options.numbers ≡ Some texts
   pub names : Names
-  pub names_are : names ≡ cells_at layout.left.items (csv.names_of options.csv.has_header left_records)
-  pub wide : HasWideNumber (number_columns (names_of texts.now) names) names (rows_on side options layout left_records right_records) name
+  pub names_are : names
+      ≡ cells_at layout.left.items (csv.names_of options.csv.has_header left_records)
+  pub wide : HasWideNumber (number_columns (names_of texts.now) names) names
+      (rows_on side options layout left_records right_records) name
 
--- why two texts are not compared: one can't be read, the columns can't be matched, a number can't be compared, there
--- are too many rows, two rows have one key, or an allocation or a write failed
+-- why two texts are not compared: one can't be read, the columns can't be matched, a number can't
+-- be compared, there are too many rows, two rows have one key, or an allocation or a write failed
 abbrev pub IsRunFault : Options → List ℕ → List ℕ → RunError → Type 0
 IsRunFault options left_text right_text error.Memory = ⊤
-IsRunFault options left_text right_text error.TooManyRows = HasTooManyRows options left_text right_text
-IsRunFault options left_text right_text (error.KeyTwice side first again) = IsKeyFault options left_text right_text side
-IsRunFault options left_text right_text (error.WideExponent side line name) = IsWideFault options left_text right_text side name.items
-IsRunFault options left_text right_text (error.Csv side cause) = IsReadFault options.csv (text_on side left_text right_text) cause
-IsRunFault options left_text right_text (error.Columns cause) = IsNamesFault options left_text right_text cause
+IsRunFault options left_text right_text error.TooManyRows =
+    HasTooManyRows options left_text right_text
+IsRunFault options left_text right_text (error.KeyTwice side first again) =
+    IsKeyFault options left_text right_text side
+IsRunFault options left_text right_text (error.WideExponent side line name) =
+    IsWideFault options left_text right_text side name.items
+IsRunFault options left_text right_text (error.Csv side cause) =
+    IsReadFault options.csv (text_on side left_text right_text) cause
+IsRunFault options left_text right_text (error.Columns cause) =
+    IsNamesFault options left_text right_text cause
 IsRunFault options left_text right_text (error.Write cause) = ⊤
 
 -- a write failed

@@ -15,15 +15,22 @@ use Rattle.diff_tables.specs.Keys.{cells_at}
 
 -- the names are those of the texts' columns, and can be matched
 pub record AreHeadsOf (options : Options) (left_text right_text : List ℕ) (h : Heads) : Type 0 where
-  pub left_names : (records : List (List (List ℕ))) → AreRecordsOf options.csv left_text records → offset_strings (λ x. x) h.left_names ≡ csv.names_of options.csv.has_header records
-  pub right_names : (records : List (List (List ℕ))) → AreRecordsOf options.csv right_text records → offset_strings (λ x. x) h.right_names ≡ csv.names_of options.csv.has_header records
-  pub matchable : AreMatchable (offset_strings (λ x. x) h.left_names) (offset_strings (λ x. x) h.right_names) (names_of options.choice.keys.now)
+  pub left_names : (records : List (List (List ℕ))) → AreRecordsOf options.csv left_text records
+      → offset_strings (λ x. x) h.left_names ≡ csv.names_of options.csv.has_header records
+  pub right_names : (records : List (List (List ℕ))) → AreRecordsOf options.csv right_text records
+      → offset_strings (λ x. x) h.right_names ≡ csv.names_of options.csv.has_header records
+  pub matchable :
+      AreMatchable (offset_strings (λ x. x) h.left_names) (offset_strings (λ x. x) h.right_names)
+      (names_of options.choice.keys.now)
 
--- the frame has the names of the inputs, those of the columns that are compared, and the places of the keys
-pub record IsFrameOf (options : Options) (h : Heads) (left right : List ℕ) (f : Frame) : Type 0 where
+-- the frame has the names of the inputs, those of the columns that are compared, and the places of
+-- the keys
+pub record IsFrameOf (options : Options) (h : Heads) (left right : List ℕ) (f : Frame) :
+    Type 0 where
   pub left_named : f.left.items ≡ left
   pub right_named : f.right.items ≡ right
-  pub column_names : offset_strings (λ x. x) f.names ≡ cells_at h.layout.left.items (offset_strings (λ x. x) h.left_names)
+  pub column_names : offset_strings (λ x. x) f.names
+      ≡ cells_at h.layout.left.items (offset_strings (λ x. x) h.left_names)
   pub keys : f.keys.items ≡ h.layout.keys.items
   pub null : option_map (λ v. v.items) f.null ≡ option_map (λ v. v.now) options.null
 

@@ -32,9 +32,13 @@ row_alone Json Added = side_object (codes "added")
 
 -- the lines of all differences: changed rows in left order, then removed ones, then added ones
 abbrev pub all_lines : Format → Sides → Comparison → List (List ℕ)
-all_lines format s c = map (pair_at format s c.matching) c.changed.items ++ map (row_alone format Removed (naming_of s) s.left) c.matching.removed.items ++ map (row_alone format Added (naming_of s) s.right) c.matching.added.items
+all_lines format s c = map (pair_at format s c.matching) c.changed.items
+    ++ map (row_alone format Removed (naming_of s) s.left) c.matching.removed.items
+    ++ map (row_alone format Added (naming_of s) s.right) c.matching.added.items
 
 -- what stands behind them: how many more there are, and the counts
 abbrev pub end_text : Format → Sides → Comparison → List ℕ → ℕ → List ℕ
-end_text Text s c counts limit = rest_text limit (difference_count c.matching (length c.changed.items)) ++ summary_text (naming_of s) c counts
+end_text Text s c counts limit =
+    rest_text limit (difference_count c.matching (length c.changed.items))
+    ++ summary_text (naming_of s) c counts
 end_text Json s c counts limit = counts_object (naming_of s) c counts limit

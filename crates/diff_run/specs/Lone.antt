@@ -11,7 +11,8 @@ use Rattle.diff_words.specs.Words.{word_text}
 
 -- the line of a column that only one input has, in text
 unfoldable pub lone_line : List ℕ → List ℕ → List ℕ
-lone_line input name = codes "! column " ++ word_text name ++ codes " only in " ++ word_text input ++ 10 ∷ []
+lone_line input name = codes "! column " ++ word_text name ++ codes " only in " ++ word_text input
+    ++ 10 ∷ []
 
 -- the line of a column that only the input on this side has
 abbrev pub alone_line : Format → Side → List ℕ → List ℕ → List ℕ
@@ -20,4 +21,5 @@ alone_line Json side input name = column_object side name
 
 -- a line for each of some columns
 abbrev pub alone_lines : Format → Side → List ℕ → List (List ℕ) → List ℕ → List ℕ
-alone_lines format side input names columns = flat_map (λ c. alone_line format side input (get_or names c [])) columns
+alone_lines format side input names columns = flat_map
+    (λ c. alone_line format side input (get_or names c [])) columns

@@ -4,7 +4,9 @@ ghost use Rattle.std.specs.Prelude.{◌≡◌, ◌<◌, length, MatchResult};
 ghost use Rattle.diff_columns.specs.Names.{names_of};
 ghost use Rattle.diff_numbers.specs.Columns.{number_columns};
 ghost use Rattle.diff_numbers.specs.Rows.{IsComparableTable};
-ghost use Rattle.diff_run.specs.Comparables.{AreBothBy, AreComparables, HasNamedColumns, IsComparedFault, IsNumberFault, IsTableFault, NamesWideNumber};
+ghost use Rattle.diff_run.specs.Comparables.{AreBothBy, AreComparables, HasNamedColumns};
+ghost use Rattle.diff_run.specs.Comparables.{IsComparedFault, IsNumberFault, IsTableFault};
+ghost use Rattle.diff_run.specs.Comparables.{NamesWideNumber};
 ghost use Rattle.polars_arrays_bytes.specs.OffsetStrings.{offset_strings};
 
 use crate::error::RunError;
@@ -21,8 +23,8 @@ use polars_arrays_bytes::binary::BinaryArray;
 use polars_arrays_flat::byte_rows::ByteRows;
 use std::alloc::Global;
 
-/// Returns the error of a number whose exponent is too wide, in this column. `line` is where its row
-/// begins.
+/// Returns the error of a number whose exponent is too wide, in this column. `line` is where its
+/// row begins.
 fn wide_exponent(
     alloc: Global,
     names: &BinaryArray<i64>,
@@ -49,7 +51,8 @@ fn table_by(
 ) -> Result<Table, RunError>
     requires numeric { length numeric.now ≡ length (offset_strings (λ x. x) names.now) }
     requires input { HasNamedColumns (offset_strings (λ x. x) names.now) input.now }
-    ensures { MatchResult result (IsComparableTable numeric.now input.now.table) (IsTableFault numeric.now (offset_strings (λ x. x) names.now) input.now.table.rows side) }
+    ensures { MatchResult result (IsComparableTable numeric.now input.now.table)
+        (IsTableFault numeric.now (offset_strings (λ x. x) names.now) input.now.table.rows side) }
 {
     match comparable_table(alloc, &input.table, numeric) {
         Ok(table) => Ok(table),
@@ -71,8 +74,10 @@ fn tables_by(
     requires left { HasNamedColumns (offset_strings (λ x. x) names.now) both.now.left }
     requires right { HasNamedColumns (offset_strings (λ x. x) names.now) both.now.right }
     ensures { MatchResult result
-        (AreBothBy (number_columns (names_of texts.now) (offset_strings (λ x. x) names.now)) both.now)
-        (IsNumberFault (number_columns (names_of texts.now) (offset_strings (λ x. x) names.now)) (offset_strings (λ x. x) names.now) both.now) }
+        (AreBothBy (number_columns (names_of texts.now) (offset_strings (λ x. x) names.now))
+        both.now)
+        (IsNumberFault (number_columns (names_of texts.now) (offset_strings (λ x. x) names.now))
+        (offset_strings (λ x. x) names.now) both.now) }
 {
     let numeric = number_columns(alloc, names, texts)?;
     let left = table_by(alloc, names, &numeric, &both.left, Side::Left)?;

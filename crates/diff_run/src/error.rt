@@ -33,7 +33,8 @@ pub enum RunError {
         again: u64,
     },
     /// A number has an exponent of more than 30 digits, its leading zeros not counted, and is to be
-    /// compared by what it is worth. `line` is where its row begins, and `name` is that of its column.
+    /// compared by what it is worth. `line` is where its row begins, and `name` is that of its
+    /// column.
     #[error("the number at line {line} has an exponent of more than 30 digits")]
     WideExponent {
         side: Side,

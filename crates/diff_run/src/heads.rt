@@ -54,10 +54,18 @@ pub(crate) fn heads_of<L: Read + Drop, R: Read + Drop>(
     right: &Source<R>,
     options: &Options<'_>,
 ) -> Result<Heads, RunError>
-    ensures layout { IfOk result (λ h. IsLayout (offset_strings (λ x. x) h.left_names) (offset_strings (λ x. x) h.right_names) options.now.choice h.layout) }
+    ensures layout { IfOk result
+        (λ h. IsLayout (offset_strings (λ x. x) h.left_names)
+        (offset_strings (λ x. x) h.right_names) options.now.choice h.layout) }
     ensures texts { MatchResult result
-        (λ h. (left_text right_text : List ℕ) → IsOpen L.remaining options.now.csv left_text left.now → IsOpen R.remaining options.now.csv right_text right.now → AreHeadsOf options.now left_text right_text h)
-        (λ error. (left_text right_text : List ℕ) → IsOpen L.remaining options.now.csv left_text left.now → IsOpen R.remaining options.now.csv right_text right.now → IsRunFault options.now left_text right_text error) }
+        (λ h. (left_text right_text : List ℕ)
+        → IsOpen L.remaining options.now.csv left_text left.now
+        → IsOpen R.remaining options.now.csv right_text right.now
+        → AreHeadsOf options.now left_text right_text h)
+        (λ error. (left_text right_text : List ℕ)
+        → IsOpen L.remaining options.now.csv left_text left.now
+        → IsOpen R.remaining options.now.csv right_text right.now
+        → IsRunFault options.now left_text right_text error) }
 {
     let left_names = left.names(alloc)?;
     let Ok(right_names) = right.names(alloc) else {

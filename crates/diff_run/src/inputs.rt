@@ -30,8 +30,11 @@ pub(crate) fn opened<R: Read + Drop>(
     side: Side,
 ) -> Result<Source<R>, RunError>
     ensures { MatchResult result
-        (λ source. (text : List ℕ) → R.remaining reader ≡ Some text → IsOpen R.remaining options.now.csv text source)
-        (λ error. (left_text right_text : List ℕ) → R.remaining reader ≡ Some (text_on side left_text right_text) → IsRunFault options.now left_text right_text error) }
+        (λ source. (text : List ℕ) → R.remaining reader ≡ Some text
+        → IsOpen R.remaining options.now.csv text source)
+        (λ error. (left_text right_text : List ℕ) → R.remaining reader
+        ≡ Some (text_on side left_text right_text)
+        → IsRunFault options.now left_text right_text error) }
 {
     match Source::open(alloc, reader, options.csv) {
         Ok(source) => Ok(source),
@@ -50,8 +53,12 @@ fn read_rows<R: Read + Drop>(
 ) -> Result<CsvTable, RunError>
     ensures shape { IfOk result (HasShape columns.now) }
     ensures table { MatchResult result
-        (λ table. (text : List ℕ) → IsOpen R.remaining options.now.csv text source → IsTableOf options.now.csv text columns.now layout.now.keys.items options.now.part table)
-        (λ error. (left_text right_text : List ℕ) → IsOpen R.remaining options.now.csv (text_on side left_text right_text) source → IsRunFault options.now left_text right_text error) }
+        (λ table. (text : List ℕ) → IsOpen R.remaining options.now.csv text source
+        → IsTableOf options.now.csv text columns.now layout.now.keys.items options.now.part
+        table)
+        (λ error. (left_text right_text : List ℕ)
+        → IsOpen R.remaining options.now.csv (text_on side left_text right_text) source
+        → IsRunFault options.now left_text right_text error) }
 {
     let wanted = Wanted {
         columns,
@@ -76,8 +83,13 @@ pub(crate) fn read_both<L: Read + Drop, R: Read + Drop>(
     ensures left { IfOk result (λ both. HasShape layout.now.left.items both.left) }
     ensures right { IfOk result (λ both. HasShape layout.now.right.items both.right) }
     ensures tables { MatchResult result
-        (λ both. (left_text right_text : List ℕ) → IsOpen L.remaining options.now.csv left_text left → IsOpen R.remaining options.now.csv right_text right → AreBothOf options.now left_text right_text layout.now both)
-        (λ error. (left_text right_text : List ℕ) → IsOpen L.remaining options.now.csv left_text left → IsOpen R.remaining options.now.csv right_text right → IsRunFault options.now left_text right_text error) }
+        (λ both. (left_text right_text : List ℕ) → IsOpen L.remaining options.now.csv left_text left
+        → IsOpen R.remaining options.now.csv right_text right
+        → AreBothOf options.now left_text right_text layout.now both)
+        (λ error. (left_text right_text : List ℕ)
+        → IsOpen L.remaining options.now.csv left_text left
+        → IsOpen R.remaining options.now.csv right_text right
+        → IsRunFault options.now left_text right_text error) }
 {
     let left = read_rows(alloc, left, &layout.left, layout, options, Side::Left)?;
     let right = read_rows(alloc, right, &layout.right, layout, options, Side::Right)?;

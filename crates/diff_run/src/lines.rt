@@ -25,9 +25,11 @@ fn push_pair_at(
     k: usize,
 ) -> Result<(), AllocError>
     requires sides { AreSides sides.now }
-    requires rows { ArePairs sides.now.left.table.rows sides.now.right.table.rows matching.now.left_rows.items matching.now.right_rows.items }
+    requires rows { ArePairs sides.now.left.table.rows sides.now.right.table.rows matching.now.left_rows.items
+        matching.now.right_rows.items }
     requires place { k < length matching.now.left_rows.items }
-    ensures { OnOk result (out.new.items ≡ out.old.items ++ pair_at format sides.now matching.now k) }
+    ensures { OnOk result
+        (out.new.items ≡ out.old.items ++ pair_at format sides.now matching.now k) }
 {
     let i = matching.left_rows[k] as usize;
     let j = matching.right_rows[k] as usize;
@@ -49,7 +51,8 @@ fn push_row(
     requires sides { AreSides sides.now }
     requires side { IsSide (naming_of sides.now) side.now }
     requires row { i < length side.now.table.rows }
-    ensures { OnOk result (out.new.items ≡ out.old.items ++ row_alone format alone (naming_of sides.now) side.now i) }
+    ensures { OnOk result
+        (out.new.items ≡ out.old.items ++ row_alone format alone (naming_of sides.now) side.now i) }
 {
     match (format, alone) {
         (Format::Text, Alone::Removed) => push_side_line(out, b'-', sides, side, i),
@@ -69,7 +72,10 @@ fn push_pairs(
 ) -> Result<(), AllocError>
     requires sides { AreSides sides.now }
     requires rows { NamesRows sides.now comparison.now }
-    ensures { OnOk result (out.new.items ≡ out.old.items ++ flat_map (pair_at format sides.now comparison.now.matching) (take limit comparison.now.changed.items)) }
+    ensures { OnOk result
+        (out.new.items ≡ out.old.items
+        ++ flat_map (pair_at format sides.now comparison.now.matching)
+        (take limit comparison.now.changed.items)) }
 {
     for n in 0..comparison.changed.len().min(limit) {
         let k = comparison.changed[n];
@@ -91,7 +97,9 @@ fn push_rows(
     requires sides { AreSides sides.now }
     requires side { IsSide (naming_of sides.now) side.now }
     requires rows { All (λ i. i < length side.now.table.rows) rows.now }
-    ensures { OnOk result (out.new.items ≡ out.old.items ++ flat_map (row_alone format alone (naming_of sides.now) side.now) (take limit rows.now)) }
+    ensures { OnOk result
+        (out.new.items ≡ out.old.items
+        ++ flat_map (row_alone format alone (naming_of sides.now) side.now) (take limit rows.now)) }
 {
     for n in 0..rows.len().min(limit) {
         push_row(out, format, alone, sides, side, rows[n] as usize)?;
@@ -110,7 +118,9 @@ pub(crate) fn push_lines(
 ) -> Result<(), AllocError>
     requires sides { AreSides sides.now }
     requires rows { NamesRows sides.now comparison.now }
-    ensures { OnOk result (out.new.items ≡ out.old.items ++ concat (take limit (all_lines format sides.now comparison.now))) }
+    ensures { OnOk result
+        (out.new.items ≡ out.old.items
+        ++ concat (take limit (all_lines format sides.now comparison.now))) }
 {
     let (left, right) = (&sides.left, &sides.right);
     let Matching { removed, added, .. } = &comparison.matching;
@@ -132,9 +142,12 @@ pub(crate) fn push_end(
     counts: &[usize],
     limit: usize,
 ) -> Result<(), AllocError>
-    requires few { length comparison.now.changed.items ≤ length comparison.now.matching.left_rows.items }
+    requires few { length comparison.now.changed.items ≤ length
+        comparison.now.matching.left_rows.items }
     requires counts { length counts.now ≡ length (naming_of sides.now).names }
-    ensures { OnOk result (out.new.items ≡ out.old.items ++ end_text format sides.now comparison.now counts.now limit) }
+    ensures { OnOk result
+        (out.new.items ≡ out.old.items
+        ++ end_text format sides.now comparison.now counts.now limit) }
 {
     match format {
         Format::Text => {

@@ -33,7 +33,8 @@ fn push_alone_line(
     input: &[u8],
     name: &[u8],
 ) -> Result<(), AllocError>
-    ensures { OnOk result (out.new.items ≡ out.old.items ++ alone_line format side input.now name.now) }
+    ensures { OnOk result
+        (out.new.items ≡ out.old.items ++ alone_line format side input.now name.now) }
 {
     match format {
         Format::Text => push_lone_line(out, input, name),
@@ -51,7 +52,9 @@ pub(crate) fn push_alone(
     columns: &[usize],
 ) -> Result<(), AllocError>
     requires { All (λ c. c < length (offset_strings (λ x. x) names.now)) columns.now }
-    ensures { OnOk result (out.new.items ≡ out.old.items ++ alone_lines format side input.now (offset_strings (λ x. x) names.now) columns.now) }
+    ensures { OnOk result
+        (out.new.items ≡ out.old.items
+        ++ alone_lines format side input.now (offset_strings (λ x. x) names.now) columns.now) }
 {
     for column in columns {
         push_alone_line(out, format, side, input, names.bytes(*column))?;

@@ -17,7 +17,9 @@ pub(crate) fn names_at(
     columns: &[usize],
 ) -> Result<BinaryArray<i64>, ComputeError>
     requires { All (λ c. c < length (offset_strings (λ x. x) names.now)) columns.now }
-    ensures { IfOk result (λ chosen. offset_strings (λ x. x) chosen ≡ cells_at columns.now (offset_strings (λ x. x) names.now)) }
+    ensures { IfOk result
+        (λ chosen. offset_strings (λ x. x) chosen
+        ≡ cells_at columns.now (offset_strings (λ x. x) names.now)) }
 {
     let mut chosen = Strings::new(alloc)?;
     for column in columns {

@@ -12,8 +12,8 @@ pub struct Options<'a> {
     pub choice: Choice<'a>,
     /// How the inputs are read.
     pub csv: CsvOptions,
-    /// The columns that are compared as texts, where in all others numbers are compared by what they
-    /// are worth. Without it all cells are compared as texts.
+    /// The columns that are compared as texts, where in all others numbers are compared by what
+    /// they are worth. Without it all cells are compared as texts.
     pub numbers: Option<&'a [&'a [u8]]>,
     /// The part of the rows that is read and compared, by their cells in the key columns as they
     /// are written. Without it all rows are. The parts make the whole where keys are compared as

@@ -7,7 +7,8 @@ ghost use Rattle.diff_report.specs.Counts.{column_counts};
 ghost use Rattle.diff_report.specs.Sides.{AreSides, compared_left, compared_right};
 ghost use Rattle.diff_run.specs.Faults.{IsRowsFault, IsRunFault};
 ghost use Rattle.diff_run.specs.Heads.{AreHeadsOf};
-ghost use Rattle.diff_run.specs.Run.{AreSidesOf, HaveUniqueKeys, IsReportOf, columns_text, differences_text, outcome_of};
+ghost use Rattle.diff_run.specs.Run.{AreSidesOf, HaveUniqueKeys, IsReportOf, columns_text};
+ghost use Rattle.diff_run.specs.Run.{differences_text, outcome_of};
 ghost use Rattle.diff_run.specs.declared.options.Options.{Options};
 ghost use Rattle.diff_tables.specs.Comparison.{IsComparison};
 
@@ -41,8 +42,13 @@ fn columns_text(
     files: Files<'_>,
     options: &Options<'_>,
 ) -> Result<Vec<u8>, AllocError>
-    requires { IsLayout (offset_strings (λ x. x) heads.now.left_names) (offset_strings (λ x. x) heads.now.right_names) options.now.choice heads.now.layout }
-    ensures { IfOk result (λ text. text.items ≡ columns_text options.now files.entry.left.now files.entry.right.now (offset_strings (λ x. x) heads.now.left_names) (offset_strings (λ x. x) heads.now.right_names) heads.now.layout) }
+    requires { IsLayout (offset_strings (λ x. x) heads.now.left_names)
+        (offset_strings (λ x. x) heads.now.right_names) options.now.choice heads.now.layout }
+    ensures { IfOk result
+        (λ text. text.items
+        ≡ columns_text options.now files.entry.left.now files.entry.right.now
+        (offset_strings (λ x. x) heads.now.left_names)
+        (offset_strings (λ x. x) heads.now.right_names) heads.now.layout) }
 {
     let mut text = Vec::new(alloc);
     if !options.common {
@@ -71,7 +77,9 @@ fn columns_text(
 /// Compares the rows of two sides.
 fn compared(alloc: Global, sides: &Sides) -> Result<Comparison, RunError>
     requires { AreSides sides.now }
-    ensures { MatchResult result (IsComparison sides.now.keys.items (compared_left sides.now) (compared_right sides.now)) (λ error. (options : Options) → IsRowsFault options sides.now error) }
+    ensures { MatchResult result
+        (IsComparison sides.now.keys.items (compared_left sides.now) (compared_right sides.now))
+        (λ error. (options : Options) → IsRowsFault options sides.now error) }
 {
     let (left, right) = (sides.compared_left(), sides.compared_right());
     match compare_tables(alloc, left, right, &sides.keys) {
@@ -90,8 +98,13 @@ fn push_all(
     options: &Options<'_>,
 ) -> Result<(), AllocError>
     requires sides { AreSides sides.now }
-    requires comparison { IsComparison sides.now.keys.items (compared_left sides.now) (compared_right sides.now) comparison.now }
-    ensures { IfOk result (λ _. out.new.items ≡ out.old.items ++ differences_text options.now.format sides.now comparison.now (column_counts sides.now comparison.now.matching comparison.now.changed.items) options.now.limit) }
+    requires comparison { IsComparison sides.now.keys.items (compared_left sides.now) (compared_right sides.now)
+        comparison.now }
+    ensures { IfOk result
+        (λ _. out.new.items ≡ out.old.items
+        ++ differences_text options.now.format sides.now comparison.now
+        (column_counts sides.now comparison.now.matching comparison.now.changed.items)
+        options.now.limit) }
 {
     let counts = count_by_column(alloc, sides, comparison)?;
     let (format, limit) = (options.format, options.limit);
@@ -118,10 +131,18 @@ pub(crate) fn report_of(
     options: &Options<'_>,
 ) -> Result<Report, RunError>
     requires sides { AreSides sides.now }
-    requires layout { IsLayout (offset_strings (λ x. x) heads.now.left_names) (offset_strings (λ x. x) heads.now.right_names) options.now.choice heads.now.layout }
+    requires layout { IsLayout (offset_strings (λ x. x) heads.now.left_names)
+        (offset_strings (λ x. x) heads.now.right_names) options.now.choice heads.now.layout }
     ensures { MatchResult result
-        (λ report. (left_text right_text : List ℕ) → AreHeadsOf options.now left_text right_text heads.now → AreSidesOf options.now left_text right_text files.entry.left.now files.entry.right.now heads.now.layout sides.now → IsReportOf options.now left_text right_text files.entry.left.now files.entry.right.now report.text.items report.outcome)
-        (λ error. (left_text right_text : List ℕ) → AreSidesOf options.now left_text right_text files.entry.left.now files.entry.right.now heads.now.layout sides.now → IsRunFault options.now left_text right_text error) }
+        (λ report. (left_text right_text : List ℕ)
+        → AreHeadsOf options.now left_text right_text heads.now
+        → AreSidesOf options.now left_text right_text files.entry.left.now files.entry.right.now
+        heads.now.layout sides.now
+        → IsReportOf options.now left_text right_text files.entry.left.now files.entry.right.now
+        report.text.items report.outcome)
+        (λ error. (left_text right_text : List ℕ)
+        → AreSidesOf options.now left_text right_text files.entry.left.now files.entry.right.now
+        heads.now.layout sides.now → IsRunFault options.now left_text right_text error) }
 {
     test_keys(alloc, sides, options)?;
     let comparison = compared(alloc, sides)?;

@@ -31,8 +31,13 @@ fn report_on<L: Read + Drop, R: Read + Drop>(
     options: &Options<'_>,
 ) -> Result<Report, RunError>
     ensures { MatchResult result
-        (λ report. (left_text right_text : List ℕ) → L.remaining left.entry.reader ≡ Some left_text → R.remaining right.entry.reader ≡ Some right_text → IsReportOf options.now left_text right_text left.entry.name.now right.entry.name.now report.text.items report.outcome)
-        (λ error. (left_text right_text : List ℕ) → L.remaining left.entry.reader ≡ Some left_text → R.remaining right.entry.reader ≡ Some right_text → IsRunFault options.now left_text right_text error) }
+        (λ report. (left_text right_text : List ℕ) → L.remaining left.entry.reader ≡ Some left_text
+        → R.remaining right.entry.reader ≡ Some right_text
+        → IsReportOf options.now left_text right_text left.entry.name.now right.entry.name.now
+        report.text.items report.outcome)
+        (λ error. (left_text right_text : List ℕ) → L.remaining left.entry.reader ≡ Some left_text
+        → R.remaining right.entry.reader ≡ Some right_text
+        → IsRunFault options.now left_text right_text error) }
 {
     let files = Files {
         left: left.name,
@@ -54,8 +59,16 @@ pub fn run<L: Read + Drop, R: Read + Drop, W: Write>(
     out: &mut W,
     options: &Options<'_>,
 ) -> Result<Outcome, RunError>
-    ensures report { IfOk result (λ outcome. (left_text right_text : List ℕ) → L.remaining left.entry.reader ≡ Some left_text → R.remaining right.entry.reader ≡ Some right_text → (written : List ℕ) × Appends (W.contents out.old) (W.contents out.new) written × IsReportOf options.now left_text right_text left.entry.name.now right.entry.name.now written outcome) }
-    ensures fault { IfErr result (λ error. (left_text right_text : List ℕ) → L.remaining left.entry.reader ≡ Some left_text → R.remaining right.entry.reader ≡ Some right_text → IsRunFault options.now left_text right_text error) }
+    ensures report { IfOk result
+        (λ outcome. (left_text right_text : List ℕ) → L.remaining left.entry.reader ≡ Some left_text
+        → R.remaining right.entry.reader ≡ Some right_text → (written : List ℕ)
+        × Appends (W.contents out.old) (W.contents out.new) written
+        × IsReportOf options.now left_text right_text left.entry.name.now right.entry.name.now
+        written outcome) }
+    ensures fault { IfErr result
+        (λ error. (left_text right_text : List ℕ) → L.remaining left.entry.reader ≡ Some left_text
+        → R.remaining right.entry.reader ≡ Some right_text
+        → IsRunFault options.now left_text right_text error) }
     ensures nothing_written { IfErr result (λ error. (out.new ≡ out.old) ⊎ IsWrite error) }
 {
     let report = report_on(alloc, left, right, options)?;

@@ -42,7 +42,8 @@ pub(crate) struct Frame {
 
 /// Copies a text, where there is one.
 fn copied(alloc: Global, text: Option<&[u8]>) -> Result<Option<Vec<u8>>, AllocError>
-    ensures { IfOk result (λ copy. option_map (λ v. v.items) copy ≡ option_map (λ v. v.now) text.entry) }
+    ensures { IfOk result
+        (λ copy. option_map (λ v. v.items) copy ≡ option_map (λ v. v.now) text.entry) }
 {
     match text {
         Some(bytes) => Ok(Some(Vec::from_slice(alloc, bytes)?)),
@@ -57,8 +58,10 @@ fn frame_of(
     files: Files<'_>,
     options: &Options<'_>,
 ) -> Result<Frame, RunError>
-    requires { IsLayout (offset_strings (λ x. x) heads.now.left_names) (offset_strings (λ x. x) heads.now.right_names) options.now.choice heads.now.layout }
-    ensures { MatchResult result (IsFrameOf options.now heads.now files.entry.left.now files.entry.right.now) IsMemory }
+    requires { IsLayout (offset_strings (λ x. x) heads.now.left_names)
+        (offset_strings (λ x. x) heads.now.right_names) options.now.choice heads.now.layout }
+    ensures { MatchResult result
+        (IsFrameOf options.now heads.now files.entry.left.now files.entry.right.now) IsMemory }
 {
     let left = Vec::from_slice(alloc, files.left)?;
     let right = Vec::from_slice(alloc, files.right)?;
@@ -83,11 +86,21 @@ pub(crate) fn sides_of<L: Read + Drop, R: Read + Drop>(
     files: Files<'_>,
     options: &Options<'_>,
 ) -> Result<Sides, RunError>
-    requires { IsLayout (offset_strings (λ x. x) heads.now.left_names) (offset_strings (λ x. x) heads.now.right_names) options.now.choice heads.now.layout }
+    requires { IsLayout (offset_strings (λ x. x) heads.now.left_names)
+        (offset_strings (λ x. x) heads.now.right_names) options.now.choice heads.now.layout }
     ensures sides { IfOk result AreSides }
     ensures texts { MatchResult result
-        (λ sides. (left_text right_text : List ℕ) → IsOpen L.remaining options.now.csv left_text left → IsOpen R.remaining options.now.csv right_text right → AreHeadsOf options.now left_text right_text heads.now → AreSidesOf options.now left_text right_text files.entry.left.now files.entry.right.now heads.now.layout sides)
-        (λ error. (left_text right_text : List ℕ) → IsOpen L.remaining options.now.csv left_text left → IsOpen R.remaining options.now.csv right_text right → AreHeadsOf options.now left_text right_text heads.now → IsRunFault options.now left_text right_text error) }
+        (λ sides. (left_text right_text : List ℕ)
+        → IsOpen L.remaining options.now.csv left_text left
+        → IsOpen R.remaining options.now.csv right_text right
+        → AreHeadsOf options.now left_text right_text heads.now
+        → AreSidesOf options.now left_text right_text files.entry.left.now files.entry.right.now
+        heads.now.layout sides)
+        (λ error. (left_text right_text : List ℕ)
+        → IsOpen L.remaining options.now.csv left_text left
+        → IsOpen R.remaining options.now.csv right_text right
+        → AreHeadsOf options.now left_text right_text heads.now
+        → IsRunFault options.now left_text right_text error) }
 {
     let frame = frame_of(alloc, heads, files, options)?;
     let both = read_both(alloc, left, right, &heads.layout, options)?;

@@ -26,7 +26,9 @@ fn test_side(
 ) -> Result<(), RunError>
     requires columns { All (λ c. c < table.now.width) keys.now }
     requires lines { length lines.now ≡ length table.now.rows }
-    ensures { MatchResult result (λ _. AllDiffer (row_keys keys.now table.now.rows)) (IsSideFault table.now.rows keys.now side) }
+    ensures { MatchResult result
+        (λ _. AllDiffer (row_keys keys.now table.now.rows))
+        (IsSideFault table.now.rows keys.now side) }
 {
     match key_twice(alloc, table, keys) {
         Ok(None) => Ok(()),
@@ -43,7 +45,9 @@ fn test_side(
 /// be unique.
 pub(crate) fn test_keys(alloc: Global, sides: &Sides, options: &Options<'_>) -> Result<(), RunError>
     requires { AreSides sides.now }
-    ensures { MatchResult result (λ _. options.now.unique ≡ true → HaveUniqueKeys sides.now) (IsRowsFault options.now sides.now) }
+    ensures { MatchResult result
+        (λ _. options.now.unique ≡ true → HaveUniqueKeys sides.now)
+        (IsRowsFault options.now sides.now) }
 {
     if options.unique {
         let (left, right) = (sides.compared_left(), sides.compared_right());

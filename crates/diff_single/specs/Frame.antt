@@ -11,7 +11,14 @@ use Rattle.diff_single.specs.declared.frame.Frame.{Frame}
 
 -- what a frame names rows and cells by
 abbrev pub naming_by : Frame → Naming
-naming_by f = record { names = offset_strings (λ x. x) f.names.now; keys = f.keys.now; null = option_map (λ v. v.now) f.null; colored = f.colored }
+naming_by f =
+    record {
+      names = offset_strings (λ x. x) f.names.now;
+      keys = f.keys.now;
+      null = option_map
+          (λ v. v.now) f.null;
+      colored = f.colored;
+    }
 
 -- two tables have this frame: their rows are named by keys, and compared as they are
 pub record IsFrameOf (f : Frame) (s : Sides) : Type 0 where

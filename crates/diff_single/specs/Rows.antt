@@ -15,7 +15,8 @@ pub record HasRowAt (side : Side) (i : ℕ) (strings : List (List ℕ)) (n at : 
   pub line : slice_index side.lines.items i ≡ at
 
 -- a side of a name has one row, of these cells, the number n, and the line at which it begins
-pub record IsOneRow (text : List ℕ) (strings : List (List ℕ)) (n at : ℕ) (side : Side) : Type 0 where
+pub record IsOneRow (text : List ℕ) (strings : List (List ℕ)) (n at : ℕ) (side : Side) :
+    Type 0 where
   pub name : side.name.items ≡ text
   pub width : side.table.width ≡ length strings
   pub rows : side.table.rows ≡ strings ∷ []
@@ -24,7 +25,8 @@ pub record IsOneRow (text : List ℕ) (strings : List (List ℕ)) (n at : ℕ) (
   pub number : number_of side 0 ≡ n
 
 -- both sides have one row, under the frame's names
-pub record HasOneRowEach (f : Frame) (first : List (List ℕ)) (first_number first_line : ℕ) (second : List (List ℕ)) (second_number second_line : ℕ) (s : Sides) : Type 0 where
+pub record HasOneRowEach (f : Frame) (first : List (List ℕ)) (first_number first_line : ℕ)
+    (second : List (List ℕ)) (second_number second_line : ℕ) (s : Sides) : Type 0 where
   pub naming : naming_of s ≡ naming_by f
   pub comparables : s.comparables ≡ None
   pub left : IsOneRow f.left.now first first_number first_line s.left

@@ -34,14 +34,16 @@ fn count_columns<L: StringList, R: StringList>(left: &L, right: &R, counts: &mut
     requires left { length (L.strings left.now) ≡ length counts.old.items }
     requires right { length (R.strings right.now) ≡ length counts.old.items }
     requires room { All (λ n. n < 2 ^ 64 - 1) counts.old.items }
-    ensures { AddsWhere (differ_at (L.strings left.now) (R.strings right.now)) counts.old.items counts.new.items }
+    ensures { AddsWhere (differ_at (L.strings left.now) (R.strings right.now)) counts.old.items
+        counts.new.items }
 {
     for column in 0..counts.len() {
         counts[column] += usize::from(differ_at(left, right, column));
     }
 }
 
-/// Adds 1 to the count of each column in which two rows differ. Returns whether they differ in some.
+/// Adds 1 to the count of each column in which two rows differ. Returns whether they differ in
+/// some.
 #[tactic(auto, using(crate::proofs::CountLemmas::none_more))]
 pub fn count_changes<L: StringList, R: StringList>(
     left: &L,
@@ -51,7 +53,8 @@ pub fn count_changes<L: StringList, R: StringList>(
     requires left { length (L.strings left.now) ≡ length counts.old.items }
     requires right { length (R.strings right.now) ≡ length counts.old.items }
     requires room { All (λ n. n < 2 ^ 64 - 1) counts.old.items }
-    ensures counts { AddsWhere (differ_at (L.strings left.now) (R.strings right.now)) counts.old.items counts.new.items }
+    ensures counts { AddsWhere (differ_at (L.strings left.now) (R.strings right.now)) counts.old.items
+        counts.new.items }
     ensures same { result ≡ false → L.strings left.now ≡ R.strings right.now }
     ensures apart { result ≡ true → ¬ (L.strings left.now ≡ R.strings right.now) }
 {

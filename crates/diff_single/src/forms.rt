@@ -42,7 +42,8 @@ pub(crate) fn push_row(
     requires sides { AreSides sides.now }
     requires side { IsSide (naming_of sides.now) side.now }
     requires row { i < length side.now.table.rows }
-    ensures { OnOk result (out.new.items ≡ out.old.items ++ row_alone format alone (naming_of sides.now) side.now i) }
+    ensures { OnOk result
+        (out.new.items ≡ out.old.items ++ row_alone format alone (naming_of sides.now) side.now i) }
 {
     match (format, alone) {
         (Format::Text, Alone::Removed) => push_side_line(out, b'-', sides, side, i),

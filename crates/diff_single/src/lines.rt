@@ -17,8 +17,8 @@ use diff_report::lines::Alone;
 use diff_tables::string_list::StringList;
 use std::alloc::{AllocError, Global};
 
-/// Appends the line of two rows of one key that differ, as it stands in the report of any two tables
-/// that have these rows.
+/// Appends the line of two rows of one key that differ, as it stands in the report of any two
+/// tables that have these rows.
 pub fn push_changed<L: StringList, R: StringList>(
     alloc: Global,
     out: &mut Vec<u8>,
@@ -30,8 +30,10 @@ pub fn push_changed<L: StringList, R: StringList>(
     requires left { length (L.strings left.now.cells.now) ≡ length (naming_by frame.now).names }
     requires right { length (R.strings right.now.cells.now) ≡ length (naming_by frame.now).names }
     ensures { OnOk result ((s : Sides) (m : Matching) (k : ℕ) → IsFrameOf frame.now s
-        → HasRowAt s.left (slice_index m.left_rows.items k) (L.strings left.now.cells.now) left.now.number left.now.line
-        → HasRowAt s.right (slice_index m.right_rows.items k) (R.strings right.now.cells.now) right.now.number right.now.line
+        → HasRowAt s.left (slice_index m.left_rows.items k) (L.strings left.now.cells.now)
+        left.now.number left.now.line
+        → HasRowAt s.right (slice_index m.right_rows.items k) (R.strings right.now.cells.now)
+        right.now.number right.now.line
         → out.new.items ≡ out.old.items ++ pair_at frame.now.format s m k) }
 {
     let sides = sides_of(alloc, frame, left, right)?;
@@ -51,7 +53,8 @@ pub fn push_removed<L: StringList>(
     requires row { length (L.strings row.now.cells.now) ≡ length (naming_by frame.now).names }
     ensures { OnOk result ((s : Sides) (i : ℕ) → IsFrameOf frame.now s
         → HasRowAt s.left i (L.strings row.now.cells.now) row.now.number row.now.line
-        → out.new.items ≡ out.old.items ++ row_alone frame.now.format Removed (naming_of s) s.left i) }
+        → out.new.items ≡ out.old.items
+        ++ row_alone frame.now.format Removed (naming_of s) s.left i) }
 {
     // Of these sides one alone is printed.
     let sides = sides_of(alloc, frame, row, row)?;
@@ -59,8 +62,8 @@ pub fn push_removed<L: StringList>(
     Ok(())
 }
 
-/// Appends the line of a right row that has no partner, as it stands in the report of any two tables
-/// of which the right one has this row.
+/// Appends the line of a right row that has no partner, as it stands in the report of any two
+/// tables of which the right one has this row.
 pub fn push_added<L: StringList>(
     alloc: Global,
     out: &mut Vec<u8>,
@@ -71,7 +74,8 @@ pub fn push_added<L: StringList>(
     requires row { length (L.strings row.now.cells.now) ≡ length (naming_by frame.now).names }
     ensures { OnOk result ((s : Sides) (i : ℕ) → IsFrameOf frame.now s
         → HasRowAt s.right i (L.strings row.now.cells.now) row.now.number row.now.line
-        → out.new.items ≡ out.old.items ++ row_alone frame.now.format Added (naming_of s) s.right i) }
+        → out.new.items ≡ out.old.items
+        ++ row_alone frame.now.format Added (naming_of s) s.right i) }
 {
     // Of these sides one alone is printed.
     let sides = sides_of(alloc, frame, row, row)?;

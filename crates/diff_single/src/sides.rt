@@ -17,7 +17,8 @@ use std::alloc::{AllocError, Global};
 
 /// Returns the table of one row of these cells.
 fn table_of<L: StringList>(alloc: Global, cells: &L) -> Result<Table, AllocError>
-    ensures { IfOk result (λ t. (t.width ≡ length (L.strings cells.now)) × (t.rows ≡ L.strings cells.now ∷ [])) }
+    ensures { IfOk result
+        (λ t. (t.width ≡ length (L.strings cells.now)) × (t.rows ≡ L.strings cells.now ∷ [])) }
 {
     let mut strings = Strings::new(alloc)?;
     strings.push_all(cells)?;
@@ -29,7 +30,8 @@ fn table_of<L: StringList>(alloc: Global, cells: &L) -> Result<Table, AllocError
 
 /// Returns a side of one row.
 fn side_of<L: StringList>(alloc: Global, name: &[u8], row: &Row<'_, L>) -> Result<Side, AllocError>
-    ensures { IfOk result (IsOneRow name.now (L.strings row.now.cells.now) row.now.number row.now.line) }
+    ensures { IfOk result
+        (IsOneRow name.now (L.strings row.now.cells.now) row.now.number row.now.line) }
 {
     let name = Vec::from_slice(alloc, name)?;
     let lines = Vec::from_slice(alloc, &[row.line])?;
@@ -55,7 +57,8 @@ fn cloned(alloc: Global, names: &BinaryArray<i64>) -> Result<BinaryArray<i64>, A
 
 /// Copies a text, where there is one.
 fn copied(alloc: Global, text: Option<&[u8]>) -> Result<Option<Vec<u8>>, AllocError>
-    ensures { IfOk result (λ copy. option_map (λ v. v.items) copy ≡ option_map (λ v. v.now) text.entry) }
+    ensures { IfOk result
+        (λ copy. option_map (λ v. v.items) copy ≡ option_map (λ v. v.now) text.entry) }
 {
     match text {
         Some(bytes) => Ok(Some(Vec::from_slice(alloc, bytes)?)),
@@ -74,7 +77,9 @@ pub(crate) fn sides_of<'r, L: StringList, R: StringList>(
     requires left { length (L.strings left.now.cells.now) ≡ length (naming_by frame.now).names }
     requires right { length (R.strings right.now.cells.now) ≡ length (naming_by frame.now).names }
     ensures sides { IfOk result AreSides }
-    ensures rows { IfOk result (HasOneRowEach frame.now (L.strings left.now.cells.now) left.now.number left.now.line (R.strings right.now.cells.now) right.now.number right.now.line) }
+    ensures rows { IfOk result
+        (HasOneRowEach frame.now (L.strings left.now.cells.now) left.now.number left.now.line
+        (R.strings right.now.cells.now) right.now.number right.now.line) }
 {
     let null = copied(alloc, frame.null)?;
     let keys = Vec::from_slice(alloc, frame.keys)?;

@@ -1,7 +1,7 @@
 -- The keys of a table's rows.
 --
--- In the key columns 0 and 2 the rows "a", "x", "bc" and "ab", "x", "c" have the keys "a" 0 0 "bc" 0 0 and
--- "ab" 0 0 "c" 0 0, which differ.
+-- In the key columns 0 and 2 the rows "a", "x", "bc" and "ab", "x", "c" have the keys "a" 0 0 "bc"
+-- 0 0 and "ab" 0 0 "c" 0 0, which differ.
 use Rattle.std.specs.Prelude.{ℕ, zero, suc, List, [], ◌∷◌, ◌++◌, get_or, map}
 
 -- a byte, and a 1 behind a zero

@@ -19,7 +19,8 @@ cut_rows w (suc n) cells = take w cells ∷ cut_rows w n (drop w cells)
 
 -- the table that is stored
 abbrev pub rows_of : Inside → TableRows
-rows_of t = record { width = t.width; rows = cut_rows t.width t.count t.cells.strings; far = t.cells.far }
+rows_of t = record
+    { width = t.width; rows = cut_rows t.width t.count t.cells.strings; far = t.cells.far }
 
 -- the cells are those of the rows and no more
 abbrev pub IsTable : Inside → Type 0

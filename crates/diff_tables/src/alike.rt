@@ -3,7 +3,8 @@
 ghost use Rattle.std.specs.Prelude.{◌≡◌, ◌+◌, ◌<◌, ◌≤◌, true, length, IfOk, OnOk};
 ghost use Rattle.polars_arrays_bytes.specs.OffsetStrings.{offset_strings};
 ghost use Rattle.polars_arrays_flat.specs.Validity.{window};
-ghost use Rattle.diff_tables.specs.Alike.{AreAsLong, AreSameCells, ListsAllBut, NameRowsOf, TellLengths, all_bytes};
+ghost use Rattle.diff_tables.specs.Alike.{AreAsLong, AreSameCells, ListsAllBut, NameRowsOf};
+ghost use Rattle.diff_tables.specs.Alike.{TellLengths, all_bytes};
 
 use diff_keys::blocks::block_end;
 use polars_arrays_bytes::binary::BinaryArray;
@@ -58,8 +59,10 @@ fn are_alike<L: Offset, R: Offset>(
 ) -> bool
     requires left { at + n ≤ length (offset_strings L.value left.now) }
     requires right { from + n ≤ length (offset_strings R.value right.now) }
-    requires as_long { as_long ≡ true → AreAsLong n at (offset_strings L.value left.now) from (offset_strings R.value right.now) }
-    ensures { result ≡ true → window at n (offset_strings L.value left.now) ≡ window from n (offset_strings R.value right.now) }
+    requires as_long { as_long ≡ true
+        → AreAsLong n at (offset_strings L.value left.now) from (offset_strings R.value right.now) }
+    ensures { result ≡ true → window at n (offset_strings L.value left.now)
+        ≡ window from n (offset_strings R.value right.now) }
 {
     if !as_long {
         return false;
@@ -67,8 +70,8 @@ fn are_alike<L: Offset, R: Offset>(
     bytes_from(left, at, n) == bytes_from(right, from, n)
 }
 
-/// Returns for each pair from `start` up to `end` whether its rows' strings are as long, each as the
-/// one at its place.
+/// Returns for each pair from `start` up to `end` whether its rows' strings are as long, each as
+/// the one at its place.
 fn lengths_agree<L: Offset, R: Offset>(
     alloc: Global,
     left: &BinaryArray<L>,
@@ -84,7 +87,9 @@ fn lengths_agree<L: Offset, R: Offset>(
     requires right { NameRowsOf width (offset_strings R.value right.now) right_rows.now }
     requires rise { start ≤ end }
     requires within { end ≤ length left_rows.now }
-    ensures { IfOk result (λ flags. TellLengths width (offset_strings L.value left.now) (offset_strings R.value right.now) left_rows.now right_rows.now start end flags.items) }
+    ensures { IfOk result
+        (λ flags. TellLengths width (offset_strings L.value left.now)
+        (offset_strings R.value right.now) left_rows.now right_rows.now start end flags.items) }
 {
     // The places below are at most these numbers, and so fit a `usize`.
     let (_left, _right) = (left.count(), right.count());
@@ -116,8 +121,15 @@ fn push_unlike<L: Offset, R: Offset>(
     requires right { NameRowsOf width (offset_strings R.value right.now) right_rows.now }
     requires rise { start ≤ end }
     requires within { end ≤ length left_rows.now }
-    requires as_long { TellLengths width (offset_strings L.value left.now) (offset_strings R.value right.now) left_rows.now right_rows.now start end as_long.now }
-    ensures { OnOk result (ListsAllBut (AreSameCells width (offset_strings L.value left.now) (offset_strings R.value right.now) left_rows.now right_rows.now) start places.old.items → ListsAllBut (AreSameCells width (offset_strings L.value left.now) (offset_strings R.value right.now) left_rows.now right_rows.now) end places.new.items) }
+    requires as_long { TellLengths width (offset_strings L.value left.now) (offset_strings R.value right.now)
+        left_rows.now right_rows.now start end as_long.now }
+    ensures { OnOk result
+        (ListsAllBut
+        (AreSameCells width (offset_strings L.value left.now) (offset_strings R.value right.now)
+        left_rows.now right_rows.now) start places.old.items
+        → ListsAllBut
+        (AreSameCells width (offset_strings L.value left.now) (offset_strings R.value right.now)
+        left_rows.now right_rows.now) end places.new.items) }
 {
     // The places below are at most these numbers, and so fit a `usize`.
     let (_left, _right) = (left.count(), right.count());
@@ -143,7 +155,10 @@ pub(crate) fn unlike_pairs<L: Offset, R: Offset>(
     requires one_length { length left_rows.now ≡ length right_rows.now }
     requires left { NameRowsOf width (offset_strings L.value left.now) left_rows.now }
     requires right { NameRowsOf width (offset_strings R.value right.now) right_rows.now }
-    ensures { IfOk result (λ places. ListsAllBut (AreSameCells width (offset_strings L.value left.now) (offset_strings R.value right.now) left_rows.now right_rows.now) (length left_rows.now) places.items) }
+    ensures { IfOk result
+        (λ places. ListsAllBut
+        (AreSameCells width (offset_strings L.value left.now) (offset_strings R.value right.now)
+        left_rows.now right_rows.now) (length left_rows.now) places.items) }
 {
     let mut places = Vec::new(alloc);
     let mut start = 0;

@@ -100,7 +100,10 @@ impl Cells {
         requires one_length { length rows.now ≡ length other_rows.now }
         requires rows { NameRowsOf width self.now.strings rows.now }
         requires other_rows { NameRowsOf width other.now.strings other_rows.now }
-        ensures { IfOk result (λ places. ListsAllBut (AreSameCells width self.now.strings other.now.strings rows.now other_rows.now) (length rows.now) places.items) }
+        ensures { IfOk result
+            (λ places. ListsAllBut
+            (AreSameCells width self.now.strings other.now.strings rows.now other_rows.now)
+            (length rows.now) places.items) }
     {
         match (&self.stored, &other.stored) {
             (Stored::Near(left, _), Stored::Near(right, _)) => {

@@ -41,7 +41,10 @@ fn changed_rows(
 ) -> Result<Vec<usize>, ComputeError>
     requires width { left.now.width ≡ right.now.width }
     requires pairs { ArePairs left.now.rows right.now.rows left_rows.items right_rows.items }
-    ensures { MatchResult result (λ changed. ListsRising (IsDifferent left.now.rows right.now.rows left_rows.items right_rows.items) (length left_rows.items) changed.items) IsMemory }
+    ensures { MatchResult result
+        (λ changed. ListsRising
+        (IsDifferent left.now.rows right.now.rows left_rows.items right_rows.items)
+        (length left_rows.items) changed.items) IsMemory }
 {
     rows::changed_rows(alloc, left.lent(), left_rows, right.lent(), right_rows)
 }
@@ -78,8 +81,13 @@ fn changed_places(
     matching: &Matching,
 ) -> Result<Vec<usize>, ComputeError>
     requires width { left.now.width ≡ right.now.width }
-    requires pairs { ArePairs left.now.rows right.now.rows matching.now.left_rows.items matching.now.right_rows.items }
-    ensures { MatchResult result (λ changed. ListsRising (IsDifferent left.now.rows right.now.rows matching.now.left_rows.items matching.now.right_rows.items) (length matching.now.left_rows.items) changed.items) IsMemory }
+    requires pairs { ArePairs left.now.rows right.now.rows matching.now.left_rows.items
+        matching.now.right_rows.items }
+    ensures { MatchResult result
+        (λ changed. ListsRising
+        (IsDifferent left.now.rows right.now.rows matching.now.left_rows.items
+        matching.now.right_rows.items) (length matching.now.left_rows.items) changed.items)
+        IsMemory }
 {
     // Most rows are stored alike, and so the same. Of the others the kernel says which differ.
     let places = left.unlike_pairs(alloc, &matching.left_rows, right, &matching.right_rows)?;
@@ -100,7 +108,8 @@ fn matched_with(
     requires { All (λ c. c < right.now.width) columns.now }
     ensures { MatchResult result
         (IsMatching (offset_strings (λ x. x) left_keys.now) (row_keys columns.now right.now.rows))
-        (IsKeysFault (offset_strings (λ x. x) left_keys.now) (row_keys columns.now right.now.rows)) }
+        (IsKeysFault (offset_strings (λ x. x) left_keys.now)
+        (row_keys columns.now right.now.rows)) }
 {
     let Ok(right_keys) = keys_of(alloc, right, columns) else {
         return Err(MatchError::Memory);
@@ -120,7 +129,9 @@ fn matched(
 ) -> Result<Matching, MatchError>
     requires left_columns { All (λ c. c < left.now.width) columns.now }
     requires right_columns { All (λ c. c < right.now.width) columns.now }
-    ensures { MatchResult result (IsMatching (row_keys columns.now left.now.rows) (row_keys columns.now right.now.rows)) (IsCompareFault columns.now left.now.rows right.now.rows) }
+    ensures { MatchResult result
+        (IsMatching (row_keys columns.now left.now.rows) (row_keys columns.now right.now.rows))
+        (IsCompareFault columns.now left.now.rows right.now.rows) }
 {
     let Ok(left_keys) = keys_of(alloc, left, columns) else {
         return Err(MatchError::Memory);
@@ -131,8 +142,9 @@ fn matched(
     }
 }
 
-/// Compares two tables of one width by their key columns: matches the rows, and lists the partners that
-/// differ. Fails with `TooManyRows` only where a table has more than 2^32 rows, and else with `Memory`.
+/// Compares two tables of one width by their key columns: matches the rows, and lists the partners
+/// that differ. Fails with `TooManyRows` only where a table has more than 2^32 rows, and else with
+/// `Memory`.
 pub fn compare_tables(
     alloc: Global,
     left: &Table,
@@ -141,7 +153,8 @@ pub fn compare_tables(
 ) -> Result<Comparison, MatchError>
     requires width { left.now.width ≡ right.now.width }
     requires columns { All (λ c. c < left.now.width) columns.now }
-    ensures { MatchResult result (IsComparison columns.now left.now.rows right.now.rows) (IsCompareFault columns.now left.now.rows right.now.rows) }
+    ensures { MatchResult result (IsComparison columns.now left.now.rows right.now.rows)
+        (IsCompareFault columns.now left.now.rows right.now.rows) }
 {
     let matching = matched(alloc, left, right, columns)?;
     match changed_places(alloc, left, right, &matching) {
@@ -158,7 +171,8 @@ pub fn key_twice(
     columns: &[usize],
 ) -> Result<Option<Twice>, MatchError>
     requires { All (λ c. c < table.now.width) columns.now }
-    ensures { MatchResult result (TellsFirstTwice (row_keys columns.now table.now.rows)) IsMatchMemory }
+    ensures { MatchResult result (TellsFirstTwice (row_keys columns.now table.now.rows))
+        IsMatchMemory }
 {
     let Ok(keys) = keys_of(alloc, table, columns) else {
         return Err(MatchError::Memory);

@@ -38,7 +38,8 @@ pub fn keys_of(
     columns: &[usize],
 ) -> Result<BinaryArray<i64>, ComputeError>
     requires { All (λ c. c < table.now.width) columns.now }
-    ensures { MatchResult result (λ keys. offset_strings (λ x. x) keys ≡ row_keys columns.now table.now.rows) IsMemory }
+    ensures { MatchResult result
+        (λ keys. offset_strings (λ x. x) keys ≡ row_keys columns.now table.now.rows) IsMemory }
 {
     let mut keys = Strings::new(alloc)?;
     let mut key = Vec::new(alloc);

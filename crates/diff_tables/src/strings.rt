@@ -1,6 +1,7 @@
 //! Byte strings that are appended one after another.
 
-ghost use Rattle.std.specs.Prelude.{◌≡◌, ◌≤◌, ◌<◌, ◌+◌, ◌++◌, ◌∷◌, [], ℕ, List, None, map, pos, vec_capacity, vec_len, IfOk, OnOk, MatchResult};
+ghost use Rattle.std.specs.Prelude.{◌≡◌, ◌≤◌, ◌<◌, ◌+◌, ◌++◌, ◌∷◌, [], ℕ, List, None, map, pos};
+ghost use Rattle.std.specs.Prelude.{vec_capacity, vec_len, IfOk, OnOk, MatchResult};
 ghost use Rattle.polars_arrays_bits.specs.Errors.{IsMemory};
 ghost use Rattle.polars_arrays_bytes.specs.OffsetStrings.{offset_strings};
 ghost use Rattle.diff_tables.specs.Groups.{AreGroups};
@@ -27,8 +28,11 @@ pub struct Strings {
 
 /// Returns the cells between ends of 32 bits. The one error is `Memory`.
 fn near_cells(alloc: Global, ends: Vec<i32>, bytes: Vec<u8>) -> Result<Cells, ComputeError>
-    requires { (places : List ℕ) × (all : List (List ℕ)) × (ends.items ≡ map (λ n. pos n) places) × AreGroups places bytes.items all }
-    ensures { MatchResult result (λ cells. (places : List ℕ) (all : List (List ℕ)) → ends.items ≡ map (λ n. pos n) places → AreGroups places bytes.items all → cells.strings ≡ all) IsMemory }
+    requires { (places : List ℕ) × (all : List (List ℕ)) × (ends.items ≡ map (λ n. pos n) places)
+        × AreGroups places bytes.items all }
+    ensures { MatchResult result
+        (λ cells. (places : List ℕ) (all : List (List ℕ)) → ends.items ≡ map (λ n. pos n) places
+        → AreGroups places bytes.items all → cells.strings ≡ all) IsMemory }
 {
     let offsets = Buffer::from_vec(ends).share(alloc)?;
     let values = Buffer::from_vec(bytes).share(alloc)?;
@@ -59,7 +63,9 @@ impl Strings {
     #[inline(always)]
     fn push_within(&mut self, string: &[u8]) -> Result<(), AllocError>
         requires { vec_len self.old.ends < vec_capacity self.old.ends }
-        ensures pushed { OnOk result ((all : List (List ℕ)) → AreStrings self.old all → AreStrings self.new (all ++ string.now ∷ [])) }
+        ensures pushed { OnOk result
+            ((all : List (List ℕ)) → AreStrings self.old all
+            → AreStrings self.new (all ++ string.now ∷ [])) }
         ensures ends { vec_len self.new.ends ≤ vec_len self.old.ends + 1 }
         ensures capacity { vec_capacity self.new.ends ≡ vec_capacity self.old.ends }
     {
@@ -81,7 +87,9 @@ impl Strings {
 
     /// Appends a string.
     pub fn push(&mut self, string: &[u8]) -> Result<(), AllocError>
-        ensures { OnOk result ((all : List (List ℕ)) → AreStrings self.old all → AreStrings self.new (all ++ string.now ∷ [])) }
+        ensures { OnOk result
+            ((all : List (List ℕ)) → AreStrings self.old all
+            → AreStrings self.new (all ++ string.now ∷ [])) }
     {
         self.ends.reserve(1)?;
         self.push_within(string)?;
@@ -90,7 +98,9 @@ impl Strings {
 
     /// Appends the strings of a list.
     pub fn push_all<S: StringList>(&mut self, strings: &S) -> Result<(), AllocError>
-        ensures { OnOk result ((all : List (List ℕ)) → AreStrings self.old all → AreStrings self.new (all ++ S.strings strings.now)) }
+        ensures { OnOk result
+            ((all : List (List ℕ)) → AreStrings self.old all
+            → AreStrings self.new (all ++ S.strings strings.now)) }
     {
         let count = strings.count();
         self.ends.reserve(count)?;
@@ -100,11 +110,14 @@ impl Strings {
         Ok(())
     }
 
-    /// Returns the array of the strings, whose clones share them. No byte is copied. The one error is
-    /// `Memory`.
+    /// Returns the array of the strings, whose clones share them. No byte is copied. The one error
+    /// is `Memory`.
     pub fn into_array(self, alloc: Global) -> Result<BinaryArray<i64>, ComputeError>
         requires { (all : List (List ℕ)) × AreStrings self all }
-        ensures { MatchResult result (λ array. (array.validity ≡ None) × ((all : List (List ℕ)) → AreStrings self all → offset_strings (λ x. x) array ≡ all)) IsMemory }
+        ensures { MatchResult result
+            (λ array. (array.validity ≡ None)
+            × ((all : List (List ℕ)) → AreStrings self all → offset_strings (λ x. x) array ≡ all))
+            IsMemory }
     {
         let Strings {
             ends,
@@ -123,7 +136,8 @@ impl Strings {
     /// Returns the strings as cells. No byte is copied. The one error is `Memory`.
     pub(crate) fn into_cells(self, alloc: Global) -> Result<Cells, ComputeError>
         requires { (all : List (List ℕ)) × AreStrings self all }
-        ensures { MatchResult result (λ cells. (all : List (List ℕ)) → AreStrings self all → cells.strings ≡ all) IsMemory }
+        ensures { MatchResult result
+            (λ cells. (all : List (List ℕ)) → AreStrings self all → cells.strings ≡ all) IsMemory }
     {
         if self.far_ends.is_empty() {
             let Strings { ends, bytes, .. } = self;

@@ -34,8 +34,8 @@ impl Model for Table {
 }
 
 impl Table {
-    /// Returns the table of `count` rows of `width` cells each, which are the strings one after another. No byte is
-    /// copied. The one error is `Memory`.
+    /// Returns the table of `count` rows of `width` cells each, which are the strings one after
+    /// another. No byte is copied. The one error is `Memory`.
     pub fn new(
         alloc: Global,
         width: usize,
@@ -43,7 +43,10 @@ impl Table {
         cells: Strings,
     ) -> Result<Table, ComputeError>
         requires { (all : List (List ℕ)) × AreStrings cells all × (length all ≡ width * count) }
-        ensures { MatchResult result (λ t. (t.width ≡ width) × ((all : List (List ℕ)) → AreStrings cells all → t.rows ≡ cut_rows width count all)) IsMemory }
+        ensures { MatchResult result
+            (λ t. (t.width ≡ width)
+            × ((all : List (List ℕ)) → AreStrings cells all → t.rows ≡ cut_rows width count all))
+            IsMemory }
     {
         let cells = cells.into_cells(alloc)?;
         Ok(Table {
@@ -78,8 +81,8 @@ impl Table {
         self.cells.value(self.width * i + c)
     }
 
-    /// Lists the pairs of rows that are not stored alike: with cells as long, and of the same bytes.
-    /// The rows of all other pairs are the same.
+    /// Lists the pairs of rows that are not stored alike: with cells as long, and of the same
+    /// bytes. The rows of all other pairs are the same.
     pub(crate) fn unlike_pairs(
         &self,
         alloc: Global,
@@ -89,7 +92,10 @@ impl Table {
     ) -> Result<Vec<usize>, AllocError>
         requires width { self.now.width ≡ other.now.width }
         requires pairs { ArePairs self.now.rows other.now.rows rows.now other_rows.now }
-        ensures { IfOk result (λ places. ListsAllBut (AreSameRows self.now.rows other.now.rows rows.now other_rows.now) (length rows.now) places.items) }
+        ensures { IfOk result
+            (λ places. ListsAllBut
+            (AreSameRows self.now.rows other.now.rows rows.now other_rows.now) (length rows.now)
+            places.items) }
     {
         self.cells
             .unlike_pairs(alloc, rows, &other.cells, other_rows, self.width)

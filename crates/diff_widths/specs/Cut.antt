@@ -1,7 +1,8 @@
 -- How many columns of a terminal a text takes, and texts that are cut in the middle.
 --
 -- In 9 columns the first words stand as the …ords, and a text that has room stands as it is.
-use Rattle.std.specs.Prelude.{ℕ, zero, suc, ◌+◌, ◌-◌, ◌/◌, Bool, ◌&&◌, nat_lt, nat_le, false, if◌then◌else◌, List, [], ◌∷◌, ◌++◌, replicate, unwrap_or}
+use Rattle.std.specs.Prelude.{ℕ, zero, suc, ◌+◌, ◌-◌, ◌/◌, Bool, ◌&&◌, nat_lt, nat_le, false}
+use Rattle.std.specs.Prelude.{if◌then◌else◌, List, [], ◌∷◌, ◌++◌, replicate, unwrap_or}
 use Rattle.unicode_width.specs.Width.{char_width}
 
 -- the columns that a character takes by itself: 0 for a combining mark, 2 for a wide one
@@ -16,7 +17,8 @@ width (c ∷ cs) = char_columns c + width cs
 -- the longest beginning that has room
 abbrev pub beginning : ℕ → List ℕ → List ℕ
 beginning room [] = []
-beginning room (c ∷ cs) = if nat_le (char_columns c) room then c ∷ beginning (room - char_columns c) cs else []
+beginning room (c ∷ cs) =
+    if nat_le (char_columns c) room then c ∷ beginning (room - char_columns c) cs else []
 
 -- a text has room, and begins with no combining mark
 abbrev pub is_end : ℕ → ℕ → List ℕ → Bool

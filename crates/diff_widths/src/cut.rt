@@ -1,7 +1,8 @@
 //! How many columns of a terminal a text takes, and texts that are cut in the middle.
 
 ghost use Rattle.std.specs.Prelude.{◌≡◌, ◌≤◌, ◌++◌, ◌-◌, OnOk};
-ghost use Rattle.diff_widths.specs.Cut.{beginning, char_columns, cut, ending, filler, shortened, spaces, width};
+ghost use Rattle.diff_widths.specs.Cut.{beginning, char_columns, cut, ending, filler, shortened};
+ghost use Rattle.diff_widths.specs.Cut.{spaces, width};
 
 use std::alloc::AllocError;
 use unicode_width::UnicodeWidthChar;

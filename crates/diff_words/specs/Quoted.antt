@@ -1,12 +1,19 @@
 -- Byte strings between quotes, whose text has no control character.
 --
--- The bytes a, ", line feed and 27 have the text "a\"\n\x1b", and those of U+009B have the text "\xc2\x9b".
+-- The bytes a, ", line feed and 27 have the text "a\"\n\x1b", and those of U+009B have the text
+-- "\xc2\x9b".
 use Rattle.std.specs.Fmt.{digit_glyph}
-use Rattle.std.specs.Prelude.{ℕ, ◌/◌, ◌%◌, ◌==◌, Bool, false, ◌&&◌, ◌||◌, nat_lt, if◌then◌else◌, List, [], ◌∷◌, ◌++◌, get_or, Option, Some, None}
+use Rattle.std.specs.Prelude.{ℕ, ◌/◌, ◌%◌, ◌==◌, Bool, false, ◌&&◌, ◌||◌, nat_lt, if◌then◌else◌}
+use Rattle.std.specs.Prelude.{List, [], ◌∷◌, ◌++◌, get_or, Option, Some, None}
 
--- the letter that stands behind a backslash for a quote, a backslash, a line feed, a carriage return and a tab
+-- the letter that stands behind a backslash for a quote, a backslash, a line feed, a carriage
+-- return and a tab
 abbrev pub letter_of : ℕ → Option ℕ
-letter_of b = if b == 34 then Some 34 else (if b == 92 then Some 92 else (if b == 10 then Some 110 else (if b == 13 then Some 114 else (if b == 9 then Some 116 else None))))
+letter_of b = if b ==
+    34 then Some 34 else
+    (if b == 92 then Some 92 else
+    (if b == 10 then Some 110 else
+    (if b == 13 then Some 114 else (if b == 9 then Some 116 else None))))
 
 -- a control character of ASCII
 abbrev pub is_control : ℕ → Bool

@@ -5,9 +5,11 @@ use Rattle.std.specs.List.{list_all}
 use Rattle.std.specs.Prelude.{ℕ, ◌==◌, Bool, not, ◌&&◌, nat_lt, if◌then◌else◌, List, length}
 use Rattle.diff_words.specs.Quoted.{quoted}
 
--- a byte above a space that is no quote, comma, equals sign, backslash, 127 or 194, with which U+0080 to U+00BF begin
+-- a byte above a space that is no quote, comma, equals sign, backslash, 127 or 194, with which
+-- U+0080 to U+00BF begin
 abbrev pub is_word_byte : ℕ → Bool
-is_word_byte b = nat_lt 32 b && not (b == 34) && not (b == 44) && not (b == 61) && not (b == 92) && not (b == 127) && not (b == 194)
+is_word_byte b = nat_lt 32 b && not (b == 34) && not (b == 44) && not (b == 61) && not (b == 92)
+    && not (b == 127) && not (b == 194)
 
 -- some bytes, each of which may stand in a word
 abbrev pub is_word : List ℕ → Bool

@@ -22,7 +22,8 @@ pub fn is_null(null: &Option<Vec<u8>>, cell: &[u8]) -> bool
 /// Appends a cell between quotes, or `null` where it is the one that stands for no value.
 #[tactic(auto, unfolding(crate::specs::Cells::cell_text))]
 pub fn push_cell(out: &mut Vec<u8>, null: &Option<Vec<u8>>, cell: &[u8]) -> Result<(), AllocError>
-    ensures { OnOk result (out.new.items ≡ out.old.items ++ cell_text (option_map (λ v. v.items) null.now) cell.now) }
+    ensures { OnOk result
+        (out.new.items ≡ out.old.items ++ cell_text (option_map (λ v. v.items) null.now) cell.now) }
 {
     if is_null(null, cell) {
         out.extend_from_slice(b"null")?;
@@ -41,7 +42,9 @@ pub fn push_painted_cell(
     null: &Option<Vec<u8>>,
     cell: &[u8],
 ) -> Result<(), AllocError>
-    ensures { OnOk result (out.new.items ≡ out.old.items ++ painted colored color (cell_text (option_map (λ v. v.items) null.now) cell.now)) }
+    ensures { OnOk result
+        (out.new.items ≡ out.old.items
+        ++ painted colored color (cell_text (option_map (λ v. v.items) null.now) cell.now)) }
 {
     push_color(out, colored, color)?;
     push_cell(out, null, cell)?;

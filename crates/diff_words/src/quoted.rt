@@ -2,7 +2,8 @@
 
 ghost use Rattle.std.specs.Fmt.{digit_glyph};
 ghost use Rattle.std.specs.Prelude.{◌≡◌, ◌<◌, ◌++◌, false, get_or, OnOk};
-ghost use Rattle.diff_words.specs.Quoted.{byte_text, hex_text, is_hidden, is_high_control, letter_of, quoted};
+ghost use Rattle.diff_words.specs.Quoted.{byte_text, hex_text, is_hidden, is_high_control};
+ghost use Rattle.diff_words.specs.Quoted.{letter_of, quoted};
 
 use std::alloc::AllocError;
 

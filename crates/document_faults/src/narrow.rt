@@ -2,7 +2,8 @@
 
 ghost use Rattle.json.specs.Value.{items_view, members_view, value_view};
 ghost use Rattle.json_decimals.specs.Texts.{HasWideExponent};
-ghost use Rattle.json_normal.specs.Narrow.{HasNarrowNumbers, ItemsHaveNarrowNumbers, MembersHaveNarrowNumbers, TellsNarrow};
+ghost use Rattle.json_normal.specs.Narrow.{HasNarrowNumbers, ItemsHaveNarrowNumbers};
+ghost use Rattle.json_normal.specs.Narrow.{MembersHaveNarrowNumbers, TellsNarrow};
 
 use json::Value;
 use json_decimals::error::NumberError;

@@ -15,11 +15,15 @@ use Rattle.document_report.specs.Report.{document_report_text}
 
 -- the lines of all differences: changed documents in left order, then removed ones, then added ones
 abbrev pub all_lines : Format → DocumentSides → Matching → List ℕ → List (List ℕ)
-all_lines format s m changed = map (pair_at format s m) changed ++ map (document_alone format Removed s s.left) m.removed.items ++ map (document_alone format Added s s.right) m.added.items
+all_lines format s m changed = map (pair_at format s m) changed
+    ++ map (document_alone format Removed s s.left) m.removed.items
+    ++ map (document_alone format Added s s.right) m.added.items
 
--- what stands behind the lines, where so many documents are changed: how many more there are, and the counts
+-- what stands behind the lines, where so many documents are changed: how many more there are, and
+-- the counts
 abbrev pub end_text : Format → DocumentSides → Matching → ℕ → ℕ → List ℕ
-end_text Text s m changed limit = rest_text limit (difference_count m changed) ++ summary_text m changed ++ skipped_lines s
+end_text Text s m changed limit = rest_text limit (difference_count m changed)
+    ++ summary_text m changed ++ skipped_lines s
 end_text Json s m changed limit = counts_object s m changed limit
 
 -- the report in a form

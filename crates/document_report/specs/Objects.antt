@@ -13,8 +13,11 @@ use Rattle.document_report.specs.Pairs.{changed_object}
 
 -- the lines of all differences: changed documents in left order, then removed ones, then added ones
 abbrev pub difference_objects : DocumentSides → Matching → List ℕ → List (List ℕ)
-difference_objects s m changed = map (changed_object s m) changed ++ map (alone_object (codes "removed") s s.left) m.removed.items ++ map (alone_object (codes "added") s s.right) m.added.items
+difference_objects s m changed = map (changed_object s m) changed
+    ++ map (alone_object (codes "removed") s s.left) m.removed.items
+    ++ map (alone_object (codes "added") s s.right) m.added.items
 
 -- the first lines, and the counts
 unfoldable pub document_json_text : DocumentSides → Matching → List ℕ → ℕ → List ℕ
-document_json_text s m changed limit = concat (take limit (difference_objects s m changed)) ++ counts_object s m (length changed) limit
+document_json_text s m changed limit = concat (take limit (difference_objects s m changed))
+    ++ counts_object s m (length changed) limit

@@ -31,32 +31,41 @@ separator_in Json = codes ","
 
 -- what differs, part by part
 abbrev pub changes_in : Format → Bool → List Told → List ℕ
-changes_in format colored changes = listed (separator_in format) (map (change_in format colored) changes)
+changes_in format colored changes =
+    listed (separator_in format) (map (change_in format colored) changes)
 
 -- a document of this name, and what differs
 unfoldable pub pair_text : Bool → List ℕ → List Told → List ℕ
-pair_text colored name changes = painted colored Yellow (codes "~ " ++ name) ++ codes "  " ++ changes_in Text colored changes ++ 10 ∷ []
+pair_text colored name changes = painted colored Yellow (codes "~ " ++ name) ++ codes "  "
+    ++ changes_in Text colored changes ++ 10 ∷ []
 
 -- the line of the documents of left row i and right row j, which differ
 unfoldable pub pair_line : DocumentSides → ℕ → ℕ → List ℕ
-pair_line s i j = pair_text s.colored (document_name (names_of s) i (row_of s.left i)) (changes_at s i j)
+pair_line s i j =
+    pair_text s.colored (document_name (names_of s) i (row_of s.left i)) (changes_at s i j)
 
 -- two documents with these keys and line numbers, and what differs, in JSON
 unfoldable pub pair_json : List ℕ → ℕ → ℕ → List Told → List ℕ
-pair_json keys left_line right_line changes = codes "{\"kind\":\"changed\",\"key\":{" ++ keys ++ codes "},\"left_line\":" ++ decimal left_line ++ codes ",\"right_line\":" ++ decimal right_line
+pair_json keys left_line right_line changes = codes "{\"kind\":\"changed\",\"key\":{" ++ keys
+    ++ codes "},\"left_line\":" ++ decimal left_line ++ codes ",\"right_line\":"
+    ++ decimal right_line
     ++ codes ",\"changes\":[" ++ changes_in Json false changes ++ codes "]}\n"
 
 -- the line of the documents of left row i and right row j, in JSON
 unfoldable pub pair_object : DocumentSides → ℕ → ℕ → List ℕ
-pair_object s i j = pair_json (key_members (names_of s) (row_of s.left i)) (slice_index s.left.lines.items i) (slice_index s.right.lines.items j) (changes_at s i j)
+pair_object s i j =
+    pair_json (key_members (names_of s) (row_of s.left i)) (slice_index s.left.lines.items i)
+    (slice_index s.right.lines.items j) (changes_at s i j)
 
 -- the line of the pair at place k of the matched rows
 unfoldable pub changed_line : DocumentSides → Matching → ℕ → List ℕ
-changed_line s m k = pair_line s (slice_index m.left_rows.items k) (slice_index m.right_rows.items k)
+changed_line s m k =
+    pair_line s (slice_index m.left_rows.items k) (slice_index m.right_rows.items k)
 
 -- the same in JSON
 unfoldable pub changed_object : DocumentSides → Matching → ℕ → List ℕ
-changed_object s m k = pair_object s (slice_index m.left_rows.items k) (slice_index m.right_rows.items k)
+changed_object s m k =
+    pair_object s (slice_index m.left_rows.items k) (slice_index m.right_rows.items k)
 
 -- the line of the pair at place k of the matched rows, in a form
 abbrev pub pair_at : Format → DocumentSides → Matching → ℕ → List ℕ

@@ -17,8 +17,11 @@ use Rattle.document_report.specs.Pairs.{changed_line}
 
 -- the lines of all differences: changed documents in left order, then removed ones, then added ones
 abbrev pub difference_lines : DocumentSides → Matching → List ℕ → List (List ℕ)
-difference_lines s m changed = map (changed_line s m) changed ++ map (alone_line 45 s s.left) m.removed.items ++ map (alone_line 43 s s.right) m.added.items
+difference_lines s m changed = map (changed_line s m) changed
+    ++ map (alone_line 45 s s.left) m.removed.items ++ map (alone_line 43 s s.right) m.added.items
 
 -- the first lines, how many more there are, the summary, and how many lines are passed over
 unfoldable pub document_report_text : DocumentSides → Matching → List ℕ → ℕ → List ℕ
-document_report_text s m changed limit = concat (take limit (difference_lines s m changed)) ++ rest_text limit (length (difference_lines s m changed)) ++ summary_text m (length changed) ++ skipped_lines s
+document_report_text s m changed limit = concat (take limit (difference_lines s m changed))
+    ++ rest_text limit (length (difference_lines s m changed)) ++ summary_text m (length changed)
+    ++ skipped_lines s

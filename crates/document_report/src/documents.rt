@@ -4,7 +4,8 @@ ghost use Rattle.std.specs.Prelude.{◌≡◌, ◌<◌, ℕ, List, length, map, 
 ghost use Rattle.document_words.specs.Sides.{AreDocumentSides};
 ghost use Rattle.document_rows.specs.Documents.{IsDocument, tree_of};
 ghost use Rattle.document_rows.specs.declared.reading.Reading.{Reading};
-ghost use Rattle.document_report.specs.Documents.{HoldDocuments, IsTree, changes_at, changes_between};
+ghost use Rattle.document_report.specs.Documents.{HoldDocuments, IsTree, changes_at};
+ghost use Rattle.document_report.specs.Documents.{changes_between};
 ghost use Rattle.json.specs.Value.{value_view};
 ghost use Rattle.json_changes.specs.Rules.{differences_told};
 ghost use Rattle.json_changes.specs.Texts.{change_view, rules_view, told};

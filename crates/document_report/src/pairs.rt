@@ -5,7 +5,8 @@ ghost use Rattle.std.specs.Prelude.{◌≡◌, ◌<◌, ◌++◌, length, map, t
 ghost use Rattle.diff_tables.specs.Comparison.{ArePairs};
 ghost use Rattle.document_words.specs.Sides.{AreDocumentSides, NamesDocuments};
 ghost use Rattle.document_report.specs.Documents.{HoldDocuments, changes_at};
-ghost use Rattle.document_report.specs.Pairs.{change_in, changes_in, pair_at, pair_line, pair_object, separator_in};
+ghost use Rattle.document_report.specs.Pairs.{change_in, changes_in, pair_at, pair_line};
+ghost use Rattle.document_report.specs.Pairs.{pair_object, separator_in};
 ghost use Rattle.json_changes.specs.Texts.{change_view};
 
 use crate::documents::changes_at;
@@ -37,7 +38,8 @@ fn push_change_in(
     colored: bool,
     change: &Change,
 ) -> Result<(), AllocError>
-    ensures { OnOk result (out.new.items ≡ out.old.items ++ change_in format colored (change_view change.now)) }
+    ensures { OnOk result
+        (out.new.items ≡ out.old.items ++ change_in format colored (change_view change.now)) }
 {
     let Change { path, left, right } = change;
     match format {
@@ -53,7 +55,8 @@ fn push_changes(
     colored: bool,
     changes: &[Change],
 ) -> Result<(), AllocError>
-    ensures { OnOk result (out.new.items ≡ out.old.items ++ changes_in format colored (map change_view changes.now)) }
+    ensures { OnOk result
+        (out.new.items ≡ out.old.items ++ changes_in format colored (map change_view changes.now)) }
 {
     for n in 0..changes.len() {
         push_gap(out, separator_in(format), n)?;
@@ -76,7 +79,8 @@ fn push_differences(
     requires documents { HoldDocuments sides.now }
     requires left { i < length sides.now.left.table.rows }
     requires right { j < length sides.now.right.table.rows }
-    ensures { OnOk result (out.new.items ≡ out.old.items ++ changes_in format colored (changes_at sides.now i j)) }
+    ensures { OnOk result
+        (out.new.items ≡ out.old.items ++ changes_in format colored (changes_at sides.now i j)) }
 {
     let changes = changes_at(alloc, sides, i, j)?;
     push_changes(out, format, colored, &changes)?;
@@ -147,9 +151,11 @@ fn push_pair_at(
 ) -> Result<(), AllocError>
     requires sides { AreDocumentSides sides.now }
     requires documents { HoldDocuments sides.now }
-    requires rows { ArePairs sides.now.left.table.rows sides.now.right.table.rows matching.now.left_rows.items matching.now.right_rows.items }
+    requires rows { ArePairs sides.now.left.table.rows sides.now.right.table.rows matching.now.left_rows.items
+        matching.now.right_rows.items }
     requires place { k < length matching.now.left_rows.items }
-    ensures { OnOk result (out.new.items ≡ out.old.items ++ pair_at format sides.now matching.now k) }
+    ensures { OnOk result
+        (out.new.items ≡ out.old.items ++ pair_at format sides.now matching.now k) }
 {
     let i = matching.left_rows[k] as usize;
     let j = matching.right_rows[k] as usize;
@@ -172,7 +178,9 @@ pub(crate) fn push_pairs(
     requires sides { AreDocumentSides sides.now }
     requires documents { HoldDocuments sides.now }
     requires rows { NamesDocuments sides.now matching.now changed.now }
-    ensures { OnOk result (out.new.items ≡ out.old.items ++ flat_map (pair_at format sides.now matching.now) (take limit changed.now)) }
+    ensures { OnOk result
+        (out.new.items ≡ out.old.items
+        ++ flat_map (pair_at format sides.now matching.now) (take limit changed.now)) }
 {
     for n in 0..changed.len().min(limit) {
         let k = changed[n];

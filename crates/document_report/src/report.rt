@@ -31,7 +31,9 @@ fn push_lines(
     requires sides { AreDocumentSides sides.now }
     requires documents { HoldDocuments sides.now }
     requires rows { NamesDocuments sides.now matching.now changed.now }
-    ensures { OnOk result (out.new.items ≡ out.old.items ++ concat (take limit (all_lines format sides.now matching.now changed.now))) }
+    ensures { OnOk result
+        (out.new.items ≡ out.old.items
+        ++ concat (take limit (all_lines format sides.now matching.now changed.now))) }
 {
     let (left, right) = (&sides.left, &sides.right);
     let (removed, added) = (&matching.removed, &matching.added);
@@ -55,7 +57,8 @@ fn push_end(
     limit: usize,
 ) -> Result<(), AllocError>
     requires { changed ≤ length matching.now.left_rows.items }
-    ensures { OnOk result (out.new.items ≡ out.old.items ++ end_text format sides.now matching.now changed limit) }
+    ensures { OnOk result
+        (out.new.items ≡ out.old.items ++ end_text format sides.now matching.now changed limit) }
 {
     match format {
         Format::Text => {
@@ -83,7 +86,9 @@ pub fn push_document_report(
     requires sides { AreDocumentSides sides.now }
     requires documents { HoldDocuments sides.now }
     requires rows { NamesDocuments sides.now matching.now changed.now }
-    ensures { OnOk result (out.new.items ≡ out.old.items ++ format_text format sides.now matching.now changed.now limit) }
+    ensures { OnOk result
+        (out.new.items ≡ out.old.items
+        ++ format_text format sides.now matching.now changed.now limit) }
 {
     push_lines(alloc, out, format, sides, matching, changed, limit)?;
     push_end(out, format, sides, matching, changed.len(), limit)?;

@@ -1,9 +1,10 @@
 -- Documents: lines that are JSON objects, and the rows that they make.
 --
--- With the keys order.id and n the line {"n": 1.0, "order": {"id": "A"}} has the row of the cells "A" with its quotes,
--- 1, and the line itself. With the key m it is a document only where keys may be null, and has the cells null and the
--- line.
-use Rattle.std.specs.Prelude.{◌≡◌, ℕ, false, All, IsSome, List, [], ◌∷◌, ◌++◌, Option, Some, None, map, unwrap_or}
+-- With the keys order.id and n the line {"n": 1.0, "order": {"id": "A"}} has the row of the cells
+-- "A" with its quotes, 1, and the line itself. With the key m it is a document only where keys may
+-- be null, and has the cells null and the line.
+use Rattle.std.specs.Prelude.{◌≡◌, ℕ, false, All, IsSome, List, [], ◌∷◌, ◌++◌, Option, Some, None}
+use Rattle.std.specs.Prelude.{map, unwrap_or}
 use Rattle.std.specs.Str.{IsUtf8}
 use Rattle.json.specs.Json.{Json, null, Members, object, document}
 use Rattle.json.specs.Strict.{HasUniqueKeys}
@@ -24,7 +25,8 @@ HasParts keys j = All (λ path. IsSome (part_at path j)) keys
 abbrev pub HasKeys : Reading → List Path → Json → Type 0
 HasKeys reading keys j = reading.null_keys ≡ false → HasParts keys j
 
--- a line is UTF-8 and a JSON object; no object in it has a name twice, no number a wide exponent, and it has the keys
+-- a line is UTF-8 and a JSON object; no object in it has a name twice, no number a wide exponent,
+-- and it has the keys
 pub record IsDocument (reading : Reading) (keys : List Path) (line : List ℕ) : Type 0 where
   pub utf8 : IsUtf8 line
   pub members : Members

@@ -1,9 +1,10 @@
 -- Why an input is not read.
 --
--- Of the lines {"id": 1}, [2], {} with the key id the second one is no object. Without it the last one has no part at
--- the key, which is the first of the keys; where keys may be null nothing is wrong with it. Where lines that are no
--- documents are passed over, no line is an error.
-use Rattle.std.specs.Prelude.{◌≡◌, ◌<◌, ◌⊎◌, ℕ, suc, false, All, IsSomeAnd, List, [], ◌∷◌, ◌++◌, None, length, get_or, ⊤}
+-- Of the lines {"id": 1}, [2], {} with the key id the second one is no object. Without it the last
+-- one has no part at the key, which is the first of the keys; where keys may be null nothing is
+-- wrong with it. Where lines that are no documents are passed over, no line is an error.
+use Rattle.std.specs.Prelude.{◌≡◌, ◌<◌, ◌⊎◌, ℕ, suc, false, All, IsSomeAnd, List, [], ◌∷◌, ◌++◌}
+use Rattle.std.specs.Prelude.{None, length, get_or, ⊤}
 use Rattle.std.specs.Str.{IsUtf8}
 use Rattle.json.specs.Json.{Json, Members, object, document}
 use Rattle.json.specs.Strict.{HasUniqueKeys}
@@ -21,18 +22,22 @@ use Rattle.document_rows.specs.declared.reading.Reading.{Reading}
 abbrev pub IsObject : Json → Type 0
 IsObject j = (members : Members) × (j ≡ object members)
 
--- what is wrong with a line: it is no UTF-8 or no JSON; an object has a name twice; an exponent is wide; it is no
--- object; or the key at this place leads nowhere, and may not be null
+-- what is wrong with a line: it is no UTF-8 or no JSON; an object has a name twice; an exponent is
+-- wide; it is no object; or the key at this place leads nowhere, and may not be null
 abbrev pub IsLineFault : Reading → List Path → List ℕ → LineFault → Type 0
 IsLineFault reading keys line fault.Invalid = ¬ (IsUtf8 line) ⊎ (document line ≡ None)
-IsLineFault reading keys line fault.RepeatedName = IsSomeAnd (document line) (λ j. ¬ HasUniqueKeys j)
-IsLineFault reading keys line fault.WideExponent = IsSomeAnd (document line) (λ j. ¬ HasNarrowNumbers j)
+IsLineFault reading keys line fault.RepeatedName = IsSomeAnd (document line)
+    (λ j. ¬ HasUniqueKeys j)
+IsLineFault reading keys line fault.WideExponent = IsSomeAnd (document line)
+    (λ j. ¬ HasNarrowNumbers j)
 IsLineFault reading keys line fault.NoObject = IsSomeAnd (document line) (λ j. ¬ IsObject j)
-IsLineFault reading keys line (fault.NoPart key) = (reading.null_keys ≡ false) × (key < length keys) × IsSomeAnd (document line) (λ j. part_at (get_or keys key []) j ≡ None)
+IsLineFault reading keys line (fault.NoPart key) = (reading.null_keys ≡ false) × (key < length keys)
+    × IsSomeAnd (document line) (λ j. part_at (get_or keys key []) j ≡ None)
 
--- a line of the text is no document, and is not to be passed over; those before it are documents, and they are as many as
--- its number says, which is from 1 on
-pub record HasFaultyLine (text : List ℕ) (reading : Reading) (keys : List Path) (number : ℕ) (what : LineFault) : Type 0 where
+-- a line of the text is no document, and is not to be passed over; those before it are documents,
+-- and they are as many as its number says, which is from 1 on
+pub record HasFaultyLine (text : List ℕ) (reading : Reading) (keys : List Path) (number : ℕ)
+    (what : LineFault) : Type 0 where
   pub before : List (List ℕ)
   pub line : List ℕ
   pub after : List (List ℕ)
@@ -56,4 +61,5 @@ IsStop (error.Line number column what) = ⊥
 abbrev pub IsReadFault : List ℕ → Reading → List Path → ReadError → Type 0
 IsReadFault text reading keys error.Memory = ⊤
 IsReadFault text reading keys (error.Read cause) = ⊤
-IsReadFault text reading keys (error.Line number column what) = HasFaultyLine text reading keys number what
+IsReadFault text reading keys (error.Line number column what) =
+    HasFaultyLine text reading keys number what

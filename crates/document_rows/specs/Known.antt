@@ -1,7 +1,7 @@
 -- Lines that rows of a table were read from.
 --
--- With the key id the row 7 {"id": 7} was read from the line {"id": 7}. No other line has that row, and the line has no
--- other one: both its cells are a function of the line.
+-- With the key id the row 7 {"id": 7} was read from the line {"id": 7}. No other line has that row,
+-- and the line has no other one: both its cells are a function of the line.
 use Rattle.std.specs.Prelude.{◌≡◌, ℕ, List, Some, option_copied}
 use Rattle.diff_tables.specs.Tables.{TableRows}
 use Rattle.json_paths.specs.Paths.{Path}
@@ -15,4 +15,5 @@ HoldsDocumentsOf reading keys t = (lines : List (List ℕ)) × AreRowsOf reading
 
 -- the lines that are known are those of a table of documents
 abbrev pub KnowsLines : Reading → List Path → Known → Type 0
-KnowsLines reading keys k = (t : TableRows) → option_copied k.table ≡ Some t → HoldsDocumentsOf reading keys t
+KnowsLines reading keys k = (t : TableRows) → option_copied k.table ≡ Some t
+    → HoldsDocumentsOf reading keys t

@@ -8,7 +8,8 @@ abbrev pub before_first : ℕ → List (List ℕ) → List (List ℕ)
 before_first b [] = (b ∷ []) ∷ []
 before_first b (line ∷ lines) = (b ∷ line) ∷ lines
 
--- the lines of a text, each without its line feed; what is behind the last line feed is a line if it is not empty
+-- the lines of a text, each without its line feed; what is behind the last line feed is a line if
+-- it is not empty
 unfoldable pub lines_of : List ℕ → List (List ℕ)
 lines_of [] = []
 lines_of (b ∷ bs) = if b == 10 then [] ∷ lines_of bs else before_first b (lines_of bs)

@@ -1,7 +1,8 @@
 -- Which lines of a text are documents, by their numbers.
 --
--- Of the lines {"id": 7}, [8] and {"id": 9} those with the numbers 1 and 3 are documents, and that with the number 2 is
--- none. It is passed over, where such lines are. A part of the documents may have the number 3 alone.
+-- Of the lines {"id": 7}, [8] and {"id": 9} those with the numbers 1 and 3 are documents, and that
+-- with the number 2 is none. It is passed over, where such lines are. A part of the documents may
+-- have the number 3 alone.
 use Rattle.std.specs.Prelude.{◌≡◌, ◌<◌, ◌-◌, ℕ, suc, false, All, List, [], get_or, length, map}
 use Rattle.diff_keys.specs.Rising.{ListsRising}
 use Rattle.json_paths.specs.Paths.{Path}
@@ -24,15 +25,18 @@ IsNumberOf IsMeant lines n = (0 < n) × IsMeant (numbered_line lines n)
 
 -- these are the numbers of the lines that are meant, in rising order
 abbrev pub AreNumbersOf : (List ℕ → Type 0) → List (List ℕ) → List ℕ → Type 0
-AreNumbersOf IsMeant lines numbers = ListsRising (IsNumberOf IsMeant lines) (suc (length lines)) numbers
+AreNumbersOf IsMeant lines numbers =
+    ListsRising (IsNumberOf IsMeant lines) (suc (length lines)) numbers
 
--- these are the numbers of the lines that are documents, of the part if there is one, and of those that are none; where lines
--- are not passed over all are documents
-pub record AreNumbered (reading : Reading) (keys : List Path) (lines : List (List ℕ)) (numbers skipped : List ℕ) : Type 0 where
+-- these are the numbers of the lines that are documents, of the part if there is one, and of those
+-- that are none; where lines are not passed over all are documents
+pub record AreNumbered (reading : Reading) (keys : List Path) (lines : List (List ℕ))
+    (numbers skipped : List ℕ) : Type 0 where
   pub documents : AreNumbersOf (IsWanted reading keys) lines numbers
   pub others : AreNumbersOf (λ line. ¬ IsDocument reading keys line) lines skipped
   pub none_skipped : reading.skip_bad ≡ false → All (IsDocument reading keys) lines
 
 -- these are the numbers of the lines of a text that are documents, of the part if there is one
 abbrev pub AreDocumentNumbers : List ℕ → Reading → List Path → List ℕ → Type 0
-AreDocumentNumbers text reading keys numbers = (skipped : List ℕ) × AreNumbered reading keys (lines_of text) numbers skipped
+AreDocumentNumbers text reading keys numbers = (skipped : List ℕ)
+    × AreNumbered reading keys (lines_of text) numbers skipped

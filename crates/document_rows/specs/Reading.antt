@@ -1,7 +1,9 @@
 -- An input that is read line by line.
 --
--- Of "ab", 10, "c" the first line that is read is "ab", and "c" is left. Of nothing there is no line.
-use Rattle.std.specs.Prelude.{◌≡◌, ◌<◌, ℕ, Bool, true, false, List, [], ◌∷◌, Option, Some, None, get_or, length, ⊤}
+-- Of "ab", 10, "c" the first line that is read is "ab", and "c" is left. Of nothing there is no
+-- line.
+use Rattle.std.specs.Prelude.{◌≡◌, ◌<◌, ℕ, Bool, true, false, List, [], ◌∷◌, Option, Some, None}
+use Rattle.std.specs.Prelude.{get_or, length, ⊤}
 use Rattle.json.specs.Json.{Json}
 use Rattle.json_paths.specs.Paths.{Path, part_at}
 use Rattle.document_rows.specs.Errors.{IsLineFault}
@@ -14,9 +16,11 @@ use Rattle.document_rows.specs.declared.reading.Reading.{Reading}
 use Rattle.document_rows.specs.declared.values.Trouble.{Trouble}
 use Rattle.document_rows.specs.declared.values.Trouble.TheVariants as trouble
 
--- a read shows the first line of what is left, and leaves what is behind it; or that nothing is left
+-- a read shows the first line of what is left, and leaves what is behind it; or that nothing is
+-- left
 abbrev pub TakesLine : {R : Type 0} → (R → Option (List ℕ)) → List ℕ → List ℕ → R → Bool → Type 0
-TakesLine remaining rest line reader true = (after : List ℕ) × (remaining reader ≡ Some after) × (lines_of rest ≡ line ∷ lines_of after)
+TakesLine remaining rest line reader true = (after : List ℕ) × (remaining reader ≡ Some after)
+    × (lines_of rest ≡ line ∷ lines_of after)
 TakesLine remaining rest line reader false = rest ≡ []
 
 -- an allocation failed
@@ -47,8 +51,10 @@ IsFault number what error.Memory = ⊤
 IsFault number what (error.Read cause) = ⊥
 IsFault number what (error.Line n column w) = (n ≡ number) × (w ≡ what)
 
--- why the line of a number is not kept: an allocation failed, or it is no document, and is not to be passed over
+-- why the line of a number is not kept: an allocation failed, or it is no document, and is not to
+-- be passed over
 abbrev pub IsFaultAt : Reading → List Path → List ℕ → ℕ → ReadError → Type 0
 IsFaultAt reading keys line number error.Memory = ⊤
 IsFaultAt reading keys line number (error.Read cause) = ⊥
-IsFaultAt reading keys line number (error.Line n column what) = (n ≡ number) × (reading.skip_bad ≡ false) × IsLineFault reading keys line what
+IsFaultAt reading keys line number (error.Line n column what) = (n ≡ number)
+    × (reading.skip_bad ≡ false) × IsLineFault reading keys line what

@@ -1,7 +1,7 @@
 -- Rows of documents, as they are kept.
 --
--- With the key id the lines {"id": 7} and {"id": 8} are kept as the cells 7, {"id": 7}, 8, {"id": 8} and the numbers 1
--- and 2.
+-- With the key id the lines {"id": 7} and {"id": 8} are kept as the cells 7, {"id": 7}, 8, {"id":
+-- 8} and the numbers 1 and 2.
 use Rattle.std.specs.List.{flat_map}
 use Rattle.std.specs.Prelude.{◌≡◌, ℕ, All, List, Option, Some}
 use Rattle.diff_tables.specs.Strings.{AreStrings}
@@ -13,15 +13,17 @@ use Rattle.document_rows.specs.Parts.{IsWanted}
 use Rattle.document_rows.specs.declared.cells.Rows.{Rows}
 use Rattle.document_rows.specs.declared.reading.Reading.{Reading}
 
--- of these lines the documents that are wanted are kept, each with its cells and its number, and the numbers of those
--- that are no documents
-pub record HoldsRows (reading : Reading) (keys : List Path) (all : List (List ℕ)) (r : Rows) : Type 0 where
+-- of these lines the documents that are wanted are kept, each with its cells and its number, and
+-- the numbers of those that are no documents
+pub record HoldsRows (reading : Reading) (keys : List Path) (all : List (List ℕ)) (r : Rows) :
+    Type 0 where
   pub numbered : AreNumbered reading keys all r.lines.items r.skipped.items
   pub documents : All (IsWanted reading keys) (numbered_lines all r.lines.items)
   pub cells : AreStrings r.cells (flat_map (document_row keys) (numbered_lines all r.lines.items))
 
 -- lines are read to the end, and kept; where the reader's bytes are known they are all its lines
-pub record ReadsAll {R : Type 0} (remaining : R → Option (List ℕ)) (reading : Reading) (keys : List Path) (reader : R) (r : Rows) : Type 0 where
+pub record ReadsAll {R : Type 0} (remaining : R → Option (List ℕ)) (reading : Reading)
+    (keys : List Path) (reader : R) (r : Rows) : Type 0 where
   pub lines : List (List ℕ)
   pub held : HoldsRows reading keys lines r
   pub all : (text : List ℕ) → remaining reader ≡ Some text → lines ≡ lines_of text

@@ -1,6 +1,7 @@
 //! The cells of documents that are appended one after another.
 
-ghost use Rattle.std.specs.Prelude.{◌≡◌, ◌<◌, ◌++◌, ◌∷◌, [], ℕ, suc, true, List, IfErr, IfOk, OnOk, MatchResult, length, get_or};
+ghost use Rattle.std.specs.Prelude.{◌≡◌, ◌<◌, ◌++◌, ◌∷◌, [], ℕ, suc, true, List, IfErr, IfOk, OnOk};
+ghost use Rattle.std.specs.Prelude.{MatchResult, length, get_or};
 ghost use Rattle.diff_tables.specs.Strings.{AreStrings};
 ghost use Rattle.json.specs.Strict.{HasUniqueKeys};
 ghost use Rattle.json.specs.Value.{value_view};
@@ -52,7 +53,10 @@ fn push_part(
 ) -> Result<(), AllocError>
     requires unique { HasUniqueKeys (value_view value.now) }
     requires narrow { HasNarrowNumbers (value_view value.now) }
-    ensures { OnOk result ((all : List (List ℕ)) → AreStrings cells.old all → AreStrings cells.new (all ++ cell_of (part_at (path_view key.now) (value_view value.now)) ∷ [])) }
+    ensures { OnOk result
+        ((all : List (List ℕ)) → AreStrings cells.old all
+        → AreStrings cells.new
+        (all ++ cell_of (part_at (path_view key.now) (value_view value.now)) ∷ [])) }
 {
     write_part(alloc, room, value, key)?;
     cells.push(&room.text)?;
@@ -69,7 +73,9 @@ fn push_parts(
 ) -> Result<(), AllocError>
     requires unique { HasUniqueKeys (value_view value.now) }
     requires narrow { HasNarrowNumbers (value_view value.now) }
-    ensures { OnOk result ((all : List (List ℕ)) → AreStrings cells.old all → AreStrings cells.new (all ++ key_cells (paths_view keys.now) (value_view value.now))) }
+    ensures { OnOk result
+        ((all : List (List ℕ)) → AreStrings cells.old all
+        → AreStrings cells.new (all ++ key_cells (paths_view keys.now) (value_view value.now))) }
 {
     for key in 0..keys.len() {
         push_part(alloc, cells, room, value, &keys[key])?;
@@ -102,7 +108,9 @@ impl Rooms {
 fn push_cells(cells: &mut Strings, table: &Table, row: usize) -> Result<(), AllocError>
     requires row { row < length table.now.rows }
     requires width { length (get_or table.now.rows row []) ≡ table.now.width }
-    ensures { OnOk result ((all : List (List ℕ)) → AreStrings cells.old all → AreStrings cells.new (all ++ get_or table.now.rows row [])) }
+    ensures { OnOk result
+        ((all : List (List ℕ)) → AreStrings cells.old all
+        → AreStrings cells.new (all ++ get_or table.now.rows row [])) }
 {
     for column in 0..table.width() {
         cells.push(table.cell(row, column))?;
@@ -113,7 +121,9 @@ fn push_cells(cells: &mut Strings, table: &Table, row: usize) -> Result<(), Allo
 impl Rows {
     /// Returns no rows.
     pub(crate) fn new(alloc: Global) -> Result<Rows, AllocError>
-        ensures { IfOk result (λ rows. (reading : Reading) (keys : List paths.Path) → HoldsRows reading keys [] rows) }
+        ensures { IfOk result
+            (λ rows. (reading : Reading) (keys : List paths.Path)
+            → HoldsRows reading keys [] rows) }
     {
         let cells = Strings::new(alloc)?;
         let lines = Vec::new(alloc);
@@ -134,7 +144,11 @@ impl Rows {
     ) -> Result<(), AllocError>
         requires documents { HoldsDocuments table.now }
         requires row { row < length table.now.rows }
-        ensures { OnOk result ((reading : Reading) (keys : List paths.Path) (lines : List (List ℕ)) → HoldsDocumentsOf reading keys table.now → number ≡ suc (length lines) → HoldsRows reading keys lines self.old → HoldsRows reading keys (lines ++ line_at table.now row ∷ []) self.new) }
+        ensures { OnOk result
+            ((reading : Reading) (keys : List paths.Path) (lines : List (List ℕ))
+            → HoldsDocumentsOf reading keys table.now → number ≡ suc (length lines)
+            → HoldsRows reading keys lines self.old
+            → HoldsRows reading keys (lines ++ line_at table.now row ∷ []) self.new) }
     {
         push_cells(&mut self.cells, table, row)?;
         self.lines.push(number)?;
@@ -153,7 +167,9 @@ impl Rows {
         rooms: &mut Rooms,
     ) -> Result<(), Trouble>
         ensures kept { MatchResult result
-            (λ _. (lines : List (List ℕ)) → number ≡ suc (length lines) → HoldsRows reading (paths_view keys.now) lines self.old → HoldsRows reading (paths_view keys.now) (lines ++ line.now ∷ []) self.new)
+            (λ _. (lines : List (List ℕ)) → number ≡ suc (length lines)
+            → HoldsRows reading (paths_view keys.now) lines self.old
+            → HoldsRows reading (paths_view keys.now) (lines ++ line.now ∷ []) self.new)
             (IsTrouble reading (paths_view keys.now) line.now) }
         ensures unchanged { IfErr result (λ trouble. ¬ IsTroubleMemory trouble → self.new ≡ self.old) }
     {
@@ -170,7 +186,11 @@ impl Rows {
 
     /// Passes over the line of a number, which is no document.
     pub(crate) fn skip(&mut self, number: u64) -> Result<(), AllocError>
-        ensures { OnOk result ((reading : Reading) (keys : List paths.Path) (lines : List (List ℕ)) (line : List ℕ) → reading.skip_bad ≡ true → ¬ IsDocument reading keys line → number ≡ suc (length lines) → HoldsRows reading keys lines self.old → HoldsRows reading keys (lines ++ line ∷ []) self.new) }
+        ensures { OnOk result
+            ((reading : Reading) (keys : List paths.Path) (lines : List (List ℕ)) (line : List ℕ)
+            → reading.skip_bad ≡ true → ¬ IsDocument reading keys line → number ≡ suc (length lines)
+            → HoldsRows reading keys lines self.old
+            → HoldsRows reading keys (lines ++ line ∷ []) self.new) }
     {
         self.skipped.push(number)?;
         Ok(())

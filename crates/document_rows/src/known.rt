@@ -1,6 +1,7 @@
 //! Lines whose documents were read before.
 
-ghost use Rattle.std.specs.Prelude.{◌≡◌, ◌<◌, ◌≤◌, ◌+◌, ◌++◌, ◌∷◌, [], ℕ, suc, List, false, true, length, IfOk};
+ghost use Rattle.std.specs.Prelude.{◌≡◌, ◌<◌, ◌≤◌, ◌+◌, ◌++◌, ◌∷◌, [], ℕ, suc, List, false, true};
+ghost use Rattle.std.specs.Prelude.{length, IfOk};
 ghost use Rattle.json_paths.specs.Paths.{Path};
 ghost use Rattle.document_rows.specs.Known.{HoldsDocumentsOf, KnowsLines};
 ghost use Rattle.document_rows.specs.Rows.{HoldsRows};
@@ -100,7 +101,9 @@ impl<'a> Known<'a> {
     /// Returns the lines of a table of documents.
     pub(crate) fn of(alloc: Global, table: &'a Table) -> Result<Known<'a>, AllocError>
         requires { HoldsDocuments table.now }
-        ensures { IfOk result (λ known. (reading : Reading) (keys : List Path) → HoldsDocumentsOf reading keys table.now → KnowsLines reading keys known) }
+        ensures { IfOk result
+            (λ known. (reading : Reading) (keys : List Path)
+            → HoldsDocumentsOf reading keys table.now → KnowsLines reading keys known) }
     {
         let count = table.count().saturating_mul(SLOTS).saturating_add(1);
         let mut slots = vec![in alloc; 0; count]?;
@@ -172,7 +175,11 @@ impl<'a> Known<'a> {
         guess: Option<usize>,
     ) -> Result<bool, AllocError>
         requires { (reading : Reading) × (keys : List Path) × KnowsLines reading keys self.now }
-        ensures found { IfOk result (λ found. found ≡ true → (reading : Reading) (keys : List Path) (lines : List (List ℕ)) → KnowsLines reading keys self.now → number ≡ suc (length lines) → HoldsRows reading keys lines rows.old → HoldsRows reading keys (lines ++ line.now ∷ []) rows.new) }
+        ensures found { IfOk result
+            (λ found. found ≡ true → (reading : Reading) (keys : List Path) (lines : List (List ℕ))
+            → KnowsLines reading keys self.now → number ≡ suc (length lines)
+            → HoldsRows reading keys lines rows.old
+            → HoldsRows reading keys (lines ++ line.now ∷ []) rows.new) }
         ensures other { IfOk result (λ found. found ≡ false → rows.new ≡ rows.old) }
     {
         let Some(table) = self.table else {

@@ -20,7 +20,9 @@ enum Part {
 
 /// Appends what a reader has at hand of a line, without its line feed.
 fn append_part<B: BufRead>(reader: &mut B, line: &mut Vec<u8>) -> Result<Part>
-    ensures { IfOk result (λ part. (rest : List ℕ) → B.remaining reader.old ≡ Some rest → TakesPart B.remaining rest line.old.items line.new.items reader.new part) }
+    ensures { IfOk result
+        (λ part. (rest : List ℕ) → B.remaining reader.old ≡ Some rest
+        → TakesPart B.remaining rest line.old.items line.new.items reader.new part) }
 {
     let at_hand = match reader.fill_buf() {
         Ok(at_hand) => at_hand,
@@ -52,7 +54,9 @@ fn append_part<B: BufRead>(reader: &mut B, line: &mut Vec<u8>) -> Result<Part>
 
 /// Reads the next line into `line`, without its line feed. Returns whether there was one.
 pub(crate) fn read_line<B: BufRead>(reader: &mut B, line: &mut Vec<u8>) -> Result<bool>
-    ensures { IfOk result (λ found. (rest : List ℕ) → B.remaining reader.old ≡ Some rest → TakesLine B.remaining rest line.new.items reader.new found) }
+    ensures { IfOk result
+        (λ found. (rest : List ℕ) → B.remaining reader.old ≡ Some rest
+        → TakesLine B.remaining rest line.new.items reader.new found) }
 {
     line.clear();
     for _ in 0..u64::MAX {

@@ -73,7 +73,8 @@ fn is_other_pair(
 ) -> Result<bool, AllocError>
     requires left { HoldsDocuments left.now }
     requires right { HoldsDocuments right.now }
-    requires pairs { ArePairs left.now.rows right.now.rows matching.now.left_rows.items matching.now.right_rows.items }
+    requires pairs { ArePairs left.now.rows right.now.rows matching.now.left_rows.items
+        matching.now.right_rows.items }
     requires place { place < length matching.now.left_rows.items }
     ensures { IfOk result (λ other. IsTrue other ↔ IsOtherDocument (rules_view rules.now)
         left.now right.now matching.now.left_rows.items matching.now.right_rows.items place) }

@@ -1,4 +1,5 @@
-//! The texts of a document's parts at the keys, and the part of all documents that it is in by them.
+//! The texts of a document's parts at the keys, and the part of all documents that it is in by
+//! them.
 
 ghost use Rattle.std.specs.List.{range_with_len};
 ghost use Rattle.std.specs.Prelude.{◌≡◌, map, IfOk, OnOk};
@@ -55,7 +56,8 @@ pub(crate) fn write_part(
 ) -> Result<(), AllocError>
     requires unique { HasUniqueKeys (value_view value.now) }
     requires narrow { HasNarrowNumbers (value_view value.now) }
-    ensures { OnOk result (room.new.text.items ≡ cell_of (part_at (path_view key.now) (value_view value.now))) }
+    ensures { OnOk result
+        (room.new.text.items ≡ cell_of (part_at (path_view key.now) (value_view value.now))) }
 {
     match key.part_of(value) {
         Some(part) => {
@@ -79,7 +81,9 @@ fn key_texts(
 ) -> Result<Vec<Vec<u8>>, AllocError>
     requires unique { HasUniqueKeys (value_view value.now) }
     requires narrow { HasNarrowNumbers (value_view value.now) }
-    ensures { IfOk result (λ texts. map (λ v. v.items) texts.items ≡ key_cells (paths_view keys.now) (value_view value.now)) }
+    ensures { IfOk result
+        (λ texts. map (λ v. v.items) texts.items
+        ≡ key_cells (paths_view keys.now) (value_view value.now)) }
 {
     let mut texts = Vec::new(alloc);
     for key in 0..keys.len() {

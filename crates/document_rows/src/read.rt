@@ -1,7 +1,8 @@
 //! Inputs of documents, read to tables.
 
 ghost use Rattle.std.specs.Io.Buffered.{reader_remaining};
-ghost use Rattle.std.specs.Prelude.{◌≡◌, ◌++◌, ◌∷◌, [], ℕ, suc, List, Some, length, IfErr, IfOk, MatchResult};
+ghost use Rattle.std.specs.Prelude.{◌≡◌, ◌++◌, ◌∷◌, [], ℕ, suc, List, Some, length, IfErr, IfOk};
+ghost use Rattle.std.specs.Prelude.{MatchResult};
 ghost use Rattle.json_paths.specs.Views.{paths_view};
 ghost use Rattle.document_rows.specs.Errors.{IsMemory, IsReadFault, IsStop};
 ghost use Rattle.document_rows.specs.Known.{HoldsDocumentsOf, KnowsLines};
@@ -47,7 +48,9 @@ fn fault_of(cause: io::Error) -> ReadError
 
 /// Reads the next line into `line`. Returns whether there was one.
 fn next_line<B: BufRead>(reader: &mut B, line: &mut Vec<u8>) -> Result<bool, ReadError>
-    ensures told { IfOk result (λ found. (rest : List ℕ) → B.remaining reader.old ≡ Some rest → TakesLine B.remaining rest line.new.items reader.new found) }
+    ensures told { IfOk result
+        (λ found. (rest : List ℕ) → B.remaining reader.old ≡ Some rest
+        → TakesLine B.remaining rest line.new.items reader.new found) }
     ensures stop { IfErr result IsStop }
 {
     match read_line(reader, line) {
@@ -91,7 +94,9 @@ fn keep_line(
 ) -> Result<(), ReadError>
     requires { KnowsLines reading (paths_view keys.now) known.now }
     ensures { MatchResult result
-        (λ _. (all : List (List ℕ)) → number ≡ suc (length all) → HoldsRows reading (paths_view keys.now) all rows.old → HoldsRows reading (paths_view keys.now) (all ++ line.now ∷ []) rows.new)
+        (λ _. (all : List (List ℕ)) → number ≡ suc (length all)
+        → HoldsRows reading (paths_view keys.now) all rows.old
+        → HoldsRows reading (paths_view keys.now) (all ++ line.now ∷ []) rows.new)
         (IsFaultAt reading (paths_view keys.now) line.now number) }
 {
     let skips = reading.skip_bad;
@@ -126,8 +131,10 @@ fn read_lines<R: Read + Drop>(
     requires known { KnowsLines reading (paths_view keys.now) known.now }
     requires none { HoldsRows reading (paths_view keys.now) [] rows.old }
     ensures { MatchResult result
-        (λ _. ReadsAll (reader_remaining R.remaining) reading (paths_view keys.now) reader.old rows.new)
-        (λ error. (text : List ℕ) → reader_remaining R.remaining reader.old ≡ Some text → IsReadFault text reading (paths_view keys.now) error) }
+        (λ _. ReadsAll (reader_remaining R.remaining) reading (paths_view keys.now) reader.old
+        rows.new)
+        (λ error. (text : List ℕ) → reader_remaining R.remaining reader.old ≡ Some text
+        → IsReadFault text reading (paths_view keys.now) error) }
 {
     for before in 0..u64::MAX {
         if guesses.are_spent() {
@@ -164,7 +171,8 @@ fn read_rows<R: Read + Drop>(
     requires { KnowsLines reading (paths_view keys.now) known.now }
     ensures { MatchResult result
         (ReadsAll (reader_remaining R.remaining) reading (paths_view keys.now) reader)
-        (λ error. (text : List ℕ) → reader_remaining R.remaining reader ≡ Some text → IsReadFault text reading (paths_view keys.now) error) }
+        (λ error. (text : List ℕ) → reader_remaining R.remaining reader ≡ Some text
+        → IsReadFault text reading (paths_view keys.now) error) }
 {
     let mut rows = Rows::new(alloc)?;
     let mut rooms = Rooms::new(alloc)?;
@@ -188,8 +196,13 @@ fn read_rows<R: Read + Drop>(
 
 /// Returns the table of rows, which have a cell for each key and one for the line.
 fn table_of(alloc: Global, rows: Rows, keys: &[Path]) -> Result<Documents, ReadError>
-    requires { (reading : Reading) × (lines : List (List ℕ)) × HoldsRows reading (paths_view keys.now) lines rows }
-    ensures { MatchResult result (λ d. (reading : Reading) (lines : List (List ℕ)) → HoldsRows reading (paths_view keys.now) lines rows → AreDocumentsWith reading (paths_view keys.now) lines d.table d.lines.items d.skipped.items) IsMemory }
+    requires { (reading : Reading) × (lines : List (List ℕ))
+        × HoldsRows reading (paths_view keys.now) lines rows }
+    ensures { MatchResult result
+        (λ d. (reading : Reading) (lines : List (List ℕ))
+        → HoldsRows reading (paths_view keys.now) lines rows
+        → AreDocumentsWith reading (paths_view keys.now) lines d.table d.lines.items
+        d.skipped.items) IsMemory }
 {
     let Rows {
         cells,
@@ -230,8 +243,11 @@ fn read_unknown<R: Read + Drop>(
     requires { KnowsLines reading (paths_view keys.now) known.now }
     ensures shape { IfOk result (λ d. HaveDocuments reading (paths_view keys.now) d.table d.lines.items) }
     ensures documents { MatchResult result
-        (λ d. (text : List ℕ) → R.remaining reader ≡ Some text → AreDocumentsOf text reading (paths_view keys.now) d.table d.lines.items d.skipped.items)
-        (λ error. (text : List ℕ) → R.remaining reader ≡ Some text → IsReadFault text reading (paths_view keys.now) error) }
+        (λ d. (text : List ℕ) → R.remaining reader ≡ Some text
+        → AreDocumentsOf text reading (paths_view keys.now) d.table d.lines.items
+        d.skipped.items)
+        (λ error. (text : List ℕ) → R.remaining reader ≡ Some text
+        → IsReadFault text reading (paths_view keys.now) error) }
 {
     let buffered = buffered(alloc, reader)?;
     let rows = read_rows(alloc, buffered, keys, reading, known)?;
@@ -252,8 +268,11 @@ pub fn read_documents<R: Read + Drop>(
 ) -> Result<Documents, ReadError>
     ensures shape { IfOk result (λ d. HaveDocuments reading (paths_view keys.now) d.table d.lines.items) }
     ensures documents { MatchResult result
-        (λ d. (text : List ℕ) → R.remaining reader ≡ Some text → AreDocumentsOf text reading (paths_view keys.now) d.table d.lines.items d.skipped.items)
-        (λ error. (text : List ℕ) → R.remaining reader ≡ Some text → IsReadFault text reading (paths_view keys.now) error) }
+        (λ d. (text : List ℕ) → R.remaining reader ≡ Some text
+        → AreDocumentsOf text reading (paths_view keys.now) d.table d.lines.items
+        d.skipped.items)
+        (λ error. (text : List ℕ) → R.remaining reader ≡ Some text
+        → IsReadFault text reading (paths_view keys.now) error) }
 {
     let known = Known::none(alloc);
     let documents = read_unknown(alloc, reader, keys, reading, &known)?;
@@ -272,8 +291,11 @@ pub fn read_documents_beside<R: Read + Drop>(
     requires { HoldsDocumentsOf reading (paths_view keys.now) table.now }
     ensures shape { IfOk result (λ d. HaveDocuments reading (paths_view keys.now) d.table d.lines.items) }
     ensures documents { MatchResult result
-        (λ d. (text : List ℕ) → R.remaining reader ≡ Some text → AreDocumentsOf text reading (paths_view keys.now) d.table d.lines.items d.skipped.items)
-        (λ error. (text : List ℕ) → R.remaining reader ≡ Some text → IsReadFault text reading (paths_view keys.now) error) }
+        (λ d. (text : List ℕ) → R.remaining reader ≡ Some text
+        → AreDocumentsOf text reading (paths_view keys.now) d.table d.lines.items
+        d.skipped.items)
+        (λ error. (text : List ℕ) → R.remaining reader ≡ Some text
+        → IsReadFault text reading (paths_view keys.now) error) }
 {
     let known = Known::of(alloc, table)?;
     let documents = read_unknown(alloc, reader, keys, reading, &known)?;

@@ -49,8 +49,10 @@ impl<T: Drop> From<AllocFailed<T>> for Trouble {
 /// Reads the value of a line.
 fn parsed<'a>(alloc: Global, line: &'a [u8], scratch: &'a mut Scratch) -> Result<Value<'a>, Trouble>
     ensures { MatchResult result
-        (λ v. IsUtf8 line.now × (document line.now ≡ Some (value_view v)) × HasUniqueKeys (value_view v))
-        (λ trouble. (reading : Reading) (keys : List paths.Path) → IsTrouble reading keys line.now trouble) }
+        (λ v. IsUtf8 line.now × (document line.now ≡ Some (value_view v))
+        × HasUniqueKeys (value_view v))
+        (λ trouble. (reading : Reading) (keys : List paths.Path)
+        → IsTrouble reading keys line.now trouble) }
 {
     let Ok(text) = std::str::from_utf8(line) else {
         return Err(Trouble::Fault(LineFault::Invalid));
@@ -72,8 +74,12 @@ pub(crate) fn object_of<'a>(
     room: &mut Vec<u8>,
 ) -> Result<Value<'a>, Trouble>
     ensures utf8 { IfOk result (λ _. IsUtf8 line.now) }
-    ensures value { IfOk result (λ v. (document line.now ≡ Some (value_view v)) × IsObject (value_view v) × HasUniqueKeys (value_view v) × HasNarrowNumbers (value_view v)) }
-    ensures trouble { IfErr result (λ trouble. (reading : Reading) (keys : List paths.Path) → IsTrouble reading keys line.now trouble) }
+    ensures value { IfOk result
+        (λ v. (document line.now ≡ Some (value_view v)) × IsObject (value_view v)
+        × HasUniqueKeys (value_view v) × HasNarrowNumbers (value_view v)) }
+    ensures trouble { IfErr result
+        (λ trouble. (reading : Reading) (keys : List paths.Path)
+        → IsTrouble reading keys line.now trouble) }
 {
     let value = parsed(alloc, line, scratch)?;
     let Value::Object(_) = &value else {
@@ -101,7 +107,9 @@ fn missing_key(value: &Value<'_>, keys: &[Path]) -> Option<usize>
 
 /// Checks that a value has a part at each key, unless a key may be null.
 fn check_keys(value: &Value<'_>, keys: &[Path], reading: Reading) -> Result<(), LineFault>
-    ensures { MatchResult result (λ _. HasKeys reading (paths_view keys.now) (value_view value.now)) (IsKeyFault reading (paths_view keys.now) (value_view value.now)) }
+    ensures { MatchResult result
+        (λ _. HasKeys reading (paths_view keys.now) (value_view value.now))
+        (IsKeyFault reading (paths_view keys.now) (value_view value.now)) }
 {
     if reading.null_keys {
         return Ok(());
@@ -121,8 +129,12 @@ pub(crate) fn document_in<'a>(
     scratch: &'a mut Scratch,
     room: &mut Vec<u8>,
 ) -> Result<Value<'a>, Trouble>
-    ensures document { MatchResult result (λ _. IsDocument reading (paths_view keys.now) line.now) (IsTrouble reading (paths_view keys.now) line.now) }
-    ensures value { IfOk result (λ v. (document line.now ≡ Some (value_view v)) × HasUniqueKeys (value_view v) × HasNarrowNumbers (value_view v)) }
+    ensures document { MatchResult result
+        (λ _. IsDocument reading (paths_view keys.now) line.now)
+        (IsTrouble reading (paths_view keys.now) line.now) }
+    ensures value { IfOk result
+        (λ v. (document line.now ≡ Some (value_view v)) × HasUniqueKeys (value_view v)
+        × HasNarrowNumbers (value_view v)) }
 {
     let value = object_of(alloc, line, scratch, room)?;
     match check_keys(&value, keys, reading) {

@@ -1,7 +1,8 @@
 -- Why two inputs of documents are not compared.
 --
--- With the key id the texts {"id": 7} and {"day": 7} are not compared, since line 1 of the right one has no id. Where
--- keys have to be unique, a text of the lines {"id": 7} and {"id": 7.0} is not compared, since lines 1 and 2 have one key.
+-- With the key id the texts {"id": 7} and {"day": 7} are not compared, since line 1 of the right
+-- one has no id. Where keys have to be unique, a text of the lines {"id": 7} and {"id": 7.0} is not
+-- compared, since lines 1 and 2 have one key.
 use Rattle.std.specs.Prelude.{◌≡◌, ◌≤◌, ◌^◌, ℕ, true, List, length, slice_index, ⊤}
 use Rattle.diff_columns.specs.declared.error.Side.{Side}
 use Rattle.diff_columns.specs.declared.error.Side.TheVariants.{Left, Right}
@@ -30,24 +31,33 @@ AreTooMany left right = ¬ ((length left ≤ 2 ^ 32) × (length right ≤ 2 ^ 32
 -- the documents of two texts, each by the number of its line, are too many
 abbrev pub HaveTooMany : DocumentOptions → List ℕ → List ℕ → Type 0
 HaveTooMany options left_text right_text = (left : List ℕ) × (right : List ℕ)
-    × AreDocumentNumbers left_text options.reading (paths_of options) left × AreDocumentNumbers right_text options.reading (paths_of options) right × AreTooMany left right
+    × AreDocumentNumbers left_text options.reading (paths_of options) left
+    × AreDocumentNumbers right_text options.reading (paths_of options) right
+    × AreTooMany left right
 
--- the documents on these two of some lines have one key, and of the documents before the later one no two have
+-- the documents on these two of some lines have one key, and of the documents before the later one
+-- no two have
 abbrev pub AreFirstTwice : List (List ℕ) → List ℕ → ℕ → ℕ → Type 0
-AreFirstTwice keys numbers first again = (t : Twice) × IsFirstTwice keys t × (first ≡ slice_index numbers t.first) × (again ≡ slice_index numbers t.again)
+AreFirstTwice keys numbers first again = (t : Twice) × IsFirstTwice keys t
+    × (first ≡ slice_index numbers t.first) × (again ≡ slice_index numbers t.again)
 
 -- so do these two of the documents of a text
 abbrev pub HasTwice : DocumentOptions → List ℕ → ℕ → ℕ → Type 0
-HasTwice options text first again = (numbers : List ℕ) × AreDocumentNumbers text options.reading (paths_of options) numbers
+HasTwice options text first again = (numbers : List ℕ)
+    × AreDocumentNumbers text options.reading (paths_of options) numbers
     × AreFirstTwice (document_keys options (documents_at text numbers)) numbers first again
 
--- why two texts are not compared: a line of one of them is no document, there are too many documents, keys have to be unique
--- and two documents of a text have one, or an allocation, a read or a write failed
+-- why two texts are not compared: a line of one of them is no document, there are too many
+-- documents, keys have to be unique and two documents of a text have one, or an allocation, a read
+-- or a write failed
 abbrev pub IsDocumentFault : DocumentOptions → List ℕ → List ℕ → DocumentError → Type 0
 IsDocumentFault options left_text right_text error.Memory = ⊤
-IsDocumentFault options left_text right_text error.TooManyRows = HaveTooMany options left_text right_text
-IsDocumentFault options left_text right_text (error.Read side cause) = IsReadFault (text_on side left_text right_text) options.reading (paths_of options) cause
-IsDocumentFault options left_text right_text (error.KeyTwice side first again) = (options.unique ≡ true) × HasTwice options (text_on side left_text right_text) first again
+IsDocumentFault options left_text right_text error.TooManyRows =
+    HaveTooMany options left_text right_text
+IsDocumentFault options left_text right_text (error.Read side cause) =
+    IsReadFault (text_on side left_text right_text) options.reading (paths_of options) cause
+IsDocumentFault options left_text right_text (error.KeyTwice side first again) =
+    (options.unique ≡ true) × HasTwice options (text_on side left_text right_text) first again
 IsDocumentFault options left_text right_text (error.Write cause) = ⊤
 
 -- a write failed
@@ -60,14 +70,16 @@ IsWrite (error.Write cause) = ⊤
 
 -- two documents of a side have one key; these are their lines
 abbrev pub HasKeyTwice : Table → List ℕ → ℕ → ℕ → Type 0
-HasKeyTwice side columns first again = AreFirstTwice (row_keys columns side.table.rows) side.lines.items first again
+HasKeyTwice side columns first again =
+    AreFirstTwice (row_keys columns side.table.rows) side.lines.items first again
 
 -- two documents of this side have one key, or an allocation failed
 abbrev pub IsSideFault : Table → List ℕ → Side → DocumentError → Type 0
 IsSideFault table columns side error.Memory = ⊤
 IsSideFault table columns side error.TooManyRows = ⊥
 IsSideFault table columns side (error.Read s cause) = ⊥
-IsSideFault table columns side (error.KeyTwice s first again) = (s ≡ side) × HasKeyTwice table columns first again
+IsSideFault table columns side (error.KeyTwice s first again) = (s ≡ side)
+    × HasKeyTwice table columns first again
 IsSideFault table columns side (error.Write cause) = ⊥
 
 -- one of two sides
@@ -75,11 +87,14 @@ abbrev pub side_on : Side → DocumentSides → Table
 side_on Left s = s.left
 side_on Right s = s.right
 
--- the documents of the two sides are too many, two of one side have one key where keys have to be unique, or an
--- allocation failed
+-- the documents of the two sides are too many, two of one side have one key where keys have to be
+-- unique, or an allocation failed
 abbrev pub IsRowsFault : DocumentOptions → DocumentSides → DocumentError → Type 0
 IsRowsFault options s error.Memory = ⊤
-IsRowsFault options s error.TooManyRows = ¬ (AreFew (row_keys (key_columns options) s.left.table.rows) (row_keys (key_columns options) s.right.table.rows))
+IsRowsFault options s error.TooManyRows =
+    ¬ (AreFew (row_keys (key_columns options) s.left.table.rows)
+    (row_keys (key_columns options) s.right.table.rows))
 IsRowsFault options s (error.Read side cause) = ⊥
-IsRowsFault options s (error.KeyTwice side first again) = (options.unique ≡ true) × HasKeyTwice (side_on side s) (key_columns options) first again
+IsRowsFault options s (error.KeyTwice side first again) = (options.unique ≡ true)
+    × HasKeyTwice (side_on side s) (key_columns options) first again
 IsRowsFault options s (error.Write cause) = ⊥

@@ -1,14 +1,13 @@
 -- The report of two texts of documents.
 --
--- With the key id the texts {"id": 7}, {"id": 8, "n": 2} and {"n": 3, "id": 8.0} of two lines and of one have the report
--- ~ id=8  n 2 -> 3
--- - id=7  old.ndjson line 1
--- 1 changed, 1 removed, 0 added, 0 the same.
--- Where n is ignored nothing is told of 8, and the last line is 0 changed, 1 removed, 0 added, 1 the same.
--- A line [] before the first one, where such lines are passed over, makes 7 stand on line 2, and a last line more:
--- Skipped 1 line of old.ndjson (line 1).
+-- With the key id the texts {"id": 7}, {"id": 8, "n": 2} and {"n": 3, "id": 8.0} of two lines and
+-- of one have the report ~ id=8  n 2 -> 3 - id=7  old.ndjson line 1 1 changed, 1 removed, 0 added,
+-- 0 the same. Where n is ignored nothing is told of 8, and the last line is 0 changed, 1 removed, 0
+-- added, 1 the same. A line [] before the first one, where such lines are passed over, makes 7
+-- stand on line 2, and a last line more: Skipped 1 line of old.ndjson (line 1).
 use Rattle.std.specs.List.{range_with_len}
-use Rattle.std.specs.Prelude.{◌≡◌, ◌≢◌, ◌==◌, ◌&&◌, ℕ, Bool, true, if◌then◌else◌, List, [], get_or, length, map, slice_index}
+use Rattle.std.specs.Prelude.{◌≡◌, ◌≢◌, ◌==◌, ◌&&◌, ℕ, Bool, true, if◌then◌else◌, List, [], get_or}
+use Rattle.std.specs.Prelude.{length, map, slice_index}
 use Rattle.diff_columns.specs.Names.{names_of}
 use Rattle.diff_keys.specs.Matching.{IsMatching}
 use Rattle.diff_keys.specs.Outcome as outcome
@@ -54,7 +53,8 @@ right_documents text sides = documents_at text sides.right.lines.items
 
 -- the key of each of some documents: the normal texts of the parts at the paths
 abbrev pub document_keys : DocumentOptions → List (List ℕ) → List (List ℕ)
-document_keys options documents = row_keys (key_columns options) (map (document_row (paths_of options)) documents)
+document_keys options documents =
+    row_keys (key_columns options) (map (document_row (paths_of options)) documents)
 
 -- the tree of document i of some, the first being 0
 abbrev pub tree_at : List (List ℕ) → ℕ → Json
@@ -66,16 +66,22 @@ rules_of options = rules_view options.rules.now
 
 -- rules tell a difference between the documents at place k of two lists of places among documents
 abbrev pub HasOthers : Rules → List (List ℕ) → List (List ℕ) → Matching → ℕ → Type 0
-HasOthers rules left right m k = differences_told rules (tree_at left (slice_index m.left_rows.items k)) (tree_at right (slice_index m.right_rows.items k)) ≢ []
+HasOthers rules left right m k =
+    differences_told rules (tree_at left (slice_index m.left_rows.items k))
+    (tree_at right (slice_index m.right_rows.items k)) ≢ []
 
--- a side has the documents of a text, and the name of its input; these lines of the text are passed over
-pub record IsSideOf (options : DocumentOptions) (text name : List ℕ) (side : Side) (skipped : List ℕ) : Type 0 where
+-- a side has the documents of a text, and the name of its input; these lines of the text are passed
+-- over
+pub record IsSideOf (options : DocumentOptions) (text name : List ℕ) (side : Side)
+    (skipped : List ℕ) : Type 0 where
   pub named : side.name.items ≡ name
-  pub documents : AreDocumentsOf text options.reading (paths_of options) side.table side.lines.items skipped
+  pub documents :
+      AreDocumentsOf text options.reading (paths_of options) side.table side.lines.items skipped
 
--- the sides have the documents of two texts, the numbers of the lines that are passed over, the names of the keys, and
--- the rules
-pub record AreSidesOf (options : DocumentOptions) (left_text right_text left_name right_name : List ℕ) (sides : DocumentSides) : Type 0 where
+-- the sides have the documents of two texts, the numbers of the lines that are passed over, the
+-- names of the keys, and the rules
+pub record AreSidesOf (options : DocumentOptions)
+    (left_text right_text left_name right_name : List ℕ) (sides : DocumentSides) : Type 0 where
   pub left : IsSideOf options left_text left_name sides.left sides.left_skipped.items
   pub right : IsSideOf options right_text right_name sides.right sides.right_skipped.items
   pub skip_bad : sides.skip_bad ≡ options.reading.skip_bad
@@ -89,17 +95,25 @@ outcome_of m changed = outcome.outcome_of m changed true
 
 -- no key comes twice among either documents
 abbrev pub HaveUniqueKeys : DocumentOptions → List (List ℕ) → List (List ℕ) → Type 0
-HaveUniqueKeys options left right = AllDiffer (document_keys options left) × AllDiffer (document_keys options right)
+HaveUniqueKeys options left right = AllDiffer (document_keys options left)
+    × AllDiffer (document_keys options right)
 
--- the report of two texts, and what it comes to: documents of one key are partners, the first with the first; of the
--- partners those are changed between which a difference is told
-pub record IsDocumentReportOf (options : DocumentOptions) (left_text right_text left_name right_name written : List ℕ) (outcome : Outcome) : Type 0 where
+-- the report of two texts, and what it comes to: documents of one key are partners, the first with
+-- the first; of the partners those are changed between which a difference is told
+pub record IsDocumentReportOf (options : DocumentOptions)
+    (left_text right_text left_name right_name written : List ℕ) (outcome : Outcome) : Type 0 where
   pub sides : DocumentSides
   pub matching : Matching
   pub changed : List ℕ
   pub sides_are : AreSidesOf options left_text right_text left_name right_name sides
-  pub matched : IsMatching (document_keys options (left_documents left_text sides)) (document_keys options (right_documents right_text sides)) matching
-  pub changed_are : ListsRising (HasOthers (rules_of options) (left_documents left_text sides) (right_documents right_text sides) matching) (length matching.left_rows.items) changed
-  pub unique : options.unique ≡ true → HaveUniqueKeys options (left_documents left_text sides) (right_documents right_text sides)
+  pub matched :
+      IsMatching (document_keys options (left_documents left_text sides))
+      (document_keys options (right_documents right_text sides)) matching
+  pub changed_are :
+      ListsRising
+      (HasOthers (rules_of options) (left_documents left_text sides)
+      (right_documents right_text sides) matching) (length matching.left_rows.items) changed
+  pub unique : options.unique ≡ true
+      → HaveUniqueKeys options (left_documents left_text sides) (right_documents right_text sides)
   pub text : written ≡ format_text options.format sides matching changed options.limit
   pub outcome_is : outcome ≡ outcome_of matching changed

@@ -15,7 +15,8 @@ use Rattle.document_words.specs.declared.sides.DocumentSides.{DocumentSides}
 
 -- a side has some documents
 abbrev pub HasDocuments : DocumentOptions → Side → Type 0
-HasDocuments options side = HaveDocuments options.reading (paths_of options) side.table side.lines.items
+HasDocuments options side =
+    HaveDocuments options.reading (paths_of options) side.table side.lines.items
 
 -- both sides have documents, and a name for each key
 pub record AreComparable (options : DocumentOptions) (s : DocumentSides) : Type 0 where
@@ -30,16 +31,23 @@ pub record IsKeyed (columns : List ℕ) (side : Side) : Type 0 where
 
 -- no key comes twice on either side
 abbrev pub HaveUniqueRows : List ℕ → DocumentSides → Type 0
-HaveUniqueRows columns s = AllDiffer (row_keys columns s.left.table.rows) × AllDiffer (row_keys columns s.right.table.rows)
+HaveUniqueRows columns s = AllDiffer (row_keys columns s.left.table.rows)
+    × AllDiffer (row_keys columns s.right.table.rows)
 
 -- partners have one key, and of them those are changed between whose documents a difference is told
 pub record IsFoundOn (options : DocumentOptions) (s : DocumentSides) (f : Found) : Type 0 where
-  pub matched : IsMatching (row_keys (key_columns options) s.left.table.rows) (row_keys (key_columns options) s.right.table.rows) f.matching
-  pub changed : ListsRising (IsOtherDocument (rules_of options) s.left.table s.right.table f.matching.left_rows.items f.matching.right_rows.items) (length f.matching.left_rows.items) f.changed.items
+  pub matched :
+      IsMatching (row_keys (key_columns options) s.left.table.rows)
+      (row_keys (key_columns options) s.right.table.rows) f.matching
+  pub changed :
+      ListsRising
+      (IsOtherDocument (rules_of options) s.left.table s.right.table f.matching.left_rows.items
+      f.matching.right_rows.items) (length f.matching.left_rows.items) f.changed.items
   pub unique : options.unique ≡ true → HaveUniqueRows (key_columns options) s
 
 -- the report of two sides, and what it comes to
-pub record IsReportOn (options : DocumentOptions) (s : DocumentSides) (written : List ℕ) (outcome : Outcome) : Type 0 where
+pub record IsReportOn (options : DocumentOptions) (s : DocumentSides) (written : List ℕ)
+    (outcome : Outcome) : Type 0 where
   pub found : Found
   pub found_on : IsFoundOn options s found
   pub text : written ≡ format_text options.format s found.matching found.changed.items options.limit

@@ -33,7 +33,9 @@ fn compared(
 ) -> Result<Comparison, DocumentError>
     requires { AreComparable options.now sides.now }
     ensures { MatchResult result
-        (λ comparison. IsComparison (key_columns options.now) sides.now.left.table.rows sides.now.right.table.rows comparison × (options.now.unique ≡ true → HaveUniqueRows (key_columns options.now) sides.now))
+        (λ comparison. IsComparison (key_columns options.now) sides.now.left.table.rows
+        sides.now.right.table.rows comparison
+        × (options.now.unique ≡ true → HaveUniqueRows (key_columns options.now) sides.now))
         (IsRowsFault options.now sides.now) }
 {
     let columns = key_columns(alloc, options.keys.len())?;
@@ -52,7 +54,8 @@ pub(crate) fn found_on(
     options: &DocumentOptions<'_>,
 ) -> Result<Found, DocumentError>
     requires { AreComparable options.now sides.now }
-    ensures { MatchResult result (IsFoundOn options.now sides.now) (IsRowsFault options.now sides.now) }
+    ensures { MatchResult result (IsFoundOn options.now sides.now)
+        (IsRowsFault options.now sides.now) }
 {
     let comparison = compared(alloc, sides, options)?;
     let (left, right) = (&sides.left.table, &sides.right.table);

@@ -31,8 +31,11 @@ pub(crate) fn read_side<R: Read + Drop>(
 ) -> Result<ReadSide, DocumentError>
     ensures shape { IfOk result (λ read. HasDocuments options.now read.table) }
     ensures texts { MatchResult result
-        (λ read. (text : List ℕ) → R.remaining input.entry.reader ≡ Some text → IsSideOf options.now text input.entry.name.now read.table read.skipped.items)
-        (λ error. (left_text right_text : List ℕ) → R.remaining input.entry.reader ≡ Some (text_on side left_text right_text) → IsDocumentFault options.now left_text right_text error) }
+        (λ read. (text : List ℕ) → R.remaining input.entry.reader ≡ Some text
+        → IsSideOf options.now text input.entry.name.now read.table read.skipped.items)
+        (λ error. (left_text right_text : List ℕ) → R.remaining input.entry.reader
+        ≡ Some (text_on side left_text right_text)
+        → IsDocumentFault options.now left_text right_text error) }
 {
     let name = Vec::from_slice(alloc, input.name)?;
     match read_documents(alloc, input.reader, options.keys, options.reading) {
@@ -65,8 +68,10 @@ pub(crate) fn read_right<R: Read + Drop>(
     requires { HasDocuments options.now left.now }
     ensures shape { IfOk result (λ read. HasDocuments options.now read.table) }
     ensures texts { MatchResult result
-        (λ read. (text : List ℕ) → R.remaining input.entry.reader ≡ Some text → IsSideOf options.now text input.entry.name.now read.table read.skipped.items)
-        (λ error. (left_text right_text : List ℕ) → R.remaining input.entry.reader ≡ Some right_text → IsDocumentFault options.now left_text right_text error) }
+        (λ read. (text : List ℕ) → R.remaining input.entry.reader ≡ Some text
+        → IsSideOf options.now text input.entry.name.now read.table read.skipped.items)
+        (λ error. (left_text right_text : List ℕ) → R.remaining input.entry.reader ≡ Some right_text
+        → IsDocumentFault options.now left_text right_text error) }
 {
     let name = Vec::from_slice(alloc, input.name)?;
     match read_documents_beside(

@@ -29,7 +29,10 @@ fn text_of(
 ) -> Result<Vec<u8>, AllocError>
     requires sides { AreComparable options.now sides.now }
     requires found { IsFoundOn options.now sides.now found.now }
-    ensures { IfOk result (λ text. text.items ≡ format_text options.now.format sides.now found.now.matching found.now.changed.items options.now.limit) }
+    ensures { IfOk result
+        (λ text. text.items
+        ≡ format_text options.now.format sides.now found.now.matching found.now.changed.items
+        options.now.limit) }
 {
     let (matching, changed) = (&found.matching, &found.changed);
     let mut text = Vec::new(alloc);

@@ -22,8 +22,13 @@ fn report_on<L: Read + Drop, R: Read + Drop>(
     options: &DocumentOptions<'_>,
 ) -> Result<Report, DocumentError>
     ensures { MatchResult result
-        (λ report. (left_text right_text : List ℕ) → L.remaining left.entry.reader ≡ Some left_text → R.remaining right.entry.reader ≡ Some right_text → IsDocumentReportOf options.now left_text right_text left.entry.name.now right.entry.name.now report.text.items report.outcome)
-        (λ error. (left_text right_text : List ℕ) → L.remaining left.entry.reader ≡ Some left_text → R.remaining right.entry.reader ≡ Some right_text → IsDocumentFault options.now left_text right_text error) }
+        (λ report. (left_text right_text : List ℕ) → L.remaining left.entry.reader ≡ Some left_text
+        → R.remaining right.entry.reader ≡ Some right_text
+        → IsDocumentReportOf options.now left_text right_text left.entry.name.now
+        right.entry.name.now report.text.items report.outcome)
+        (λ error. (left_text right_text : List ℕ) → L.remaining left.entry.reader ≡ Some left_text
+        → R.remaining right.entry.reader ≡ Some right_text
+        → IsDocumentFault options.now left_text right_text error) }
 {
     let sides = sides_of(alloc, left, right, options)?;
     let report = report_of(alloc, &sides, options)?;
@@ -31,8 +36,8 @@ fn report_on<L: Read + Drop, R: Read + Drop>(
 }
 
 /// Compares two inputs of documents, and writes the report. Nothing is written where an input can't
-/// be read, a line is no document and is not to be passed over, an input has too many of them, or an
-/// allocation fails.
+/// be read, a line is no document and is not to be passed over, an input has too many of them, or
+/// an allocation fails.
 pub fn run_documents<L: Read + Drop, R: Read + Drop, W: Write>(
     alloc: Global,
     left: Input<'_, L>,
@@ -40,8 +45,16 @@ pub fn run_documents<L: Read + Drop, R: Read + Drop, W: Write>(
     out: &mut W,
     options: &DocumentOptions<'_>,
 ) -> Result<Outcome, DocumentError>
-    ensures report { IfOk result (λ outcome. (left_text right_text : List ℕ) → L.remaining left.entry.reader ≡ Some left_text → R.remaining right.entry.reader ≡ Some right_text → (written : List ℕ) × Appends (W.contents out.old) (W.contents out.new) written × IsDocumentReportOf options.now left_text right_text left.entry.name.now right.entry.name.now written outcome) }
-    ensures fault { IfErr result (λ error. (left_text right_text : List ℕ) → L.remaining left.entry.reader ≡ Some left_text → R.remaining right.entry.reader ≡ Some right_text → IsDocumentFault options.now left_text right_text error) }
+    ensures report { IfOk result
+        (λ outcome. (left_text right_text : List ℕ) → L.remaining left.entry.reader ≡ Some left_text
+        → R.remaining right.entry.reader ≡ Some right_text → (written : List ℕ)
+        × Appends (W.contents out.old) (W.contents out.new) written
+        × IsDocumentReportOf options.now left_text right_text left.entry.name.now
+        right.entry.name.now written outcome) }
+    ensures fault { IfErr result
+        (λ error. (left_text right_text : List ℕ) → L.remaining left.entry.reader ≡ Some left_text
+        → R.remaining right.entry.reader ≡ Some right_text
+        → IsDocumentFault options.now left_text right_text error) }
     ensures nothing_written { IfErr result (λ error. (out.new ≡ out.old) ⊎ IsWrite error) }
 {
     let report = report_on(alloc, left, right, options)?;

@@ -35,8 +35,13 @@ pub(crate) fn sides_of<'a, L: Read + Drop, R: Read + Drop>(
 ) -> Result<DocumentSides<'a>, DocumentError>
     ensures comparable { IfOk result (AreComparable options.now) }
     ensures texts { MatchResult result
-        (λ sides. (left_text right_text : List ℕ) → L.remaining left.entry.reader ≡ Some left_text → R.remaining right.entry.reader ≡ Some right_text → AreSidesOf options.now left_text right_text left.entry.name.now right.entry.name.now sides)
-        (λ error. (left_text right_text : List ℕ) → L.remaining left.entry.reader ≡ Some left_text → R.remaining right.entry.reader ≡ Some right_text → IsDocumentFault options.now left_text right_text error) }
+        (λ sides. (left_text right_text : List ℕ) → L.remaining left.entry.reader ≡ Some left_text
+        → R.remaining right.entry.reader ≡ Some right_text
+        → AreSidesOf options.now left_text right_text left.entry.name.now right.entry.name.now
+        sides)
+        (λ error. (left_text right_text : List ℕ) → L.remaining left.entry.reader ≡ Some left_text
+        → R.remaining right.entry.reader ≡ Some right_text
+        → IsDocumentFault options.now left_text right_text error) }
 {
     let keys = copied(alloc, options.names)?;
     let left = read_side(alloc, left, options, Side::Left)?;

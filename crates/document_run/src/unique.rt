@@ -24,7 +24,9 @@ fn test_side(
     side: Side,
 ) -> Result<(), DocumentError>
     requires { IsKeyed columns.now table.now }
-    ensures { MatchResult result (λ _. AllDiffer (row_keys columns.now table.now.table.rows)) (IsSideFault table.now columns.now side) }
+    ensures { MatchResult result
+        (λ _. AllDiffer (row_keys columns.now table.now.table.rows))
+        (IsSideFault table.now columns.now side) }
 {
     match key_twice(alloc, &table.table, columns) {
         Ok(None) => Ok(()),
@@ -47,7 +49,9 @@ pub(crate) fn test_keys(
     requires columns { columns.now ≡ key_columns options.now }
     requires left { IsKeyed columns.now sides.now.left }
     requires right { IsKeyed columns.now sides.now.right }
-    ensures { MatchResult result (λ _. options.now.unique ≡ true → HaveUniqueRows columns.now sides.now) (IsRowsFault options.now sides.now) }
+    ensures { MatchResult result
+        (λ _. options.now.unique ≡ true → HaveUniqueRows columns.now sides.now)
+        (IsRowsFault options.now sides.now) }
 {
     if options.unique {
         test_side(alloc, &sides.left, columns, Side::Left)?;

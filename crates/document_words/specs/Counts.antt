@@ -13,17 +13,24 @@ use Rattle.document_words.specs.declared.sides.DocumentSides.{DocumentSides}
 
 -- how many documents are changed, removed, added, and the same
 unfoldable pub totals_text : ℕ → ℕ → ℕ → ℕ → List ℕ
-totals_text changed removed added same = decimal changed ++ codes " changed, " ++ decimal removed ++ codes " removed, " ++ decimal added ++ codes " added, " ++ decimal same ++ codes " the same.\n"
+totals_text changed removed added same = decimal changed ++ codes " changed, " ++ decimal removed
+    ++ codes " removed, " ++ decimal added ++ codes " added, " ++ decimal same
+    ++ codes " the same.\n"
 
 -- the last line, where so many of the matched documents are changed
 abbrev pub summary_text : Matching → ℕ → List ℕ
-summary_text m changed = totals_text changed (length m.removed.items) (length m.added.items) (length m.left_rows.items - changed)
+summary_text m changed =
+    totals_text changed (length m.removed.items) (length m.added.items)
+    (length m.left_rows.items - changed)
 
 -- the same in JSON, with how many differences have no line, and more members
 unfoldable pub counts_json : ℕ → ℕ → ℕ → ℕ → ℕ → List ℕ → List ℕ
-counts_json changed removed added same not_shown more = codes "{\"kind\":\"counts\"," ++ totals_members changed removed added same not_shown ++ more ++ codes "}\n"
+counts_json changed removed added same not_shown more = codes "{\"kind\":\"counts\","
+    ++ totals_members changed removed added same not_shown ++ more ++ codes "}\n"
 
 -- the line with the counts in JSON, where so many of the matched documents are changed
 unfoldable pub counts_object : DocumentSides → Matching → ℕ → ℕ → List ℕ
-counts_object s m changed limit = counts_json changed (length m.removed.items) (length m.added.items) (length m.left_rows.items - changed) (difference_count m changed - limit)
+counts_object s m changed limit =
+    counts_json changed (length m.removed.items) (length m.added.items)
+    (length m.left_rows.items - changed) (difference_count m changed - limit)
     (skipped_members s.skip_bad (length s.left_skipped.items) (length s.right_skipped.items))

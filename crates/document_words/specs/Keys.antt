@@ -1,10 +1,12 @@
 -- What a document is named by.
 --
--- With the keys order.id and day the document {"order":{"id":"A-7"},"day":3} is named by order.id="A-7",day=3, and in
--- JSON by "order.id":"A-7","day":3. Without keys the second document is named by row 2, and in JSON by no member.
+-- With the keys order.id and day the document {"order":{"id":"A-7"},"day":3} is named by
+-- order.id="A-7",day=3, and in JSON by "order.id":"A-7","day":3. Without keys the second document
+-- is named by row 2, and in JSON by no member.
 use Rattle.std.specs.Fmt.{decimal}
 use Rattle.std.specs.List.{range_with_len}
-use Rattle.std.specs.Prelude.{ℕ, ◌+◌, ◌==◌, if◌then◌else◌, List, [], ◌∷◌, ◌++◌, length, map, get_or, codes}
+use Rattle.std.specs.Prelude.{ℕ, ◌+◌, ◌==◌, if◌then◌else◌, List, [], ◌∷◌, ◌++◌, length, map, get_or}
+use Rattle.std.specs.Prelude.{codes}
 use Rattle.diff_json.specs.Strings.{json_string}
 use Rattle.diff_words.specs.Lists.{listed}
 use Rattle.diff_words.specs.Words.{word_text}
@@ -14,9 +16,12 @@ use Rattle.json_plain.specs.Plain.{plain_json}
 abbrev pub key_text : List (List ℕ) → List (List ℕ) → ℕ → List ℕ
 key_text names cells k = word_text (get_or names k []) ++ 61 ∷ plain_json (get_or cells k [])
 
--- the keys and their values in a row, or where there are no keys the number of the row, the first being 1
+-- the keys and their values in a row, or where there are no keys the number of the row, the first
+-- being 1
 unfoldable pub document_name : List (List ℕ) → ℕ → List (List ℕ) → List ℕ
-document_name names i cells = if length names == 0 then codes "row " ++ decimal (i + 1) else listed (codes ",") (map (key_text names cells) (range_with_len 0 (length names)))
+document_name names i cells = if length names == 0 then codes "row "
+    ++ decimal (i + 1) else listed (codes ",")
+    (map (key_text names cells) (range_with_len 0 (length names)))
 
 -- the name of key k and its value in a row, in JSON
 abbrev pub key_member : List (List ℕ) → List (List ℕ) → ℕ → List ℕ
@@ -24,4 +29,5 @@ key_member names cells k = json_string (get_or names k []) ++ 58 ∷ plain_json 
 
 -- the keys and their values in a row, in JSON
 abbrev pub key_members : List (List ℕ) → List (List ℕ) → List ℕ
-key_members names cells = listed (codes ",") (map (key_member names cells) (range_with_len 0 (length names)))
+key_members names cells =
+    listed (codes ",") (map (key_member names cells) (range_with_len 0 (length names)))

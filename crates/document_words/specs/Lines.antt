@@ -20,19 +20,25 @@ use Rattle.document_words.specs.declared.sides.DocumentSides.{DocumentSides}
 
 -- a document of this name, with its file and its line number
 unfoldable pub alone_text : ℕ → List ℕ → List ℕ → ℕ → List ℕ
-alone_text mark name file line = mark ∷ 32 ∷ [] ++ name ++ codes "  " ++ word_text file ++ codes " line " ++ decimal line
+alone_text mark name file line = mark ∷ 32 ∷ [] ++ name ++ codes "  " ++ word_text file
+    ++ codes " line " ++ decimal line
 
 -- the line of the document of row i of one side
 unfoldable pub alone_line : ℕ → DocumentSides → Side → ℕ → List ℕ
-alone_line mark s side i = painted s.colored (mark_color mark) (alone_text mark (document_name (names_of s) i (row_of side i)) side.name.items (slice_index side.lines.items i)) ++ 10 ∷ []
+alone_line mark s side i =
+    painted s.colored (mark_color mark)
+    (alone_text mark (document_name (names_of s) i (row_of side i)) side.name.items
+    (slice_index side.lines.items i)) ++ 10 ∷ []
 
 -- a document with these keys and its line number, in JSON
 unfoldable pub alone_json : List ℕ → List ℕ → ℕ → List ℕ
-alone_json kind keys line = codes "{\"kind\":\"" ++ kind ++ codes "\",\"key\":{" ++ keys ++ codes "},\"line\":" ++ decimal line ++ codes "}\n"
+alone_json kind keys line = codes "{\"kind\":\"" ++ kind ++ codes "\",\"key\":{" ++ keys
+    ++ codes "},\"line\":" ++ decimal line ++ codes "}\n"
 
 -- the line of the document of row i of one side, in JSON
 unfoldable pub alone_object : List ℕ → DocumentSides → Side → ℕ → List ℕ
-alone_object kind s side i = alone_json kind (key_members (names_of s) (row_of side i)) (slice_index side.lines.items i)
+alone_object kind s side i =
+    alone_json kind (key_members (names_of s) (row_of side i)) (slice_index side.lines.items i)
 
 -- the line of the document of row i of one side, which has no partner, in a form
 abbrev pub document_alone : Format → Alone → DocumentSides → Side → ℕ → List ℕ

@@ -1,6 +1,7 @@
 -- Two files of documents, and row numbers that name their documents.
 --
--- With the keys order.id and day a row has three cells: the normal texts of the two values, and the line.
+-- With the keys order.id and day a row has three cells: the normal texts of the two values, and the
+-- line.
 use Rattle.std.specs.Prelude.{◌≡◌, ◌<◌, ◌≤◌, ℕ, suc, List, All, length, map}
 use Rattle.diff_keys.specs.declared.matching.Matching.{Matching}
 use Rattle.diff_report.specs.declared.sides.Side.{Side}

@@ -4,7 +4,8 @@
 -- Skipped 1 line of new.ndjson (line 12).
 -- In JSON these are the members ,"left_skipped":2,"right_skipped":1
 use Rattle.std.specs.Fmt.{decimal}
-use Rattle.std.specs.Prelude.{ℕ, ◌==◌, Bool, if◌then◌else◌, List, [], ◌++◌, length, slice_index, codes}
+use Rattle.std.specs.Prelude.{ℕ, ◌==◌, Bool, if◌then◌else◌, List, [], ◌++◌, length, slice_index}
+use Rattle.std.specs.Prelude.{codes}
 use Rattle.diff_words.specs.Words.{word_text}
 use Rattle.document_words.specs.declared.sides.DocumentSides.{DocumentSides}
 
@@ -16,14 +17,19 @@ lines_word count = if count == 1 then codes " line of " else codes " lines of "
 abbrev pub first_word : ℕ → List ℕ
 first_word count = if count == 1 then codes " (line " else codes " (the first is line "
 
--- how many lines of the file of this name are passed over, and the number of the first one; nothing where none is
+-- how many lines of the file of this name are passed over, and the number of the first one; nothing
+-- where none is
 unfoldable pub skipped_text : List ℕ → List ℕ → List ℕ
-skipped_text name numbers = if length numbers == 0 then [] else codes "Skipped " ++ decimal (length numbers) ++ lines_word (length numbers) ++ word_text name ++ first_word (length numbers) ++ decimal (slice_index numbers 0) ++ codes ").\n"
+skipped_text name numbers = if length numbers == 0 then [] else codes "Skipped "
+    ++ decimal (length numbers) ++ lines_word (length numbers) ++ word_text name
+    ++ first_word (length numbers) ++ decimal (slice_index numbers 0) ++ codes ").\n"
 
 -- the same of both files, the left one first
 abbrev pub skipped_lines : DocumentSides → List ℕ
-skipped_lines s = skipped_text s.left.name.items s.left_skipped.items ++ skipped_text s.right.name.items s.right_skipped.items
+skipped_lines s = skipped_text s.left.name.items s.left_skipped.items
+    ++ skipped_text s.right.name.items s.right_skipped.items
 
 -- how many lines of the left file and of the right one are passed over, in JSON, where that is told
 unfoldable pub skipped_members : Bool → ℕ → ℕ → List ℕ
-skipped_members told left right = if told then codes ",\"left_skipped\":" ++ decimal left ++ codes ",\"right_skipped\":" ++ decimal right else []
+skipped_members told left right = if told then codes ",\"left_skipped\":" ++ decimal left
+    ++ codes ",\"right_skipped\":" ++ decimal right else []

@@ -13,7 +13,8 @@ use std::alloc::AllocError;
 /// Appends a part, or the word `missing` where there is none.
 #[tactic(auto, unfolding(crate::specs::Changes::part_text))]
 fn push_part(out: &mut Vec<u8>, part: &Option<Vec<u8>>) -> Result<(), AllocError>
-    ensures { OnOk result (out.new.items ≡ out.old.items ++ part_text (option_map (λ v. v.items) part.now)) }
+    ensures { OnOk result
+        (out.new.items ≡ out.old.items ++ part_text (option_map (λ v. v.items) part.now)) }
 {
     match part {
         Some(text) => push_plain_json(out, text)?,
@@ -30,7 +31,9 @@ fn push_painted_part(
     color: Color,
     part: &Option<Vec<u8>>,
 ) -> Result<(), AllocError>
-    ensures { OnOk result (out.new.items ≡ out.old.items ++ painted colored color (part_text (option_map (λ v. v.items) part.now))) }
+    ensures { OnOk result
+        (out.new.items ≡ out.old.items
+        ++ painted colored color (part_text (option_map (λ v. v.items) part.now))) }
 {
     push_color(out, colored, color)?;
     push_part(out, part)?;
@@ -47,7 +50,10 @@ pub fn push_change(
     left: &Option<Vec<u8>>,
     right: &Option<Vec<u8>>,
 ) -> Result<(), AllocError>
-    ensures { OnOk result (out.new.items ≡ out.old.items ++ change_text colored path.now (option_map (λ v. v.items) left.now) (option_map (λ v. v.items) right.now)) }
+    ensures { OnOk result
+        (out.new.items ≡ out.old.items
+        ++ change_text colored path.now (option_map (λ v. v.items) left.now)
+        (option_map (λ v. v.items) right.now)) }
 {
     push_plain_json(out, path)?;
     out.push(b' ')?;
@@ -64,7 +70,9 @@ fn push_part_member(
     name: &[u8],
     part: &Option<Vec<u8>>,
 ) -> Result<(), AllocError>
-    ensures { OnOk result (out.new.items ≡ out.old.items ++ part_member name.now (option_map (λ v. v.items) part.now)) }
+    ensures { OnOk result
+        (out.new.items ≡ out.old.items
+        ++ part_member name.now (option_map (λ v. v.items) part.now)) }
 {
     if let Some(text) = part {
         out.extend_from_slice(b",\"")?;
@@ -83,7 +91,10 @@ pub fn push_change_object(
     left: &Option<Vec<u8>>,
     right: &Option<Vec<u8>>,
 ) -> Result<(), AllocError>
-    ensures { OnOk result (out.new.items ≡ out.old.items ++ change_object path.now (option_map (λ v. v.items) left.now) (option_map (λ v. v.items) right.now)) }
+    ensures { OnOk result
+        (out.new.items ≡ out.old.items
+        ++ change_object path.now (option_map (λ v. v.items) left.now)
+        (option_map (λ v. v.items) right.now)) }
 {
     out.extend_from_slice(br#"{"path":"#)?;
     push_string(out, path)?;

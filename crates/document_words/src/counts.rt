@@ -30,7 +30,8 @@ fn push_totals(
     added: usize,
     same: usize,
 ) -> Result<(), AllocError>
-    ensures { OnOk result (out.new.items ≡ out.old.items ++ totals_text changed removed added same) }
+    ensures { OnOk result
+        (out.new.items ≡ out.old.items ++ totals_text changed removed added same) }
 {
     push_count(out, changed, b" changed, ")?;
     push_count(out, removed, b" removed, ")?;
@@ -69,7 +70,8 @@ pub fn push_counts(
     limit: usize,
 ) -> Result<(), AllocError>
     requires { changed ≤ length matching.now.left_rows.items }
-    ensures { OnOk result (out.new.items ≡ out.old.items ++ counts_object sides.now matching.now changed limit) }
+    ensures { OnOk result
+        (out.new.items ≡ out.old.items ++ counts_object sides.now matching.now changed limit) }
 {
     let same = matching.left_rows.len() - changed;
     let not_shown = difference_count(matching, changed).saturating_sub(limit as u128);

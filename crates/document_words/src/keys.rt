@@ -27,7 +27,8 @@ fn push_key(
     requires side { IsDocumentSide (length sides.now.keys.items) side.now }
     requires row { i < length side.now.table.rows }
     requires key { k < length sides.now.keys.items }
-    ensures { OnOk result (out.new.items ≡ out.old.items ++ key_text (names_of sides.now) (row_of side.now i) k) }
+    ensures { OnOk result
+        (out.new.items ≡ out.old.items ++ key_text (names_of sides.now) (row_of side.now i) k) }
 {
     push_word(out, &sides.keys[k])?;
     out.push(b'=')?;
@@ -44,7 +45,11 @@ fn push_keys(
 ) -> Result<(), AllocError>
     requires side { IsDocumentSide (length sides.now.keys.items) side.now }
     requires row { i < length side.now.table.rows }
-    ensures { OnOk result (out.new.items ≡ out.old.items ++ listed (codes ",") (map (key_text (names_of sides.now) (row_of side.now i)) (range_with_len 0 (length sides.now.keys.items)))) }
+    ensures { OnOk result
+        (out.new.items ≡ out.old.items
+        ++ listed (codes ",")
+        (map (key_text (names_of sides.now) (row_of side.now i))
+        (range_with_len 0 (length sides.now.keys.items)))) }
 {
     for k in 0..sides.keys.len() {
         push_gap(out, b",", k)?;
@@ -63,7 +68,9 @@ pub fn push_document_name(
 ) -> Result<(), AllocError>
     requires side { IsDocumentSide (length sides.now.keys.items) side.now }
     requires row { i < length side.now.table.rows }
-    ensures { OnOk result (out.new.items ≡ out.old.items ++ document_name (names_of sides.now) i (row_of side.now i)) }
+    ensures { OnOk result
+        (out.new.items ≡ out.old.items
+        ++ document_name (names_of sides.now) i (row_of side.now i)) }
 {
     if sides.keys.is_empty() {
         out.extend_from_slice(b"row ")?;
@@ -85,7 +92,8 @@ fn push_key_member(
     requires side { IsDocumentSide (length sides.now.keys.items) side.now }
     requires row { i < length side.now.table.rows }
     requires key { k < length sides.now.keys.items }
-    ensures { OnOk result (out.new.items ≡ out.old.items ++ key_member (names_of sides.now) (row_of side.now i) k) }
+    ensures { OnOk result
+        (out.new.items ≡ out.old.items ++ key_member (names_of sides.now) (row_of side.now i) k) }
 {
     push_string(out, &sides.keys[k])?;
     out.push(b':')?;
@@ -102,7 +110,8 @@ pub fn push_key_members(
 ) -> Result<(), AllocError>
     requires side { IsDocumentSide (length sides.now.keys.items) side.now }
     requires row { i < length side.now.table.rows }
-    ensures { OnOk result (out.new.items ≡ out.old.items ++ key_members (names_of sides.now) (row_of side.now i)) }
+    ensures { OnOk result
+        (out.new.items ≡ out.old.items ++ key_members (names_of sides.now) (row_of side.now i)) }
 {
     for k in 0..sides.keys.len() {
         push_gap(out, b",", k)?;

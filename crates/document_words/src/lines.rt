@@ -28,7 +28,10 @@ fn push_alone(
 ) -> Result<(), AllocError>
     requires side { IsDocumentSide (length sides.now.keys.items) side.now }
     requires row { i < length side.now.table.rows }
-    ensures { OnOk result (out.new.items ≡ out.old.items ++ alone_text mark (document_name (names_of sides.now) i (row_of side.now i)) side.now.name.items (slice_index side.now.lines.items i)) }
+    ensures { OnOk result
+        (out.new.items ≡ out.old.items
+        ++ alone_text mark (document_name (names_of sides.now) i (row_of side.now i))
+        side.now.name.items (slice_index side.now.lines.items i)) }
 {
     out.push(mark)?;
     out.push(b' ')?;
@@ -71,7 +74,8 @@ fn push_alone_object(
 ) -> Result<(), AllocError>
     requires side { IsDocumentSide (length sides.now.keys.items) side.now }
     requires row { i < length side.now.table.rows }
-    ensures { OnOk result (out.new.items ≡ out.old.items ++ alone_object kind.now sides.now side.now i) }
+    ensures { OnOk result
+        (out.new.items ≡ out.old.items ++ alone_object kind.now sides.now side.now i) }
 {
     out.extend_from_slice(br#"{"kind":""#)?;
     out.extend_from_slice(kind)?;
@@ -94,7 +98,8 @@ fn push_document_alone(
 ) -> Result<(), AllocError>
     requires side { IsDocumentSide (length sides.now.keys.items) side.now }
     requires row { i < length side.now.table.rows }
-    ensures { OnOk result (out.new.items ≡ out.old.items ++ document_alone format alone sides.now side.now i) }
+    ensures { OnOk result
+        (out.new.items ≡ out.old.items ++ document_alone format alone sides.now side.now i) }
 {
     match (format, alone) {
         (Format::Text, Alone::Removed) => push_alone_line(out, b'-', sides, side, i),
@@ -116,7 +121,9 @@ pub fn push_documents_alone(
 ) -> Result<(), AllocError>
     requires side { IsDocumentSide (length sides.now.keys.items) side.now }
     requires rows { All (λ i. i < length side.now.table.rows) rows.now }
-    ensures { OnOk result (out.new.items ≡ out.old.items ++ flat_map (document_alone format alone sides.now side.now) (take limit rows.now)) }
+    ensures { OnOk result
+        (out.new.items ≡ out.old.items
+        ++ flat_map (document_alone format alone sides.now side.now) (take limit rows.now)) }
 {
     for n in 0..rows.len().min(limit) {
         push_document_alone(out, format, alone, sides, side, rows[n] as usize)?;

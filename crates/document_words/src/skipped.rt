@@ -1,7 +1,8 @@
 //! The lines of two files that are passed over, since they are no documents.
 
 ghost use Rattle.std.specs.Prelude.{◌≡◌, ◌++◌, length, OnOk};
-ghost use Rattle.document_words.specs.Skipped.{first_word, lines_word, skipped_lines, skipped_members, skipped_text};
+ghost use Rattle.document_words.specs.Skipped.{first_word, lines_word, skipped_lines};
+ghost use Rattle.document_words.specs.Skipped.{skipped_members, skipped_text};
 
 use crate::sides::DocumentSides;
 use diff_words::decimals::push_decimal;
@@ -64,7 +65,10 @@ pub(crate) fn push_skipped_members(
     out: &mut Vec<u8>,
     sides: &DocumentSides<'_>,
 ) -> Result<(), AllocError>
-    ensures { OnOk result (out.new.items ≡ out.old.items ++ skipped_members sides.now.skip_bad (length sides.now.left_skipped.items) (length sides.now.right_skipped.items)) }
+    ensures { OnOk result
+        (out.new.items ≡ out.old.items
+        ++ skipped_members sides.now.skip_bad (length sides.now.left_skipped.items)
+        (length sides.now.right_skipped.items)) }
 {
     if !sides.skip_bad {
         return Ok(());

@@ -1,4 +1,5 @@
-//! What the columns of files are: `dunkelva schema FILE`, and `dunkelva diff --schema-only LEFT RIGHT`.
+//! What the columns of files are: `dunkelva schema FILE`, and `dunkelva diff --schema-only LEFT
+//! RIGHT`.
 
 use crate::command::with_option;
 use crate::files::open;
@@ -119,8 +120,8 @@ fn schema_in(
     }
 }
 
-/// Prints a text, and returns the status: as with other programs, nothing is said where nobody reads
-/// it.
+/// Prints a text, and returns the status: as with other programs, nothing is said where nobody
+/// reads it.
 fn print_text(rt: &HostRuntime, text: &[u8], status: u8) -> Result<u8> {
     let mut out = io::writer(rt);
     match out.write_all(text) {

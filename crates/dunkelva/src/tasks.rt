@@ -81,8 +81,8 @@ fn counted<'a>(input: Input<'a, Source>, progress: &'a Progress<'a>) -> Input<'a
     }
 }
 
-/// Returns how a comparison ended whose report could not be written: as with other programs, nothing
-/// is said where nobody reads it.
+/// Returns how a comparison ended whose report could not be written: as with other programs,
+/// nothing is said where nobody reads it.
 fn unwritten(cause: io::Error) -> Result<Ending> {
     if cause.kind() == ErrorKind::BrokenPipe {
         return Ok(Ending::Unread);

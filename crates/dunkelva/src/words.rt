@@ -52,8 +52,8 @@ impl<'a> Names<'a> {
     }
 }
 
-/// Returns the byte that a text stands for: its only byte, or a tab for `\t`. Neither a quote nor the
-/// end of a line may stand between fields.
+/// Returns the byte that a text stands for: its only byte, or a tab for `\t`. Neither a quote nor
+/// the end of a line may stand between fields.
 fn delimiter_of(text: &str) -> Result<u8> {
     let byte = match text.as_bytes() {
         b"\\t" => b'\t',
@@ -84,8 +84,8 @@ const MOST_IN_PAGE: usize = 10_000;
 /// The least number of columns that aligned columns are printed in.
 const LEAST_WIDTH: usize = 40;
 
-/// Returns the columns of the terminal where aligned columns are asked for. Fails where they are too
-/// few, or another form of the report is asked for.
+/// Returns the columns of the terminal where aligned columns are asked for. Fails where they are
+/// too few, or another form of the report is asked for.
 fn width_of(matches: &ArgMatches<'_>) -> Result<Option<usize>> {
     let Some(width) = matches.get_one::<usize>("width") else {
         return Ok(None);

@@ -1,15 +1,17 @@
 -- Arithmetic on parts of numbers, whose results are written into the caller's memory.
 --
--- Of the columns 100, null and 100, 1 of 8 bits with a sign the sums are -56 and null: memory has the number -56 and some other
--- one, the bits 1 and 0, and the count 1 of nulls.
-use Rattle.std.specs.Prelude.{◌≡◌, ◌≤◌, ◌*◌, ◌≤ℤ◌, ℕ, ℤ, pos, Bool, not, List, [], Option, Some, None, count_by, length, ⊤}
+-- Of the columns 100, null and 100, 1 of 8 bits with a sign the sums are -56 and null: memory has
+-- the number -56 and some other one, the bits 1 and 0, and the count 1 of nulls.
+use Rattle.std.specs.Prelude.{◌≡◌, ◌≤◌, ◌*◌, ◌≤ℤ◌, ℕ, ℤ, pos, Bool, not, List, [], Option, Some}
+use Rattle.std.specs.Prelude.{None, count_by, length, ⊤}
 use Rattle.arrow_arithmetic.specs.Arithmetic.{function_of, operation_of, placed}
 use Rattle.arrow_arithmetic.specs.declared.calculating.Arithmetic.{Arithmetic}
 use Rattle.arrow_arithmetic.specs.declared.calculating.Side.{Side}
 use Rattle.arrow_arithmetic.specs.declared.calculating.Sign.{Sign}
 use Rattle.arrow_calls.specs.Columns.{IsColumn}
 use Rattle.arrow_calls.specs.declared.fault.Fault.{Fault}
-use Rattle.arrow_calls.specs.declared.fault.Fault.TheVariants.{Memory, NotServed, Parts, Room, Types}
+use Rattle.arrow_calls.specs.declared.fault.Fault.TheVariants.{Memory, NotServed, Parts, Room}
+use Rattle.arrow_calls.specs.declared.fault.Fault.TheVariants.{Types}
 use Rattle.arrow_parts.specs.Kinds.{kind_number}
 use Rattle.arrow_parts.specs.Written.{AreWritten}
 use Rattle.arrow_parts.specs.declared.part.Part.{Part}
@@ -19,7 +21,8 @@ use Rattle.dunkelva_c.specs.Columns.{NumberType, count_at, number_rows_of, numbe
 use Rattle.dunkelva_c.specs.Comparisons.{AreAlike}
 use Rattle.polars_arrays_flat.specs.Row.{Row}
 use Rattle.polars_arrays_flat.specs.StoredRows.{number_slots, rows_under}
-use Rattle.polars_compute_arithmetic.specs.Operations.{Function, Operation, answer_rows, result_rows}
+use Rattle.polars_compute_arithmetic.specs.Operations.{Function, Operation, answer_rows}
+use Rattle.polars_compute_arithmetic.specs.Operations.{result_rows}
 
 -- the caller's slices of numbers, one for each type
 pub record Slices : Type 0 where
@@ -33,7 +36,8 @@ pub record Slices : Type 0 where
   pub u64s : List ℕ
 
 abbrev pub slices : List ℤ → List ℤ → List ℤ → List ℤ → List ℕ → List ℕ → List ℕ → List ℕ → Slices
-slices a b c d e f g h = record { i8s = a; i16s = b; i32s = c; i64s = d; u8s = e; u16s = f; u32s = g; u64s = h }
+slices a b c d e f g h =
+    record { i8s = a; i16s = b; i32s = c; i64s = d; u8s = e; u16s = f; u32s = g; u64s = h }
 
 -- the length of the slice of a kind
 abbrev pub room_at : Option PartKind → Slices → ℕ
@@ -49,7 +53,8 @@ room_at _ s = 0
 
 -- numbers, under the bits that words hold, are rows; a bit is 0 where a row is null, as many as are
 -- counted
-pub record AreRows {A : Type 0} (value : A → ℤ) (rows : List Row) (values : List A) (words : List ℕ) (nulls : ℕ) : Type 0 where
+pub record AreRows {A : Type 0} (value : A → ℤ) (rows : List Row) (values : List A) (words : List ℕ)
+    (nulls : ℕ) : Type 0 where
   pub present : List Bool
   pub bits : AreWritten present words
   pub same : rows_under (Some present) (number_slots value values) ≡ rows
@@ -80,10 +85,12 @@ answers_at (Some type) f xs = answer_rows type.least type.width f xs
 -- the results of an operation on two parts of the left one's kind, row by row
 abbrev pub results_of : Arithmetic → Part → Part → List Row
 results_of op left right =
-    results_at (number_type (kind_number left.kind)) (operation_of op) (rows_at (kind_number left.kind) left) (rows_at (kind_number left.kind) right)
+    results_at (number_type (kind_number left.kind)) (operation_of op)
+    (rows_at (kind_number left.kind) left) (rows_at (kind_number left.kind) right)
 
 -- two parts are alike, and the caller's memory has the results of an operation on them
-pub record AreResults (op : Arithmetic) (left right : Part) (s : Slices) (words : List ℕ) (nulls : ℕ) : Type 0 where
+pub record AreResults (op : Arithmetic) (left right : Part) (s : Slices) (words : List ℕ)
+    (nulls : ℕ) : Type 0 where
   pub alike : AreAlike left right
   pub rows : AreRowsAt (kind_number left.kind) (results_of op left right) s words nulls
 
@@ -94,9 +101,11 @@ AreNumberedResults (Some op) left right s words nulls = AreResults op left right
 -- the caller's memory has the results of a function of a part
 abbrev pub AreAnswers : Function → Part → Slices → List ℕ → ℕ → Type 0
 AreAnswers f p s words nulls =
-    AreRowsAt (kind_number p.kind) (answers_at (number_type (kind_number p.kind)) f (number_rows_of p)) s words nulls
+    AreRowsAt (kind_number p.kind)
+    (answers_at (number_type (kind_number p.kind)) f (number_rows_of p)) s words nulls
 
-abbrev pub AreNumberedAnswers : Option Arithmetic → Option Side → ℤ → Part → Slices → List ℕ → ℕ → Type 0
+abbrev pub AreNumberedAnswers : Option Arithmetic → Option Side → ℤ → Part → Slices → List ℕ → ℕ
+    → Type 0
 AreNumberedAnswers (Some op) (Some side) n p s words nulls =
     AreAnswers (placed side (operation_of op) n) p s words nulls
 AreNumberedAnswers _ _ n p s words nulls = ⊥
@@ -123,7 +132,9 @@ abbrev pub IsTruePartsFault : Slices → ℕ → Part → Part → Fault → Typ
 IsTruePartsFault s words left right Types = ¬ AreAlike left right
 IsTruePartsFault s words left right NotServed = number_type (kind_number left.kind) ≡ None
 IsTruePartsFault s words left right fault =
-    IsTrueResultFault (count_at (kind_number left.kind) left) (count_at (kind_number left.kind) right) (room_at (kind_number left.kind) s) words left right fault
+    IsTrueResultFault (count_at (kind_number left.kind) left)
+    (count_at (kind_number left.kind) right) (room_at (kind_number left.kind) s) words left
+    right fault
 
 -- there may also be no operation with a number
 abbrev pub IsTrueArithmeticFault : Option Arithmetic → Slices → ℕ → Part → Part → Fault → Type 0
@@ -142,17 +153,20 @@ IsTrueAnswerFault count room words p NotServed = ⊥
 abbrev pub IsTruePartFault : Slices → ℕ → Part → Fault → Type 0
 IsTruePartFault s words p NotServed = number_type (kind_number p.kind) ≡ None
 IsTruePartFault s words p fault =
-    IsTrueAnswerFault (count_at (kind_number p.kind) p) (room_at (kind_number p.kind) s) words p fault
+    IsTrueAnswerFault (count_at (kind_number p.kind) p) (room_at (kind_number p.kind) s) words p
+    fault
 
 -- there may also be no function with a number
 abbrev pub IsTrueSignFault : Option Sign → Slices → ℕ → Part → Fault → Type 0
 IsTrueSignFault None s words p fault = fault ≡ NotServed
 IsTrueSignFault (Some sign) s words p fault = IsTruePartFault s words p fault
 
--- a fault of an operation on numbers from `least` to `greatest` and n is true: n may be no such number
+-- a fault of an operation on numbers from `least` to `greatest` and n is true: n may be no such
+-- number
 abbrev pub IsTrueTypedFault : ℤ → ℤ → ℤ → ℕ → ℕ → ℕ → Part → Fault → Type 0
 IsTrueTypedFault least greatest n count room words p Types = ¬ ((least ≤ℤ n) × (n ≤ℤ greatest))
-IsTrueTypedFault least greatest n count room words p fault = IsTrueAnswerFault count room words p fault
+IsTrueTypedFault least greatest n count room words p fault =
+    IsTrueAnswerFault count room words p fault
 
 -- a fault of an operation on a part and n is true: also that it is not one of numbers
 abbrev pub IsTrueWithFaultAt : Option NumberType → ℤ → ℕ → ℕ → ℕ → Part → Fault → Type 0
@@ -162,9 +176,11 @@ IsTrueWithFaultAt (Some type) n count room words p fault =
 
 abbrev pub IsTrueWithFault : ℤ → Slices → ℕ → Part → Fault → Type 0
 IsTrueWithFault n s words p fault =
-    IsTrueWithFaultAt (number_type (kind_number p.kind)) n (count_at (kind_number p.kind) p) (room_at (kind_number p.kind) s) words p fault
+    IsTrueWithFaultAt (number_type (kind_number p.kind)) n (count_at (kind_number p.kind) p)
+    (room_at (kind_number p.kind) s) words p fault
 
 -- there may also be no operation or no side with a number
-abbrev pub IsTrueSidedFault : Option Arithmetic → Option Side → ℤ → Slices → ℕ → Part → Fault → Type 0
+abbrev pub IsTrueSidedFault : Option Arithmetic → Option Side → ℤ → Slices → ℕ → Part → Fault
+    → Type 0
 IsTrueSidedFault (Some op) (Some side) n s words p fault = IsTrueWithFault n s words p fault
 IsTrueSidedFault _ _ n s words p fault = fault ≡ NotServed

@@ -16,7 +16,8 @@ use Rattle.polars_compute_bits.specs.Bitwise.{number_bits, reduced}
 
 -- a number from `least` to `greatest` has the bits that an operator joins from those of rows; there
 -- is none if no row is present
-pub record HasJoinedBits (least greatest : ℤ) (width : ℕ) (operator : BitOperator) (rows : List Row) (number : Option ℤ) : Type 0 where
+pub record HasJoinedBits (least greatest : ℤ) (width : ℕ) (operator : BitOperator) (rows : List Row)
+    (number : Option ℤ) : Type 0 where
   pub bits : option_map (number_bits width) number ≡ reduced (joins_bits operator) width rows
   pub in_type : IfSome number (λ n. (least ≤ℤ n) × (n ≤ℤ greatest))
 

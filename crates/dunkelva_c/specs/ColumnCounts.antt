@@ -18,7 +18,8 @@ use Rattle.polars_compute_bits.specs.Bitwise.{counted}
 abbrev pub AreCountsAt : Option NumberType → Counting → Part → List ℕ → Type 0
 AreCountsAt None counting p counts = ⊥
 AreCountsAt (Some type) counting p counts =
-    rows_lent (λ n. pos n) p counts ≡ map (counted (counted_by counting) type.width) (number_rows_of p)
+    rows_lent (λ n. pos n) p counts
+    ≡ map (counted (counted_by counting) type.width) (number_rows_of p)
 
 abbrev pub AreCounts : Counting → Part → List ℕ → Type 0
 AreCounts counting p counts = AreCountsAt (number_type (kind_number p.kind)) counting p counts

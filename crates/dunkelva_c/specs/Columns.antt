@@ -1,11 +1,13 @@
 -- Parts of numbers as columns.
 --
--- A part of kind 3 has its numbers in `i8s`, of 8 bits with a sign. Where these are 127, 5 and 1 under the bits 1, 0, 1, its rows
--- are 127, null and 1, and their sum is -128.
-use Rattle.std.specs.Prelude.{◌≡◌, ℕ, ℤ, pos, Bool, true, false, List, [], Option, Some, None, length, ⊤}
+-- A part of kind 3 has its numbers in `i8s`, of 8 bits with a sign. Where these are 127, 5 and 1
+-- under the bits 1, 0, 1, its rows are 127, null and 1, and their sum is -128.
+use Rattle.std.specs.Prelude.{◌≡◌, ℕ, ℤ, pos, Bool, true, false, List, [], Option, Some, None}
+use Rattle.std.specs.Prelude.{length, ⊤}
 use Rattle.arrow_calls.specs.Columns.{IsColumn, rows_lent}
 use Rattle.arrow_calls.specs.declared.fault.Fault.{Fault}
-use Rattle.arrow_calls.specs.declared.fault.Fault.TheVariants.{Memory, NotServed, Parts, Room, Types}
+use Rattle.arrow_calls.specs.declared.fault.Fault.TheVariants.{Memory, NotServed, Parts, Room}
+use Rattle.arrow_calls.specs.declared.fault.Fault.TheVariants.{Types}
 use Rattle.arrow_columns.specs.Reductions.{sum_if_any}
 use Rattle.arrow_parts.specs.Kinds.{kind_number}
 use Rattle.arrow_parts.specs.declared.part.Part.{Part}
@@ -46,7 +48,9 @@ pub record NumberType : Type 0 where
 
 -- the type of `width` bits, signed or not
 abbrev pub type_of : Bool → ℕ → Option NumberType
-type_of signed width = Some (record { least = least_of signed width; greatest = greatest_of signed width; width = width })
+type_of signed width =
+    Some (record
+    { least = least_of signed width; greatest = greatest_of signed width; width = width })
 
 -- the type of a kind of numbers
 abbrev pub number_type : Option PartKind → Option NumberType

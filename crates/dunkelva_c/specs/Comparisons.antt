@@ -1,11 +1,13 @@
 -- Comparisons of two parts of numbers.
 --
--- Of the rows 1, null, 3 and 1, null, 2 the bits of `Equal` are 1, 1, 0 and those of `Greater` 0, 0, 1.
+-- Of the rows 1, null, 3 and 1, null, 2 the bits of `Equal` are 1, 1, 0 and those of `Greater` 0,
+-- 0, 1.
 use Rattle.std.specs.Prelude.{◌≡◌, ◌≤◌, ◌*◌, ℕ, Bool, List, Option, Some, None, ⊤}
 use Rattle.std.specs.Simd.Lanes.{zip2}
 use Rattle.arrow_calls.specs.Columns.{IsColumn}
 use Rattle.arrow_calls.specs.declared.fault.Fault.{Fault}
-use Rattle.arrow_calls.specs.declared.fault.Fault.TheVariants.{Memory, NotServed, Parts, Room, Types}
+use Rattle.arrow_calls.specs.declared.fault.Fault.TheVariants.{Memory, NotServed, Parts, Room}
+use Rattle.arrow_calls.specs.declared.fault.Fault.TheVariants.{Types}
 use Rattle.arrow_columns.specs.Comparing.{holds_of}
 use Rattle.arrow_columns.specs.declared.comparing.Test.{Test}
 use Rattle.arrow_parts.specs.Kinds.{kind_number}
@@ -21,12 +23,14 @@ pub record AreAlike (left right : Part) : Type 0 where
 -- a comparison of the rows of two parts of the left one's kind, row by row
 abbrev pub compared_rows : Test → Part → Part → List Bool
 compared_rows test left right =
-    zip2 (holds_of test) (rows_at (kind_number left.kind) left) (rows_at (kind_number left.kind) right)
+    zip2 (holds_of test) (rows_at (kind_number left.kind) left)
+    (rows_at (kind_number left.kind) right)
 
 -- a fault of a comparison of two parts of numbers is true
 abbrev pub IsTruePairFault : Part → Part → Fault → Type 0
 IsTruePairFault left right Parts =
-    ¬ (IsColumn left (count_at (kind_number left.kind) left) × IsColumn right (count_at (kind_number left.kind) right))
+    ¬ (IsColumn left (count_at (kind_number left.kind) left)
+    × IsColumn right (count_at (kind_number left.kind) right))
 IsTruePairFault left right Types = ¬ AreAlike left right
 IsTruePairFault left right Room = ⊥
 IsTruePairFault left right Memory = ⊤

@@ -12,7 +12,8 @@ use Rattle.polars_compare_extremes.specs.Extremes.{IsGreatest, IsLeast, NonePres
 -- two numbers are the least and the greatest of the present rows; none if no row is present
 abbrev pub AreEnds : List Row → Option (ℤ × ℤ) → Type 0
 AreEnds rows ends =
-    MatchOption ends (NonePresent rows) (λ pair. IsLeast rows (Int pair.0) × IsGreatest rows (Int pair.1))
+    MatchOption ends (NonePresent rows)
+    (λ pair. IsLeast rows (Int pair.0) × IsGreatest rows (Int pair.1))
 
 -- the caller's memory has the least and the greatest number of a part
 pub record AreWrittenEnds (p : Part) (low high : Number) : Type 0 where

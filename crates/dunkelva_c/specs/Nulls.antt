@@ -1,9 +1,12 @@
 -- The nulls of a part.
 --
--- Of the rows 5, null and 7 the bits are 0, 1, 0 and the count is 1; of a column of two nulls they are 1, 1 and 2.
-use Rattle.std.specs.Prelude.{◌≡◌, ◌≤◌, ◌*◌, ℕ, Bool, true, false, not, List, Option, Some, None, map, replicate, ⊤}
+-- Of the rows 5, null and 7 the bits are 0, 1, 0 and the count is 1; of a column of two nulls they
+-- are 1, 1 and 2.
+use Rattle.std.specs.Prelude.{◌≡◌, ◌≤◌, ◌*◌, ℕ, Bool, true, false, not, List, Option, Some, None}
+use Rattle.std.specs.Prelude.{map, replicate, ⊤}
 use Rattle.arrow_calls.specs.declared.fault.Fault.{Fault}
-use Rattle.arrow_calls.specs.declared.fault.Fault.TheVariants.{Memory, NotServed, Parts, Room, Types}
+use Rattle.arrow_calls.specs.declared.fault.Fault.TheVariants.{Memory, NotServed, Parts, Room}
+use Rattle.arrow_calls.specs.declared.fault.Fault.TheVariants.{Types}
 use Rattle.arrow_parts.specs.ByteBits.{HoldPresence}
 use Rattle.arrow_parts.specs.Kinds.{kind_number}
 use Rattle.arrow_parts.specs.Lent.{present_in}

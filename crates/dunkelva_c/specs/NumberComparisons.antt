@@ -1,10 +1,12 @@
 -- Comparisons of a part of numbers with a number.
 --
--- Of the rows 1, null, 3 and the number 2 the bits of `Less` are 1, 0, 0 and those of `Unequal` 1, 1, 1.
+-- Of the rows 1, null, 3 and the number 2 the bits of `Less` are 1, 0, 0 and those of `Unequal` 1,
+-- 1, 1.
 use Rattle.std.specs.Prelude.{◌≡◌, ◌≤◌, ◌≤ℤ◌, ◌*◌, ℕ, ℤ, Bool, List, Option, Some, None, map, ⊤}
 use Rattle.arrow_calls.specs.Columns.{IsColumn}
 use Rattle.arrow_calls.specs.declared.fault.Fault.{Fault}
-use Rattle.arrow_calls.specs.declared.fault.Fault.TheVariants.{Memory, NotServed, Parts, Room, Types}
+use Rattle.arrow_calls.specs.declared.fault.Fault.TheVariants.{Memory, NotServed, Parts, Room}
+use Rattle.arrow_calls.specs.declared.fault.Fault.TheVariants.{Types}
 use Rattle.arrow_columns.specs.Comparing.{holds_of}
 use Rattle.arrow_columns.specs.declared.comparing.Test.{Test}
 use Rattle.arrow_parts.specs.Kinds.{kind_number}

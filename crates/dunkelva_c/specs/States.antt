@@ -1,13 +1,16 @@
 -- States of distinct values in the caller's memory.
 --
--- The range from -1 to 1 has three numbers. A state of it with the bits 0, 1, 1 and the flag 1 has seen 0, 1 and null: two values
--- and three rows. Its list is 0, 1.
-use Rattle.std.specs.Prelude.{◌≡◌, ◌≢◌, ◌+◌, ◌<◌, ◌≤◌, ◌≤ℤ◌, ◌+ℤ◌, ◌-ℤ◌, ◌*◌, ◌++◌, ◌^◌, ℕ, ℤ, pos, Bool, false, cond, List, Option, Some, None, drop, length, map, unsigned_abs, IsTrue, ⊤}
+-- The range from -1 to 1 has three numbers. A state of it with the bits 0, 1, 1 and the flag 1 has
+-- seen 0, 1 and null: two values and three rows. Its list is 0, 1.
+use Rattle.std.specs.Prelude.{◌≡◌, ◌≢◌, ◌+◌, ◌<◌, ◌≤◌, ◌≤ℤ◌, ◌+ℤ◌, ◌-ℤ◌, ◌*◌, ◌++◌, ◌^◌, ℕ, ℤ, pos}
+use Rattle.std.specs.Prelude.{Bool, false, cond, List, Option, Some, None, drop, length, map}
+use Rattle.std.specs.Prelude.{unsigned_abs, IsTrue, ⊤}
 use Rattle.arrow_calls.specs.Columns.{IsColumn}
 use Rattle.arrow_calls.specs.Numbers.{words_number}
 use Rattle.arrow_calls.specs.Statuses.{status_of}
 use Rattle.arrow_calls.specs.declared.fault.Fault.{Fault}
-use Rattle.arrow_calls.specs.declared.fault.Fault.TheVariants.{Memory, NotServed, Parts, Room, Types}
+use Rattle.arrow_calls.specs.declared.fault.Fault.TheVariants.{Memory, NotServed, Parts, Room}
+use Rattle.arrow_calls.specs.declared.fault.Fault.TheVariants.{Types}
 use Rattle.arrow_calls.specs.declared.number.Number.{Number}
 use Rattle.arrow_parts.specs.Kinds.{kind_number}
 use Rattle.arrow_parts.specs.declared.part.Part.{Part}
@@ -17,7 +20,8 @@ use Rattle.dunkelva_c.specs.declared.states.Range.{Range}
 use Rattle.dunkelva_c.specs.declared.states.StateFault.{StateFault}
 use Rattle.dunkelva_c.specs.declared.states.StateFault.TheVariants.{NoRange, Of, Outside}
 use Rattle.polars_arrays_flat.specs.Row.{Int, Row}
-use Rattle.polars_compute_slots.specs.State.{RangeFits, State, appended, are_within, finalised, merged, numbers_between, numbers_from, set_of}
+use Rattle.polars_compute_slots.specs.State.{RangeFits, State, appended, are_within, finalised}
+use Rattle.polars_compute_slots.specs.State.{merged, numbers_between, numbers_from, set_of}
 
 -- the status of each fault of a call on a state
 abbrev pub state_status : StateFault → ℤ
@@ -45,7 +49,8 @@ state_at least greatest words flag = state_in (whole_in least) (count_in least g
 
 -- memory holds a state of a range; the bits past its numbers are the old ones
 abbrev pub HoldsAt : Number → Number → List ℕ → List ℕ → ℕ → State → Type 0
-HoldsAt least greatest old new flag s = Holds (whole_in least) (count_in least greatest) old new flag s
+HoldsAt least greatest old new flag s =
+    Holds (whole_in least) (count_in least greatest) old new flag s
 
 -- a range has these ends, and words have a bit for each of its numbers
 pub record IsRange (least greatest : Number) (words : ℕ) (range : Range) : Type 0 where
@@ -66,7 +71,8 @@ IsTrueRangeFault least greatest words fault = ⊥
 
 -- whether rows lie in the range of n numbers from `least` on; if they do, memory holds the state to
 -- which they are appended, and else it is as before
-pub record IsAppended (least : ℤ) (n : ℕ) (rows : List Row) (old new : List ℕ) (flag after : ℕ) (within : Bool) : Type 0 where
+pub record IsAppended (least : ℤ) (n : ℕ) (rows : List Row) (old new : List ℕ) (flag after : ℕ)
+    (within : Bool) : Type 0 where
   pub told : within ≡ are_within (numbers_from least n) rows
   pub held : IsTrue within → Holds least n old new after (appended rows (state_in least n old flag))
   pub kept : within ≡ false → (new ≡ old) × (after ≡ flag)
@@ -74,7 +80,8 @@ pub record IsAppended (least : ℤ) (n : ℕ) (rows : List Row) (old new : List 
 -- memory holds the state to which the rows of a part of numbers are appended
 abbrev pub IsAppendedPart : Part → Number → Number → List ℕ → List ℕ → ℕ → ℕ → Type 0
 IsAppendedPart p least greatest old new flag after =
-    HoldsAt least greatest old new after (appended (number_rows_of p) (state_at least greatest old flag))
+    HoldsAt least greatest old new after
+    (appended (number_rows_of p) (state_at least greatest old flag))
 
 -- a number lies within bounds
 abbrev pub IsWithin : ℤ → ℤ → ℤ → Type 0
@@ -97,7 +104,8 @@ IsTrueFaultAt (Some type) least greatest count p fault =
 
 abbrev pub IsTruePartFault : ℤ → ℤ → Part → Fault → Type 0
 IsTruePartFault least greatest p fault =
-    IsTrueFaultAt (number_type (kind_number p.kind)) least greatest (count_at (kind_number p.kind) p) p fault
+    IsTrueFaultAt (number_type (kind_number p.kind)) least greatest
+    (count_at (kind_number p.kind) p) p fault
 
 -- a fault of rows of a part that are appended to a state of this many words is true
 abbrev pub IsTrueAppendFault : Part → Number → Number → ℕ → StateFault → Type 0
@@ -105,18 +113,21 @@ IsTrueAppendFault p least greatest words NoRange = ¬ RangeFits (whole_in least)
 IsTrueAppendFault p least greatest words Outside =
     are_within (numbers_between (whole_in least) (whole_in greatest)) (number_rows_of p) ≡ false
 IsTrueAppendFault p least greatest words (Of Room) = ¬ (count_in least greatest ≤ 64 * words)
-IsTrueAppendFault p least greatest words (Of fault) = IsTruePartFault (whole_in least) (whole_in greatest) p fault
+IsTrueAppendFault p least greatest words (Of fault) =
+    IsTruePartFault (whole_in least) (whole_in greatest) p fault
 
 -- ---- states that are merged
 
 -- memory holds the state into which another one of the same range is merged
 abbrev pub IsMerged : Number → Number → List ℕ → List ℕ → ℕ → ℕ → List ℕ → ℕ → Type 0
 IsMerged least greatest old new flag after others other =
-    HoldsAt least greatest old new after (merged (state_at least greatest old flag) (state_at least greatest others other))
+    HoldsAt least greatest old new after
+    (merged (state_at least greatest old flag) (state_at least greatest others other))
 
 -- a fault of two states of so many words is true
 abbrev pub IsTrueMergeFault : Number → Number → ℕ → ℕ → StateFault → Type 0
-IsTrueMergeFault least greatest words others NoRange = ¬ RangeFits (whole_in least) (whole_in greatest)
+IsTrueMergeFault least greatest words others NoRange =
+    ¬ RangeFits (whole_in least) (whole_in greatest)
 IsTrueMergeFault least greatest words others (Of Room) =
     ¬ ((count_in least greatest ≤ 64 * words) × (count_in least greatest ≤ 64 * others))
 IsTrueMergeFault least greatest words others fault = ⊥
@@ -124,19 +135,23 @@ IsTrueMergeFault least greatest words others fault = ⊥
 -- ---- contents of states
 
 -- two numbers are how many values a state has seen, and how many rows, null among them
-pub record AreCounts (least greatest : Number) (words : List ℕ) (flag values rows : ℕ) : Type 0 where
+pub record AreCounts (least greatest : Number) (words : List ℕ) (flag values rows : ℕ) :
+    Type 0 where
   pub present : values ≡ length (set_of (state_at least greatest words flag))
   pub all : rows ≡ length (finalised Int (state_at least greatest words flag))
 
 -- memory holds the values that a state has seen, ascending, and what it held behind them, and a
 -- number is 1 if a null was seen and else 0
-pub record IsListed (least greatest : Number) (words : List ℕ) (flag : ℕ) (old new : List ℕ) (told : ℕ) : Type 0 where
-  pub values : new ≡ map low_word (set_of (state_at least greatest words flag)) ++ drop (length (set_of (state_at least greatest words flag))) old
+pub record IsListed (least greatest : Number) (words : List ℕ) (flag : ℕ) (old new : List ℕ)
+    (told : ℕ) : Type 0 where
+  pub values : new ≡ map low_word (set_of (state_at least greatest words flag))
+      ++ drop (length (set_of (state_at least greatest words flag))) old
   pub null : told ≡ cond (state_at least greatest words flag).has_null 1 0
 
 -- a fault of a list of what a state has seen, with room for so many numbers, is true
 abbrev pub IsTrueListFault : Number → Number → List ℕ → ℕ → StateFault → Type 0
 IsTrueListFault least greatest words room NoRange = ¬ RangeFits (whole_in least) (whole_in greatest)
 IsTrueListFault least greatest words room (Of Room) =
-    ¬ ((count_in least greatest ≤ 64 * length words) × (length (set_of (state_at least greatest words 0)) ≤ room))
+    ¬ ((count_in least greatest ≤ 64 * length words)
+    × (length (set_of (state_at least greatest words 0)) ≤ room))
 IsTrueListFault least greatest words room fault = ⊥

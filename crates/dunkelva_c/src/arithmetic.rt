@@ -6,8 +6,10 @@ ghost use Rattle.arrow_arithmetic.specs.Arithmetic.{arithmetic_number, operation
 ghost use Rattle.arrow_calls.specs.Columns.{rows_lent};
 ghost use Rattle.arrow_calls.specs.Statuses.{IsTrueStatus};
 ghost use Rattle.arrow_parts.specs.Kinds.{kind_number};
-ghost use Rattle.dunkelva_c.specs.Arithmetic.{AreNumberedResults, AreRows, AreRowsAt, IsTrueArithmeticFault};
-ghost use Rattle.dunkelva_c.specs.Arithmetic.{IsTruePartsFault, IsTrueResultFault, results_of, slices};
+ghost use Rattle.dunkelva_c.specs.Arithmetic.{AreNumberedResults, AreRows, AreRowsAt};
+ghost use Rattle.dunkelva_c.specs.Arithmetic.{IsTrueArithmeticFault};
+ghost use Rattle.dunkelva_c.specs.Arithmetic.{IsTruePartsFault, IsTrueResultFault, results_of};
+ghost use Rattle.dunkelva_c.specs.Arithmetic.{slices};
 ghost use Rattle.dunkelva_c.specs.Comparisons.{AreAlike};
 ghost use Rattle.polars_compute_arithmetic.specs.Operations.{result_rows};
 

@@ -5,7 +5,8 @@ ghost use Rattle.num_traits.specs.Laws.{bit_len};
 ghost use Rattle.arrow_calls.specs.Columns.{IsColumn, rows_lent};
 ghost use Rattle.arrow_calls.specs.Operations.{operator_number};
 ghost use Rattle.arrow_calls.specs.Statuses.{IsTrueOf, IsTrueStatus};
-ghost use Rattle.dunkelva_c.specs.ColumnBits.{HasJoinedBits, IsNumberedReduction, IsReduction, IsTrueReduceFault};
+ghost use Rattle.dunkelva_c.specs.ColumnBits.{HasJoinedBits, IsNumberedReduction, IsReduction};
+ghost use Rattle.dunkelva_c.specs.ColumnBits.{IsTrueReduceFault};
 ghost use Rattle.dunkelva_c.specs.Columns.{IsTrueFault};
 
 use crate::columns::at_number_kind;

@@ -7,7 +7,8 @@ ghost use Rattle.arrow_calls.specs.Operations.{test_number};
 ghost use Rattle.arrow_calls.specs.Statuses.{IsTrueOf, IsTrueStatus};
 ghost use Rattle.arrow_columns.specs.Comparing.{holds_of};
 ghost use Rattle.arrow_columns.specs.declared.comparing.Test.TheVariants.{Equal};
-ghost use Rattle.dunkelva_c.specs.Comparisons.{AreAlike, IsComparison, IsNumberedComparison, IsTruePairFault};
+ghost use Rattle.dunkelva_c.specs.Comparisons.{AreAlike, IsComparison, IsNumberedComparison};
+ghost use Rattle.dunkelva_c.specs.Comparisons.{IsTruePairFault};
 ghost use Rattle.dunkelva_c.specs.Comparisons.{IsTrueRoomFault, IsTrueTestFault, compared_rows};
 
 use crate::columns::at_one_kind;

@@ -3,7 +3,8 @@
 ghost use Rattle.std.specs.Prelude.{◌≡◌, ◌≢◌, length, pos, IfErr, OnErr, OnOk};
 ghost use Rattle.arrow_calls.specs.Operations.{counting_number};
 ghost use Rattle.arrow_calls.specs.Statuses.{IsTrueStatus};
-ghost use Rattle.dunkelva_c.specs.ColumnCounts.{AreCounts, AreNumberedCounts, IsTrueCountFault, IsTrueCountingFault};
+ghost use Rattle.dunkelva_c.specs.ColumnCounts.{AreCounts, AreNumberedCounts, IsTrueCountFault};
+ghost use Rattle.dunkelva_c.specs.ColumnCounts.{IsTrueCountingFault};
 
 use crate::columns::at_number_kind;
 use arrow_calls::counts::count_numbers;

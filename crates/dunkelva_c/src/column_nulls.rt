@@ -5,7 +5,8 @@ ghost use Rattle.arrow_calls.specs.Statuses.{IsTrueOf, IsTrueStatus};
 ghost use Rattle.arrow_parts.specs.ByteBits.{HoldPresence};
 ghost use Rattle.arrow_parts.specs.Kinds.{kind_number};
 ghost use Rattle.arrow_parts.specs.Lent.{present_in};
-ghost use Rattle.dunkelva_c.specs.Nulls.{AreNulls, IsTrueNullFault, IsTrueNullRoomFault, masked_bits};
+ghost use Rattle.dunkelva_c.specs.Nulls.{AreNulls, IsTrueNullFault, IsTrueNullRoomFault};
+ghost use Rattle.dunkelva_c.specs.Nulls.{masked_bits};
 ghost use Rattle.dunkelva_c.specs.Nulls.{null_count_at, nulls_at};
 ghost use Rattle.polars_arrays_flat.specs.Validity.{masked_count};
 

@@ -2,11 +2,13 @@
 
 ghost use Rattle.std.specs.Prelude.{◌≡◌, ◌≢◌, length, pos, IfErr, OnErr, OnOk};
 ghost use Rattle.num_traits.specs.Laws.{bit_len};
-ghost use Rattle.arrow_arithmetic.specs.Arithmetic.{arithmetic_number, operation_of, placed, side_number};
+ghost use Rattle.arrow_arithmetic.specs.Arithmetic.{arithmetic_number, operation_of, placed};
+ghost use Rattle.arrow_arithmetic.specs.Arithmetic.{side_number};
 ghost use Rattle.arrow_calls.specs.Columns.{rows_lent};
 ghost use Rattle.arrow_calls.specs.Numbers.{words_number};
 ghost use Rattle.arrow_calls.specs.Statuses.{IsTrueStatus};
-ghost use Rattle.dunkelva_c.specs.Arithmetic.{AreAnswers, AreNumberedAnswers, AreRows, IsTrueSidedFault};
+ghost use Rattle.dunkelva_c.specs.Arithmetic.{AreAnswers, AreNumberedAnswers, AreRows};
+ghost use Rattle.dunkelva_c.specs.Arithmetic.{IsTrueSidedFault};
 ghost use Rattle.dunkelva_c.specs.Arithmetic.{IsTrueTypedFault, IsTrueWithFault, slices};
 ghost use Rattle.polars_compute_arithmetic.specs.Operations.{answer_rows};
 

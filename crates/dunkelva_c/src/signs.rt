@@ -5,7 +5,8 @@ ghost use Rattle.num_traits.specs.Laws.{bit_len};
 ghost use Rattle.arrow_arithmetic.specs.Arithmetic.{function_of, sign_number};
 ghost use Rattle.arrow_calls.specs.Columns.{rows_lent};
 ghost use Rattle.arrow_calls.specs.Statuses.{IsTrueStatus};
-ghost use Rattle.dunkelva_c.specs.Arithmetic.{AreAnswers, AreNumberedSigns, AreRows, IsTrueAnswerFault};
+ghost use Rattle.dunkelva_c.specs.Arithmetic.{AreAnswers, AreNumberedSigns, AreRows};
+ghost use Rattle.dunkelva_c.specs.Arithmetic.{IsTrueAnswerFault};
 ghost use Rattle.dunkelva_c.specs.Arithmetic.{IsTruePartFault, IsTrueSignFault, slices};
 ghost use Rattle.polars_compute_arithmetic.specs.Operations.{answer_rows};
 

@@ -3,10 +3,12 @@
 //! A state is a range, words with a bit for each number of the range, the least first, and a flag
 //! that is not 0 where a null was seen.
 
-ghost use Rattle.std.specs.Prelude.{◌≡◌, ◌≢◌, ◌≤◌, ◌*◌, length, pos, IfErr, IfOk, IfSome, IsNone, OnErr, OnOk};
+ghost use Rattle.std.specs.Prelude.{◌≡◌, ◌≢◌, ◌≤◌, ◌*◌, length, pos, IfErr, IfOk, IfSome, IsNone};
+ghost use Rattle.std.specs.Prelude.{OnErr, OnOk};
 ghost use Rattle.arrow_calls.specs.Columns.{rows_lent};
 ghost use Rattle.dunkelva_c.specs.Columns.{number_rows_of};
-ghost use Rattle.dunkelva_c.specs.States.{AreCounts, IsAppended, IsAppendedPart, IsListed, IsMerged, IsRange};
+ghost use Rattle.dunkelva_c.specs.States.{AreCounts, IsAppended, IsAppendedPart, IsListed};
+ghost use Rattle.dunkelva_c.specs.States.{IsMerged, IsRange};
 ghost use Rattle.dunkelva_c.specs.States.{IsTrueAppendFault, IsTrueListFault, IsTrueMergeFault};
 ghost use Rattle.dunkelva_c.specs.States.{IsTrueNumbersFault, IsTruePartFault, IsTrueRangeFault};
 ghost use Rattle.dunkelva_c.specs.States.{IsTrueStateStatus, IsWithin, state_status};

@@ -8,13 +8,14 @@ use arrow_equality::equal::equal_rows;
 use arrow_parts::part::Part;
 use std::alloc::Global;
 
-/// Sets bit `i` of `out` if rows `i` of two arrays are the same tree, where null is the same as null
-/// alone, and all bits past the last row to 0. The first of `comparisons` becomes the number of
-/// leaves that were compared, at most the greatest `u64`.
+/// Sets bit `i` of `out` if rows `i` of two arrays are the same tree, where null is the same as
+/// null alone, and all bits past the last row to 0. The first of `comparisons` becomes the number
+/// of leaves that were compared, at most the greatest `u64`.
 ///
 /// The status is 0, or else both slices are unchanged: it is 1 if one of the arrays cannot be made
-/// of its parts, 2 if the two are not of one type and length, 3 if `out` has fewer bits than rows or
-/// `comparisons` is empty, and 4 if an allocation fails. The width of offsets is no part of a type.
+/// of its parts, 2 if the two are not of one type and length, 3 if `out` has fewer bits than rows
+/// or `comparisons` is empty, and 4 if an allocation fails. The width of offsets is no part of a
+/// type.
 #[unsafe(no_mangle)]
 pub extern "C" fn dunkelva_parts_equal(
     alloc: Global,

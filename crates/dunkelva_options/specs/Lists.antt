@@ -19,7 +19,9 @@ is_end Escaped x = false
 -- the texts in what is left of a list, behind the part of a text that was read
 abbrev pub parts_from : Quoting → List ℕ → List ℕ → List (List ℕ)
 parts_from q part [] = part ∷ []
-parts_from q part (x ∷ xs) = cond (is_end q x) (part ∷ parts_from (after q x) [] xs) (parts_from (after q x) (part ++ x ∷ []) xs)
+parts_from q part (x ∷ xs) =
+    cond (is_end q x) (part ∷ parts_from (after q x) [] xs)
+    (parts_from (after q x) (part ++ x ∷ []) xs)
 
 -- the texts of a list
 abbrev pub list_parts : List ℕ → List (List ℕ)

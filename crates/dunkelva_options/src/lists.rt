@@ -40,7 +40,9 @@ impl Quoting {
 
 /// Appends the texts between the commas of a list.
 fn push_parts<'a>(parts: &mut Vec<&'a str>, list: &'a str) -> Result<(), AllocError>
-    ensures { IfOk result (λ _. map (λ text. text.now) parts.new.items ≡ map (λ text. text.now) parts.old.items ++ list_parts list.now) }
+    ensures { IfOk result
+        (λ _. map (λ text. text.now) parts.new.items ≡ map (λ text. text.now) parts.old.items
+        ++ list_parts list.now) }
 {
     let bytes = list.as_bytes();
     let mut quoting = Quoting::Outside;
@@ -58,7 +60,9 @@ fn push_parts<'a>(parts: &mut Vec<&'a str>, list: &'a str) -> Result<(), AllocEr
 
 /// Returns the texts between the commas of each list.
 pub fn split_lists<'a>(alloc: Global, lists: &[&'a str]) -> Result<Vec<&'a str>, AllocError>
-    ensures { IfOk result (λ parts. map (λ text. text.now) parts.items ≡ all_parts (map (λ list. list.now) lists.now)) }
+    ensures { IfOk result
+        (λ parts. map (λ text. text.now) parts.items
+        ≡ all_parts (map (λ list. list.now) lists.now)) }
 {
     let mut parts = Vec::new(alloc);
     for list in lists {

@@ -1,12 +1,16 @@
--- The differences between two JSON values: the smallest parts that differ, each with the path to it.
+-- The differences between two JSON values: the smallest parts that differ, each with the path to
+-- it.
 --
--- Between {"items": [{"price": 9.5}, 1.0], "tag": "new"} and {"note": null, "items": [{"price": 9.75}, 1]} they are
--- items[0].price with 9.5 and 9.75, tag with "new" and nothing, and note with nothing and null.
+-- Between {"items": [{"price": 9.5}, 1.0], "tag": "new"} and {"note": null, "items": [{"price":
+-- 9.75}, 1]} they are items[0].price with 9.5 and 9.75, tag with "new" and nothing, and note with
+-- nothing and null.
 use Rattle.std.specs.Bool.{beq}
-use Rattle.std.specs.Prelude.{ℕ, suc, Bool, true, false, if◌then◌else◌, List, [], ◌∷◌, ◌++◌, map, Option, Some, None}
+use Rattle.std.specs.Prelude.{ℕ, suc, Bool, true, false, if◌then◌else◌, List, [], ◌∷◌, ◌++◌, map}
+use Rattle.std.specs.Prelude.{Option, Some, None}
 use Rattle.std.specs.Str.{bytes_eq}
 use Rattle.json.specs.Find.{get_member}
-use Rattle.json.specs.Json.{Json, null, boolean, number, string, array, object, Items, no_items, item, Members, no_members, member}
+use Rattle.json.specs.Json.{Json, null, boolean, number, string, array, object, Items, no_items}
+use Rattle.json.specs.Json.{item, Members, no_members, member}
 use Rattle.json_decimals.specs.Texts.{normal_number}
 use Rattle.json_paths.specs.Paths.{Step, name, place, Path}
 
@@ -73,10 +77,13 @@ abbrev mutual
 
   -- the differences between items, each with the one at its place
   pub item_differences : ℕ → Items → Items → List Difference
-  item_differences n (item j js) (item k ks) = map (inside (place n)) (differences j k) ++ item_differences (suc n) js ks
+  item_differences n (item j js) (item k ks) = map (inside (place n)) (differences j k)
+      ++ item_differences (suc n) js ks
   item_differences n js ks = alone_items only_left n js ++ alone_items only_right n ks
 
   -- the differences between the left side's members and those of the same names
   pub member_differences : Members → Members → List Difference
   member_differences no_members ns = []
-  member_differences (member k j ms) ns = map (inside (name k)) (beside j (λ i. differences j i) (get_member k ns)) ++ member_differences ms ns
+  member_differences (member k j ms) ns =
+      map (inside (name k)) (beside j (λ i. differences j i) (get_member k ns))
+      ++ member_differences ms ns

@@ -10,16 +10,19 @@ use Rattle.json_changes.specs.Rules.{Rules, Tolerance, differences_told, is_tole
 
 -- there is no difference where two values are the same, and only there
 abbrev pub NoneWhereSame : Type 0
-NoneWhereSame = (j k : Json) → HasUniqueKeys j → HasUniqueKeys k → (differences j k ≡ []) ↔ AreSame j k
+NoneWhereSame = (j k : Json) → HasUniqueKeys j → HasUniqueKeys k → (differences j k ≡ [])
+    ↔ AreSame j k
 
--- the path of a difference leads to its parts: on each side to the part told, and nowhere where none is
+-- the path of a difference leads to its parts: on each side to the part told, and nowhere where
+-- none is
 pub record LeadsToParts (j k : Json) (d : Difference) : Type 0 where
   pub left : part_at d.path j ≡ d.left
   pub right : part_at d.path k ≡ d.right
 
 -- the path of each difference leads to its parts
 abbrev pub PathsLead : Type 0
-PathsLead = (j k : Json) → HasUniqueKeys j → HasUniqueKeys k → All (LeadsToParts j k) (differences j k)
+PathsLead = (j k : Json) → HasUniqueKeys j → HasUniqueKeys k
+    → All (LeadsToParts j k) (differences j k)
 
 -- two parts are the same, or both are missing
 abbrev pub PartsAreSame : Option Json → Option Json → Type 0
@@ -29,7 +32,8 @@ PartsAreSame o p = ⊥
 
 -- the parts of each difference are not the same
 abbrev pub EachIsReal : Type 0
-EachIsReal = (j k : Json) → HasUniqueKeys j → HasUniqueKeys k → All (λ d. ¬ PartsAreSame d.left d.right) (differences j k)
+EachIsReal = (j k : Json) → HasUniqueKeys j → HasUniqueKeys k
+    → All (λ d. ¬ PartsAreSame d.left d.right) (differences j k)
 
 -- two arrays or two objects, whose parts can be compared
 abbrev pub HaveParts : Json → Json → Type 0
@@ -44,7 +48,8 @@ CanGoOn o p = ⊥
 
 -- no difference is of two arrays or of two objects: it is of their parts
 abbrev pub EachIsSmallest : Type 0
-EachIsSmallest = (j k : Json) → HasUniqueKeys j → HasUniqueKeys k → All (λ d. ¬ CanGoOn d.left d.right) (differences j k)
+EachIsSmallest = (j k : Json) → HasUniqueKeys j → HasUniqueKeys k
+    → All (λ d. ¬ CanGoOn d.left d.right) (differences j k)
 
 -- one of two paths goes on from the other, or they are one
 abbrev pub IsAlong : Path → Path → Type 0
@@ -57,13 +62,16 @@ abbrev pub OneIsAlong : Path → List Difference → Type 0
 OneIsAlong p [] = ⊥
 OneIsAlong p (d ∷ ds) = IsAlong d.path p ⊎ OneIsAlong p ds
 
--- where the parts at a path are not the same, there is a difference at this path, above it or below it
+-- where the parts at a path are not the same, there is a difference at this path, above it or below
+-- it
 abbrev pub NoneIsMissed : Type 0
-NoneIsMissed = (j k : Json) (p : Path) → ¬ PartsAreSame (part_at p j) (part_at p k) → OneIsAlong p (differences j k)
+NoneIsMissed = (j k : Json) (p : Path) → ¬ PartsAreSame (part_at p j) (part_at p k)
+    → OneIsAlong p (differences j k)
 
 -- no path of a difference goes on from that of another
 abbrev pub PathsPart : Type 0
-PathsPart = (j k : Json) → HasUniqueKeys j → HasUniqueKeys k → AllPairs (λ d e. ¬ IsAlong d.path e.path) (differences j k)
+PathsPart = (j k : Json) → HasUniqueKeys j → HasUniqueKeys k
+    → AllPairs (λ d e. ¬ IsAlong d.path e.path) (differences j k)
 
 -- with no rules each difference is told
 abbrev pub AllToldWithoutRules : Type 0
@@ -71,11 +79,13 @@ AllToldWithoutRules = (j k : Json) → differences_told no_rules j k ≡ differe
 
 -- what is told under rules is told without them
 abbrev pub ToldAreDifferences : Type 0
-ToldAreDifferences = (rules : Rules) (j k : Json) → All (Contains (differences j k)) (differences_told rules j k)
+ToldAreDifferences = (rules : Rules) (j k : Json)
+    → All (Contains (differences j k)) (differences_told rules j k)
 
 -- where two values are the same nothing is told
 abbrev pub NothingToldWhereSame : Type 0
-NothingToldWhereSame = (rules : Rules) (j k : Json) → HasUniqueKeys k → AreSame j k → differences_told rules j k ≡ []
+NothingToldWhereSame = (rules : Rules) (j k : Json) → HasUniqueKeys k → AreSame j k
+    → differences_told rules j k ≡ []
 
 -- two parts are numbers
 abbrev pub AreNumbers : Option Json → Option Json → Type 0
@@ -84,7 +94,8 @@ AreNumbers o p = ⊥
 
 -- what tolerances allow are differences between two numbers
 abbrev pub OnlyNumbersTolerated : Type 0
-OnlyNumbersTolerated = (ts : List Tolerance) (d : Difference) → IsTrue (is_tolerated ts d) → AreNumbers d.left d.right
+OnlyNumbersTolerated = (ts : List Tolerance) (d : Difference) → IsTrue (is_tolerated ts d)
+    → AreNumbers d.left d.right
 
 -- rules without their tolerances
 abbrev pub strict : Rules → Rules
@@ -92,4 +103,5 @@ strict rules = record rules { tolerances = [] }
 
 -- what is told under rules is told where they have no tolerances
 abbrev pub TolerancesAddNone : Type 0
-TolerancesAddNone = (rules : Rules) (j k : Json) → All (Contains (differences_told (strict rules) j k)) (differences_told rules j k)
+TolerancesAddNone = (rules : Rules) (j k : Json)
+    → All (Contains (differences_told (strict rules) j k)) (differences_told rules j k)

@@ -11,7 +11,8 @@ use Rattle.json.specs.Value.{value_view}
 use Rattle.json.specs.declared.value.Value.{Value}
 
 -- the value that a map has at a name
-abbrev pub at_name : {A : Type 0} → BTreeMap (Bor (List ℕ)) (Bor (Value A)) → List ℕ → Option (Bor (Value A))
+abbrev pub at_name : {A : Type 0} → BTreeMap (Bor (List ℕ)) (Bor (Value A)) → List ℕ
+    → Option (Bor (Value A))
 at_name names k = get_by (λ q. slice_cmp nat_cmp k q.now) names
 
 -- the tree of a value that is borrowed, where there is one
@@ -23,5 +24,6 @@ abbrev pub FindsMembers : {A : Type 0} → BTreeMap (Bor (List ℕ)) (Bor (Value
 FindsMembers names ms = (k : List ℕ) → seen (at_name names k) ≡ get_member k ms
 
 -- the values that are found by the names of members
-abbrev pub found_values : {A : Type 0} → List (Bor (List ℕ) × Value A) → Members → List (Option Json)
+abbrev pub found_values : {A : Type 0} → List (Bor (List ℕ) × Value A) → Members
+    → List (Option Json)
 found_values own ns = map (λ m. get_member m.0.now ns) own

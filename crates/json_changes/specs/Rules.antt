@@ -1,11 +1,12 @@
 -- Which differences between two JSON values are told.
 --
--- Between {"id": 1, "at": {"day": 3}, "note": null} and {"id": 2, "at": {"day": 4}} are three differences. Where id is
--- ignored and a missing part counts as null, at.day is told alone. Where only at is asked for, at.day is told too, and
--- where only at.day is asked for, so is an at that one side alone has. Where a tolerance of 1 is set at id, only at.day
--- and note are told.
+-- Between {"id": 1, "at": {"day": 3}, "note": null} and {"id": 2, "at": {"day": 4}} are three
+-- differences. Where id is ignored and a missing part counts as null, at.day is told alone. Where
+-- only at is asked for, at.day is told too, and where only at.day is asked for, so is an at that
+-- one side alone has. Where a tolerance of 1 is set at id, only at.day and note are told.
 use Rattle.std.specs.List.{filter, list_any}
-use Rattle.std.specs.Prelude.{Bool, true, false, not, ◌&&◌, ◌||◌, List, [], ◌∷◌, Option, Some, None, IfSome, ⊤}
+use Rattle.std.specs.Prelude.{Bool, true, false, not, ◌&&◌, ◌||◌, List, [], ◌∷◌, Option, Some, None}
+use Rattle.std.specs.Prelude.{IfSome, ⊤}
 use Rattle.json.specs.Json.{Json, null, number}
 use Rattle.json_decimals.specs.Decimals.{decimal_of}
 use Rattle.json_decimals.specs.Texts.{HasWideExponent}
@@ -20,8 +21,8 @@ pub record Tolerance : Type 0 where
   pub pattern : Pattern
   pub margin : Margin
 
--- the parts whose differences are never told, the parts whose differences alone are told, whether a missing part is the
--- same as null, and how far apart numbers may lie
+-- the parts whose differences are never told, the parts whose differences alone are told, whether a
+-- missing part is the same as null, and how far apart numbers may lie
 pub record Rules : Type 0 where
   pub ignored : List Pattern
   pub only : List Pattern
@@ -40,7 +41,8 @@ is_named patterns path = list_any (λ p. begins p path) patterns
 abbrev pub has_named : List Pattern → Path → Bool
 has_named patterns path = list_any (λ p. leads_to p path) patterns
 
--- a path leads to what is asked for, where only that is: to a part that is named, into one, or to one around it
+-- a path leads to what is asked for, where only that is: to a part that is named, into one, or to
+-- one around it
 abbrev pub is_asked_for : List Pattern → Path → Bool
 is_asked_for [] path = true
 is_asked_for (p ∷ ps) path = is_named (p ∷ ps) path || has_named (p ∷ ps) path
@@ -67,7 +69,9 @@ is_tolerated ts d = list_any (λ t. allows t d) ts
 -- a difference is told under rules
 abbrev pub is_told : Rules → Difference → Bool
 is_told rules d =
-    not (is_named rules.ignored d.path) && is_asked_for rules.only d.path && not (rules.missing_is_null && is_nothing d.left && is_nothing d.right) && not (is_tolerated rules.tolerances d)
+    not (is_named rules.ignored d.path) && is_asked_for rules.only d.path
+    && not (rules.missing_is_null && is_nothing d.left && is_nothing d.right)
+    && not (is_tolerated rules.tolerances d)
 
 -- the differences between two values that are told under rules
 abbrev pub differences_told : Rules → Json → Json → List Difference

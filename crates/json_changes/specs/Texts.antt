@@ -1,11 +1,12 @@
 -- The texts of paths and of differences.
 --
--- The path to the price of the item at place 2 of the items is items[2].price. A name that is not plain stands between
--- quotes, with a dot before it in the front too: ."a.b"[0].c and items[2]."".
+-- The path to the price of the item at place 2 of the items is items[2].price. A name that is not
+-- plain stands between quotes, with a dot before it in the front too: ."a.b"[0].c and items[2]."".
 use Rattle.std.specs.Char.{is_ascii_alphanumeric}
 use Rattle.std.specs.Fmt.{decimal}
 use Rattle.std.specs.List.{filter, fold, list_all}
-use Rattle.std.specs.Prelude.{ℕ, ◌==◌, Bool, not, ◌&&◌, ◌||◌, if◌then◌else◌, List, [], ◌∷◌, ◌++◌, length, map, Option, option_map}
+use Rattle.std.specs.Prelude.{ℕ, ◌==◌, Bool, not, ◌&&◌, ◌||◌, if◌then◌else◌, List, [], ◌∷◌, ◌++◌}
+use Rattle.std.specs.Prelude.{length, map, Option, option_map}
 use Rattle.json.specs.Json.{Json}
 use Rattle.json.specs.Print.{quoted, print}
 use Rattle.json.specs.Tree.{json_tokens}
@@ -59,7 +60,12 @@ pub record Told : Type 0 where
 
 -- the texts of a difference
 abbrev pub told : Difference → Told
-told d = record { path = path_text d.path; left = option_map part_text d.left; right = option_map part_text d.right }
+told d = record {
+  path = path_text d.path;
+  left = option_map part_text d.left;
+  right =
+      option_map part_text d.right;
+}
 
 -- a difference between two parts that lie at a path
 abbrev pub at_path : Path → Difference → Difference
@@ -71,7 +77,13 @@ told_at rules path ds = map told (filter (is_told rules) (map (at_path path) ds)
 
 -- the texts that a change holds
 abbrev pub change_view : Change → Told
-change_view c = record { path = c.path.items; left = option_map (λ v. v.items) c.left; right = option_map (λ v. v.items) c.right }
+change_view c =
+    record {
+      path = c.path.items;
+      left = option_map (λ v. v.items) c.left;
+      right = option_map
+          (λ v. v.items) c.right;
+    }
 
 -- a value that this side alone has
 abbrev pub only_in : Side → Json → Difference
@@ -84,7 +96,15 @@ tolerance_view t = record { pattern = pattern_view t.pattern; margin = t.margin 
 
 -- the rules that a value stands for
 abbrev pub rules_view : Rules → specs.Rules
-rules_view rules = record { ignored = patterns_view rules.ignored.items; only = patterns_view rules.only.items; missing_is_null = rules.missing_is_null; tolerances = map tolerance_view rules.tolerances.items }
+rules_view rules =
+    record {
+      ignored = patterns_view rules.ignored.items;
+      only =
+          patterns_view rules.only.items;
+      missing_is_null = rules.missing_is_null;
+      tolerances =
+          map tolerance_view rules.tolerances.items;
+    }
 
 -- the path that steps stand for
 abbrev pub trail_view : List paths.Step → Path

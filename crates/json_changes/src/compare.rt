@@ -4,7 +4,8 @@ ghost use Rattle.std.specs.Prelude.{◌≡◌, ◌++◌, IfErr, IfSome, MatchOpt
 ghost use Rattle.json.specs.Json.{array, object};
 ghost use Rattle.json.specs.Tree.{HasNumbers};
 ghost use Rattle.json.specs.Value.{value_view, items_view, members_view};
-ghost use Rattle.json_changes.specs.Differences.{added_member, added_members, alone_items, beside, differences};
+ghost use Rattle.json_changes.specs.Differences.{added_member, added_members, alone_items, beside};
+ghost use Rattle.json_changes.specs.Differences.{differences};
 ghost use Rattle.json_changes.specs.Errors.{IsFaultOf};
 ghost use Rattle.json_changes.specs.Names.{seen};
 ghost use Rattle.json_changes.specs.Texts.{change_view, only_in, rules_view, told_at, trail_view};

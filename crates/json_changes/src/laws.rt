@@ -1,6 +1,9 @@
 //! Laws of differences.
 
-ghost use Rattle.json_changes.specs.Laws.{AllToldWithoutRules, EachIsReal, EachIsSmallest, NoneIsMissed, NoneWhereSame, NothingToldWhereSame, OnlyNumbersTolerated, PathsLead, PathsPart, ToldAreDifferences, TolerancesAddNone};
+ghost use Rattle.json_changes.specs.Laws.{AllToldWithoutRules, EachIsReal, EachIsSmallest};
+ghost use Rattle.json_changes.specs.Laws.{NoneIsMissed, NoneWhereSame, NothingToldWhereSame};
+ghost use Rattle.json_changes.specs.Laws.{OnlyNumbersTolerated, PathsLead, PathsPart};
+ghost use Rattle.json_changes.specs.Laws.{ToldAreDifferences, TolerancesAddNone};
 
 /// Says that only values that differ have differences, where the path of a difference leads, that
 /// its parts differ and are the smallest, that none is missed, and that none is told twice.

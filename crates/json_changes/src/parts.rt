@@ -6,7 +6,8 @@ ghost use Rattle.json.specs.Tree.{HasNumbers};
 ghost use Rattle.json.specs.Value.{value_view};
 ghost use Rattle.json_changes.specs.Differences.{apart};
 ghost use Rattle.json_changes.specs.Rules.{PartsAreNarrow};
-ghost use Rattle.json_changes.specs.Texts.{change_view, only_in, part_text, rules_view, told_at, trail_view};
+ghost use Rattle.json_changes.specs.Texts.{change_view, only_in, part_text, rules_view, told_at};
+ghost use Rattle.json_changes.specs.Texts.{trail_view};
 
 use crate::paths::text_of_path;
 use crate::rules::Rules;

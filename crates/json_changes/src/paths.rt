@@ -5,7 +5,8 @@ ghost use Rattle.std.specs.Prelude.{◌≡◌, ◌++◌, IfOk, OnOk};
 ghost use Rattle.json.specs.Print.{quoted};
 ghost use Rattle.json_paths.specs.Paths.{name, place};
 ghost use Rattle.json_paths.specs.Views.{step_view};
-ghost use Rattle.json_changes.specs.Texts.{is_plain, is_plain_byte, path_text, trail_view, with_step};
+ghost use Rattle.json_changes.specs.Texts.{is_plain, is_plain_byte, path_text, trail_view};
+ghost use Rattle.json_changes.specs.Texts.{with_step};
 
 use itoa::Buffer;
 use json::{Value, to_vec};

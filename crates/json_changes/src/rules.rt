@@ -8,7 +8,9 @@ ghost use Rattle.json_paths.specs.PatternViews.{pattern_view};
 ghost use Rattle.json_decimals.specs.Decimals.{decimal_of};
 ghost use Rattle.json_decimals.specs.Texts.{HasWideExponent};
 ghost use Rattle.json_tolerances.specs.Closeness.{is_close};
-ghost use Rattle.json_changes.specs.Rules.{PartsAreNarrow, allows, are_close, has_named, is_asked_for, is_named, is_nothing, is_told, is_tolerated, no_rules};
+ghost use Rattle.json_changes.specs.Rules.{PartsAreNarrow, allows, are_close, has_named};
+ghost use Rattle.json_changes.specs.Rules.{is_asked_for, is_named, is_nothing, is_told};
+ghost use Rattle.json_changes.specs.Rules.{is_tolerated, no_rules};
 ghost use Rattle.json_changes.specs.Texts.{rules_view, tolerance_view, trail_view};
 
 use json::Value;

@@ -1,7 +1,8 @@
 -- Exact decimals, and the normal form of each.
 --
 -- The numeral 1500e-2 has the coefficient 1500 and two tens down, and its normal form 15 and none.
-use Rattle.std.specs.Prelude.{◌≡◌, ◌≢◌, ℕ, zero, suc, ◌+◌, ◌-◌, ◌*◌, ◌/◌, ◌%◌, ◌^◌, ◌==◌, ◌⊎◌, Bool, false, List, drop, slice_index, if◌then◌else◌}
+use Rattle.std.specs.Prelude.{◌≡◌, ◌≢◌, ℕ, zero, suc, ◌+◌, ◌-◌, ◌*◌, ◌/◌, ◌%◌, ◌^◌, ◌==◌, ◌⊎◌, Bool}
+use Rattle.std.specs.Prelude.{false, List, drop, slice_index, if◌then◌else◌}
 use Rattle.fast_float.specs.Text.{minus, Parts, scan, digits_of, tens_up, tens_down}
 
 -- the number coefficient * 10 ^ up / 10 ^ down, or what lies as far below zero
@@ -49,11 +50,14 @@ shifted a coefficient zeros = record {
 
 -- the normal form of a decimal
 unfoldable pub normal_of : Decimal → Decimal
-normal_of a = if a.coefficient == 0 then zero_decimal else shifted a (without_tens a.coefficient a.coefficient) (tens_in a.coefficient a.coefficient)
+normal_of a = if a.coefficient ==
+    0 then zero_decimal else shifted a (without_tens a.coefficient a.coefficient)
+    (tens_in a.coefficient a.coefficient)
 
 -- the decimal that the parts of a numeral write
 abbrev pub worth : Bool → Parts → Decimal
-worth negative p = record { negative = negative; coefficient = digits_of p; up = tens_up p; down = tens_down p }
+worth negative p =
+    record { negative = negative; coefficient = digits_of p; up = tens_up p; down = tens_down p }
 
 -- a text begins with a minus
 abbrev pub is_negative : List ℕ → Bool

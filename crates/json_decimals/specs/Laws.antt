@@ -25,4 +25,5 @@ TextReadsBack = (n : Decimal) → IsNormal n → decimal_of (number_text n) ≡ 
 
 -- two texts write equal decimals where their normal texts are one, and only there
 abbrev pub NormalTextsTell : Type 0
-NormalTextsTell = (s t : List ℕ) → AreEqual (decimal_of s) (decimal_of t) ↔ (normal_number s ≡ normal_number t)
+NormalTextsTell = (s t : List ℕ) → AreEqual (decimal_of s) (decimal_of t)
+    ↔ (normal_number s ≡ normal_number t)

@@ -4,7 +4,8 @@
 -- That of -0.00 is 0, that of 1200 is 12e2, and that of -0.05 is -5e-2.
 use Rattle.std.specs.Fmt.{sign_text}
 use Rattle.std.specs.Int.Digits.{digits_of}
-use Rattle.std.specs.Prelude.{ℕ, zero, suc, ◌+◌, ◌^◌, ◌≤◌, ◌==◌, List, [], ◌∷◌, ◌++◌, map, if◌then◌else◌}
+use Rattle.std.specs.Prelude.{ℕ, zero, suc, ◌+◌, ◌^◌, ◌≤◌, ◌==◌, List, [], ◌∷◌, ◌++◌, map}
+use Rattle.std.specs.Prelude.{if◌then◌else◌}
 use Rattle.std.specs.Str.Parse.{digits_value}
 use Rattle.json_decimals.specs.Decimals.{Decimal, normal_of, decimal_of, parts_of}
 

@@ -1,6 +1,7 @@
 //! Laws of decimals and of their texts.
 
-ghost use Rattle.json_decimals.specs.Laws.{NormalFormsTell, NormalIsEqual, NormalTextsTell, OneNormalForm, PassesOn, TextReadsBack};
+ghost use Rattle.json_decimals.specs.Laws.{NormalFormsTell, NormalIsEqual, NormalTextsTell};
+ghost use Rattle.json_decimals.specs.Laws.{OneNormalForm, PassesOn, TextReadsBack};
 
 /// Says which decimals are equal, and that their texts tell.
 pub fn decimal_laws()

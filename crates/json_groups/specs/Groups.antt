@@ -1,11 +1,12 @@
 -- The parts of documents, gathered by their paths.
 --
--- In {"a": 7} and {"b": 1, "a": [8, 9]} the path a comes first, and has 7 and the array, in two documents. The path b has 1, and
--- a[] has 8 and 9, each in one document.
+-- In {"a": 7} and {"b": 1, "a": [8, 9]} the path a comes first, and has 7 and the array, in two
+-- documents. The path b has 1, and a[] has 8 and 9, each in one document.
 use Rattle.std.specs.List.{count_by, filter, flat_map, fold, list_any}
 use Rattle.std.specs.Global.{Vec}
 use Rattle.std.specs.HashMap.{HashMap, get_by}
-use Rattle.std.specs.Prelude.{◌≡◌, ◌<◌, ◌≤◌, ◌+◌, ◌==◌, ℕ, suc, Bool, if◌then◌else◌, All, List, [], ◌∷◌, ◌++◌, length, map, get_or, Option, None, Some}
+use Rattle.std.specs.Prelude.{◌≡◌, ◌<◌, ◌≤◌, ◌+◌, ◌==◌, ℕ, suc, Bool, if◌then◌else◌, All, List, []}
+use Rattle.std.specs.Prelude.{◌∷◌, ◌++◌, length, map, get_or, Option, None, Some}
 use Rattle.std.specs.Str.{bytes_eq}
 use Rattle.json.specs.Json.{Json}
 use Rattle.json_parts.specs.Parts.{Part}
@@ -56,13 +57,15 @@ abbrev pub place_of : {S : Type 0} → List ℕ → HashMap (Vec ℕ) ℕ S → 
 place_of path places = get_by (λ key. bytes_eq path key.items) places
 
 -- each path is found at its place, and no other one is
-pub record AreFound {S : Type 0} (places : HashMap (Vec ℕ) ℕ S) (paths : List (List ℕ)) : Type 0 where
+pub record AreFound {S : Type 0} (places : HashMap (Vec ℕ) ℕ S) (paths : List (List ℕ)) :
+    Type 0 where
   pub within : (path : List ℕ) (i : ℕ) → place_of path places ≡ Some i → i < length paths
   pub same : (path : List ℕ) (i : ℕ) → place_of path places ≡ Some i → get_or paths i [] ≡ path
   pub each : (i : ℕ) → i < length paths → place_of (get_or paths i []) places ≡ Some i
 
 -- the numbers of a group: of some documents and of the first parts of one more
-pub record AreCounted (done : List (List Part)) (parts : List Part) (path : List ℕ) (documents last : ℕ) : Type 0 where
+pub record AreCounted (done : List (List Part)) (parts : List Part) (path : List ℕ)
+    (documents last : ℕ) : Type 0 where
   pub documents_are : documents ≡ count_by (has path) done + (if has path parts then 1 else 0)
   pub last_is : has path parts ≡ (last == suc (length done))
   pub within : last ≤ suc (length done)

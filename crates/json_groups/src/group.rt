@@ -1,6 +1,7 @@
 //! The values at one path.
 
-ghost use Rattle.std.specs.Prelude.{◌≡◌, ◌+◌, ◌==◌, ◌++◌, ◌∷◌, [], ℕ, List, if◌then◌else◌, IfOk, OnOk};
+ghost use Rattle.std.specs.Prelude.{◌≡◌, ◌+◌, ◌==◌, ◌++◌, ◌∷◌, [], ℕ, List, if◌then◌else◌, IfOk};
+ghost use Rattle.std.specs.Prelude.{OnOk};
 ghost use Rattle.json.specs.Json.{Json};
 ghost use Rattle.json.specs.Value.{value_view};
 
@@ -49,7 +50,9 @@ impl<T: Tally> Group<T> {
 
     /// Notes that a document has a value.
     fn note(&mut self, document: usize) -> Result<(), AllocError>
-        ensures documents { OnOk result (self.new.documents ≡ self.old.documents + (if self.old.last == document then 0 else 1)) }
+        ensures documents { OnOk result
+            (self.new.documents
+            ≡ self.old.documents + (if self.old.last == document then 0 else 1)) }
         ensures last { OnOk result (self.new.last ≡ document) }
         ensures path { self.new.path ≡ self.old.path }
         ensures tally { self.new.tally ≡ self.old.tally }
@@ -64,7 +67,9 @@ impl<T: Tally> Group<T> {
 
     /// Adds a value of a document.
     pub(crate) fn add(&mut self, document: usize, value: &Value<'_>) -> Result<(), AllocError>
-        ensures documents { OnOk result (self.new.documents ≡ self.old.documents + (if self.old.last == document then 0 else 1)) }
+        ensures documents { OnOk result
+            (self.new.documents
+            ≡ self.old.documents + (if self.old.last == document then 0 else 1)) }
         ensures last { OnOk result (self.new.last ≡ document) }
         ensures path { OnOk result (self.new.path ≡ self.old.path) }
         ensures tally { OnOk result ((values : List Json) → T.Gathers values self.old.tally

@@ -40,7 +40,8 @@ impl<T: Tally> Groups<T> {
     fn add_first(&mut self, alloc: Global, path: &[u8], value: &Value<'_>) -> Result<(), AllocError>
         ensures { OnOk result ((done : List (List Part)) (parts : List Part)
             → place_of path.now self.old.places ≡ None → HoldsParts T.Gathers done parts self.old
-            → HoldsParts T.Gathers done (parts ++ part path.now (value_view value.now) ∷ []) self.new) }
+            → HoldsParts T.Gathers done (parts ++ part path.now (value_view value.now) ∷ [])
+            self.new) }
     {
         let mut group: Group<T> = Group::new(alloc, path)?;
         group.add(self.documents, value)?;
@@ -52,10 +53,12 @@ impl<T: Tally> Groups<T> {
 
     /// Adds a value at a path.
     fn add(&mut self, alloc: Global, path: &[u8], value: &Value<'_>) -> Result<(), AllocError>
-        requires { (done : List (List Part)) × (parts : List Part) × HoldsParts T.Gathers done parts self.old }
+        requires { (done : List (List Part)) × (parts : List Part)
+            × HoldsParts T.Gathers done parts self.old }
         ensures { OnOk result ((done : List (List Part)) (parts : List Part)
             → HoldsParts T.Gathers done parts self.old
-            → HoldsParts T.Gathers done (parts ++ part path.now (value_view value.now) ∷ []) self.new) }
+            → HoldsParts T.Gathers done (parts ++ part path.now (value_view value.now) ∷ [])
+            self.new) }
     {
         let Some(place) = self.places.get(path).copied() else {
             return self.add_first(alloc, path, value);
@@ -70,7 +73,8 @@ impl<T: Tally> Groups<T> {
         requires { (documents : List (List Part)) × HoldsDocuments T.Gathers documents self.old }
         ensures { OnOk result ((documents : List (List Part))
             → HoldsDocuments T.Gathers documents self.old
-            → HoldsDocuments T.Gathers (documents ++ parts_below [] (value_view document.now) ∷ []) self.new) }
+            → HoldsDocuments T.Gathers (documents ++ parts_below [] (value_view document.now) ∷ [])
+            self.new) }
     {
         let parts = parts_of(alloc, document)?;
         self.documents = one_more(self.documents)?;

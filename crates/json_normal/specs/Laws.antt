@@ -11,15 +11,18 @@ use Rattle.json_normal.specs.Same.{AreSame}
 
 -- an object's members may stand in any order
 abbrev pub MembersInAnyOrder : Type 0
-MembersInAnyOrder = (ms ns : Members) → AreDistinct (keys ms) → IsPermutation (entries ms) (entries ns) → normal (object ms) ≡ normal (object ns)
+MembersInAnyOrder = (ms ns : Members) → AreDistinct (keys ms)
+    → IsPermutation (entries ms) (entries ns) → normal (object ms) ≡ normal (object ns)
 
 -- two values are the same where their normal forms are one, and only there
 abbrev pub NormalFormsTell : Type 0
-NormalFormsTell = (j k : Json) → HasUniqueKeys j → HasUniqueKeys k → AreSame j k ↔ (normal j ≡ normal k)
+NormalFormsTell = (j k : Json) → HasUniqueKeys j → HasUniqueKeys k → AreSame j k
+    ↔ (normal j ≡ normal k)
 
 -- two values are the same where their normal texts are one, and only there
 abbrev pub NormalTextsTell : Type 0
-NormalTextsTell = (j k : Json) → HasUniqueKeys j → HasUniqueKeys k → AreSame j k ↔ (normal_text j ≡ normal_text k)
+NormalTextsTell = (j k : Json) → HasUniqueKeys j → HasUniqueKeys k → AreSame j k
+    ↔ (normal_text j ≡ normal_text k)
 
 -- a normal text is JSON, and its value is the normal form
 abbrev pub TextReadsBack : Type 0

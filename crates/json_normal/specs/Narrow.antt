@@ -2,7 +2,8 @@
 --
 -- 1e99 is narrow. 1e with 31 ones behind it is not.
 use Rattle.std.specs.Prelude.{◌≡◌, Ok, Err, Result, ⊤}
-use Rattle.json.specs.Json.{Json, null, boolean, number, string, array, object, Items, no_items, item, Members, no_members, member}
+use Rattle.json.specs.Json.{Json, null, boolean, number, string, array, object, Items, no_items}
+use Rattle.json.specs.Json.{item, Members, no_members, member}
 use Rattle.json_decimals.specs.Texts.{HasWideExponent}
 use Rattle.json_decimals.specs.declared.error.NumberError.{NumberError}
 use Rattle.json_decimals.specs.declared.error.NumberError.TheVariants.{WideExponent}

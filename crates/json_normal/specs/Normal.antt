@@ -5,7 +5,8 @@ use Rattle.std.specs.Borrow.{Bor}
 use Rattle.std.specs.Cmp.Lexicographic.{slice_cmp}
 use Rattle.std.specs.Ordering.{nat_cmp, match_ordering}
 use Rattle.std.specs.Prelude.{ℕ, List, [], ◌∷◌}
-use Rattle.json.specs.Json.{Json, null, boolean, number, string, array, object, Items, no_items, item, Members, no_members, member}
+use Rattle.json.specs.Json.{Json, null, boolean, number, string, array, object, Items, no_items}
+use Rattle.json.specs.Json.{item, Members, no_members, member}
 use Rattle.json.specs.Print.{print}
 use Rattle.json.specs.Tree.{json_tokens}
 use Rattle.json.specs.Value.{value_view}
@@ -19,7 +20,8 @@ Entry = List ℕ × Json
 -- an entry put before the first whose name is not below its own
 abbrev pub put_in : Entry → List Entry → List Entry
 put_in m [] = m ∷ []
-put_in m (n ∷ ns) = match_ordering (slice_cmp nat_cmp m.0 n.0) (m ∷ n ∷ ns) (m ∷ n ∷ ns) (n ∷ put_in m ns)
+put_in m (n ∷ ns) =
+    match_ordering (slice_cmp nat_cmp m.0 n.0) (m ∷ n ∷ ns) (m ∷ n ∷ ns) (n ∷ put_in m ns)
 
 -- entries in the order of their names
 abbrev pub in_order : List Entry → List Entry

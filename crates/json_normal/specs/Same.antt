@@ -3,7 +3,8 @@
 -- {"a": 1.0, "b": 2} and {"b": 2, "a": 1} are the same.
 -- {"a": 1} and {"a": 1, "b": 2} are not, and neither are [1, 2] and [2, 1].
 use Rattle.std.specs.Prelude.{◌≡◌, ℕ, ◌⊎◌, List, ⊤}
-use Rattle.json.specs.Json.{Json, null, boolean, number, string, array, object, Items, no_items, item, Members, no_members, member}
+use Rattle.json.specs.Json.{Json, null, boolean, number, string, array, object, Items, no_items}
+use Rattle.json.specs.Json.{item, Members, no_members, member}
 use Rattle.json_decimals.specs.Decimals.{AreEqual, decimal_of}
 
 -- a member of this name has such a value

@@ -1,6 +1,7 @@
 //! Laws of normal forms and of their texts.
 
-ghost use Rattle.json_normal.specs.Laws.{MembersInAnyOrder, NormalFormsTell, NormalTextsTell, NumbersAreReadWhole, TextReadsBack};
+ghost use Rattle.json_normal.specs.Laws.{MembersInAnyOrder, NormalFormsTell, NormalTextsTell};
+ghost use Rattle.json_normal.specs.Laws.{NumbersAreReadWhole, TextReadsBack};
 
 /// Says which values have one normal form, and that its text tells.
 pub fn normal_laws()

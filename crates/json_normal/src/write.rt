@@ -3,13 +3,16 @@
 ghost use Rattle.std.specs.Prelude.{◌≡◌, [], ◌∷◌, ◌++◌, OnOk, ⊤};
 ghost use Rattle.json.specs.Print.{IsPrintable};
 ghost use Rattle.json.specs.Reads.{token_of};
-ghost use Rattle.json.specs.Strict.{HasUniqueKeys, ItemsHaveUniqueKeys, MembersHaveUniqueKeys, AreDistinct, keys};
+ghost use Rattle.json.specs.Strict.{HasUniqueKeys, ItemsHaveUniqueKeys, MembersHaveUniqueKeys};
+ghost use Rattle.json.specs.Strict.{AreDistinct, keys};
 ghost use Rattle.json.specs.Token.{number};
 ghost use Rattle.json.specs.Tree.{json_tokens, items_tokens, members_tokens};
 ghost use Rattle.json.specs.Value.{value_view, items_view, members_view};
 ghost use Rattle.json_decimals.specs.Texts.{HasWideExponent, normal_number};
-ghost use Rattle.json_normal.specs.Narrow.{HasNarrowNumbers, ItemsHaveNarrowNumbers, MembersHaveNarrowNumbers, TellsNarrow};
-ghost use Rattle.json_normal.specs.Normal.{normal, normal_items, normal_entries, in_order, members_from};
+ghost use Rattle.json_normal.specs.Narrow.{HasNarrowNumbers, ItemsHaveNarrowNumbers};
+ghost use Rattle.json_normal.specs.Narrow.{MembersHaveNarrowNumbers, TellsNarrow};
+ghost use Rattle.json_normal.specs.Normal.{normal, normal_items, normal_entries, in_order};
+ghost use Rattle.json_normal.specs.Normal.{members_from};
 
 use crate::order::in_key_order;
 use json::{Token, Value, Writer};

@@ -6,4 +6,5 @@ use Rattle.json_parts.specs.Parts.{parts_below}
 
 -- the texts of numbers in parts are numbers, where those of the value are
 abbrev pub PartsHaveNumbers : Type 0
-PartsHaveNumbers = (path : List ℕ) (j : Json) → HasNumbers j → All (λ p. HasNumbers p.value) (parts_below path j)
+PartsHaveNumbers = (path : List ℕ) (j : Json) → HasNumbers j
+    → All (λ p. HasNumbers p.value) (parts_below path j)

@@ -1,8 +1,10 @@
 -- The parts of a JSON value, each with the text of the path to it.
 --
--- The parts of {"a": [7, {"b": null}]} are the array at a, 7 and the object at a[], and null at a[].b.
+-- The parts of {"a": [7, {"b": null}]} are the array at a, 7 and the object at a[], and null at
+-- a[].b.
 use Rattle.std.specs.Prelude.{ℕ, List, [], ◌∷◌, ◌++◌}
-use Rattle.json.specs.Json.{Json, null, boolean, number, string, array, object, Items, no_items, item, Members, no_members, member}
+use Rattle.json.specs.Json.{Json, null, boolean, number, string, array, object, Items, no_items}
+use Rattle.json.specs.Json.{item, Members, no_members, member}
 use Rattle.json.specs.Value.{value_view}
 use Rattle.json_changes.specs.Texts.{name_text}
 use Rattle.json_parts.specs.declared.parts.Part as rust
@@ -42,7 +44,8 @@ abbrev mutual
   -- the members of an object at a path, each with its parts behind it
   pub member_parts : List ℕ → Members → List Part
   member_parts path no_members = []
-  member_parts path (member k j ms) = part (member_path path k) j ∷ (parts_below (member_path path k) j ++ member_parts path ms)
+  member_parts path (member k j ms) =
+      part (member_path path k) j ∷ (parts_below (member_path path k) j ++ member_parts path ms)
 
 -- the part that a value stands for
 abbrev pub part_view : rust.Part → Part

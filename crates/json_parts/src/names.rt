@@ -52,7 +52,8 @@ fn push_step(alloc: Global, path: &mut Vec<u8>, key: &str) -> Result<(), AllocEr
 
 /// Appends the step to the member of a name.
 pub(crate) fn push_name(alloc: Global, path: &mut Vec<u8>, key: &str) -> Result<(), AllocError>
-    ensures path { OnOk result (path.new.items ≡ path.old.items ++ name_text path.old.items key.now) }
+    ensures path { OnOk result
+        (path.new.items ≡ path.old.items ++ name_text path.old.items key.now) }
     ensures front { OnOk result (take (length path.old.items) path.new.items ≡ path.old.items) }
 {
     push_step(alloc, path, key)?;

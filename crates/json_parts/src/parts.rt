@@ -2,7 +2,8 @@
 
 ghost use Rattle.std.specs.Prelude.{◌≡◌, ◌++◌, ◌∷◌, [], IfOk, OnOk, map};
 ghost use Rattle.json.specs.Value.{items_view, members_view, value_view};
-ghost use Rattle.json_parts.specs.Parts.{item_parts, item_path, member_parts, part, part_view, parts_below};
+ghost use Rattle.json_parts.specs.Parts.{item_parts, item_path, member_parts, part, part_view};
+ghost use Rattle.json_parts.specs.Parts.{parts_below};
 
 use crate::names::{push_any_item, push_name};
 use json::Value;
@@ -102,7 +103,8 @@ pub fn parts_of<'v, 'a>(
     alloc: Global,
     value: &'v Value<'a>,
 ) -> Result<Vec<Part<'v, 'a>>, AllocError>
-    ensures { IfOk result (λ parts. map part_view parts.items ≡ parts_below [] (value_view value.now)) }
+    ensures { IfOk result
+        (λ parts. map part_view parts.items ≡ parts_below [] (value_view value.now)) }
 {
     let mut path = Vec::new(alloc);
     let mut parts = Vec::new(alloc);

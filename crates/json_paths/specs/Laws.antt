@@ -21,4 +21,5 @@ Fits any_item = ⊤
 
 -- some text writes each pattern, whatever its names
 abbrev pub EachHasAText : Type 0
-EachHasAText = (pattern : Pattern) → pattern ≢ [] → AllByRecursion Fits pattern → (text : List ℕ) × IsPatternText text pattern
+EachHasAText = (pattern : Pattern) → pattern ≢ [] → AllByRecursion Fits pattern → (text : List ℕ)
+    × IsPatternText text pattern

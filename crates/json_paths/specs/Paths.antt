@@ -1,7 +1,7 @@
 -- Paths into JSON values, and their texts.
 --
--- In {"items": [7, {"price": 9.5}], "a.b": 1} the path items[1].price leads to 9.5, and ."a.b" to 1. The path items[2]
--- leads nowhere.
+-- In {"items": [7, {"price": 9.5}], "a.b": 1} the path items[1].price leads to 9.5, and ."a.b" to
+-- 1. The path items[2] leads nowhere.
 use Rattle.std.specs.Prelude.{ℕ, List, [], ◌∷◌, Option, Some, option_and_then}
 use Rattle.json.specs.Json.{Json}
 use Rattle.json.specs.Find.{get, at}

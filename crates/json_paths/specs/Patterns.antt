@@ -1,7 +1,7 @@
 -- Patterns, which name parts of JSON values by the paths to them.
 --
--- The pattern items[].price begins the paths items[1].price and items[1].price.net, and not items[1] nor items. These
--- two lead to a part in which it goes on.
+-- The pattern items[].price begins the paths items[1].price and items[1].price.net, and not
+-- items[1] nor items. These two lead to a part in which it goes on.
 use Rattle.std.specs.Prelude.{◌==◌, Bool, true, false, ◌&&◌, List, [], ◌∷◌}
 use Rattle.std.specs.Str.{bytes_eq}
 use Rattle.json_paths.specs.Paths.{Step, name, place, Path}

@@ -1,8 +1,9 @@
 -- Texts of paths and of patterns, as a user writes them.
 --
--- The text a.b[0] writes the names a and b and the place 0, and ."a.b" writes one name, a.b. In a pattern [] writes the
--- step to any item, as in items[].price.
-use Rattle.std.specs.Prelude.{◌≡◌, ◌≢◌, ◌⊎◌, ◌<◌, ◌^◌, ◌==◌, ◌||◌, ℕ, Bool, true, cond, not, List, [], ◌∷◌, ◌++◌, length, map, Some}
+-- The text a.b[0] writes the names a and b and the place 0, and ."a.b" writes one name, a.b. In a
+-- pattern [] writes the step to any item, as in items[].price.
+use Rattle.std.specs.Prelude.{◌≡◌, ◌≢◌, ◌⊎◌, ◌<◌, ◌^◌, ◌==◌, ◌||◌, ℕ, Bool, true, cond, not, List}
+use Rattle.std.specs.Prelude.{[], ◌∷◌, ◌++◌, length, map, Some}
 use Rattle.std.specs.List.{AllByRecursion}
 use Rattle.std.specs.Str.Parse.{IsNumeral, digits_value}
 use Rattle.json.specs.Ascii.{quote, dot, open_bracket, close_bracket}
@@ -20,7 +21,8 @@ IsPlainName k = (0 < length k) × AllByRecursion (λ x. is_plain x ≡ true) k
 
 -- a name within quotes: a string of JSON, and nothing around it
 abbrev pub IsQuotedName : List ℕ → List ℕ → Type 0
-IsQuotedName text k = (inner : List ℕ) × (text ≡ quote ∷ (inner ++ quote ∷ [])) × (document text ≡ Some (string k))
+IsQuotedName text k = (inner : List ℕ) × (text ≡ quote ∷ (inner ++ quote ∷ []))
+    × (document text ≡ Some (string k))
 
 -- the decimal digits of a place
 abbrev pub IsPlaceText : List ℕ → ℕ → Type 0
@@ -28,14 +30,17 @@ IsPlaceText digits i = IsNumeral 10 digits × (digits_value 10 digits ≡ i) × 
 
 -- a step: a dot and a name, or a place within brackets, which are empty for any item
 abbrev pub IsStepText : List ℕ → PatternStep → Type 0
-IsStepText text (exactly (name k)) = (written : List ℕ) × (text ≡ dot ∷ written) × (((written ≡ k) × IsPlainName k) ⊎ IsQuotedName written k)
-IsStepText text (exactly (place i)) = (digits : List ℕ) × (text ≡ open_bracket ∷ (digits ++ close_bracket ∷ [])) × IsPlaceText digits i
+IsStepText text (exactly (name k)) = (written : List ℕ) × (text ≡ dot ∷ written)
+    × (((written ≡ k) × IsPlainName k) ⊎ IsQuotedName written k)
+IsStepText text (exactly (place i)) = (digits : List ℕ)
+    × (text ≡ open_bracket ∷ (digits ++ close_bracket ∷ [])) × IsPlaceText digits i
 IsStepText text any_item = text ≡ open_bracket ∷ close_bracket ∷ []
 
 -- steps, one after another
 abbrev pub AreSteps : List ℕ → Pattern → Type 0
 AreSteps text [] = text ≡ []
-AreSteps text (s ∷ steps) = (front : List ℕ) × (rest : List ℕ) × (text ≡ front ++ rest) × IsStepText front s × AreSteps rest steps
+AreSteps text (s ∷ steps) = (front : List ℕ) × (rest : List ℕ) × (text ≡ front ++ rest)
+    × IsStepText front s × AreSteps rest steps
 
 -- a text with the dot that may be left out where a name without quotes comes first
 abbrev pub with_dot : List ℕ → List ℕ

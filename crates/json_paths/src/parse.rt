@@ -1,10 +1,10 @@
 //! Paths as a user writes them.
 //!
-//! A path is one or more steps, one after another: a dot and a name, a dot and a name within quotes,
-//! or the digits of a place within brackets. The dot before the first name may be left out where
-//! this has no quotes. In `a.b[0]` are the names `a` and `b` and the place 0, and in `."a.b"` is one
-//! name. A name within quotes is a string of JSON. A name without them has no dot, bracket or quote
-//! in it, and one byte or more.
+//! A path is one or more steps, one after another: a dot and a name, a dot and a name within
+//! quotes, or the digits of a place within brackets. The dot before the first name may be left out
+//! where this has no quotes. In `a.b[0]` are the names `a` and `b` and the place 0, and in
+//! `."a.b"` is one name. A name within quotes is a string of JSON. A name without them has no dot,
+//! bracket or quote in it, and one byte or more.
 //!
 //! A pattern is written as a path is, and in it `[]` is the step to any item: `items[].price`.
 
@@ -13,10 +13,13 @@ ghost use Rattle.json.specs.Json.{string, document};
 ghost use Rattle.json_paths.specs.Errors.{IsInvalid};
 ghost use Rattle.json_paths.specs.PatternViews.{pattern_view};
 ghost use Rattle.json_paths.specs.Reading.{Finds, left_at, up_to_quote};
-ghost use Rattle.json_paths.specs.Texts.{is_plain, IsNoPath, IsNoPattern, IsPathText, IsPatternText, IsPlaceText};
+ghost use Rattle.json_paths.specs.Texts.{is_plain, IsNoPath, IsNoPattern, IsPathText};
+ghost use Rattle.json_paths.specs.Texts.{IsPatternText, IsPlaceText};
 ghost use Rattle.json_paths.specs.Views.{path_view};
 ghost use Rattle.std.specs.List.{prefix_len};
-ghost use Rattle.std.specs.Prelude.{◌≡◌, ◌≢◌, ◌+◌, ◌<◌, ◌≤◌, ◌∷◌, [], Some, false, length, drop, option_map, slice_index, string_bytes, IfOk, IfErr, MatchOption, IsCharBoundary};
+ghost use Rattle.std.specs.Prelude.{◌≡◌, ◌≢◌, ◌+◌, ◌<◌, ◌≤◌, ◌∷◌, [], Some, false, length, drop};
+ghost use Rattle.std.specs.Prelude.{option_map, slice_index, string_bytes, IfOk, IfErr};
+ghost use Rattle.std.specs.Prelude.{MatchOption, IsCharBoundary};
 
 use crate::error::PathError;
 use crate::path::{Path, Step};
@@ -68,7 +71,8 @@ fn plain_name(alloc: Global, text: &str, start: usize) -> Result<Found, PathErro
 /// Returns the place behind the quote that ends a name, whose first quote stands at a place.
 fn quoted_end(bytes: &[u8], start: usize) -> Option<usize>
     requires { start < length bytes.now }
-    ensures { result ≡ option_map (λ n. start + 2 + n) (up_to_quote false (drop (start + 1) bytes.now)) }
+    ensures { result
+        ≡ option_map (λ n. start + 2 + n) (up_to_quote false (drop (start + 1) bytes.now)) }
 {
     let mut is_escaped = false;
     for at in start + 1..bytes.len() {
@@ -121,7 +125,8 @@ fn name_at(alloc: Global, text: &str, start: usize) -> Result<Found, PathError>
 
 /// Returns the place that a text writes, where this is decimal digits.
 fn place_of(digits: &str) -> Option<usize>
-    ensures { MatchOption result ((i : _) → ¬ (IsPlaceText digits.now i)) (λ i. IsPlaceText digits.now i) }
+    ensures { MatchOption result ((i : _) → ¬ (IsPlaceText digits.now i))
+        (λ i. IsPlaceText digits.now i) }
 {
     if digits.starts_with('+') {
         return None;

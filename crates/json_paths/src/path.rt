@@ -23,7 +23,8 @@ pub struct Path {
 impl Step {
     /// Returns the part of a value that is one step further in, where there is one.
     pub fn part_of<'v, 'a>(&self, value: &'v Value<'a>) -> Option<&'v Value<'a>>
-        ensures { option_map (λ v. value_view v.now) result ≡ step_into (step_view self.now) (value_view value.now) }
+        ensures { option_map (λ v. value_view v.now) result
+            ≡ step_into (step_view self.now) (value_view value.now) }
     {
         match self {
             Step::Name(name) => value.get(name.as_str()),
@@ -34,7 +35,8 @@ impl Step {
 
 /// Returns the part of a value that these steps lead to, where there is one.
 fn part_behind<'v, 'a>(steps: &[Step], value: &'v Value<'a>) -> Option<&'v Value<'a>>
-    ensures { option_map (λ v. value_view v.now) result ≡ part_at (map step_view steps.now) (value_view value.now) }
+    ensures { option_map (λ v. value_view v.now) result
+        ≡ part_at (map step_view steps.now) (value_view value.now) }
 {
     let Some((step, rest)) = steps.split_first() else {
         return Some(value);
@@ -48,7 +50,8 @@ fn part_behind<'v, 'a>(steps: &[Step], value: &'v Value<'a>) -> Option<&'v Value
 impl Path {
     /// Returns the part of a value that the path leads to, where there is one.
     pub fn part_of<'v, 'a>(&self, value: &'v Value<'a>) -> Option<&'v Value<'a>>
-        ensures { option_map (λ v. value_view v.now) result ≡ part_at (path_view self.now) (value_view value.now) }
+        ensures { option_map (λ v. value_view v.now) result
+            ≡ part_at (path_view self.now) (value_view value.now) }
     {
         part_behind(&self.steps, value)
     }

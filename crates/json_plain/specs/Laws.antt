@@ -10,7 +10,8 @@ pub record IsShown (b : ℕ) : Type 0 where
   pub above : 32 ≤ b
   pub other : ¬ (b ≡ 127)
 
--- no two bytes one after the other are a control character from U+0080 to U+009F, where `before` stands before the first
+-- no two bytes one after the other are a control character from U+0080 to U+009F, where `before`
+-- stands before the first
 abbrev pub HasNoHigh : ℕ → List ℕ → Type 0
 HasNoHigh before [] = ⊤
 HasNoHigh before (b ∷ bs) = (is_high_control before b ≡ false) × HasNoHigh b bs
@@ -25,4 +26,5 @@ LowOnesAreEscaped = (text : List ℕ) → All (λ b. 32 ≤ b) text → All IsSh
 
 -- the plain text of a value that is printed without white space is JSON of the same value
 abbrev pub ValuesAreKept : Type 0
-ValuesAreKept = (j : Json) → HasNumbers j → depth j ≤ max_depth → document (plain_json (print (json_tokens j))) ≡ Some j
+ValuesAreKept = (j : Json) → HasNumbers j → depth j ≤ max_depth
+    → document (plain_json (print (json_tokens j))) ≡ Some j

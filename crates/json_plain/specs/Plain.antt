@@ -1,8 +1,10 @@
--- JSON texts without the control characters from U+007F to U+009F, which JSON lets stand in a string as they are.
+-- JSON texts without the control characters from U+007F to U+009F, which JSON lets stand in a
+-- string as they are.
 --
 -- The text "a", with U+0085 behind the a, is printed as "a\u0085".
 use Rattle.std.specs.Fmt.{digit_glyph}
-use Rattle.std.specs.Prelude.{ℕ, ◌/◌, ◌%◌, ◌==◌, Bool, false, ◌&&◌, ◌||◌, nat_lt, if◌then◌else◌, List, [], ◌∷◌, ◌++◌, get_or, codes}
+use Rattle.std.specs.Prelude.{ℕ, ◌/◌, ◌%◌, ◌==◌, Bool, false, ◌&&◌, ◌||◌, nat_lt, if◌then◌else◌}
+use Rattle.std.specs.Prelude.{List, [], ◌∷◌, ◌++◌, get_or, codes}
 
 -- two bytes that are a control character from U+0080 to U+009F in UTF-8
 abbrev pub is_high_control : ℕ → ℕ → Bool
@@ -18,7 +20,8 @@ escape_text c = codes "\\u00" ++ digit_glyph false (c / 16) ∷ digit_glyph fals
 
 -- what stands for a byte between two others: nothing for the first one of U+0080 to U+009F
 unfoldable pub plain_byte : ℕ → ℕ → ℕ → List ℕ
-plain_byte before b after = if is_high_control b after then [] else (if is_escaped before b then escape_text b else b ∷ [])
+plain_byte before b after =
+    if is_high_control b after then [] else (if is_escaped before b then escape_text b else b ∷ [])
 
 -- the bytes of a text that stand behind another one, where 0 stands for none
 abbrev pub plain_behind : ℕ → List ℕ → List ℕ

@@ -2,7 +2,8 @@
 
 ghost use Rattle.std.specs.Fmt.{digit_glyph};
 ghost use Rattle.std.specs.Prelude.{◌≡◌, ◌<◌, ◌++◌, false, get_or, OnOk};
-ghost use Rattle.json_plain.specs.Plain.{escape_text, is_escaped, is_high_control, plain_byte, plain_json};
+ghost use Rattle.json_plain.specs.Plain.{escape_text, is_escaped, is_high_control, plain_byte};
+ghost use Rattle.json_plain.specs.Plain.{plain_json};
 
 use std::alloc::AllocError;
 

@@ -4,7 +4,8 @@ use Rattle.json.specs.Print.{IsNumber}
 use Rattle.json_decimals.specs.Decimals.{is_negative, decimal_of}
 use Rattle.json_decimals.specs.Texts.{HasWideExponent}
 use Rattle.json_tolerances.specs.declared.error.BoundError.{BoundError}
-use Rattle.json_tolerances.specs.declared.error.BoundError.TheVariants.{NotANumber, Negative, WideExponent, TooLong}
+use Rattle.json_tolerances.specs.declared.error.BoundError.TheVariants.{NotANumber, Negative}
+use Rattle.json_tolerances.specs.declared.error.BoundError.TheVariants.{WideExponent, TooLong}
 
 -- what each error says of a text
 abbrev pub IsFaultOf : List ℕ → BoundError → Type 0

@@ -14,4 +14,5 @@ EqualAreClose = (m : Margin) (a b : Decimal) → AreEqual a b → IsTrue (is_clo
 
 -- numbers that lie nothing apart are equal
 abbrev pub OnlyEqualWithinZero : Type 0
-OnlyEqualWithinZero = (t a b : Decimal) → t.coefficient ≡ 0 → IsTrue (is_within t a b) → AreEqual a b
+OnlyEqualWithinZero = (t a b : Decimal) → t.coefficient ≡ 0 → IsTrue (is_within t a b)
+    → AreEqual a b

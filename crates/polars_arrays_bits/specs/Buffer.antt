@@ -13,7 +13,8 @@ pub record Elements (A : Type 0) : Type 0 where
 -- coded as the pair of the two
 abbrev pub elements_code : {A : Type 0} → Coded A → Coded (Elements A)
 elements_code code =
-    code_by (List _ × Bool) (coded× (coded_list code) coded_bool) (λ b. (b.items, b.owned)) (λ p. record { items = p.0; owned = p.1 }) (λ _. refl)
+    code_by (List _ × Bool) (coded× (coded_list code) coded_bool) (λ b. (b.items, b.owned))
+    (λ p. record { items = p.0; owned = p.1 }) (λ _. refl)
 
 -- all elements of the vector or the shared slice
 abbrev pub stored : {A : Type 0} → Store A → List A

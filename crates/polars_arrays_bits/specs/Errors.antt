@@ -1,6 +1,7 @@
 -- Errors of calls.
 use Rattle.polars_arrays_bits.specs.declared.error.ComputeError.{ComputeError}
-use Rattle.polars_arrays_bits.specs.declared.error.ComputeError.TheVariants.{Memory, Unsupported, KeyOutOfRange}
+use Rattle.polars_arrays_bits.specs.declared.error.ComputeError.TheVariants.{Memory, Unsupported}
+use Rattle.polars_arrays_bits.specs.declared.error.ComputeError.TheVariants.{KeyOutOfRange}
 
 -- the error is a failed allocation
 abbrev pub IsMemory : ComputeError → Type 0

@@ -1,6 +1,7 @@
 //! Borrowed windows of packed truth values.
 
-ghost use Rattle.std.specs.Prelude.{◌≡◌, ℕ, ◌+◌, ◌*◌, ◌<◌, ◌≤◌, false, not, length, take, drop, count_by, slice_get};
+ghost use Rattle.std.specs.Prelude.{◌≡◌, ℕ, ◌+◌, ◌*◌, ◌<◌, ◌≤◌, false, not, length, take, drop};
+ghost use Rattle.std.specs.Prelude.{count_by, slice_get};
 ghost use Rattle.std.specs.List.{list_all};
 ghost use Rattle.polars_arrays_words.specs.Bits.{first_of, is_bit, window};
 

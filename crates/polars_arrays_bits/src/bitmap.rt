@@ -1,6 +1,8 @@
 //! Immutable lists of packed truth values.
 
-ghost use Rattle.std.specs.Prelude.{◌≡◌, ℕ, ◌+◌, ◌*◌, ◌/◌, ◌%◌, ◌<◌, ◌≤◌, Bool, false, List, length, take, drop, get_or, slice_get, vec_len, replicate, MatchResult};
+ghost use Rattle.std.specs.Prelude.{◌≡◌, ℕ, ◌+◌, ◌*◌, ◌/◌, ◌%◌, ◌<◌, ◌≤◌, Bool, false, List};
+ghost use Rattle.std.specs.Prelude.{length, take, drop, get_or, slice_get, vec_len, replicate};
+ghost use Rattle.std.specs.Prelude.{MatchResult};
 ghost use Rattle.polars_arrays_words.specs.Bits.{is_bit, first_of, window};
 ghost use Rattle.polars_arrays_bits.specs.Errors.{IsMemory};
 
@@ -86,7 +88,8 @@ impl Bitmap {
     pub fn from_words(words: Buffer<u64>, at: usize, n: usize) -> Bitmap
         requires { at + n ≤ 64 * length words.items }
         ensures len { length result ≡ n }
-        ensures bits { (i : ℕ) → i < n → get_or result i false ≡ is_bit (get_or words.items ((at + i) / 64) 0) ((at + i) % 64) }
+        ensures bits { (i : ℕ) → i < n → get_or result i false
+            ≡ is_bit (get_or words.items ((at + i) / 64) 0) ((at + i) % 64) }
     {
         let place = place_of(0, at, n);
         let mut words = words;

@@ -1,6 +1,7 @@
 //! Elements in one piece of memory, owned or shared.
 
-ghost use Rattle.std.specs.Prelude.{◌≡◌, ◌+◌, ◌≤◌, ◌↔◌, List, Bool, true, false, IsTrue, IsFalse, IsOk, IsSome, IfSome, MatchResult, take, drop, length};
+ghost use Rattle.std.specs.Prelude.{◌≡◌, ◌+◌, ◌≤◌, ◌↔◌, List, Bool, true, false, IsTrue, IsFalse};
+ghost use Rattle.std.specs.Prelude.{IsOk, IsSome, IfSome, MatchResult, take, drop, length};
 ghost use Rattle.std.specs.Borrow.{sem};
 ghost use Rattle.polars_arrays_bits.specs.Errors.{IsMemory};
 
@@ -50,7 +51,8 @@ impl<T: Copy> Model for Buffer<T> {
 
     ghost coded = { elements_code T.code };
 
-    ghost view = { λ b. record { items = take b.len (drop b.start (stored b.store)); owned = is_vector b.store } };
+    ghost view = { λ b. record
+        { items = take b.len (drop b.start (stored b.store)); owned = is_vector b.store } };
 
     ghost invariant = { λ b. b.start + b.len ≤ length (stored b.store) };
 }
@@ -91,7 +93,8 @@ impl<T: Copy> Buffer<T> {
     /// Keeps the `n` elements from `at` on. No element is moved.
     pub fn slice(&mut self, at: usize, n: usize)
         requires { at + n ≤ length self.old.items }
-        ensures { self.new ≡ record { items = take n (drop at self.old.items); owned = self.old.owned } }
+        ensures { self.new
+            ≡ record { items = take n (drop at self.old.items); owned = self.old.owned } }
     {
         self.start += at;
         self.len = n;
@@ -138,7 +141,8 @@ impl<T: Copy> Buffer<T> {
     /// Converts to the vector of the elements if the buffer owns them and they are the whole
     /// vector, and returns the buffer unchanged otherwise. No element is moved.
     pub fn into_vec(self) -> Result<Vec<T>, Buffer<T>>
-        ensures same { MatchResult result (λ elements. elements.items ≡ self.items) (λ buffer. buffer ≡ self) }
+        ensures same { MatchResult result (λ elements. elements.items ≡ self.items)
+            (λ buffer. buffer ≡ self) }
         ensures owned { IsOk result → IsTrue self.owned }
     {
         let Buffer { store, start, len } = self;
@@ -160,7 +164,8 @@ impl<T: Copy> Buffer<T> {
     /// Makes the elements shared: later clones share them instead of copying. No element is moved.
     /// The error is `Memory`, which only an owned buffer can cause.
     pub fn share(self, _alloc: Global) -> Result<Buffer<T>, ComputeError>
-        ensures shared { MatchResult result (λ shared. shared ≡ record { items = self.items; owned = false }) IsMemory }
+        ensures shared { MatchResult result
+            (λ shared. shared ≡ record { items = self.items; owned = false }) IsMemory }
         ensures stays { IsFalse self.owned → IsOk result }
     {
         let Buffer { store, start, len } = self;

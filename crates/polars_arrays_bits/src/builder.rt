@@ -1,6 +1,7 @@
 //! Builders of bitmaps.
 
-ghost use Rattle.std.specs.Prelude.{◌≡◌, ◌+◌, ◌-◌, ◌*◌, ◌<◌, ◌≤◌, [], ◌∷◌, ◌++◌, length, replicate, MatchResult};
+ghost use Rattle.std.specs.Prelude.{◌≡◌, ◌+◌, ◌-◌, ◌*◌, ◌<◌, ◌≤◌, [], ◌∷◌, ◌++◌, length, replicate};
+ghost use Rattle.std.specs.Prelude.{MatchResult};
 ghost use Rattle.polars_arrays_words.specs.Bits.{first_of};
 ghost use Rattle.polars_arrays_words.specs.Blocks.{blocks_all};
 ghost use Rattle.polars_arrays_bits.specs.Errors.{IsMemory};
@@ -69,7 +70,8 @@ impl BitmapBuilder {
     #[inline]
     pub fn push_reserved(&mut self, value: bool)
         requires { 0 < self.old.room }
-        ensures { self.new ≡ record { bits = self.old.bits ++ value ∷ []; room = self.old.room - 1 } }
+        ensures { self.new
+            ≡ record { bits = self.old.bits ++ value ∷ []; room = self.old.room - 1 } }
     {
         write_bit(self.words.as_mut_slice(), self.len, value);
         self.len += 1;
@@ -79,7 +81,8 @@ impl BitmapBuilder {
     /// Pushes the bit `value` `n` times, whole words at a time.
     pub fn extend_constant(&mut self, n: usize, value: bool)
         requires { n ≤ self.old.room }
-        ensures { self.new ≡ record { bits = self.old.bits ++ replicate n value; room = self.old.room - n } }
+        ensures { self.new
+            ≡ record { bits = self.old.bits ++ replicate n value; room = self.old.room - n } }
     {
         let end = self.len + n;
         fill_bits(self.words.as_mut_slice(), self.len, end, value);
@@ -90,7 +93,12 @@ impl BitmapBuilder {
     /// Pushes truth values that are read one by one, a word at a time.
     pub fn extend_values<V: TruthValues>(&mut self, values: &V)
         requires { length (V.values values.now) ≤ self.old.room }
-        ensures { self.new ≡ record { bits = self.old.bits ++ V.values values.now; room = self.old.room - length (V.values values.now) } }
+        ensures { self.new
+            ≡ record {
+              bits = self.old.bits
+                  ++ V.values values.now;
+              room = self.old.room - length (V.values values.now);
+            } }
     {
         let count = values.len();
         append_values(self.words.as_mut_slice(), self.len, values);
@@ -101,7 +109,12 @@ impl BitmapBuilder {
     // Pushes the first `n` bits of a source, a word at a time.
     fn extend_source<S: BitSource>(&mut self, source: &S, n: usize)
         requires { n ≤ self.old.room }
-        ensures { self.new ≡ record { bits = self.old.bits ++ first_of (S.bit source.now) n; room = self.old.room - n } }
+        ensures { self.new
+            ≡ record {
+              bits = self.old.bits
+                  ++ first_of (S.bit source.now) n;
+              room = self.old.room - n;
+            } }
     {
         append_bits(self.words.as_mut_slice(), self.len, source, n);
         self.len += n;
@@ -113,7 +126,12 @@ impl BitmapBuilder {
     pub fn extend_blocks(&mut self, items: &BitMask<'_>, width: usize, n: usize)
         requires within { width * n ≤ length items.now }
         requires room { n ≤ self.old.room }
-        ensures { self.new ≡ record { bits = self.old.bits ++ blocks_all width n items.now; room = self.old.room - n } }
+        ensures { self.new
+            ≡ record {
+              bits = self.old.bits
+                  ++ blocks_all width n items.now;
+              room = self.old.room - n;
+            } }
     {
         // Has no effect at run time. The proof learns from it that places fit in 64 bits.
         let _len = items.len();

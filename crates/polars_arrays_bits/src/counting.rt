@@ -1,6 +1,8 @@
 //! Truth values that are read in order, while a counter adds up what each of them costs.
 
-ghost use Rattle.std.specs.Prelude.{◌≡◌, ℕ, ◌+◌, ◌*◌, ◌/◌, ◌^◌, ◌<◌, ◌≤◌, [], Bool, List, false, IsTrue, length, vec_capacity, get_or, slice_index_or, IfOk, MatchResult};
+ghost use Rattle.std.specs.Prelude.{◌≡◌, ℕ, ◌+◌, ◌*◌, ◌/◌, ◌^◌, ◌<◌, ◌≤◌, [], Bool, List, false};
+ghost use Rattle.std.specs.Prelude.{IsTrue, length, vec_capacity, get_or, slice_index_or, IfOk};
+ghost use Rattle.std.specs.Prelude.{MatchResult};
 ghost use Rattle.polars_arrays_words.specs.Bits.{AreWords};
 ghost use Rattle.polars_arrays_bits.specs.Costs.{cost_of};
 ghost use Rattle.polars_arrays_bits.specs.Errors.{IsMemory};
@@ -160,7 +162,9 @@ impl Bitmap {
         steps: &mut Steps,
     ) -> Result<Bitmap, ComputeError>
         ensures told { MatchResult result (λ bits. bits ≡ V.values values.now) IsMemory }
-        ensures counted { IfOk result (λ _. steps.new ≡ steps.old + cost_of (V.costs values.now) 0 (length (V.values values.now))) }
+        ensures counted { IfOk result
+            (λ _. steps.new
+            ≡ steps.old + cost_of (V.costs values.now) 0 (length (V.values values.now))) }
         ensures kept { steps.old ≤ steps.new }
     {
         let len = values.len();

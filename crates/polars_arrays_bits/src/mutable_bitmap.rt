@@ -1,6 +1,8 @@
 //! Mutable lists of packed truth values.
 
-ghost use Rattle.std.specs.Prelude.{◌≡◌, ℕ, ◌*◌, ◌^◌, ◌<◌, ◌≤◌, Bool, false, true, ◌&&◌, ◌||◌, length, count_by, get_or, replicate, slice_get, slice_set, vec_len, MatchResult};
+ghost use Rattle.std.specs.Prelude.{◌≡◌, ℕ, ◌*◌, ◌^◌, ◌<◌, ◌≤◌, Bool, false, true, ◌&&◌, ◌||◌};
+ghost use Rattle.std.specs.Prelude.{length, count_by, get_or, replicate, slice_get, slice_set};
+ghost use Rattle.std.specs.Prelude.{vec_len, MatchResult};
 ghost use Rattle.std.specs.Simd.Lanes.{zip2};
 ghost use Rattle.polars_arrays_words.specs.Bits.{first_of, window, zip3};
 ghost use Rattle.polars_arrays_words.specs.Logic.{or_not, merged_eq, merged_ne};
@@ -117,7 +119,8 @@ impl MutableBitmap {
 
     // Applies a change to each bit.
     fn change<C: WordChange>(&mut self, change: &C)
-        ensures { self.new ≡ first_of (λ i. C.bit change.now i (get_or self.old i false)) (length self.old) }
+        ensures { self.new
+            ≡ first_of (λ i. C.bit change.now i (get_or self.old i false)) (length self.old) }
     {
         let count = self.len.div_ceil(WORD_BITS);
         let inner = change.inner_words().min(count);
@@ -185,7 +188,8 @@ impl MutableBitmap {
         right: &BitMask<'_>,
     )
         requires { length right.now ≡ length self.old }
-        ensures { self.new ≡ zip3 O.bit self.old (first_of (A.bit left) (length self.old)) right.now }
+        ensures { self.new
+            ≡ zip3 O.bit self.old (first_of (A.bit left) (length self.old)) right.now }
     {
         let (words, by) = right.packed();
         if by == 0 {

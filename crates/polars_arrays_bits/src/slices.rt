@@ -1,6 +1,7 @@
 //! Comparisons of the elements of slices, place by place.
 
-ghost use Rattle.std.specs.Prelude.{◌≡◌, ℕ, ◌+◌, ◌<◌, ◌≤◌, false, ◌&&◌, take, drop, map, length, MatchResult};
+ghost use Rattle.std.specs.Prelude.{◌≡◌, ℕ, ◌+◌, ◌<◌, ◌≤◌, false, ◌&&◌, take, drop, map, length};
+ghost use Rattle.std.specs.Prelude.{MatchResult};
 ghost use Rattle.std.specs.Simd.Lanes.{zip2};
 ghost use Rattle.polars_arrays_words.specs.Bits.{first_of, is_bit};
 ghost use Rattle.polars_arrays_bits.specs.Errors.{IsMemory};
@@ -50,7 +51,8 @@ pub fn compare_pairs<L: Copy, R: Copy, E: Comparison<L, R>>(
     right: &[R],
 ) -> Result<Bitmap, ComputeError>
     requires { length right.now ≡ length left.now }
-    ensures { MatchResult result (λ bits. bits ≡ zip2 (E.holds comparison.now) left.now right.now) IsMemory }
+    ensures { MatchResult result
+        (λ bits. bits ≡ zip2 (E.holds comparison.now) left.now right.now) IsMemory }
 {
     Bitmap::from_values(
         alloc,
@@ -72,7 +74,8 @@ pub fn compare_few<L: Copy, R: Copy, E: Comparison<L, R>>(
 ) -> u64
     requires one_length { length right.now ≡ length left.now }
     requires few { length left.now ≤ 64 }
-    ensures bits { first_of (is_bit result) (length left.now) ≡ zip2 (E.holds comparison.now) left.now right.now }
+    ensures bits { first_of (is_bit result) (length left.now)
+        ≡ zip2 (E.holds comparison.now) left.now right.now }
     ensures rest { (i : ℕ) → length left.now ≤ i → i < 64 → is_bit result i ≡ false }
 {
     pack_few(
@@ -162,7 +165,8 @@ pub fn compare_constant<L: Copy, R: Copy, E: Comparison<L, R>>(
     left: &[L],
     right: R,
 ) -> Result<Bitmap, ComputeError>
-    ensures { MatchResult result (λ bits. bits ≡ map (λ l. E.holds comparison.now l right) left.now) IsMemory }
+    ensures { MatchResult result
+        (λ bits. bits ≡ map (λ l. E.holds comparison.now l right) left.now) IsMemory }
 {
     Bitmap::from_values(
         alloc,

@@ -3,7 +3,8 @@ use Rattle.std.specs.Prelude.{◌≡◌, ◌<◌, ℕ, ℤ, List, [], ◌∷◌,
 use Rattle.polars_arrays_bits.specs.declared.error.ArrayError.{ArrayError}
 use Rattle.polars_arrays_bits.specs.declared.error.ArrayError.TheVariants.{Length, Offsets}
 use Rattle.polars_arrays_flat.specs.Validity.{HasBits}
-use Rattle.polars_arrays_bytes.specs.OffsetStrings.{OffsetStrings, places, row_count, IsWithin, IsGoodRow}
+use Rattle.polars_arrays_bytes.specs.OffsetStrings.{OffsetStrings, places, row_count, IsWithin}
+use Rattle.polars_arrays_bytes.specs.OffsetStrings.{IsGoodRow}
 
 -- row `row` of n bytes is bad; without rows, row 0 is bad if the offset is missing or above n
 abbrev pub IsBadRow : ℕ → List (Option ℕ) → ℕ → Type 0
@@ -21,5 +22,6 @@ pub record IsFirstBad (n : ℕ) (all : List (Option ℕ)) (row : ℕ) : Type 0 w
 abbrev pub IsFirstFault : {A : Type 0} → (A → ℤ) → OffsetStrings A → ArrayError → Type 0
 IsFirstFault value a Length = ¬ (HasBits (row_count a.offsets) a.validity)
 IsFirstFault value a (Offsets row) =
-    HasBits (row_count a.offsets) a.validity × IsFirstBad (length a.values) (places value a.offsets) row
+    HasBits (row_count a.offsets) a.validity
+    × IsFirstBad (length a.values) (places value a.offsets) row
 IsFirstFault value a _ = ⊥

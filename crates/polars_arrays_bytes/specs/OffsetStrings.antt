@@ -1,5 +1,6 @@
 -- Byte strings between offsets.
-use Rattle.std.specs.Prelude.{◌+◌, ◌-◌, ◌≤◌, ◌<◌, ℕ, ℤ, Bool, List, [], Option, Some, None, length, map, slice_index_or, int_le, IsTrue, refl}
+use Rattle.std.specs.Prelude.{◌+◌, ◌-◌, ◌≤◌, ◌<◌, ℕ, ℤ, Bool, List, [], Option, Some, None, length}
+use Rattle.std.specs.Prelude.{map, slice_index_or, int_le, IsTrue, refl}
 use Rattle.std.specs.Coded.{Coded, code_by, coded×, coded_bool, coded_list, coded_ℕ, coded_option}
 use Rattle.std.specs.List.{range_with_len}
 use Rattle.polars_arrays_flat.specs.Row.{Row}
@@ -16,7 +17,11 @@ pub record OffsetStrings (A : Type 0) : Type 0 where
 -- coded as the three
 abbrev pub offset_code : {A : Type 0} → Coded A → Coded (OffsetStrings A)
 offset_code code =
-    code_by (List _ × (List ℕ × Option (List Bool))) (coded× (coded_list code) (coded× (coded_list coded_ℕ) (coded_option (coded_list coded_bool)))) (λ a. (a.offsets, (a.values, a.validity))) (λ p. record { offsets = p.0; values = p.1.0; validity = p.1.1 }) (λ _. refl)
+    code_by (List _ × (List ℕ × Option (List Bool)))
+    (coded× (coded_list code)
+    (coded× (coded_list coded_ℕ) (coded_option (coded_list coded_bool))))
+    (λ a. (a.offsets, (a.values, a.validity)))
+    (λ p. record { offsets = p.0; values = p.1.0; validity = p.1.1 }) (λ _. refl)
 
 -- each offset as a place in the bytes, or None if it is negative; `value` gives its whole number
 abbrev pub places : {A : Type 0} → (A → ℤ) → List A → List (Option ℕ)
@@ -73,7 +78,9 @@ pub record AreGood (n : ℕ) (all : List (Option ℕ)) : Type 0 where
 -- no offset is less than the one before it
 abbrev pub AreRising : {A : Type 0} → (A → ℤ) → List A → Type 0
 AreRising value offsets =
-    (i : ℕ) → i < row_count offsets → (d : _) → IsTrue (int_le (value (slice_index_or offsets i d)) (value (slice_index_or offsets (i + 1) d)))
+    (i : ℕ) → i < row_count offsets → (d : _)
+    → IsTrue (int_le (value (slice_index_or offsets i d))
+    (value (slice_index_or offsets (i + 1) d)))
 
 -- the parts make an array: a validity has a bit for each row, and the offsets are good
 pub record AreBounded {A : Type 0} (value : A → ℤ) (a : OffsetStrings A) : Type 0 where

@@ -16,7 +16,12 @@ pub record SizedStrings : Type 0 where
 -- coded as the four
 abbrev pub sized_code : Coded SizedStrings
 sized_code =
-    code_by (ℕ × (ℕ × (List ℕ × Option (List Bool)))) (coded× coded_ℕ (coded× coded_ℕ (coded× (coded_list coded_ℕ) (coded_option (coded_list coded_bool))))) (λ a. (a.size, (a.count, (a.values, a.validity)))) (λ p. record { size = p.0; count = p.1.0; values = p.1.1.0; validity = p.1.1.1 }) (λ _. refl)
+    code_by (ℕ × (ℕ × (List ℕ × Option (List Bool))))
+    (coded× coded_ℕ
+    (coded× coded_ℕ (coded× (coded_list coded_ℕ) (coded_option (coded_list coded_bool)))))
+    (λ a. (a.size, (a.count, (a.values, a.validity))))
+    (λ p. record { size = p.0; count = p.1.0; values = p.1.1.0; validity = p.1.1.1 })
+    (λ _. refl)
 
 -- string i is the `size` bytes from place size * i on (the Arrow layout)
 abbrev pub sized_string : ℕ → List ℕ → ℕ → List ℕ

@@ -6,7 +6,8 @@ use Rattle.polars_arrays_bits.specs.declared.error.ArrayError.{ArrayError}
 use Rattle.polars_arrays_bits.specs.declared.error.ArrayError.TheVariants.{Length, Offsets, NotUtf8}
 use Rattle.polars_arrays_flat.specs.Validity.{HasBits}
 use Rattle.polars_arrays_bytes.specs.Faults.{IsFirstBad}
-use Rattle.polars_arrays_bytes.specs.OffsetStrings.{OffsetStrings, place_at, places, row_count, offset_strings, AreBounded}
+use Rattle.polars_arrays_bytes.specs.OffsetStrings.{OffsetStrings, place_at, places, row_count}
+use Rattle.polars_arrays_bytes.specs.OffsetStrings.{offset_strings, AreBounded}
 
 -- each string alone is UTF-8
 abbrev pub AreTexts : List (List ℕ) → Type 0
@@ -14,7 +15,8 @@ AreTexts strings = All IsUtf8 strings
 
 -- the byte at a place, if that is below the end, does not continue a character
 abbrev pub IsBegun : List ℕ → ℕ → ℕ → Type 0
-IsBegun values end at = at < end → 128 ≤ slice_index_or values at 0 → 192 ≤ slice_index_or values at 0
+IsBegun values end at = at < end → 128 ≤ slice_index_or values at 0
+    → 192 ≤ slice_index_or values at 0
 
 -- no row begins with a byte that continues a character
 abbrev pub AreBegun : List (Option ℕ) → List ℕ → ℕ → Type 0
@@ -36,6 +38,8 @@ pub record AreTextParts {A : Type 0} (value : A → ℤ) (a : OffsetStrings A) :
 abbrev pub IsFirstTextFault : {A : Type 0} → (A → ℤ) → OffsetStrings A → ArrayError → Type 0
 IsFirstTextFault value a Length = ¬ (HasBits (row_count a.offsets) a.validity)
 IsFirstTextFault value a (Offsets row) =
-    HasBits (row_count a.offsets) a.validity × IsFirstBad (length a.values) (places value a.offsets) row
-IsFirstTextFault value a (NotUtf8 row) = AreBounded value a × IsFirstOther (offset_strings value a) row
+    HasBits (row_count a.offsets) a.validity
+    × IsFirstBad (length a.values) (places value a.offsets) row
+IsFirstTextFault value a (NotUtf8 row) = AreBounded value a
+    × IsFirstOther (offset_strings value a) row
 IsFirstTextFault value a _ = ⊥

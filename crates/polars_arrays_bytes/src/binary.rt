@@ -1,10 +1,13 @@
 //! Arrays of byte strings between offsets.
 
-ghost use Rattle.std.specs.Prelude.{◌≡◌, ◌+◌, ◌<◌, ◌≤◌, [], length, slice_index_or, IsOk, MatchResult, IfOk, IfErr, ⊤, refl};
+ghost use Rattle.std.specs.Prelude.{◌≡◌, ◌+◌, ◌<◌, ◌≤◌, [], length, slice_index_or, IsOk};
+ghost use Rattle.std.specs.Prelude.{MatchResult, IfOk, IfErr, ⊤, refl};
 ghost use Rattle.std.specs.Result.{OkIff};
 ghost use Rattle.polars_arrays_bits.specs.Errors.{IsMemory};
 ghost use Rattle.polars_arrays_bytes.specs.Faults.{IsFirstFault};
-ghost use Rattle.polars_arrays_bytes.specs.OffsetStrings.{AreBounded, AreGood, offset_rows, offset_strings, places, row_count, strings_between};
+ghost use Rattle.polars_arrays_bytes.specs.OffsetStrings.{AreBounded, AreGood, offset_rows};
+ghost use Rattle.polars_arrays_bytes.specs.OffsetStrings.{offset_strings, places, row_count};
+ghost use Rattle.polars_arrays_bytes.specs.OffsetStrings.{strings_between};
 ghost use Rattle.polars_arrays_flat.specs.DataType.{kind_of};
 ghost use Rattle.polars_arrays_flat.specs.SlotLaws.{byte_slots-present};
 ghost use Rattle.polars_arrays_flat.specs.StoredRows.{rows_under, byte_slots};
@@ -34,15 +37,18 @@ pub struct BinaryArray<O: Offset> {
 }
 
 impl<O: Offset> Model for BinaryArray<O> {
-    ghost use Rattle.polars_arrays_bytes.specs.OffsetStrings.{AreBounded, OffsetStrings, offset_code};
+    ghost use Rattle.polars_arrays_bytes.specs.OffsetStrings.{AreBounded, OffsetStrings};
+    ghost use Rattle.polars_arrays_bytes.specs.OffsetStrings.{offset_code};
 
     ghost Value = { OffsetStrings O };
 
     ghost coded = { offset_code O.code };
 
-    ghost view = { λ a. record { offsets = a.offsets.items; values = a.values.items; validity = a.validity } };
+    ghost view = { λ a. record
+        { offsets = a.offsets.items; values = a.values.items; validity = a.validity } };
 
-    ghost invariant = { λ a. AreBounded O.value (record { offsets = a.offsets.items; values = a.values.items; validity = a.validity }) };
+    ghost invariant = { λ a. AreBounded O.value
+        (record { offsets = a.offsets.items; values = a.values.items; validity = a.validity }) };
 }
 
 impl<O: Offset> BinaryArray<O> {
@@ -61,9 +67,17 @@ impl<O: Offset> BinaryArray<O> {
         values: Buffer<u8>,
         validity: Option<Bitmap>,
     ) -> Result<BinaryArray<O>, ArrayError>
-        ensures made { OkIff result (AreBounded O.value (record { offsets = offsets.items; values = values.items; validity = validity })) (record { offsets = offsets.items; values = values.items; validity = validity }) }
-        ensures refused { IfErr result (IsFirstFault O.value (record { offsets = offsets.items; values = values.items; validity = validity })) }
-        ensures rows { IfOk result (λ a. offset_rows O.value a ≡ rows_under validity (byte_slots (strings_between (places O.value offsets.items) values.items))) }
+        ensures made { OkIff result
+            (AreBounded O.value
+            (record { offsets = offsets.items; values = values.items; validity = validity }))
+            (record { offsets = offsets.items; values = values.items; validity = validity }) }
+        ensures refused { IfErr result
+            (IsFirstFault O.value
+            (record { offsets = offsets.items; values = values.items; validity = validity })) }
+        ensures rows { IfOk result
+            (λ a. offset_rows O.value a
+            ≡ rows_under validity
+            (byte_slots (strings_between (places O.value offsets.items) values.items))) }
     {
         if !has_bits(row_count(offsets.as_slice()), &validity) {
             return Err(ArrayError::Length);
@@ -121,7 +135,13 @@ impl<O: Offset> BinaryArray<O> {
     #[tactic(auto, using(crate::proofs::OffsetWindows::slices))]
     pub fn slice(&mut self, at: usize, n: usize)
         requires { at + n ≤ row_count self.old.offsets }
-        ensures stored { self.new ≡ record { offsets = window at (n + 1) self.old.offsets; values = self.old.values; validity = validity_window at n self.old.validity } }
+        ensures stored { self.new
+            ≡ record {
+              offsets = window at (n + 1) self.old.offsets;
+              values =
+                  self.old.values;
+              validity = validity_window at n self.old.validity;
+            } }
         ensures strings { offset_strings O.value self.new ≡ window at n (offset_strings O.value self.old) }
         ensures rows { offset_rows O.value self.new ≡ window at n (offset_rows O.value self.old) }
     {
@@ -187,7 +207,8 @@ impl<O: Offset> Array for BinaryArray<O> {
         null_count(&self.validity)
     }
 
-    ghost null_law = { λ a b i within is_null. absurd (byte_slots-present (offset_strings O.value a) i within is_null) };
+    ghost null_law = { λ a b i within is_null. absurd
+        (byte_slots-present (offset_strings O.value a) i within is_null) };
 }
 
 impl<O: Offset> ByteRows for BinaryArray<O> {

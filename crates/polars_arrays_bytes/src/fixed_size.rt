@@ -1,9 +1,11 @@
 //! Arrays of byte strings of one size.
 
-ghost use Rattle.std.specs.Prelude.{◌≡◌, ◌+◌, ◌*◌, ◌<◌, ◌≤◌, [], length, slice_index_or, IsOk, MatchResult, IfOk, IfErr, ⊤, refl};
+ghost use Rattle.std.specs.Prelude.{◌≡◌, ◌+◌, ◌*◌, ◌<◌, ◌≤◌, [], length, slice_index_or, IsOk};
+ghost use Rattle.std.specs.Prelude.{MatchResult, IfOk, IfErr, ⊤, refl};
 ghost use Rattle.std.specs.Result.{OkIff};
 ghost use Rattle.polars_arrays_bits.specs.Errors.{IsMemory};
-ghost use Rattle.polars_arrays_bytes.specs.SizedStrings.{IsSized, sized_rows, sized_string, sized_strings};
+ghost use Rattle.polars_arrays_bytes.specs.SizedStrings.{IsSized, sized_rows, sized_string};
+ghost use Rattle.polars_arrays_bytes.specs.SizedStrings.{sized_strings};
 ghost use Rattle.polars_arrays_flat.specs.DataType.{kind_of};
 ghost use Rattle.polars_arrays_flat.specs.Kind.{FixedSizeBinaryKind};
 ghost use Rattle.polars_arrays_flat.specs.SlotLaws.{byte_slots-present};
@@ -39,7 +41,8 @@ impl Model for FixedSizeBinaryArray {
 
     ghost coded = { sized_code };
 
-    ghost view = { λ a. record { size = a.size; count = a.count; values = a.values.items; validity = a.validity } };
+    ghost view = { λ a. record
+        { size = a.size; count = a.count; values = a.values.items; validity = a.validity } };
 
     ghost invariant = { λ a. IsSized a.size a.count a.values.items a.validity };
 }
@@ -54,9 +57,12 @@ impl FixedSizeBinaryArray {
         values: Buffer<u8>,
         validity: Option<Bitmap>,
     ) -> Result<FixedSizeBinaryArray, ArrayError>
-        ensures made { OkIff result (IsSized size len values.items validity) (record { size = size; count = len; values = values.items; validity = validity }) }
+        ensures made { OkIff result (IsSized size len values.items validity)
+            (record { size = size; count = len; values = values.items; validity = validity }) }
         ensures refused { IfErr result (λ e. e ≡ ArrayError.Length) }
-        ensures rows { IfOk result (λ a. sized_rows a ≡ rows_under validity (byte_slots (sized_strings size len values.items))) }
+        ensures rows { IfOk result
+            (λ a. sized_rows a
+            ≡ rows_under validity (byte_slots (sized_strings size len values.items))) }
     {
         if !has_bits(len, &validity) || size.checked_mul(len) != Some(values.len()) {
             return Err(ArrayError::Length);
@@ -88,7 +94,8 @@ impl FixedSizeBinaryArray {
     #[tactic(auto, using(crate::proofs::Windows::sized))]
     pub fn value(&self, i: usize) -> &[u8]
         requires { i < self.now.count }
-        ensures { result.now ≡ slice_index_or (sized_strings self.now.size self.now.count self.now.values) i [] }
+        ensures { result.now
+            ≡ slice_index_or (sized_strings self.now.size self.now.count self.now.values) i [] }
     {
         string_at(self.values.as_slice(), self.size, i)
     }
@@ -97,8 +104,17 @@ impl FixedSizeBinaryArray {
     #[tactic(auto, using(crate::proofs::Windows::sized))]
     pub fn slice(&mut self, at: usize, n: usize)
         requires { at + n ≤ self.old.count }
-        ensures stored { self.new ≡ record { size = self.old.size; count = n; values = window (self.old.size * at) (self.old.size * n) self.old.values; validity = validity_window at n self.old.validity } }
-        ensures strings { sized_strings self.new.size self.new.count self.new.values ≡ window at n (sized_strings self.old.size self.old.count self.old.values) }
+        ensures stored { self.new
+            ≡ record {
+              size = self.old.size;
+              count = n;
+              values =
+                  window (self.old.size * at) (self.old.size * n) self.old.values;
+              validity =
+                  validity_window at n self.old.validity;
+            } }
+        ensures strings { sized_strings self.new.size self.new.count self.new.values
+            ≡ window at n (sized_strings self.old.size self.old.count self.old.values) }
         ensures rows { sized_rows self.new ≡ window at n (sized_rows self.old) }
     {
         keep_strings(&mut self.values, self.size, at, n);
@@ -122,7 +138,8 @@ impl FixedSizeBinaryArray {
 
     /// Returns the array's type. Does not allocate, so it succeeds always.
     pub fn dtype(&self, _alloc: Global) -> Result<ArrowDataType, ComputeError>
-        ensures dtype { MatchResult result (λ dtype. kind_of dtype ≡ FixedSizeBinaryKind self.now.size) IsMemory }
+        ensures dtype { MatchResult result
+            (λ dtype. kind_of dtype ≡ FixedSizeBinaryKind self.now.size) IsMemory }
         ensures succeeds { IsOk result }
     {
         Ok(ArrowDataType::FixedSizeBinary(self.size))
@@ -162,7 +179,8 @@ impl Array for FixedSizeBinaryArray {
         null_count(&self.validity)
     }
 
-    ghost null_law = { λ a b i within is_null. absurd (byte_slots-present (sized_strings a.size a.count a.values) i within is_null) };
+    ghost null_law = { λ a b i within is_null. absurd
+        (byte_slots-present (sized_strings a.size a.count a.values) i within is_null) };
 }
 
 impl ByteRows for FixedSizeBinaryArray {
@@ -194,7 +212,12 @@ pub(crate) fn string_at(values: &[u8], size: usize, i: usize) -> &[u8]
 // Keeps the bytes of `n` strings from string `at` on.
 fn keep_strings(values: &mut Buffer<u8>, size: usize, at: usize, n: usize)
     requires { size * at + size * n ≤ length values.old.items }
-    ensures { values.new ≡ record { items = window (size * at) (size * n) values.old.items; owned = values.old.owned } }
+    ensures { values.new
+        ≡ record {
+          items = window (size * at) (size * n) values.old.items;
+          owned =
+              values.old.owned;
+        } }
 {
     // The products below are at most this length, and so fit a `usize`.
     let _len = values.len();

@@ -72,7 +72,8 @@ impl<O: Offset> Array for LentStrings<'_, O> {
         self.array.null_count()
     }
 
-    ghost null_law = { λ l q i within is_null. absurd (byte_slots-present (offset_strings O.value l.array.now) i within is_null) };
+    ghost null_law = { λ l q i within is_null. absurd
+        (byte_slots-present (offset_strings O.value l.array.now) i within is_null) };
 }
 
 impl<O: Offset> ByteRows for LentStrings<'_, O> {

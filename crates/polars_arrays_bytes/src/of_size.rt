@@ -61,7 +61,9 @@ impl<const SIZE: usize> Array for OfSize<'_, SIZE> {
         self.array.null_count()
     }
 
-    ghost null_law = { λ o q i within is_null. absurd (byte_slots-present (sized_strings o.array.now.size o.array.now.count o.array.now.values) i within is_null) };
+    ghost null_law = { λ o q i within is_null. absurd
+        (byte_slots-present (sized_strings o.array.now.size o.array.now.count o.array.now.values) i
+        within is_null) };
 }
 
 impl<const SIZE: usize> ByteRows for OfSize<'_, SIZE> {

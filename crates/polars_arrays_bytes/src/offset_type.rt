@@ -2,7 +2,8 @@
 
 ghost use Rattle.std.specs.Prelude.{◌≡◌};
 ghost use Rattle.polars_arrays_flat.specs.DataType.{kind_of};
-ghost use Rattle.polars_arrays_flat.specs.Kind.{Kind, BinaryKind, LargeBinaryKind, Utf8Kind, LargeUtf8Kind};
+ghost use Rattle.polars_arrays_flat.specs.Kind.{Kind, BinaryKind, LargeBinaryKind, Utf8Kind};
+ghost use Rattle.polars_arrays_flat.specs.Kind.{LargeUtf8Kind};
 
 use polars_arrays_flat::data_type::ArrowDataType;
 use polars_arrays_numbers::offset::Offset;

@@ -3,7 +3,9 @@
 ghost use Rattle.std.specs.Prelude.{◌≡◌, ◌+◌, ◌<◌, ◌≤◌, ◌↔◌, IsTrue, length, take};
 ghost use Rattle.std.specs.Option.{MatchOption};
 ghost use Rattle.polars_arrays_bytes.specs.Faults.{IsFirstBad};
-ghost use Rattle.polars_arrays_bytes.specs.OffsetStrings.{AreGood, AreRising, between, Bounds, IsGoodRow, IsWithin, place_at, places, row_count, string_between};
+ghost use Rattle.polars_arrays_bytes.specs.OffsetStrings.{AreGood, AreRising, between, Bounds};
+ghost use Rattle.polars_arrays_bytes.specs.OffsetStrings.{IsGoodRow, IsWithin, place_at, places};
+ghost use Rattle.polars_arrays_bytes.specs.OffsetStrings.{row_count, string_between};
 ghost use Rattle.polars_arrays_flat.specs.Validity.{window};
 ghost use Rattle.polars_arrays_numbers.specs.Naturals.{natural_of};
 
@@ -20,7 +22,8 @@ pub fn row_count<O: Offset>(offsets: &[O]) -> usize
 /// Returns the first row that is not good over `n` bytes, or row 0 if there is no offset.
 #[tactic(auto, using(crate::proofs::OffsetWindows::faults))]
 pub fn first_bad_row<O: Offset>(offsets: &[O], n: usize) -> Option<usize>
-    ensures { MatchOption result (AreGood n (places O.value offsets.now)) (IsFirstBad n (places O.value offsets.now)) }
+    ensures { MatchOption result (AreGood n (places O.value offsets.now))
+        (IsFirstBad n (places O.value offsets.now)) }
 {
     if !starts_within(offsets, n) {
         return Some(0);
@@ -48,7 +51,8 @@ fn starts_within<O: Offset>(offsets: &[O], n: usize) -> bool
 
 // Returns whether the last offset is at most `n`.
 fn ends_within<O: Offset>(offsets: &[O], n: usize) -> bool
-    ensures { IsTrue result → IsWithin n (place_at (places O.value offsets.now) (row_count offsets.now)) }
+    ensures { IsTrue result
+        → IsWithin n (place_at (places O.value offsets.now) (row_count offsets.now)) }
 {
     match offsets.last() {
         Some(last) => is_within(*last, n),
@@ -125,7 +129,8 @@ pub(crate) fn string_on<'a, O: Offset>(
 /// Keeps the offsets of the `n` rows from row `at` on.
 pub fn keep_rows<O: Offset>(offsets: &mut Buffer<O>, at: usize, n: usize)
     requires { at + n < length offsets.old.items }
-    ensures { offsets.new ≡ record { items = window at (n + 1) offsets.old.items; owned = offsets.old.owned } }
+    ensures { offsets.new
+        ≡ record { items = window at (n + 1) offsets.old.items; owned = offsets.old.owned } }
 {
     // The sum below is at most this length, so it fits a `usize`.
     let _len = offsets.len();

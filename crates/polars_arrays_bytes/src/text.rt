@@ -1,12 +1,16 @@
 //! Arrays of texts between offsets.
 
-ghost use Rattle.std.specs.Prelude.{◌≡◌, ◌+◌, ◌<◌, ◌≤◌, ◌↔◌, Some, [], length, slice_index_or, IsTrue, IsOk, MatchResult, IfOk, IfErr, ⊤, refl};
+ghost use Rattle.std.specs.Prelude.{◌≡◌, ◌+◌, ◌<◌, ◌≤◌, ◌↔◌, Some, [], length, slice_index_or};
+ghost use Rattle.std.specs.Prelude.{IsTrue, IsOk, MatchResult, IfOk, IfErr, ⊤, refl};
 ghost use Rattle.std.specs.Option.{MatchOption};
 ghost use Rattle.std.specs.Result.{OkIff};
 ghost use Rattle.std.specs.Str.{IsUtf8};
 ghost use Rattle.polars_arrays_bits.specs.Errors.{IsMemory};
-ghost use Rattle.polars_arrays_bytes.specs.OffsetStrings.{AreGood, offset_rows, offset_strings, place_at, places, row_count, strings_between};
-ghost use Rattle.polars_arrays_bytes.specs.Texts.{AreBegun, AreTextParts, AreTexts, IsBegun, IsFirstOther, IsFirstTextFault};
+ghost use Rattle.polars_arrays_bytes.specs.OffsetStrings.{AreGood, offset_rows, offset_strings};
+ghost use Rattle.polars_arrays_bytes.specs.OffsetStrings.{place_at, places, row_count};
+ghost use Rattle.polars_arrays_bytes.specs.OffsetStrings.{strings_between};
+ghost use Rattle.polars_arrays_bytes.specs.Texts.{AreBegun, AreTextParts, AreTexts, IsBegun};
+ghost use Rattle.polars_arrays_bytes.specs.Texts.{IsFirstOther, IsFirstTextFault};
 ghost use Rattle.polars_arrays_flat.specs.DataType.{kind_of};
 ghost use Rattle.polars_arrays_flat.specs.SlotLaws.{byte_slots-present};
 ghost use Rattle.polars_arrays_flat.specs.StoredRows.{rows_under, byte_slots};
@@ -35,7 +39,8 @@ pub struct Utf8Array<O: Offset> {
 }
 
 impl<O: Offset> Model for Utf8Array<O> {
-    ghost use Rattle.polars_arrays_bytes.specs.OffsetStrings.{OffsetStrings, offset_code, offset_strings};
+    ghost use Rattle.polars_arrays_bytes.specs.OffsetStrings.{OffsetStrings, offset_code};
+    ghost use Rattle.polars_arrays_bytes.specs.OffsetStrings.{offset_strings};
     ghost use Rattle.polars_arrays_bytes.specs.Texts.{AreTexts};
 
     ghost Value = { OffsetStrings O };
@@ -56,9 +61,17 @@ impl<O: Offset> Utf8Array<O> {
         values: Buffer<u8>,
         validity: Option<Bitmap>,
     ) -> Result<Utf8Array<O>, ArrayError>
-        ensures made { OkIff result (AreTextParts O.value (record { offsets = offsets.items; values = values.items; validity = validity })) (record { offsets = offsets.items; values = values.items; validity = validity }) }
-        ensures refused { IfErr result (IsFirstTextFault O.value (record { offsets = offsets.items; values = values.items; validity = validity })) }
-        ensures rows { IfOk result (λ a. offset_rows O.value a ≡ rows_under validity (byte_slots (strings_between (places O.value offsets.items) values.items))) }
+        ensures made { OkIff result
+            (AreTextParts O.value
+            (record { offsets = offsets.items; values = values.items; validity = validity }))
+            (record { offsets = offsets.items; values = values.items; validity = validity }) }
+        ensures refused { IfErr result
+            (IsFirstTextFault O.value
+            (record { offsets = offsets.items; values = values.items; validity = validity })) }
+        ensures rows { IfOk result
+            (λ a. offset_rows O.value a
+            ≡ rows_under validity
+            (byte_slots (strings_between (places O.value offsets.items) values.items))) }
     {
         let binary = BinaryArray::try_new(offsets, values, validity)?;
         match first_bad_text(&binary) {
@@ -102,7 +115,13 @@ impl<O: Offset> Utf8Array<O> {
     /// Keeps the `n` rows from row `at` on. No byte is moved or dropped.
     pub fn slice(&mut self, at: usize, n: usize)
         requires { at + n ≤ row_count self.old.offsets }
-        ensures stored { self.new ≡ record { offsets = window at (n + 1) self.old.offsets; values = self.old.values; validity = validity_window at n self.old.validity } }
+        ensures stored { self.new
+            ≡ record {
+              offsets = window at (n + 1) self.old.offsets;
+              values =
+                  self.old.values;
+              validity = validity_window at n self.old.validity;
+            } }
         ensures strings { offset_strings O.value self.new ≡ window at n (offset_strings O.value self.old) }
         ensures rows { offset_rows O.value self.new ≡ window at n (offset_rows O.value self.old) }
     {
@@ -157,7 +176,8 @@ impl<O: Offset> Array for Utf8Array<O> {
         self.binary.null_count()
     }
 
-    ghost null_law = { λ a b i within is_null. absurd (byte_slots-present (offset_strings O.value a) i within is_null) };
+    ghost null_law = { λ a b i within is_null. absurd
+        (byte_slots-present (offset_strings O.value a) i within is_null) };
 }
 
 impl<O: Offset> ByteRows for Utf8Array<O> {
@@ -182,7 +202,8 @@ impl<O: Offset> ByteRows for Utf8Array<O> {
 // Returns the first byte string that is not UTF-8. All bytes are read at once, and row by row only
 // where they do not show by themselves that each row is a text.
 fn first_bad_text<O: Offset>(binary: &BinaryArray<O>) -> Option<usize>
-    ensures { MatchOption result (AreTexts (offset_strings O.value binary.now)) (IsFirstOther (offset_strings O.value binary.now)) }
+    ensures { MatchOption result (AreTexts (offset_strings O.value binary.now))
+        (IsFirstOther (offset_strings O.value binary.now)) }
 {
     if show_texts(binary.offsets(), binary.values()) {
         return None;

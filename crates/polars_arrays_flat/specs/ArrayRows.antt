@@ -31,4 +31,5 @@ filled_row x _ = Int x
 -- row i of an array is the stored row if it is present, else Null
 abbrev pub MasksByPlace : Type 0
 MasksByPlace =
-    (validity : Option (List Bool)) (slots : List Row) (i : ℕ) → row (rows_under validity slots) i ≡ kept (is_present validity i) (row slots i)
+    (validity : Option (List Bool)) (slots : List Row) (i : ℕ) → row (rows_under validity slots) i
+    ≡ kept (is_present validity i) (row slots i)

@@ -1,5 +1,6 @@
 -- Comparison of byte strings by their parts, and by the big-endian numbers of their bytes.
-use Rattle.std.proofs.Common.{◌≡◌, ◌≤◌, ◌<◌, ◌+◌, ◌*◌, ℕ, zero, suc, List, [], ◌∷◌, length, take, drop, min, refl, sym, subst, ap, ◌∙◌, arith}
+use Rattle.std.proofs.Common.{◌≡◌, ◌≤◌, ◌<◌, ◌+◌, ◌*◌, ℕ, zero, suc, List, [], ◌∷◌, length, take}
+use Rattle.std.proofs.Common.{drop, min, refl, sym, subst, ap, ◌∙◌, arith}
 use Rattle.std.specs.Int.{w32, w64, from_be_bytes}
 use Rattle.std.specs.Cmp.Lexicographic.{slice_cmp}
 use Rattle.std.specs.Ordering.{nat_cmp, ordering_then}
@@ -29,7 +30,9 @@ cmp_suc m n =
 
 -- ---- parts
 -- the first m elements decide, or else the elements from an earlier place on
-pub overlap : (m k : ℕ) (xs ys : List ℕ) → k ≤ m → slice_cmp nat_cmp xs ys ≡ ordering_then (slice_cmp nat_cmp (take m xs) (take m ys)) (slice_cmp nat_cmp (drop k xs) (drop k ys))
+pub overlap : (m k : ℕ) (xs ys : List ℕ) → k ≤ m → slice_cmp nat_cmp xs ys
+    ≡ ordering_then (slice_cmp nat_cmp (take m xs) (take m ys))
+    (slice_cmp nat_cmp (drop k xs) (drop k ys))
 overlap zero zero xs ys within = refl
 overlap zero (suc k) xs ys within = absurd (omega arith)
 overlap (suc m) zero [] [] within = refl
@@ -50,7 +53,8 @@ overlap (suc m) (suc k) (x ∷ xs) (y ∷ ys) within =
     (λ e p. rw e refl)
 
 -- the common elements decide, or else the lengths
-pub by_length : (n : ℕ) (xs ys : List ℕ) → n ≡ min (length xs) (length ys) → slice_cmp nat_cmp xs ys ≡ ordering_then (slice_cmp nat_cmp (take n xs) (take n ys)) (nat_cmp (length xs) (length ys))
+pub by_length : (n : ℕ) (xs ys : List ℕ) → n ≡ min (length xs) (length ys) → slice_cmp nat_cmp xs ys
+    ≡ ordering_then (slice_cmp nat_cmp (take n xs) (take n ys)) (nat_cmp (length xs) (length ys))
 by_length zero [] [] e = refl
 by_length zero [] (y ∷ ys) e = sym (less_from 0 (suc (length ys)) (omega arith))
 by_length zero (x ∷ xs) [] e = sym (greater_from (suc (length xs)) 0 (omega arith))
@@ -60,21 +64,26 @@ by_length (suc n) (x ∷ xs) [] e = absurd (omega arith)
 by_length (suc n) (x ∷ xs) (y ∷ ys) e =
     by_ranked _ _ _ (nat_cmp x y) (ranked x y _ refl)
     (λ f p. rw f refl)
-    (λ f p. rw f (by_length n xs ys (omega arith) ∙ ap (ordering_then (slice_cmp nat_cmp (take n xs) (take n ys))) (cmp_suc (length xs) (length ys))))
+    (λ f p. rw f (by_length n xs ys (omega arith) ∙ ap
+    (ordering_then (slice_cmp nat_cmp (take n xs) (take n ys)))
+    (cmp_suc (length xs) (length ys))))
     (λ f p. rw f refl)
 
 -- ---- numbers
 -- a greater digit outweighs all digits after it
-pub digit_step : (k a b r s : ℕ) → r < k → s < k → nat_cmp (a * k + r) (b * k + s) ≡ ordering_then (nat_cmp a b) (nat_cmp r s)
+pub digit_step : (k a b r s : ℕ) → r < k → s < k → nat_cmp (a * k + r) (b * k + s)
+    ≡ ordering_then (nat_cmp a b) (nat_cmp r s)
 digit_step k a b r s h g =
     by_ranked _ _ _ (nat_cmp a b) (ranked a b _ refl)
-    (λ e p. rw e (less_from (a * k + r) (b * k + s) (omega (arith, row_fits a k b k p (omega arith)))))
+    (λ e p. rw e (less_from (a * k + r) (b * k + s)
+    (omega (arith, row_fits a k b k p (omega arith)))))
     (λ e p. rw e (rw p (
     by_ranked _ _ _ (nat_cmp r s) (ranked r s _ refl)
     (λ f q. rw f (less_from (b * k + r) (b * k + s) (omega arith)))
     (λ f q. rw f (equal_from (b * k + r) (b * k + s) (omega arith)))
     (λ f q. rw f (greater_from (b * k + r) (b * k + s) (omega arith))))))
-    (λ e p. rw e (greater_from (a * k + r) (b * k + s) (omega (arith, row_fits b k a k p (omega arith)))))
+    (λ e p. rw e (greater_from (a * k + r) (b * k + s)
+    (omega (arith, row_fits b k a k p (omega arith)))))
 
 -- the weight of a byte before these bytes
 abbrev worth : List ℕ → ℕ
@@ -98,14 +107,16 @@ number_below (x ∷ xs) bytes =
     let rest = number_below xs (λ k. bytes (suc k)) in
     omega (arith, rest, row_fits x (worth xs) 256 (worth xs) (bytes 0) (omega arith))
 
-number_decides : (xs ys : List ℕ) → length xs ≡ length ys → AreBytes xs → AreBytes ys → nat_cmp (number xs) (number ys) ≡ slice_cmp nat_cmp xs ys
+number_decides : (xs ys : List ℕ) → length xs ≡ length ys → AreBytes xs → AreBytes ys
+    → nat_cmp (number xs) (number ys) ≡ slice_cmp nat_cmp xs ys
 number_decides [] [] e x y = refl
 number_decides [] (b ∷ ys) e x y = absurd (omega arith)
 number_decides (a ∷ xs) [] e x y = absurd (omega arith)
 number_decides (a ∷ xs) (b ∷ ys) e x y =
     let same : length xs ≡ length ys = omega arith in
     let other : worth ys ≡ worth xs = sym (same_worth xs ys same) in
-    let below : number ys < worth xs = subst (λ (n : ℕ). number ys < n) other (number_below ys (λ i. y (suc i))) in
+    let below : number ys < worth xs = subst
+    (λ (n : ℕ). number ys < n) other (number_below ys (λ i. y (suc i))) in
     ap (λ (n : ℕ). nat_cmp (a * worth xs + number xs) (b * n + number ys)) other
     ∙ digit_step (worth xs) a b (number xs) (number ys) (number_below xs (λ i. x (suc i))) below
     ∙ ap (ordering_then (nat_cmp a b)) (number_decides xs ys same (λ i. x (suc i)) (λ i. y (suc i)))
@@ -113,7 +124,8 @@ number_decides (a ∷ xs) (b ∷ ys) e x y =
 four_spell : (a b c d : ℕ) → from_be_bytes w32 (a ∷ b ∷ c ∷ d ∷ []) ≡ number (a ∷ b ∷ c ∷ d ∷ [])
 four_spell a b c d = omega arith
 
-eight_spell : (a b c d e f g h : ℕ) → from_be_bytes w64 (a ∷ b ∷ c ∷ d ∷ e ∷ f ∷ g ∷ h ∷ []) ≡ number (a ∷ b ∷ c ∷ d ∷ e ∷ f ∷ g ∷ h ∷ [])
+eight_spell : (a b c d e f g h : ℕ) → from_be_bytes w64 (a ∷ b ∷ c ∷ d ∷ e ∷ f ∷ g ∷ h ∷ [])
+    ≡ number (a ∷ b ∷ c ∷ d ∷ e ∷ f ∷ g ∷ h ∷ [])
 eight_spell a b c d e f g h = omega arith
 
 spell_four : (xs : List ℕ) → length xs ≡ 4 → from_be_bytes w32 xs ≡ number xs
@@ -125,12 +137,16 @@ spell_eight (a ∷ b ∷ c ∷ d ∷ e ∷ f ∷ g ∷ h ∷ []) size = eight_sp
 spell_eight xs size = absurd (omega arith)
 
 -- four bytes compare as their big-endian numbers
-pub four_decide : (xs ys : List ℕ) → length xs ≡ 4 → length ys ≡ 4 → AreBytes xs → AreBytes ys → nat_cmp (from_be_bytes w32 xs) (from_be_bytes w32 ys) ≡ slice_cmp nat_cmp xs ys
-four_decide xs ys p q x y = rw (spell_four xs p, spell_four ys q) (number_decides xs ys (p ∙ sym q) x y)
+pub four_decide : (xs ys : List ℕ) → length xs ≡ 4 → length ys ≡ 4 → AreBytes xs → AreBytes ys
+    → nat_cmp (from_be_bytes w32 xs) (from_be_bytes w32 ys) ≡ slice_cmp nat_cmp xs ys
+four_decide xs ys p q x y =
+    rw (spell_four xs p, spell_four ys q) (number_decides xs ys (p ∙ sym q) x y)
 
 -- eight bytes compare as their big-endian numbers
-pub eight_decide : (xs ys : List ℕ) → length xs ≡ 8 → length ys ≡ 8 → AreBytes xs → AreBytes ys → nat_cmp (from_be_bytes w64 xs) (from_be_bytes w64 ys) ≡ slice_cmp nat_cmp xs ys
-eight_decide xs ys p q x y = rw (spell_eight xs p, spell_eight ys q) (number_decides xs ys (p ∙ sym q) x y)
+pub eight_decide : (xs ys : List ℕ) → length xs ≡ 8 → length ys ≡ 8 → AreBytes xs → AreBytes ys
+    → nat_cmp (from_be_bytes w64 xs) (from_be_bytes w64 ys) ≡ slice_cmp nat_cmp xs ys
+eight_decide xs ys p q x y =
+    rw (spell_eight xs p, spell_eight ys q) (number_decides xs ys (p ∙ sym q) x y)
 
 pub bytes_take : (n : ℕ) (xs : List ℕ) → AreBytes xs → AreBytes (take n xs)
 bytes_take zero xs b k = omega arith

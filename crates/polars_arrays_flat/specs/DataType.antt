@@ -1,9 +1,25 @@
 -- The kind of a type of the program.
 use Rattle.std.specs.Prelude.{◌≡◌, List, [], ◌∷◌, string_bytes}
-use Rattle.polars_arrays_flat.specs.Kind.{Kind, NullKind, BooleanKind, Int8Kind, Int16Kind, Int32Kind, Int64Kind, Int128Kind, UInt8Kind, UInt16Kind, UInt32Kind, UInt64Kind, UInt128Kind, BinaryKind, LargeBinaryKind, Utf8Kind, LargeUtf8Kind, BinaryViewKind, Utf8ViewKind, FixedSizeBinaryKind, ListKind, LargeListKind, FixedSizeListKind, StructKind, DictionaryKind, NamedKinds, no_kinds, more_kinds}
+use Rattle.polars_arrays_flat.specs.Kind.{Kind, NullKind, BooleanKind, Int8Kind, Int16Kind}
+use Rattle.polars_arrays_flat.specs.Kind.{Int32Kind, Int64Kind, Int128Kind, UInt8Kind, UInt16Kind}
+use Rattle.polars_arrays_flat.specs.Kind.{UInt32Kind, UInt64Kind, UInt128Kind, BinaryKind}
+use Rattle.polars_arrays_flat.specs.Kind.{LargeBinaryKind, Utf8Kind, LargeUtf8Kind, BinaryViewKind}
+use Rattle.polars_arrays_flat.specs.Kind.{Utf8ViewKind, FixedSizeBinaryKind, ListKind}
+use Rattle.polars_arrays_flat.specs.Kind.{LargeListKind, FixedSizeListKind, StructKind}
+use Rattle.polars_arrays_flat.specs.Kind.{DictionaryKind, NamedKinds, no_kinds, more_kinds}
 use Rattle.polars_arrays_flat.specs.declared.data_type.IntegerType.{IntegerType}
 use Rattle.polars_arrays_flat.specs.declared.data_type.IntegerType.TheVariants as key
-use Rattle.polars_arrays_flat.specs.declared.data_type.ArrowDataType.{ArrowDataType, Null, Boolean, Int8, Int16, Int32, Int64, Int128, UInt8, UInt16, UInt32, UInt64, UInt128, Binary, LargeBinary, Utf8, LargeUtf8, BinaryView, Utf8View, FixedSizeBinary, List', LargeList', FixedSizeList', Struct', Dictionary', Row_of-Field, end_of-Field, more_of-Field}
+use Rattle.polars_arrays_flat.specs.declared.data_type.ArrowDataType.{ArrowDataType, Null, Boolean}
+use Rattle.polars_arrays_flat.specs.declared.data_type.ArrowDataType.{Int8, Int16, Int32, Int64}
+use Rattle.polars_arrays_flat.specs.declared.data_type.ArrowDataType.{Int128, UInt8, UInt16, UInt32}
+use Rattle.polars_arrays_flat.specs.declared.data_type.ArrowDataType.{UInt64, UInt128, Binary}
+use Rattle.polars_arrays_flat.specs.declared.data_type.ArrowDataType.{LargeBinary, Utf8, LargeUtf8}
+use Rattle.polars_arrays_flat.specs.declared.data_type.ArrowDataType.{BinaryView, Utf8View}
+use Rattle.polars_arrays_flat.specs.declared.data_type.ArrowDataType.{FixedSizeBinary, List'}
+use Rattle.polars_arrays_flat.specs.declared.data_type.ArrowDataType.{LargeList', FixedSizeList'}
+use Rattle.polars_arrays_flat.specs.declared.data_type.ArrowDataType.{Struct', Dictionary'}
+use Rattle.polars_arrays_flat.specs.declared.data_type.ArrowDataType.{Row_of-Field, end_of-Field}
+use Rattle.polars_arrays_flat.specs.declared.data_type.ArrowDataType.{more_of-Field}
 use Rattle.polars_arrays_flat.specs.declared.data_type.Field.{Field}
 
 -- the kind of keys of this type
@@ -48,7 +64,8 @@ abbrev mutual
   -- the names and kinds of the fields inside a type
   pub kinds_in : {m : _} → Row_of-Field m → NamedKinds
   kinds_in end_of-Field = no_kinds
-  kinds_in (more_of-Field name dtype rest) = more_kinds (string_bytes name) (kind_of dtype) (kinds_in rest)
+  kinds_in (more_of-Field name dtype rest) =
+      more_kinds (string_bytes name) (kind_of dtype) (kinds_in rest)
 
 -- the names and kinds of fields
 abbrev pub kinds_of : List Field → NamedKinds

@@ -10,4 +10,6 @@ pub record Flat (A : Type 0) : Type 0 where
 -- coded as the pair of the two
 abbrev pub flat_code : {A : Type 0} → Coded A → Coded (Flat A)
 flat_code code =
-    code_by (List _ × Option (List Bool)) (coded× (coded_list code) (coded_option (coded_list coded_bool))) (λ a. (a.values, a.validity)) (λ p. record { values = p.0; validity = p.1 }) (λ _. refl)
+    code_by (List _ × Option (List Bool))
+    (coded× (coded_list code) (coded_option (coded_list coded_bool)))
+    (λ a. (a.values, a.validity)) (λ p. record { values = p.0; validity = p.1 }) (λ _. refl)

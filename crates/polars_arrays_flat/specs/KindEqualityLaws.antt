@@ -1,12 +1,19 @@
 -- The test of two kinds is equality, so `==` of types and of fields keeps the laws of its trait.
-use Rattle.std.specs.Prelude.{◌≡◌, ◌↔◌, ℕ, List, Bool, true, false, ◌&&◌, IsTrue, nat_eq, string_bytes, refl}
+use Rattle.std.specs.Prelude.{◌≡◌, ◌↔◌, ℕ, List, Bool, true, false, ◌&&◌, IsTrue, nat_eq}
+use Rattle.std.specs.Prelude.{string_bytes, refl}
 use Rattle.std.proofs.Common.{ap, sym}
 use Rattle.std.proofs.lemmas.Bool.{and_from, and_parts, eqb-true, eq-eqb}
 use Rattle.std.specs.Cmp.{IsEquivalence, IsPartialEquivalence, partial_equiv_from_equiv}
 use Rattle.std.specs.Str.{bytes_eq}
 use Rattle.std.proofs.lemmas.Cmp.{nat_list_eq_equiv, on_equiv, and_equiv}
 use Rattle.std.proofs.lemmas.Slice.Eq.{bytes_eq-Decides}
-use Rattle.polars_arrays_flat.specs.Kind.{Kind, NullKind, BooleanKind, Int8Kind, Int16Kind, Int32Kind, Int64Kind, Int128Kind, UInt8Kind, UInt16Kind, UInt32Kind, UInt64Kind, UInt128Kind, BinaryKind, LargeBinaryKind, Utf8Kind, LargeUtf8Kind, BinaryViewKind, Utf8ViewKind, FixedSizeBinaryKind, ListKind, LargeListKind, FixedSizeListKind, StructKind, DictionaryKind, NamedKinds, no_kinds, more_kinds}
+use Rattle.polars_arrays_flat.specs.Kind.{Kind, NullKind, BooleanKind, Int8Kind, Int16Kind}
+use Rattle.polars_arrays_flat.specs.Kind.{Int32Kind, Int64Kind, Int128Kind, UInt8Kind, UInt16Kind}
+use Rattle.polars_arrays_flat.specs.Kind.{UInt32Kind, UInt64Kind, UInt128Kind, BinaryKind}
+use Rattle.polars_arrays_flat.specs.Kind.{LargeBinaryKind, Utf8Kind, LargeUtf8Kind, BinaryViewKind}
+use Rattle.polars_arrays_flat.specs.Kind.{Utf8ViewKind, FixedSizeBinaryKind, ListKind}
+use Rattle.polars_arrays_flat.specs.Kind.{LargeListKind, FixedSizeListKind, StructKind}
+use Rattle.polars_arrays_flat.specs.Kind.{DictionaryKind, NamedKinds, no_kinds, more_kinds}
 use Rattle.polars_arrays_flat.specs.KindEquality.{kind_eq, named_eq, dtype_eq, field_eq}
 use Rattle.polars_arrays_flat.specs.DataType.{kind_of, IsSameField}
 use Rattle.polars_arrays_flat.specs.declared.data_type.ArrowDataType.{ArrowDataType}
@@ -114,7 +121,8 @@ tests_agree false false P h i = refl
 kind_eq-equiv : IsEquivalence kind_eq
 kind_eq-equiv = record {
   refl = kind_eq-refl;
-  symm = λ j k. tests_agree (kind_eq j k) (kind_eq k j) (j ≡ k) (kind_eq-is j k) (λ h. sym (kind_eq-same k j h), λ e. (kind_eq-is k j).1 (sym e));
+  symm = λ j k. tests_agree (kind_eq j k) (kind_eq k j) (j ≡ k) (kind_eq-is j k)
+      (λ h. sym (kind_eq-same k j h), λ e. (kind_eq-is k j).1 (sym e));
   congr = λ i j k h. ap (λ first. kind_eq first k) (kind_eq-same i j h);
 }
 
@@ -128,7 +136,9 @@ dtype_eq-laws = partial_equiv_from_equiv (on_equiv kind_of kind_eq-equiv)
 -- the laws that its trait requires of `==` of fields
 pub field_eq-laws : IsPartialEquivalence field_eq
 field_eq-laws =
-    partial_equiv_from_equiv (and_equiv (on_equiv (λ f. string_bytes f.name) bytes_eq-equiv) (on_equiv (λ f. kind_of f.dtype) kind_eq-equiv))
+    partial_equiv_from_equiv
+    (and_equiv (on_equiv (λ f. string_bytes f.name) bytes_eq-equiv)
+    (on_equiv (λ f. kind_of f.dtype) kind_eq-equiv))
 
 -- `==` of types is true exactly of types of equal kinds
 pub dtype_eq-is : (d e : ArrowDataType) → IsTrue (dtype_eq d e) ↔ (kind_of d ≡ kind_of e)
@@ -138,13 +148,15 @@ dtype_eq-is d e = kind_eq-is (kind_of d) (kind_of e)
 pub field_eq-is : (f g : Field) → IsTrue (field_eq f g) ↔ IsSameField f g
 field_eq-is f g = (
   λ t.
-      let both = and_parts (bytes_eq (string_bytes f.name) (string_bytes g.name)) (kind_eq (kind_of f.dtype) (kind_of g.dtype)) t in
+      let both = and_parts (bytes_eq (string_bytes f.name) (string_bytes g.name))
+      (kind_eq (kind_of f.dtype) (kind_of g.dtype)) t in
       record { name = bytes_eq-same _ _ both.0; kind = kind_eq-same _ _ both.1 },
   λ same. and_from _ _ ((bytes_eq-Decides _ _).1 same.name) ((kind_eq-is _ _).1 same.kind),
 )
 
 -- a test of whether two types are of equal kinds returns what `==` does
-pub dtype_eq-tells : (b : Bool) (d e : ArrowDataType) → IsTrue b ↔ (kind_of d ≡ kind_of e) → b ≡ dtype_eq d e
+pub dtype_eq-tells : (b : Bool) (d e : ArrowDataType) → IsTrue b ↔ (kind_of d ≡ kind_of e) → b
+    ≡ dtype_eq d e
 dtype_eq-tells b d e h = tests_agree b (dtype_eq d e) _ h (dtype_eq-is d e)
 
 -- a test of whether two fields have equal names and kinds returns what `==` does

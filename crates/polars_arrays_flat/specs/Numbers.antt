@@ -11,4 +11,7 @@ pub record Numbers (A : Type 0) : Type 0 where
 -- coded as the three
 abbrev pub numbers_code : {A : Type 0} → Coded A → Coded (Numbers A)
 numbers_code code =
-    code_by (List _ × (Option (List Bool) × Bool)) (coded× (coded_list code) (coded× (coded_option (coded_list coded_bool)) coded_bool)) (λ a. (a.values, (a.validity, a.owned))) (λ p. record { values = p.0; validity = p.1.0; owned = p.1.1 }) (λ _. refl)
+    code_by (List _ × (Option (List Bool) × Bool))
+    (coded× (coded_list code) (coded× (coded_option (coded_list coded_bool)) coded_bool))
+    (λ a. (a.values, (a.validity, a.owned)))
+    (λ p. record { values = p.0; validity = p.1.0; owned = p.1.1 }) (λ _. refl)

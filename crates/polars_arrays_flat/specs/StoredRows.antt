@@ -1,5 +1,6 @@
 -- The rows of an array, made of its stored rows and its mask.
-use Rattle.std.specs.Prelude.{◌≡◌, ◌<◌, ℕ, ℤ, Bool, true, false, List, [], ◌∷◌, Option, Some, None, length, map, slice_index_or}
+use Rattle.std.specs.Prelude.{◌≡◌, ◌<◌, ℕ, ℤ, Bool, true, false, List, [], ◌∷◌, Option, Some, None}
+use Rattle.std.specs.Prelude.{length, map, slice_index_or}
 use Rattle.polars_arrays_flat.specs.Row.{Row, Null, Int, Truth, Bytes}
 
 -- row i, or Null past the end

@@ -59,10 +59,12 @@ pub trait Array {
     /// Returns the number of rows that are null by the validity.
     fn null_count(&self) -> usize
         ensures nulls { result ≡ nulls self.now }
-        ensures rows { good self.now → result ≡ null_total (rows_under (validity_bits self.now) (slots self.now)) };
+        ensures rows { good self.now → result
+            ≡ null_total (rows_under (validity_bits self.now) (slots self.now)) };
 
     // Rows are stored as Null only in types whose arrays have no validity.
-    ghost null_law: { (a b : Self) (i : ℕ) → NullSlots (slots a) (mask a) (mask b) (same_type a b × same_type b a) i };
+    ghost null_law: { (a b : Self) (i : ℕ)
+        → NullSlots (slots a) (mask a) (mask b) (same_type a b × same_type b a) i };
 }
 
 /// States a law of every array: a row is the stored one if it is present, and null if it is masked.

@@ -2,7 +2,9 @@
 
 ghost use Rattle.std.specs.Prelude.{◌≡◌};
 ghost use Rattle.polars_arrays_flat.specs.DataType.{kind_of};
-ghost use Rattle.polars_arrays_flat.specs.Kind.{Kind, Int8Kind, Int16Kind, Int32Kind, Int64Kind, Int128Kind, UInt8Kind, UInt16Kind, UInt32Kind, UInt64Kind, UInt128Kind};
+ghost use Rattle.polars_arrays_flat.specs.Kind.{Kind, Int8Kind, Int16Kind, Int32Kind, Int64Kind};
+ghost use Rattle.polars_arrays_flat.specs.Kind.{Int128Kind, UInt8Kind, UInt16Kind, UInt32Kind};
+ghost use Rattle.polars_arrays_flat.specs.Kind.{UInt64Kind, UInt128Kind};
 
 use crate::data_type::ArrowDataType;
 use polars_arrays_numbers::native_type::NativeType;

@@ -45,7 +45,8 @@ impl BooleanArray {
     /// Creates an array of stored values and a validity. The error is `Length`, if the validity
     /// does not have a bit for each value.
     pub fn try_new(values: Bitmap, validity: Option<Bitmap>) -> Result<BooleanArray, ArrayError>
-        ensures made { OkIff result (HasBits (length values) validity) (record { values = values; validity = validity }) }
+        ensures made { OkIff result (HasBits (length values) validity)
+            (record { values = values; validity = validity }) }
         ensures refused { IfErr result (λ e. e ≡ ArrayError.Length) }
         ensures rows { IfOk result (λ a. truth_rows a ≡ rows_under validity (truth_slots values)) }
     {
@@ -66,7 +67,12 @@ impl BooleanArray {
     #[tactic(auto, using(crate::proofs::RowWindows::windows))]
     pub fn slice(&mut self, at: usize, n: usize)
         requires { at + n ≤ length self.old.values }
-        ensures stored { self.new ≡ record { values = window at n self.old.values; validity = validity_window at n self.old.validity } }
+        ensures stored { self.new
+            ≡ record {
+              values = window at n self.old.values;
+              validity =
+                  validity_window at n self.old.validity;
+            } }
         ensures rows { truth_rows self.new ≡ window at n (truth_rows self.old) }
     {
         self.values.slice(at, n);

@@ -62,7 +62,8 @@ pub fn block_of(bytes: &[u8]) -> [u8; BLOCK_BYTES]
 // Returns whether both strings fit in a block, and both slices have one.
 #[inline(always)]
 fn in_blocks(left: &[u8], n: usize, right: &[u8], m: usize) -> bool
-    ensures { IsTrue result → (n ≤ 16) × (m ≤ 16) × (16 ≤ length left.now) × (16 ≤ length right.now) }
+    ensures { IsTrue result → (n ≤ 16) × (m ≤ 16) × (16 ≤ length left.now)
+        × (16 ≤ length right.now) }
 {
     (n.max(m) <= BLOCK_BYTES) & (left.len().min(right.len()) >= BLOCK_BYTES)
 }

@@ -56,7 +56,8 @@ fn long_less(left: &[u8], right: &[u8], common: usize) -> bool
 fn ends(bytes: &[u8], n: usize) -> u64
     requires some { 4 ≤ n }
     requires within { n ≤ length bytes.now }
-    ensures value { result ≡ from_be_bytes w32 (take 4 bytes.now) * 4294967296 + from_be_bytes w32 (take 4 (drop (n - 4) bytes.now)) }
+    ensures value { result ≡ from_be_bytes w32 (take 4 bytes.now) * 4294967296 + from_be_bytes w32
+        (take 4 (drop (n - 4) bytes.now)) }
     ensures small { from_be_bytes w32 (take 4 (drop (n - 4) bytes.now)) < 4294967296 }
     ensures bytes { AreBytes bytes.now }
 {

@@ -13,7 +13,8 @@ pub(crate) fn repeated<T: Copy>(
     value: T,
     len: usize,
 ) -> Result<Buffer<T>, ComputeError>
-    ensures { MatchResult result (λ buffer. buffer ≡ record { items = replicate len value; owned = true }) IsMemory }
+    ensures { MatchResult result
+        (λ buffer. buffer ≡ record { items = replicate len value; owned = true }) IsMemory }
 {
     let mut elements = Vec::with_capacity(alloc, len)?;
     for _ in 0..len {
@@ -29,7 +30,9 @@ pub(crate) fn filled<T: Copy>(
     mut buffer: Buffer<T>,
     value: T,
 ) -> Result<Buffer<T>, ComputeError>
-    ensures filled { MatchResult result (λ filled. filled ≡ record { items = replicate (length buffer.items) value; owned = true }) IsMemory }
+    ensures filled { MatchResult result
+        (λ filled. filled ≡ record { items = replicate (length buffer.items) value; owned = true })
+        IsMemory }
     ensures in_place { IsTrue buffer.owned → IsOk result }
 {
     if !buffer.is_owned() {

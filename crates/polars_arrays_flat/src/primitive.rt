@@ -1,6 +1,8 @@
 //! Arrays of numbers.
 
-ghost use Rattle.std.specs.Prelude.{◌≡◌, ◌↔◌, ◌+◌, ◌≤◌, length, map, replicate, false, true, None, Some, IsTrue, IsFalse, IsOk, IsSome, IfSome, IfOk, IfErr, MatchResult, ⊤};
+ghost use Rattle.std.specs.Prelude.{◌≡◌, ◌↔◌, ◌+◌, ◌≤◌, length, map, replicate, false, true, None};
+ghost use Rattle.std.specs.Prelude.{Some, IsTrue, IsFalse, IsOk, IsSome, IfSome, IfOk, IfErr};
+ghost use Rattle.std.specs.Prelude.{MatchResult, ⊤};
 ghost use Rattle.std.specs.Borrow.{sem};
 ghost use Rattle.std.specs.Result.{OkIff};
 ghost use Rattle.polars_arrays_bits.specs.Errors.{IsMemory};
@@ -41,7 +43,8 @@ impl<T: Copy> Model for PrimitiveArray<T> {
 
     ghost coded = { numbers_code T.code };
 
-    ghost view = { λ a. record { values = a.values.items; validity = a.validity; owned = a.values.owned } };
+    ghost view = { λ a. record
+        { values = a.values.items; validity = a.validity; owned = a.values.owned } };
 
     ghost invariant = { λ a. HasBits (length a.values.items) a.validity };
 }
@@ -96,9 +99,11 @@ impl<T: NativeType> PrimitiveArray<T> {
         values: Buffer<T>,
         validity: Option<Bitmap>,
     ) -> Result<PrimitiveArray<T>, ArrayError>
-        ensures made { OkIff result (HasBits (length values.items) validity) (record { values = values.items; validity = validity; owned = values.owned }) }
+        ensures made { OkIff result (HasBits (length values.items) validity)
+            (record { values = values.items; validity = validity; owned = values.owned }) }
         ensures refused { IfErr result (λ e. e ≡ ArrayError.Length) }
-        ensures rows { IfOk result (λ a. number_rows T.value a ≡ rows_under validity (number_slots T.value values.items)) }
+        ensures rows { IfOk result
+            (λ a. number_rows T.value a ≡ rows_under validity (number_slots T.value values.items)) }
     {
         if !has_bits(values.len(), &validity) {
             return Err(ArrayError::Length);
@@ -128,7 +133,13 @@ impl<T: NativeType> PrimitiveArray<T> {
     #[tactic(auto, using(crate::proofs::RowWindows::windows))]
     pub fn slice(&mut self, at: usize, n: usize)
         requires { at + n ≤ length self.old.values }
-        ensures stored { self.new ≡ record { values = window at n self.old.values; validity = validity_window at n self.old.validity; owned = self.old.owned } }
+        ensures stored { self.new
+            ≡ record {
+              values = window at n self.old.values;
+              validity =
+                  validity_window at n self.old.validity;
+              owned = self.old.owned;
+            } }
         ensures rows { number_rows T.value self.new ≡ window at n (number_rows T.value self.old) }
     {
         self.values.slice(at, n);
@@ -149,7 +160,8 @@ impl<T: NativeType> PrimitiveArray<T> {
     pub fn with_validity(self, validity: Option<Bitmap>) -> PrimitiveArray<T>
         requires { HasBits (length self.values) validity }
         ensures stored { result ≡ record self { validity = validity } }
-        ensures rows { number_rows T.value result ≡ rows_under validity (number_slots T.value self.values) }
+        ensures rows { number_rows T.value result
+            ≡ rows_under validity (number_slots T.value self.values) }
     {
         let PrimitiveArray { values, .. } = self;
         PrimitiveArray { values, validity }
@@ -159,7 +171,8 @@ impl<T: NativeType> PrimitiveArray<T> {
     /// moved. The error is `Memory`, which only an array that owns its values can cause.
     pub fn share(self, alloc: Global) -> Result<PrimitiveArray<T>, ComputeError>
         ensures stored { MatchResult result (λ shared. shared ≡ record self { owned = false }) IsMemory }
-        ensures rows { IfOk result (λ shared. number_rows T.value shared ≡ number_rows T.value self) }
+        ensures rows { IfOk result
+            (λ shared. number_rows T.value shared ≡ number_rows T.value self) }
         ensures stays { IsFalse self.owned → IsOk result }
     {
         let PrimitiveArray { values, validity } = self;
@@ -193,8 +206,17 @@ impl<T: NativeType> PrimitiveArray<T> {
     /// the error is `Memory`.
     #[tactic(auto, using(crate::proofs::RowWindows::fills))]
     pub fn fill_with(self, alloc: Global, value: T) -> Result<PrimitiveArray<T>, ComputeError>
-        ensures stored { MatchResult result (λ filled. filled ≡ record { values = replicate (length self.values) value; validity = self.validity; owned = true }) IsMemory }
-        ensures rows { IfOk result (λ filled. number_rows T.value filled ≡ map (filled_row (T.value value)) (number_rows T.value self)) }
+        ensures stored { MatchResult result
+            (λ filled. filled
+            ≡ record {
+              values = replicate (length self.values) value;
+              validity =
+                  self.validity;
+              owned = true;
+            }) IsMemory }
+        ensures rows { IfOk result
+            (λ filled. number_rows T.value filled
+            ≡ map (filled_row (T.value value)) (number_rows T.value self)) }
         ensures in_place { IsTrue self.owned → IsOk result }
     {
         let PrimitiveArray { values, validity } = self;
@@ -207,7 +229,14 @@ impl<T: NativeType + Zero> PrimitiveArray<T> {
     /// Creates an array of `len` masked rows, whose stored values are all 0. The error is `Memory`.
     #[tactic(auto, using(crate::proofs::RowWindows::fills))]
     pub fn full_null(alloc: Global, len: usize) -> Result<PrimitiveArray<T>, ComputeError>
-        ensures stored { MatchResult result (λ nulls. nulls ≡ record { values = replicate len T.zero; validity = Some (replicate len false); owned = true }) IsMemory }
+        ensures stored { MatchResult result
+            (λ nulls. nulls
+            ≡ record {
+              values = replicate len T.zero;
+              validity = Some (replicate len false);
+              owned =
+                  true;
+            }) IsMemory }
         ensures rows { IfOk result (λ nulls. number_rows T.value nulls ≡ replicate len Null) }
     {
         let values = repeated(alloc, T::zero(), len)?;

@@ -1,12 +1,14 @@
 //! Functions of an optional validity.
 
-ghost use Rattle.std.specs.Prelude.{◌≡◌, ◌↔◌, ◌+◌, ◌≤◌, ◌<◌, ℕ, List, IsTrue, IfSome, MatchResult, length};
+ghost use Rattle.std.specs.Prelude.{◌≡◌, ◌↔◌, ◌+◌, ◌≤◌, ◌<◌, ℕ, List, IsTrue, IfSome, MatchResult};
+ghost use Rattle.std.specs.Prelude.{length};
 ghost use Rattle.std.specs.Option.{option_copied};
 ghost use Rattle.polars_arrays_bits.specs.Errors.{IsMemory};
 ghost use Rattle.polars_arrays_flat.specs.ArrayRows.{null_total};
 ghost use Rattle.polars_arrays_flat.specs.Row.{Row};
 ghost use Rattle.polars_arrays_flat.specs.StoredRows.{byte_slots, rows_under};
-ghost use Rattle.polars_arrays_flat.specs.Validity.{HasBits, is_present, masked_count, validity_window, window};
+ghost use Rattle.polars_arrays_flat.specs.Validity.{HasBits, is_present, masked_count};
+ghost use Rattle.polars_arrays_flat.specs.Validity.{validity_window, window};
 
 use polars_arrays_bits::bitmap::Bitmap;
 use polars_arrays_bits::error::ComputeError;
@@ -35,7 +37,8 @@ pub fn is_present(validity: Option<&Bitmap>, i: usize) -> bool
 #[tactic(auto, using(crate::proofs::NullCounts::nulls_counted))]
 pub fn null_count(validity: &Option<Bitmap>) -> usize
     ensures masked { result ≡ masked_count validity.now }
-    ensures bytes { (strings : List (List ℕ)) → HasBits (length strings) validity.now → result ≡ null_total (rows_under validity.now (byte_slots strings)) }
+    ensures bytes { (strings : List (List ℕ)) → HasBits (length strings) validity.now → result
+        ≡ null_total (rows_under validity.now (byte_slots strings)) }
 {
     match validity {
         Some(bits) => bits.unset_bits(),
@@ -48,7 +51,8 @@ pub fn null_count(validity: &Option<Bitmap>) -> usize
 pub fn slice_validity(validity: &mut Option<Bitmap>, at: usize, n: usize)
     requires { IfSome validity.old (λ bits. at + n ≤ length bits) }
     ensures bits { validity.new ≡ validity_window at n validity.old }
-    ensures rows { (slots : List Row) → rows_under validity.new (window at n slots) ≡ window at n (rows_under validity.old slots) }
+    ensures rows { (slots : List Row) → rows_under validity.new (window at n slots)
+        ≡ window at n (rows_under validity.old slots) }
 {
     if let Some(bits) = validity {
         bits.slice(at, n);

@@ -30,4 +30,5 @@ none_present rows = eqb (null_total rows) (length rows)
 
 -- the fold of rows, or None if no row is present
 abbrev pub folded_if_any : (ℤ → ℤ → ℤ) → ℤ → List Row → Option ℤ
-folded_if_any joined neutral rows = cond (none_present rows) None (Some (folded joined neutral rows))
+folded_if_any joined neutral rows =
+    cond (none_present rows) None (Some (folded joined neutral rows))

@@ -37,7 +37,8 @@ const PLACES: [u8; BLOCK] = [
 /// Folds all numbers.
 #[inline]
 pub fn fold_all<T: NativeType, O: Operator<T>>(operator: &O, numbers: &[T]) -> T
-    ensures { T.value result ≡ folded O.joined (O.neutral operator.now) (number_slots T.value numbers.now) }
+    ensures { T.value result
+        ≡ folded O.joined (O.neutral operator.now) (number_slots T.value numbers.now) }
 {
     let mut total = operator.start();
     for number in numbers {
@@ -53,8 +54,10 @@ pub fn fold_all_both<T: NativeType, A: Operator<T>, B: Operator<T>>(
     second: &B,
     numbers: &[T],
 ) -> (T, T)
-    ensures first { T.value result.0 ≡ folded A.joined (A.neutral first.now) (number_slots T.value numbers.now) }
-    ensures second { T.value result.1 ≡ folded B.joined (B.neutral second.now) (number_slots T.value numbers.now) }
+    ensures first { T.value result.0
+        ≡ folded A.joined (A.neutral first.now) (number_slots T.value numbers.now) }
+    ensures second { T.value result.1
+        ≡ folded B.joined (B.neutral second.now) (number_slots T.value numbers.now) }
 {
     let mut total = first.start();
     let mut other = second.start();
@@ -87,7 +90,9 @@ fn flags_of(word: u64) -> [u8; BLOCK]
 #[inline(always)]
 fn fold_flagged<T: NativeType, O: Operator<T>>(operator: &O, numbers: &[T], flags: &[u8]) -> T
     requires { length flags.now ≡ length numbers.now }
-    ensures { T.value result ≡ folded O.joined (O.neutral operator.now) (masked (map (λ flag. not (eqb flag 0)) flags.now) (number_slots T.value numbers.now)) }
+    ensures { T.value result
+        ≡ folded O.joined (O.neutral operator.now)
+        (masked (map (λ flag. not (eqb flag 0)) flags.now) (number_slots T.value numbers.now)) }
 {
     let start = operator.start();
     let mut total = start;
@@ -101,7 +106,9 @@ fn fold_flagged<T: NativeType, O: Operator<T>>(operator: &O, numbers: &[T], flag
 #[inline(always)]
 fn fold_word<T: NativeType, O: Operator<T>>(operator: &O, numbers: &[T], word: u64) -> T
     requires { length numbers.now ≡ 64 }
-    ensures { T.value result ≡ folded O.joined (O.neutral operator.now) (masked (first_of (is_bit word) 64) (number_slots T.value numbers.now)) }
+    ensures { T.value result
+        ≡ folded O.joined (O.neutral operator.now)
+        (masked (first_of (is_bit word) 64) (number_slots T.value numbers.now)) }
 {
     match word {
         u64::MAX => fold_all(operator, numbers),
@@ -114,7 +121,9 @@ fn fold_word<T: NativeType, O: Operator<T>>(operator: &O, numbers: &[T], word: u
 #[inline(always)]
 fn fold_by_row<T: NativeType, O: Operator<T>>(operator: &O, numbers: &[T], mask: &BitMask<'_>) -> T
     requires { length mask.now ≡ length numbers.now }
-    ensures { T.value result ≡ folded O.joined (O.neutral operator.now) (masked mask.now (number_slots T.value numbers.now)) }
+    ensures { T.value result
+        ≡ folded O.joined (O.neutral operator.now)
+        (masked mask.now (number_slots T.value numbers.now)) }
 {
     let start = operator.start();
     let mut total = start;
@@ -131,7 +140,9 @@ pub fn fold_present<T: NativeType, O: Operator<T>>(
     mask: &BitMask<'_>,
 ) -> T
     requires { length mask.now ≡ length numbers.now }
-    ensures { T.value result ≡ folded O.joined (O.neutral operator.now) (masked mask.now (number_slots T.value numbers.now)) }
+    ensures { T.value result
+        ≡ folded O.joined (O.neutral operator.now)
+        (masked mask.now (number_slots T.value numbers.now)) }
 {
     let blocks = numbers.len() / BLOCK;
     let mut total = operator.start();
@@ -153,7 +164,9 @@ pub fn fold_under<T: NativeType, O: Operator<T>>(
     validity: Option<&Bitmap>,
 ) -> T
     requires { HasBits (length numbers.now) (option_copied validity) }
-    ensures { T.value result ≡ folded O.joined (O.neutral operator.now) (rows_under (option_copied validity.entry) (number_slots T.value numbers.now)) }
+    ensures { T.value result
+        ≡ folded O.joined (O.neutral operator.now)
+        (rows_under (option_copied validity.entry) (number_slots T.value numbers.now)) }
 {
     match validity {
         Some(bits) => fold_present(operator, numbers, &BitMask::from_bitmap(bits)),
@@ -163,7 +176,8 @@ pub fn fold_under<T: NativeType, O: Operator<T>>(
 
 /// Folds the present rows of an array.
 pub fn fold_rows<T: NativeType, O: Operator<T>>(operator: &O, array: &PrimitiveArray<T>) -> T
-    ensures { T.value result ≡ folded O.joined (O.neutral operator.now) (number_rows T.value array.now) }
+    ensures { T.value result
+        ≡ folded O.joined (O.neutral operator.now) (number_rows T.value array.now) }
 {
     fold_under(operator, array.values(), array.validity())
 }
@@ -173,7 +187,8 @@ pub fn reduce_rows<T: NativeType, O: Operator<T>>(
     operator: &O,
     array: &PrimitiveArray<T>,
 ) -> Option<T>
-    ensures { option_map T.value result ≡ folded_if_any O.joined (O.neutral operator.now) (number_rows T.value array.now) }
+    ensures { option_map T.value result
+        ≡ folded_if_any O.joined (O.neutral operator.now) (number_rows T.value array.now) }
 {
     // Has no effect at run time. The proof learns from it that the validity has a bit for each row.
     let _validity = array.validity();

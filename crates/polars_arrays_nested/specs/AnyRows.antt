@@ -12,7 +12,16 @@ use Rattle.polars_arrays_flat.specs.Validity.{is_present}
 use Rattle.polars_arrays_nested.specs.DictKeys.{key_at, key_validity}
 use Rattle.polars_arrays_nested.specs.Lengths.{len_of}
 use Rattle.polars_arrays_nested.specs.ListOffsets.{offset_at, span}
-use Rattle.polars_arrays_nested.specs.declared.any_array.AnyArray.{AnyArray, Null, Boolean, Int8, Int16, Int32, Int64, Int128, UInt8, UInt16, UInt32, UInt64, UInt128, Binary, LargeBinary, Utf8, LargeUtf8, BinaryView, Utf8View, FixedSizeBinary, List', FixedSizeList', Struct', Dictionary', Row_of-AnyArray, end_of-AnyArray, more_of-AnyArray}
+use Rattle.polars_arrays_nested.specs.declared.any_array.AnyArray.{AnyArray, Null, Boolean, Int8}
+use Rattle.polars_arrays_nested.specs.declared.any_array.AnyArray.{Int16, Int32, Int64, Int128}
+use Rattle.polars_arrays_nested.specs.declared.any_array.AnyArray.{UInt8, UInt16, UInt32, UInt64}
+use Rattle.polars_arrays_nested.specs.declared.any_array.AnyArray.{UInt128, Binary, LargeBinary}
+use Rattle.polars_arrays_nested.specs.declared.any_array.AnyArray.{Utf8, LargeUtf8, BinaryView}
+use Rattle.polars_arrays_nested.specs.declared.any_array.AnyArray.{Utf8View, FixedSizeBinary, List'}
+use Rattle.polars_arrays_nested.specs.declared.any_array.AnyArray.{FixedSizeList', Struct'}
+use Rattle.polars_arrays_nested.specs.declared.any_array.AnyArray.{Dictionary', Row_of-AnyArray}
+use Rattle.polars_arrays_nested.specs.declared.any_array.AnyArray.{end_of-AnyArray}
+use Rattle.polars_arrays_nested.specs.declared.any_array.AnyArray.{more_of-AnyArray}
 use Rattle.polars_arrays_views.specs.Parts.{view_rows}
 
 -- `count` rows from row `from` on; `f` gives each
@@ -50,11 +59,14 @@ abbrev mutual
   row (Utf8View a) i = row_at (view_rows a) i
   row (FixedSizeBinary a) i = row_at (sized_rows a) i
   row (List' offsets p values validity) i =
-      kept (is_present validity i) (Rows (rows_from (λ k. row values k) (offset_at offsets i) (span offsets i)))
+      kept (is_present validity i)
+      (Rows (rows_from (λ k. row values k) (offset_at offsets i) (span offsets i)))
   row (FixedSizeList' width len p values validity) i =
       kept (is_present validity i) (Rows (rows_from (λ k. row values k) (width * i) width))
-  row (Struct' fields len p values validity) i = kept (is_present validity i) (Fields (across values i))
-  row (Dictionary' keys p values) i = kept (is_present (key_validity keys) i) (entry_row (row values (key_at keys i)))
+  row (Struct' fields len p values validity) i =
+      kept (is_present validity i) (Fields (across values i))
+  row (Dictionary' keys p values) i =
+      kept (is_present (key_validity keys) i) (entry_row (row values (key_at keys i)))
 
   -- row i of each array
   pub across : {m : _} → Row_of-AnyArray m → ℕ → RowList

@@ -20,4 +20,5 @@ pub record IsClone (a b : AnyArray) : Type 0 where
 -- each array of a list is a clone of the one at its place in the other list
 pub record AreClones (xs ys : List AnyArray) : Type 0 where
   pub as_many : length xs ≡ length ys
-  pub each : (i : ℕ) (d : AnyArray) → i < length ys → IsClone (slice_index_or xs i d) (slice_index_or ys i d)
+  pub each : (i : ℕ) (d : AnyArray) → i < length ys
+      → IsClone (slice_index_or xs i d) (slice_index_or ys i d)

@@ -24,12 +24,14 @@ columns_leaves (first ∷ rest) from n = leaves first from n + columns_leaves re
 -- windows of columns are kept alike, place by place
 abbrev pub ColumnsAlike : List AnyArray → List AnyArray → ℕ → ℕ → ℕ → Type 0
 ColumnsAlike [] [] i j n = ⊤
-ColumnsAlike (first ∷ rest) (first' ∷ rest') i j n = KeptAlike first first' i j n × ColumnsAlike rest rest' i j n
+ColumnsAlike (first ∷ rest) (first' ∷ rest') i j n = KeptAlike first first' i j n
+    × ColumnsAlike rest rest' i j n
 ColumnsAlike _ _ i j n = ⊥
 
 -- each field has a good column of its type and of `len` rows
 abbrev pub AreColumns : List Field → ℕ → List AnyArray → Type 0
 AreColumns [] len [] = ⊤
 AreColumns (field ∷ fields) len (first ∷ rest) =
-    (len_of first ≡ len) × (type_of first ≡ kind_of field.dtype) × IsGood first × AreColumns fields len rest
+    (len_of first ≡ len) × (type_of first ≡ kind_of field.dtype) × IsGood first
+    × AreColumns fields len rest
 AreColumns _ len _ = ⊥

@@ -8,7 +8,9 @@ use Rattle.polars_arrays_flat.specs.declared.data_type.IntegerType.{IntegerType}
 use Rattle.polars_arrays_flat.specs.declared.data_type.IntegerType.TheVariants as name
 use Rattle.polars_arrays_nested.specs.Places.{place_or_zero}
 use Rattle.polars_arrays_nested.specs.declared.dict_keys.DictKeys.{DictKeys}
-use Rattle.polars_arrays_nested.specs.declared.dict_keys.DictKeys.TheVariants.{Int8, Int16, Int32, Int64, UInt8, UInt16, UInt32, UInt64}
+use Rattle.polars_arrays_nested.specs.declared.dict_keys.DictKeys.TheVariants.{Int8, Int16, Int32}
+use Rattle.polars_arrays_nested.specs.declared.dict_keys.DictKeys.TheVariants.{Int64, UInt8, UInt16}
+use Rattle.polars_arrays_nested.specs.declared.dict_keys.DictKeys.TheVariants.{UInt32, UInt64}
 
 -- each stored key as a place among the entries, also of masked rows; None if it is negative
 abbrev pub key_places : DictKeys → List (Option ℕ)
@@ -69,7 +71,8 @@ abbrev pub NameEntries : ℕ → Option (List Bool) → List (Option ℕ) → Ty
 NameEntries n validity all = (i : ℕ) → i < length all → IsGoodKey n validity all i
 
 -- row `row` is the first whose present key names none of n entries
-pub record IsFirstBadKey (n : ℕ) (validity : Option (List Bool)) (all : List (Option ℕ)) (row : ℕ) : Type 0 where
+pub record IsFirstBadKey (n : ℕ) (validity : Option (List Bool)) (all : List (Option ℕ)) (row : ℕ) :
+    Type 0 where
   pub within : row < length all
   pub bad : ¬ (IsGoodKey n validity all row)
   pub before : (k : ℕ) → k < row → IsGoodKey n validity all k

@@ -39,12 +39,14 @@ abbrev pub FitsAt : List Field → ℕ → List AnyArray → ℕ → Type 0
 FitsAt fields len values k = Fits len (slice_get fields k) (slice_get values k)
 
 -- the parts make `len` structs: a bit for each in a validity, and a fitting column for each field
-pub record AreStructs (fields : List Field) (len : ℕ) (values : List AnyArray) (validity : Option (List Bool)) : Type 0 where
+pub record AreStructs (fields : List Field) (len : ℕ) (values : List AnyArray)
+    (validity : Option (List Bool)) : Type 0 where
   pub bits : HasBits len validity
   pub fits : (k : ℕ) → FitsAt fields len values k
 
 -- place `at` is the first whose column does not fit its field, or the end of the shorter list
-pub record IsFirstMisfit (fields : List Field) (len : ℕ) (values : List AnyArray) (at : ℕ) : Type 0 where
+pub record IsFirstMisfit (fields : List Field) (len : ℕ) (values : List AnyArray) (at : ℕ) :
+    Type 0 where
   pub misfit : ¬ (FitsAt fields len values at)
   pub before : (k : ℕ) → k < at → FitsAt fields len values k
 

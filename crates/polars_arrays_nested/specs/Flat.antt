@@ -1,6 +1,7 @@
 -- Arrays that contain no arrays.
 use Rattle.std.specs.Prelude.{Bool, true, false}
-use Rattle.polars_arrays_nested.specs.declared.any_array.AnyArray.{AnyArray, List', FixedSizeList', Struct', Dictionary'}
+use Rattle.polars_arrays_nested.specs.declared.any_array.AnyArray.{AnyArray, List', FixedSizeList'}
+use Rattle.polars_arrays_nested.specs.declared.any_array.AnyArray.{Struct', Dictionary'}
 
 -- whether an array contains no arrays: it is no list, struct or dictionary
 abbrev pub is_flat : AnyArray → Bool

@@ -8,7 +8,16 @@ use Rattle.polars_arrays_nested.specs.DictKeys.{NameEntries, key_places, key_val
 use Rattle.polars_arrays_nested.specs.Lengths.{len_of}
 use Rattle.polars_arrays_nested.specs.ListOffsets.{list_count, list_places}
 use Rattle.polars_arrays_nested.specs.Types.{type_of}
-use Rattle.polars_arrays_nested.specs.declared.any_array.AnyArray.{AnyArray, Null, Boolean, Int8, Int16, Int32, Int64, Int128, UInt8, UInt16, UInt32, UInt64, UInt128, Binary, LargeBinary, Utf8, LargeUtf8, BinaryView, Utf8View, FixedSizeBinary, List', FixedSizeList', Struct', Dictionary', Row_of-AnyArray, end_of-AnyArray, more_of-AnyArray}
+use Rattle.polars_arrays_nested.specs.declared.any_array.AnyArray.{AnyArray, Null, Boolean, Int8}
+use Rattle.polars_arrays_nested.specs.declared.any_array.AnyArray.{Int16, Int32, Int64, Int128}
+use Rattle.polars_arrays_nested.specs.declared.any_array.AnyArray.{UInt8, UInt16, UInt32, UInt64}
+use Rattle.polars_arrays_nested.specs.declared.any_array.AnyArray.{UInt128, Binary, LargeBinary}
+use Rattle.polars_arrays_nested.specs.declared.any_array.AnyArray.{Utf8, LargeUtf8, BinaryView}
+use Rattle.polars_arrays_nested.specs.declared.any_array.AnyArray.{Utf8View, FixedSizeBinary, List'}
+use Rattle.polars_arrays_nested.specs.declared.any_array.AnyArray.{FixedSizeList', Struct'}
+use Rattle.polars_arrays_nested.specs.declared.any_array.AnyArray.{Dictionary', Row_of-AnyArray}
+use Rattle.polars_arrays_nested.specs.declared.any_array.AnyArray.{end_of-AnyArray}
+use Rattle.polars_arrays_nested.specs.declared.any_array.AnyArray.{more_of-AnyArray}
 use Rattle.polars_arrays_nested.specs.declared.dict_keys.DictKeys.{DictKeys}
 use Rattle.polars_arrays_nested.specs.declared.list_offsets.ListOffsets.{ListOffsets}
 
@@ -48,15 +57,18 @@ abbrev mutual
   IsGood (BinaryView a) = ⊤
   IsGood (Utf8View a) = ⊤
   IsGood (FixedSizeBinary a) = ⊤
-  IsGood (List' offsets p values validity) = AreLists (len_of values) offsets validity × IsGood values
+  IsGood (List' offsets p values validity) = AreLists (len_of values) offsets validity
+      × IsGood values
   IsGood (FixedSizeList' width len p values validity) =
       AreFixedLists (len_of values) width len validity × IsGood values
-  IsGood (Struct' fields len p values validity) = HasBits len validity × AreFields fields.items len values
+  IsGood (Struct' fields len p values validity) = HasBits len validity
+      × AreFields fields.items len values
   IsGood (Dictionary' keys p values) = AreKeys (len_of values) keys × IsGood values
 
   -- each field has a good array of its type and of `len` rows
   pub AreFields : {m : _} → List Field → ℕ → Row_of-AnyArray m → Type 0
   AreFields [] len end_of-AnyArray = ⊤
   AreFields (field ∷ fields) len (more_of-AnyArray first rest) =
-      (len_of first ≡ len) × (type_of first ≡ kind_of field.dtype) × IsGood first × AreFields fields len rest
+      (len_of first ≡ len) × (type_of first ≡ kind_of field.dtype) × IsGood first
+      × AreFields fields len rest
   AreFields _ len _ = ⊥

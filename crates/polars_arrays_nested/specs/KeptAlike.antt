@@ -3,12 +3,23 @@ use Rattle.std.specs.Prelude.{◌≡◌, ◌<◌, ◌+◌, ◌*◌, ℕ, Bool, t
 use Rattle.polars_arrays_flat.specs.Validity.{is_present}
 use Rattle.polars_arrays_nested.specs.DictKeys.{key_at, key_validity}
 use Rattle.polars_arrays_nested.specs.ListOffsets.{offset_at, span}
-use Rattle.polars_arrays_nested.specs.declared.any_array.AnyArray.{AnyArray, Null, Boolean, Int8, Int16, Int32, Int64, Int128, UInt8, UInt16, UInt32, UInt64, UInt128, Binary, LargeBinary, Utf8, LargeUtf8, BinaryView, Utf8View, FixedSizeBinary, List', FixedSizeList', Struct', Dictionary', Row_of-AnyArray, end_of-AnyArray, more_of-AnyArray}
+use Rattle.polars_arrays_nested.specs.declared.any_array.AnyArray.{AnyArray, Null, Boolean, Int8}
+use Rattle.polars_arrays_nested.specs.declared.any_array.AnyArray.{Int16, Int32, Int64, Int128}
+use Rattle.polars_arrays_nested.specs.declared.any_array.AnyArray.{UInt8, UInt16, UInt32, UInt64}
+use Rattle.polars_arrays_nested.specs.declared.any_array.AnyArray.{UInt128, Binary, LargeBinary}
+use Rattle.polars_arrays_nested.specs.declared.any_array.AnyArray.{Utf8, LargeUtf8, BinaryView}
+use Rattle.polars_arrays_nested.specs.declared.any_array.AnyArray.{Utf8View, FixedSizeBinary, List'}
+use Rattle.polars_arrays_nested.specs.declared.any_array.AnyArray.{FixedSizeList', Struct'}
+use Rattle.polars_arrays_nested.specs.declared.any_array.AnyArray.{Dictionary', Row_of-AnyArray}
+use Rattle.polars_arrays_nested.specs.declared.any_array.AnyArray.{end_of-AnyArray}
+use Rattle.polars_arrays_nested.specs.declared.any_array.AnyArray.{more_of-AnyArray}
 use Rattle.polars_arrays_nested.specs.declared.dict_keys.DictKeys.{DictKeys}
 use Rattle.polars_arrays_nested.specs.declared.list_offsets.ListOffsets.{ListOffsets}
 
 -- lists i and j are both present or both masked, and have equally long and alike items
-pub record AlikeLists (Items : ℕ → ℕ → ℕ → Type 0) (offsets : ListOffsets) (validity : Option (List Bool)) (offsets' : ListOffsets) (validity' : Option (List Bool)) (i j : ℕ) : Type 0 where
+pub record AlikeLists (Items : ℕ → ℕ → ℕ → Type 0) (offsets : ListOffsets)
+    (validity : Option (List Bool)) (offsets' : ListOffsets) (validity' : Option (List Bool))
+    (i j : ℕ) : Type 0 where
   pub masks : is_present validity i ≡ is_present validity' j
   pub spans : span offsets i ≡ span offsets' j
   pub items : Items (offset_at offsets i) (offset_at offsets' j) (span offsets i)
@@ -43,13 +54,19 @@ abbrev mutual
   KeptAlike (Utf8View a) (Utf8View b) i j n = ⊤
   KeptAlike (FixedSizeBinary a) (FixedSizeBinary b) i j n = ⊤
   KeptAlike (List' offsets p values validity) (List' offsets' p' values' validity') i j n =
-      (k : ℕ) → k < n → AlikeLists (λ x y m. KeptAlike values values' x y m) offsets validity offsets' validity' (i + k) (j + k)
-  KeptAlike (FixedSizeList' width len p values validity) (FixedSizeList' width' len' p' values' validity') i j n =
+      (k : ℕ) → k < n
+      → AlikeLists
+      (λ x y m. KeptAlike values values' x y m) offsets validity offsets' validity' (i + k)
+      (j + k)
+  KeptAlike (FixedSizeList' width len p values validity)
+      (FixedSizeList' width' len' p' values' validity') i j n =
       (width ≡ width') × KeptAlike values values' (width * i) (width * j) (width * n)
-  KeptAlike (Struct' fields len p values validity) (Struct' fields' len' p' values' validity') i j n =
+  KeptAlike (Struct' fields len p values validity) (Struct' fields' len' p' values' validity') i j
+      n =
       AcrossAlike values values' i j n
   KeptAlike (Dictionary' keys p values) (Dictionary' keys' p' values') i j n =
-      (k : ℕ) → k < n → AlikeKeys (λ x y m. KeptAlike values values' x y m) keys keys' (i + k) (j + k)
+      (k : ℕ) → k < n
+      → AlikeKeys (λ x y m. KeptAlike values values' x y m) keys keys' (i + k) (j + k)
   KeptAlike _ _ i j n = ⊥
 
   -- the arrays at each place of two lists are kept alike

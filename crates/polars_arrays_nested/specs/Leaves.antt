@@ -5,7 +5,16 @@ use Rattle.polars_arrays_nested.specs.DictKeys.{key_at, key_validity}
 use Rattle.polars_arrays_nested.specs.GoodParts.{IsGood}
 use Rattle.polars_arrays_nested.specs.Lengths.{len_of}
 use Rattle.polars_arrays_nested.specs.ListOffsets.{offset_at}
-use Rattle.polars_arrays_nested.specs.declared.any_array.AnyArray.{AnyArray, Null, Boolean, Int8, Int16, Int32, Int64, Int128, UInt8, UInt16, UInt32, UInt64, UInt128, Binary, LargeBinary, Utf8, LargeUtf8, BinaryView, Utf8View, FixedSizeBinary, List', FixedSizeList', Struct', Dictionary', Row_of-AnyArray, end_of-AnyArray, more_of-AnyArray}
+use Rattle.polars_arrays_nested.specs.declared.any_array.AnyArray.{AnyArray, Null, Boolean, Int8}
+use Rattle.polars_arrays_nested.specs.declared.any_array.AnyArray.{Int16, Int32, Int64, Int128}
+use Rattle.polars_arrays_nested.specs.declared.any_array.AnyArray.{UInt8, UInt16, UInt32, UInt64}
+use Rattle.polars_arrays_nested.specs.declared.any_array.AnyArray.{UInt128, Binary, LargeBinary}
+use Rattle.polars_arrays_nested.specs.declared.any_array.AnyArray.{Utf8, LargeUtf8, BinaryView}
+use Rattle.polars_arrays_nested.specs.declared.any_array.AnyArray.{Utf8View, FixedSizeBinary, List'}
+use Rattle.polars_arrays_nested.specs.declared.any_array.AnyArray.{FixedSizeList', Struct'}
+use Rattle.polars_arrays_nested.specs.declared.any_array.AnyArray.{Dictionary', Row_of-AnyArray}
+use Rattle.polars_arrays_nested.specs.declared.any_array.AnyArray.{end_of-AnyArray}
+use Rattle.polars_arrays_nested.specs.declared.any_array.AnyArray.{more_of-AnyArray}
 
 -- the sum of f over `count` numbers from `from` on
 abbrev pub total : (ℕ → ℕ) → ℕ → ℕ → ℕ
@@ -37,17 +46,21 @@ abbrev mutual
   leaves (FixedSizeBinary a) from n = n
   leaves (List' offsets p values validity) from n =
       leaves values (offset_at offsets from) (offset_at offsets (from + n) - offset_at offsets from)
-  leaves (FixedSizeList' width len p values validity) from n = leaves values (width * from) (width * n)
+  leaves (FixedSizeList' width len p values validity) from n =
+      leaves values (width * from) (width * n)
   leaves (Struct' fields len p values validity) from n = leaves_across values from n
   leaves (Dictionary' keys p values) from n =
-      total (λ k. cond (is_present (key_validity keys) k) (leaves values (key_at keys k) 1) 0) from n
+      total (λ k. cond (is_present (key_validity keys) k) (leaves values (key_at keys k) 1) 0) from
+      n
 
   -- the sum of the leaf slots of arrays
   pub leaves_across : {m : _} → Row_of-AnyArray m → ℕ → ℕ → ℕ
   leaves_across end_of-AnyArray from n = 0
-  leaves_across (more_of-AnyArray first rest) from n = leaves first from n + leaves_across rest from n
+  leaves_across (more_of-AnyArray first rest) from n =
+      leaves first from n + leaves_across rest from n
 
 -- two adjacent windows have the leaf slots of both together
 abbrev pub LeavesAddUp : Type 0
 LeavesAddUp =
-    (a : AnyArray) (from m n : ℕ) → IsGood a → from + m + n ≤ len_of a → leaves a from (m + n) ≡ leaves a from m + leaves a (from + m) n
+    (a : AnyArray) (from m n : ℕ) → IsGood a → from + m + n ≤ len_of a → leaves a from (m + n)
+    ≡ leaves a from m + leaves a (from + m) n

@@ -9,7 +9,8 @@ use Rattle.polars_arrays_nested.specs.declared.dict_keys.DictKeys.{DictKeys}
 
 -- whether key i is present and names a present entry
 abbrev pub names_present : DictKeys → Option (List Bool) → ℕ → Bool
-names_present keys entries i = is_present (key_validity keys) i && is_present entries (key_at keys i)
+names_present keys entries i = is_present (key_validity keys) i
+    && is_present entries (key_at keys i)
 
 -- for each key, whether it is present and names a present entry
 abbrev pub named_bits : DictKeys → Option (List Bool) → List Bool

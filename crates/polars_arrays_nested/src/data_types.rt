@@ -4,7 +4,8 @@ ghost use Rattle.std.specs.Prelude.{◌≡◌, MatchResult};
 ghost use Rattle.polars_arrays_bits.specs.Errors.{IsMemory};
 ghost use Rattle.polars_arrays_flat.specs.DataType.{IsSameField, kind_of, kinds_of};
 ghost use Rattle.polars_arrays_nested.specs.Types.{type_of};
-ghost use Rattle.polars_arrays_nested.specs.declared.any_array.AnyArray.{List, FixedSizeList, Struct, Dictionary};
+ghost use Rattle.polars_arrays_nested.specs.declared.any_array.AnyArray.{List, FixedSizeList};
+ghost use Rattle.polars_arrays_nested.specs.declared.any_array.AnyArray.{Struct, Dictionary};
 
 use crate::any_array::{AnyArray, each_array};
 use crate::dictionary::DictionaryArray;
@@ -35,7 +36,8 @@ impl FixedSizeListArray {
     /// Returns the array's type. The error is `Memory`.
     #[cycle(dtypes)]
     pub fn dtype(&self, alloc: Global) -> Result<ArrowDataType, ComputeError>
-        ensures { MatchResult result (λ dtype. kind_of dtype ≡ type_of (FixedSizeList self.now)) IsMemory }
+        ensures { MatchResult result
+            (λ dtype. kind_of dtype ≡ type_of (FixedSizeList self.now)) IsMemory }
     {
         let item = self.values().dtype(alloc)?;
         let item = Box::new(alloc, item)?;
@@ -58,7 +60,8 @@ impl DictionaryArray {
     /// Returns the array's type. The error is `Memory`.
     #[cycle(dtypes)]
     pub fn dtype(&self, alloc: Global) -> Result<ArrowDataType, ComputeError>
-        ensures { MatchResult result (λ dtype. kind_of dtype ≡ type_of (Dictionary self.now)) IsMemory }
+        ensures { MatchResult result
+            (λ dtype. kind_of dtype ≡ type_of (Dictionary self.now)) IsMemory }
     {
         let entry = self.values().dtype(alloc)?;
         let entry = Box::new(alloc, entry)?;

@@ -1,11 +1,15 @@
 //! The keys of dictionaries.
 
 ghost use Rattle.std.specs.Option.{MatchOption, option_copied};
-ghost use Rattle.std.specs.Prelude.{◌≡◌, ◌↔◌, ◌+◌, ◌<◌, ◌≤◌, ℕ, Bool, List, Some, IsTrue, MatchResult, length, slice_index_or};
+ghost use Rattle.std.specs.Prelude.{◌≡◌, ◌↔◌, ◌+◌, ◌<◌, ◌≤◌, ℕ, Bool, List, Some, IsTrue};
+ghost use Rattle.std.specs.Prelude.{MatchResult, length, slice_index_or};
 ghost use Rattle.polars_arrays_bits.specs.Errors.{IsMemory};
 ghost use Rattle.polars_arrays_bytes.specs.OffsetStrings.{place_at, places};
-ghost use Rattle.polars_arrays_flat.specs.Validity.{HasBits, is_present, masked_count, validity_window, window};
-ghost use Rattle.polars_arrays_nested.specs.DictKeys.{IsEntry, IsFirstBadKey, IsGoodKey, NameEntries, key_at, key_count, key_places, key_type, key_validity};
+ghost use Rattle.polars_arrays_flat.specs.Validity.{HasBits, is_present, masked_count};
+ghost use Rattle.polars_arrays_flat.specs.Validity.{validity_window, window};
+ghost use Rattle.polars_arrays_nested.specs.DictKeys.{IsEntry, IsFirstBadKey, IsGoodKey};
+ghost use Rattle.polars_arrays_nested.specs.DictKeys.{NameEntries, key_at, key_count, key_places};
+ghost use Rattle.polars_arrays_nested.specs.DictKeys.{key_type, key_validity};
 ghost use Rattle.polars_arrays_nested.specs.Places.{place_or_zero};
 
 use polars_arrays_bits::bitmap::Bitmap;
@@ -100,7 +104,8 @@ impl DictKeys {
 
     /// Returns the first row whose present key names none of `n` entries.
     pub fn first_bad_key(&self, n: usize) -> Option<usize>
-        ensures { MatchOption result (NameEntries n (key_validity self.now) (key_places self.now)) (IsFirstBadKey n (key_validity self.now) (key_places self.now)) }
+        ensures { MatchOption result (NameEntries n (key_validity self.now) (key_places self.now))
+            (IsFirstBadKey n (key_validity self.now) (key_places self.now)) }
     {
         each_type!(self, keys => first_bad(keys, n))
     }
@@ -145,7 +150,8 @@ fn entry_of<K: DictionaryKey>(keys: &[K], i: usize) -> usize
 
 // Returns the first row whose present key names none of `n` entries.
 fn first_bad<K: DictionaryKey>(keys: &PrimitiveArray<K>, n: usize) -> Option<usize>
-    ensures { MatchOption result (NameEntries n keys.now.validity (places K.value keys.now.values)) (IsFirstBadKey n keys.now.validity (places K.value keys.now.values)) }
+    ensures { MatchOption result (NameEntries n keys.now.validity (places K.value keys.now.values))
+        (IsFirstBadKey n keys.now.validity (places K.value keys.now.values)) }
 {
     for row in 0..keys.len() {
         if !is_good_key(keys, row, n) {

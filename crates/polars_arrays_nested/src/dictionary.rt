@@ -46,10 +46,14 @@ impl DictionaryArray {
     #[tactic(auto, using(crate::proofs::Faults::faults))]
     pub fn try_new(keys: DictKeys, values: Box<AnyArray>) -> Result<DictionaryArray, ArrayError>
         requires { IsGood values.value }
-        ensures made { OkIff result (AreKeys (len_of values.value) keys) (record { keys = keys; values = values }) }
+        ensures made { OkIff result (AreKeys (len_of values.value) keys)
+            (record { keys = keys; values = values }) }
         ensures refused { IfErr result (IsKeyFault (len_of values.value) keys) }
         ensures good { IfOk result (λ a. IsGood (Dictionary a)) }
-        ensures rows { IfOk result (λ a. (i : ℕ) → row (Dictionary a) i ≡ kept (is_present (key_validity keys) i) (entry_row (row values.value (key_at keys i)))) }
+        ensures rows { IfOk result
+            (λ a. (i : ℕ) → row (Dictionary a) i
+            ≡ kept (is_present (key_validity keys) i)
+            (entry_row (row values.value (key_at keys i)))) }
     {
         match keys.first_bad_key(values.len()) {
             Some(row) => {
@@ -111,7 +115,8 @@ impl DictionaryArray {
     #[cycle(clones)]
     #[tactic(auto, using(crate::proofs::Clones::copies))]
     pub fn clone_array(&self, alloc: Global) -> Result<DictionaryArray, ComputeError>
-        ensures { MatchResult result (λ copy. IsClone (Dictionary copy) (Dictionary self.now)) IsMemory }
+        ensures { MatchResult result
+            (λ copy. IsClone (Dictionary copy) (Dictionary self.now)) IsMemory }
     {
         let values = self.values.clone_array(alloc)?;
         let values = Box::new(alloc, values)?;
@@ -156,5 +161,6 @@ impl Array for DictionaryArray {
         }
     }
 
-    ghost null_law = { λ a b i within is_null. absurd (listed-present (stored_entry a) _ i (λ k. refl) within is_null) };
+    ghost null_law = { λ a b i within is_null. absurd
+        (listed-present (stored_entry a) _ i (λ k. refl) within is_null) };
 }

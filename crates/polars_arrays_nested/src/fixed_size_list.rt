@@ -16,7 +16,8 @@ ghost use Rattle.polars_arrays_nested.specs.Parts.{fixed_validity, fixed_values,
 ghost use Rattle.polars_arrays_nested.specs.StoredRows.{stored_fixed_list, stored_fixed_lists};
 ghost use Rattle.polars_arrays_nested.specs.StoredRowLaws.{listed-present};
 ghost use Rattle.polars_arrays_nested.specs.Types.{type_of};
-ghost use Rattle.polars_arrays_nested.specs.declared.any_array.AnyArray.{FixedSizeList, size-AnyArray};
+ghost use Rattle.polars_arrays_nested.specs.declared.any_array.AnyArray.{FixedSizeList};
+ghost use Rattle.polars_arrays_nested.specs.declared.any_array.AnyArray.{size-AnyArray};
 ghost use Rattle.polars_arrays_nested.specs.declared.fixed_size_list.FixedSizeListArray.{size-FixedSizeListArray};
 
 use crate::any_array::AnyArray;
@@ -50,10 +51,14 @@ impl FixedSizeListArray {
         validity: Option<Bitmap>,
     ) -> Result<FixedSizeListArray, ArrayError>
         requires { IsGood values.value }
-        ensures made { OkIff result (AreFixedLists (len_of values.value) width len validity) (record { width = width; len = len; values = values; validity = validity }) }
+        ensures made { OkIff result (AreFixedLists (len_of values.value) width len validity)
+            (record { width = width; len = len; values = values; validity = validity }) }
         ensures refused { IfErr result (λ e. e ≡ Length) }
         ensures good { IfOk result (λ a. IsGood (FixedSizeList a)) }
-        ensures rows { IfOk result (λ a. (i : ℕ) → row (FixedSizeList a) i ≡ kept (is_present validity i) (Rows (rows_from (row values.value) (width * i) width))) }
+        ensures rows { IfOk result
+            (λ a. (i : ℕ) → row (FixedSizeList a) i
+            ≡ kept (is_present validity i)
+            (Rows (rows_from (row values.value) (width * i) width))) }
     {
         if !has_bits(len, &validity) || width.checked_mul(len) != Some(values.len()) {
             return Err(ArrayError::Length);
@@ -106,7 +111,8 @@ impl FixedSizeListArray {
     #[cycle(clones)]
     #[tactic(auto, using(crate::proofs::Clones::copies))]
     pub fn clone_array(&self, alloc: Global) -> Result<FixedSizeListArray, ComputeError>
-        ensures { MatchResult result (λ copy. IsClone (FixedSizeList copy) (FixedSizeList self.now)) IsMemory }
+        ensures { MatchResult result
+            (λ copy. IsClone (FixedSizeList copy) (FixedSizeList self.now)) IsMemory }
     {
         let values = self.values.clone_array(alloc)?;
         let values = Box::new(alloc, values)?;
@@ -153,5 +159,6 @@ impl Array for FixedSizeListArray {
         null_count(&self.validity)
     }
 
-    ghost null_law = { λ a b i within is_null. absurd (listed-present (stored_fixed_list a) _ i (λ k. refl) within is_null) };
+    ghost null_law = { λ a b i within is_null. absurd
+        (listed-present (stored_fixed_list a) _ i (λ k. refl) within is_null) };
 }

@@ -55,10 +55,14 @@ impl ListArray {
         validity: Option<Bitmap>,
     ) -> Result<ListArray, ArrayError>
         requires { IsGood values.value }
-        ensures made { OkIff result (AreLists (len_of values.value) offsets validity) (record { offsets = offsets; values = values; validity = validity }) }
+        ensures made { OkIff result (AreLists (len_of values.value) offsets validity)
+            (record { offsets = offsets; values = values; validity = validity }) }
         ensures refused { IfErr result (IsListFault (len_of values.value) offsets validity) }
         ensures good { IfOk result (λ a. IsGood (List a)) }
-        ensures rows { IfOk result (λ a. (i : ℕ) → row (List a) i ≡ kept (is_present validity i) (Rows (rows_from (row values.value) (offset_at offsets i) (span offsets i)))) }
+        ensures rows { IfOk result
+            (λ a. (i : ℕ) → row (List a) i
+            ≡ kept (is_present validity i)
+            (Rows (rows_from (row values.value) (offset_at offsets i) (span offsets i)))) }
     {
         if !has_bits(offsets.len(), &validity) {
             drop((offsets, values, validity));
@@ -154,5 +158,6 @@ impl Array for ListArray {
         null_count(&self.validity)
     }
 
-    ghost null_law = { λ a b i within is_null. absurd (listed-present (stored_list a) _ i (λ k. refl) within is_null) };
+    ghost null_law = { λ a b i within is_null. absurd
+        (listed-present (stored_list a) _ i (λ k. refl) within is_null) };
 }

@@ -6,7 +6,8 @@ ghost use Rattle.polars_arrays_bits.specs.Errors.{IsMemory};
 ghost use Rattle.polars_arrays_bytes.specs.Faults.{IsFirstBad};
 ghost use Rattle.polars_arrays_bytes.specs.OffsetStrings.{AreGood, place_at, places};
 ghost use Rattle.polars_arrays_flat.specs.Validity.{window};
-ghost use Rattle.polars_arrays_nested.specs.ListOffsets.{is_large, list_count, list_places, offset_at};
+ghost use Rattle.polars_arrays_nested.specs.ListOffsets.{is_large, list_count, list_places};
+ghost use Rattle.polars_arrays_nested.specs.ListOffsets.{offset_at};
 ghost use Rattle.polars_arrays_nested.specs.Places.{place_or_zero};
 
 use polars_arrays_bits::buffer::Buffer;
@@ -56,7 +57,8 @@ impl ListOffsets {
 
     /// Returns the first list that is not good over `n` items, or list 0 if there is no offset.
     pub fn first_bad_row(&self, n: usize) -> Option<usize>
-        ensures { MatchOption result (AreGood n (list_places self.now)) (IsFirstBad n (list_places self.now)) }
+        ensures { MatchOption result (AreGood n (list_places self.now))
+            (IsFirstBad n (list_places self.now)) }
     {
         match self {
             ListOffsets::Small(offsets) => first_bad_row(offsets.as_slice(), n),

@@ -12,7 +12,8 @@ ghost use Rattle.polars_arrays_nested.specs.AnyRows.{row};
 ghost use Rattle.polars_arrays_nested.specs.DictKeys.{key_count, key_validity};
 ghost use Rattle.polars_arrays_nested.specs.GoodParts.{IsGood};
 ghost use Rattle.polars_arrays_nested.specs.Lengths.{len_of};
-ghost use Rattle.polars_arrays_nested.specs.Masks.{has_bits, mask_of, named_bits, names_present, presence_of};
+ghost use Rattle.polars_arrays_nested.specs.Masks.{has_bits, mask_of, named_bits, names_present};
+ghost use Rattle.polars_arrays_nested.specs.Masks.{presence_of};
 ghost use Rattle.polars_arrays_nested.specs.Parts.{dictionary_keys, dictionary_values};
 ghost use Rattle.polars_arrays_nested.specs.declared.any_array.AnyArray.{Dictionary};
 
@@ -75,7 +76,8 @@ fn is_there(array: &AnyArray, i: usize) -> bool
 pub(crate) fn has_entry(array: &DictionaryArray, i: usize) -> bool
     requires good { IsGood (Dictionary array.now) }
     requires within { i < len_of (Dictionary array.now) }
-    ensures { result ≡ names_present (dictionary_keys array.now) (presence_of (dictionary_values array.now)) i }
+    ensures { result
+        ≡ names_present (dictionary_keys array.now) (presence_of (dictionary_values array.now)) i }
 {
     let keys = array.keys();
     has_row(keys.validity(), i) && is_there(array.values(), array.key_value(i))
@@ -124,7 +126,11 @@ fn followed_window(
 ) -> Result<Bitmap, ComputeError>
     requires good { IsGood (Dictionary array.now) }
     requires within { at + n ≤ len_of (Dictionary array.now) }
-    ensures { MatchResult result (λ bits. bits ≡ window at n (named_bits (dictionary_keys array.now) (presence_of (dictionary_values array.now)))) IsMemory }
+    ensures { MatchResult result
+        (λ bits. bits
+        ≡ window at n
+        (named_bits (dictionary_keys array.now) (presence_of (dictionary_values array.now))))
+        IsMemory }
 {
     // Has no effect at run time. The proof learns from it that the sums fit in 64 bits.
     let _rows = array.keys().len();
@@ -146,7 +152,11 @@ fn named_window(
 ) -> Result<Bitmap, ComputeError>
     requires good { IsGood (Dictionary array.now) }
     requires within { at + n ≤ len_of (Dictionary array.now) }
-    ensures { MatchResult result (λ bits. bits ≡ window at n (named_bits (dictionary_keys array.now) (presence_of (dictionary_values array.now)))) IsMemory }
+    ensures { MatchResult result
+        (λ bits. bits
+        ≡ window at n
+        (named_bits (dictionary_keys array.now) (presence_of (dictionary_values array.now))))
+        IsMemory }
 {
     match array.values() {
         AnyArray::Null(_) | AnyArray::Dictionary(_) => followed_window(alloc, array, at, n),
@@ -178,7 +188,8 @@ fn dictionary_window(
 ) -> Result<Mask<'_>, ComputeError>
     requires good { IsGood (Dictionary array.now) }
     requires within { at + n ≤ len_of (Dictionary array.now) }
-    ensures mask { MatchResult result (λ present. present ≡ validity_window at n (mask_of (Dictionary array.now))) IsMemory }
+    ensures mask { MatchResult result
+        (λ present. present ≡ validity_window at n (mask_of (Dictionary array.now))) IsMemory }
     ensures bits { HasBits n (validity_window at n (mask_of (Dictionary array.now))) }
 {
     if keeps_bits(array.values()) {
@@ -195,7 +206,8 @@ pub(crate) fn dictionary_mask(
     array: &DictionaryArray,
 ) -> Result<Mask<'_>, ComputeError>
     requires { IsGood (Dictionary array.now) }
-    ensures mask { MatchResult result (λ present. present ≡ mask_of (Dictionary array.now)) IsMemory }
+    ensures mask { MatchResult result
+        (λ present. present ≡ mask_of (Dictionary array.now)) IsMemory }
     ensures bits { HasBits (len_of (Dictionary array.now)) (mask_of (Dictionary array.now)) }
 {
     let keys = array.keys();
@@ -234,7 +246,8 @@ impl AnyArray {
     pub fn window_mask(&self, alloc: Global, at: usize, n: usize) -> Result<Mask<'_>, ComputeError>
         requires good { IsGood self.now }
         requires within { at + n ≤ len_of self.now }
-        ensures mask { MatchResult result (λ present. present ≡ validity_window at n (mask_of self.now)) IsMemory }
+        ensures mask { MatchResult result
+            (λ present. present ≡ validity_window at n (mask_of self.now)) IsMemory }
         ensures bits { HasBits n (validity_window at n (mask_of self.now)) }
     {
         match self {
@@ -248,7 +261,8 @@ impl AnyArray {
     #[tactic(auto, using(crate::proofs::Presence::rows_told))]
     pub fn may_have_nulls(&self) -> bool
         requires { IsGood self.now }
-        ensures { result ≡ false → (i : ℕ) → i < len_of self.now → is_null (row self.now i) ≡ false }
+        ensures { result ≡ false → (i : ℕ) → i < len_of self.now → is_null (row self.now i)
+            ≡ false }
     {
         keeps_bits(self)
     }

@@ -2,7 +2,8 @@
 
 ghost use Rattle.std.specs.List.{All};
 ghost use Rattle.std.specs.Option.{MatchOption};
-ghost use Rattle.std.specs.Prelude.{◌≡◌, ◌↔◌, ◌<◌, ◌+◌, ◌≤◌, ℕ, IsTrue, IfOk, IfErr, length, slice_index_or, refl, MatchResult};
+ghost use Rattle.std.specs.Prelude.{◌≡◌, ◌↔◌, ◌<◌, ◌+◌, ◌≤◌, ℕ, IsTrue, IfOk, IfErr, length};
+ghost use Rattle.std.specs.Prelude.{slice_index_or, refl, MatchResult};
 ghost use Rattle.std.specs.Result.{OkIff};
 ghost use Rattle.polars_arrays_bits.specs.Errors.{IsMemory};
 ghost use Rattle.polars_arrays_flat.specs.Row.{Fields};
@@ -12,14 +13,16 @@ ghost use Rattle.polars_arrays_nested.specs.AnyRows.{row};
 ghost use Rattle.polars_arrays_nested.specs.Clones.{AreClones, IsClone};
 ghost use Rattle.polars_arrays_nested.specs.Columns.{rows_at};
 ghost use Rattle.polars_arrays_nested.specs.Cuts.{IsCut};
-ghost use Rattle.polars_arrays_nested.specs.Faults.{AreStructs, FitsAt, IsFirstMisfit, IsStructFault};
+ghost use Rattle.polars_arrays_nested.specs.Faults.{AreStructs, FitsAt, IsFirstMisfit};
+ghost use Rattle.polars_arrays_nested.specs.Faults.{IsStructFault};
 ghost use Rattle.polars_arrays_nested.specs.GoodParts.{IsGood};
 ghost use Rattle.polars_arrays_nested.specs.Lengths.{len_of};
 ghost use Rattle.polars_arrays_nested.specs.Parts.{columns, struct_fields, struct_validity};
 ghost use Rattle.polars_arrays_nested.specs.StoredRows.{stored_struct, stored_structs};
 ghost use Rattle.polars_arrays_nested.specs.StoredRowLaws.{listed-present};
 ghost use Rattle.polars_arrays_nested.specs.Types.{type_of};
-ghost use Rattle.polars_arrays_nested.specs.declared.any_array.AnyArray.{AnyArray, Struct, size-AnyArray};
+ghost use Rattle.polars_arrays_nested.specs.declared.any_array.AnyArray.{AnyArray, Struct};
+ghost use Rattle.polars_arrays_nested.specs.declared.any_array.AnyArray.{size-AnyArray};
 ghost use Rattle.polars_arrays_nested.specs.declared.struct_array.StructArray.{size-StructArray};
 
 use crate::any_array::AnyArray;
@@ -56,10 +59,13 @@ impl StructArray {
         validity: Option<Bitmap>,
     ) -> Result<StructArray, ArrayError>
         requires { All IsGood values.items }
-        ensures made { OkIff result (AreStructs fields.items len values.items validity) (record { fields = fields; len = len; values = values; validity = validity }) }
+        ensures made { OkIff result (AreStructs fields.items len values.items validity)
+            (record { fields = fields; len = len; values = values; validity = validity }) }
         ensures refused { IfErr result (IsStructFault fields.items len values.items validity) }
         ensures good { IfOk result (λ a. IsGood (Struct a)) }
-        ensures rows { IfOk result (λ a. (i : ℕ) → row (Struct a) i ≡ kept (is_present validity i) (Fields (rows_at values.items i))) }
+        ensures rows { IfOk result
+            (λ a. (i : ℕ) → row (Struct a) i
+            ≡ kept (is_present validity i) (Fields (rows_at values.items i))) }
     {
         if !has_bits(len, &validity) {
             return Err(ArrayError::Length);
@@ -100,7 +106,8 @@ impl StructArray {
     pub fn column(&self, i: usize) -> &AnyArray
         requires { i < length (columns self.now) }
         ensures column { (other : AnyArray) → slice_index_or (columns self.now) i other ≡ result.now }
-        ensures good { IsGood (Struct self.now) → IsGood result.now × (len_of result.now ≡ len_of (Struct self.now)) }
+        ensures good { IsGood (Struct self.now) → IsGood result.now
+            × (len_of result.now ≡ len_of (Struct self.now)) }
         ensures smaller { size-AnyArray result.now < size-StructArray self.now }
     {
         &self.values[i]
@@ -154,7 +161,8 @@ fn clone_columns(alloc: Global, columns: &[AnyArray]) -> Result<Vec<AnyArray>, C
 // Returns the first place at which the array does not fit the field.
 #[tactic(auto, using(crate::proofs::Structs::fits))]
 fn first_misfit(fields: &[Field], len: usize, values: &[AnyArray]) -> Option<usize>
-    ensures { MatchOption result ((k : ℕ) → FitsAt fields.now len values.now k) (IsFirstMisfit fields.now len values.now) }
+    ensures { MatchOption result ((k : ℕ) → FitsAt fields.now len values.now k)
+        (IsFirstMisfit fields.now len values.now) }
 {
     for at in 0..fields.len().max(values.len()) {
         if !fits_at(fields, len, values, at) {
@@ -209,5 +217,6 @@ impl Array for StructArray {
         null_count(&self.validity)
     }
 
-    ghost null_law = { λ a b i within is_null. absurd (listed-present (stored_struct a) _ i (λ k. refl) within is_null) };
+    ghost null_law = { λ a b i within is_null. absurd
+        (listed-present (stored_struct a) _ i (λ k. refl) within is_null) };
 }

@@ -1,5 +1,7 @@
 -- The sixteen bytes of a view, and its row (the Arrow layout). Numbers in a view are little-endian.
-use Rattle.std.specs.Prelude.{◌≡◌, ◌≤◌, ◌<◌, ◌+◌, ◌*◌, ◌&&◌, ◌||◌, ℕ, zero, suc, Bool, List, [], ◌∷◌, if◌then◌else◌, nat_le, nat_lt, nat_eq, length, take, drop, slice_index, slice_index_or, EachIndex}
+use Rattle.std.specs.Prelude.{◌≡◌, ◌≤◌, ◌<◌, ◌+◌, ◌*◌, ◌&&◌, ◌||◌, ℕ, zero, suc, Bool, List, []}
+use Rattle.std.specs.Prelude.{◌∷◌, if◌then◌else◌, nat_le, nat_lt, nat_eq, length, take, drop}
+use Rattle.std.specs.Prelude.{slice_index, slice_index_or, EachIndex}
 use Rattle.std.specs.Str.{bytes_eq}
 use Rattle.polars_arrays_flat.specs.ByteOrder.{AreBytes}
 
@@ -11,7 +13,8 @@ pub record IsView (v : List ℕ) : Type 0 where
 -- the little-endian number of the four bytes from i on
 abbrev pub u32_at : ℕ → List ℕ → ℕ
 u32_at i v =
-    slice_index v i + slice_index v (i + 1) * 256 + slice_index v (i + 2) * 65536 + slice_index v (i + 3) * 16777216
+    slice_index v i + slice_index v (i + 1) * 256 + slice_index v (i + 2) * 65536 + slice_index v
+    (i + 3) * 16777216
 
 -- the length of the row
 unfoldable pub view_len : List ℕ → ℕ
@@ -40,7 +43,8 @@ buffer_at buffers i = slice_index_or buffers i []
 -- the row of a view: it lies in the view up to 12 bytes, and in a buffer above that
 unfoldable pub row_bytes : List (List ℕ) → List ℕ → List ℕ
 row_bytes buffers v =
-    if nat_le (view_len v) 12 then take (view_len v) (drop 4 v) else take (view_len v) (drop (view_offset v) (buffer_at buffers (view_buffer v)))
+    if nat_le (view_len v) 12 then take (view_len v) (drop 4 v) else take (view_len v)
+    (drop (view_offset v) (buffer_at buffers (view_buffer v)))
 
 -- each byte is zero
 abbrev pub AllZero : List ℕ → Type 0

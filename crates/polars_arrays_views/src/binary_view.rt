@@ -1,6 +1,7 @@
 //! Arrays of byte strings, each described by a view.
 
-ghost use Rattle.std.specs.Prelude.{◌≡◌, ◌<◌, ◌≤◌, ◌+◌, [], length, slice_index_or, IfOk, IfErr, MatchOption, IsOk, MatchResult, ⊤, refl};
+ghost use Rattle.std.specs.Prelude.{◌≡◌, ◌<◌, ◌≤◌, ◌+◌, [], length, slice_index_or, IfOk, IfErr};
+ghost use Rattle.std.specs.Prelude.{MatchOption, IsOk, MatchResult, ⊤, refl};
 ghost use Rattle.std.specs.List.{All};
 ghost use Rattle.std.specs.Result.{OkIff};
 ghost use Rattle.polars_arrays_bits.specs.Errors.{IsMemory};
@@ -10,7 +11,8 @@ ghost use Rattle.polars_arrays_flat.specs.SlotLaws.{byte_slots-present};
 ghost use Rattle.polars_arrays_flat.specs.StoredRows.{rows_under, byte_slots};
 ghost use Rattle.polars_arrays_flat.specs.Validity.{masked_count, validity_window, window};
 ghost use Rattle.polars_arrays_views.specs.Faults.{IsFirstBadView, IsFirstFault};
-ghost use Rattle.polars_arrays_views.specs.Parts.{contents, strings_of, view_rows, view_strings, GoodParts};
+ghost use Rattle.polars_arrays_views.specs.Parts.{contents, strings_of, view_rows, view_strings};
+ghost use Rattle.polars_arrays_views.specs.Parts.{GoodParts};
 ghost use Rattle.polars_arrays_views.specs.Views.{row_bytes, GoodView};
 
 use crate::view::View;
@@ -39,9 +41,16 @@ impl Model for BinaryViewArray {
 
     ghost Value = { ViewParts };
 
-    ghost view = { λ a. record { views = a.views.items; buffers = contents a.buffers.items; validity = a.validity } };
+    ghost view = { λ a. record
+        { views = a.views.items; buffers = contents a.buffers.items; validity = a.validity } };
 
-    ghost invariant = { λ a. GoodParts (record { views = a.views.items; buffers = contents a.buffers.items; validity = a.validity }) };
+    ghost invariant = { λ a. GoodParts
+        (record {
+          views = a.views.items;
+          buffers = contents a.buffers.items;
+          validity =
+              a.validity;
+        }) };
 }
 
 impl BinaryViewArray {
@@ -53,9 +62,26 @@ impl BinaryViewArray {
         buffers: Vec<Buffer<u8>>,
         validity: Option<Bitmap>,
     ) -> Result<BinaryViewArray, ArrayError>
-        ensures made { OkIff result (GoodParts (record { views = views.items; buffers = contents buffers.items; validity = validity })) (record { views = views.items; buffers = contents buffers.items; validity = validity }) }
-        ensures refused { IfErr result (IsFirstFault (record { views = views.items; buffers = contents buffers.items; validity = validity })) }
-        ensures rows { IfOk result (λ a. view_rows a ≡ rows_under validity (byte_slots (strings_of (contents buffers.items) views.items))) }
+        ensures made { OkIff result
+            (GoodParts
+            (record { views = views.items; buffers = contents buffers.items; validity = validity }))
+            (record {
+              views = views.items;
+              buffers = contents buffers.items;
+              validity =
+                  validity;
+            }) }
+        ensures refused { IfErr result
+            (IsFirstFault
+            (record {
+              views = views.items;
+              buffers = contents buffers.items;
+              validity =
+                  validity;
+            })) }
+        ensures rows { IfOk result
+            (λ a. view_rows a
+            ≡ rows_under validity (byte_slots (strings_of (contents buffers.items) views.items))) }
     {
         if !has_bits(views.len(), &validity) {
             return Err(ArrayError::Length);
@@ -91,7 +117,8 @@ impl BinaryViewArray {
         requires { i < length self.now.views }
         ensures value { result.now ≡ slice_index_or self.now.views i [] }
         ensures good { GoodView self.now.buffers result.now }
-        ensures row { row_bytes self.now.buffers result.now ≡ slice_index_or (view_strings self.now) i [] }
+        ensures row { row_bytes self.now.buffers result.now
+            ≡ slice_index_or (view_strings self.now) i [] }
     {
         &self.views()[i]
     }
@@ -113,7 +140,13 @@ impl BinaryViewArray {
     /// Keeps the `n` rows from row `at` on. No byte is moved.
     pub fn slice(&mut self, at: usize, n: usize)
         requires { at + n ≤ length self.old.views }
-        ensures stored { self.new ≡ record { views = window at n self.old.views; buffers = self.old.buffers; validity = validity_window at n self.old.validity } }
+        ensures stored { self.new
+            ≡ record {
+              views = window at n self.old.views;
+              buffers = self.old.buffers;
+              validity =
+                  validity_window at n self.old.validity;
+            } }
         ensures strings { view_strings self.new ≡ window at n (view_strings self.old) }
         ensures rows { view_rows self.new ≡ window at n (view_rows self.old) }
     {
@@ -192,7 +225,8 @@ impl ByteRows for BinaryViewArray {
 
 // Returns the first row whose view describes no row of these buffers.
 fn first_bad_view(views: &[View], buffers: &[Buffer<u8>]) -> Option<usize>
-    ensures { MatchOption result (All (GoodView (contents buffers.now)) views.now) (IsFirstBadView (contents buffers.now) views.now) }
+    ensures { MatchOption result (All (GoodView (contents buffers.now)) views.now)
+        (IsFirstBadView (contents buffers.now) views.now) }
 {
     for (row, view) in views.iter().enumerate() {
         if !view.is_good(buffers) {

@@ -1,10 +1,12 @@
 //! Equality and order of single rows, masked or not.
 
-ghost use Rattle.std.specs.Prelude.{◌≡◌, ◌<◌, ◌+◌, ℕ, List, [], IsTrue, if◌then◌else◌, length, slice_index_or, false};
+ghost use Rattle.std.specs.Prelude.{◌≡◌, ◌<◌, ◌+◌, ℕ, List, [], IsTrue, if◌then◌else◌, length};
+ghost use Rattle.std.specs.Prelude.{slice_index_or, false};
 ghost use Rattle.std.specs.Str.{bytes_eq};
 ghost use Rattle.polars_arrays_flat.specs.ByteOrder.{bytes_lt};
 ghost use Rattle.polars_arrays_views.specs.Parts.{view_strings};
-ghost use Rattle.polars_arrays_views.specs.Views.{GoodView, is_short, row_bytes, followed_eq, followed_lt};
+ghost use Rattle.polars_arrays_views.specs.Views.{GoodView, is_short, row_bytes, followed_eq};
+ghost use Rattle.polars_arrays_views.specs.Views.{followed_lt};
 
 use crate::binary_view::BinaryViewArray;
 use crate::scalar::ScalarRow;
@@ -24,8 +26,12 @@ pub fn rows_equal(
 ) -> bool
     requires left { i < length left.now.views }
     requires right { j < length right.now.views }
-    ensures same { result ≡ bytes_eq (slice_index_or (view_strings left.now) i []) (slice_index_or (view_strings right.now) j []) }
-    ensures counted { steps.new ≡ steps.old + (if followed_eq (slice_index_or (view_strings left.now) i []) (slice_index_or (view_strings right.now) j []) then 1 else 0) }
+    ensures same { result
+        ≡ bytes_eq (slice_index_or (view_strings left.now) i [])
+        (slice_index_or (view_strings right.now) j []) }
+    ensures counted { steps.new
+        ≡ steps.old + (if followed_eq (slice_index_or (view_strings left.now) i [])
+        (slice_index_or (view_strings right.now) j []) then 1 else 0) }
 {
     let v = left.view(i);
     let w = right.view(j);
@@ -44,7 +50,9 @@ pub fn rows_equal(
 /// are equal.
 #[inline(always)]
 pub fn guess_equal(v: &View, w: &View) -> bool
-    ensures { (buffers others : List (List ℕ)) → GoodView buffers v.now → GoodView others w.now → IsTrue (is_short v.now) → result ≡ bytes_eq (row_bytes buffers v.now) (row_bytes others w.now) }
+    ensures { (buffers others : List (List ℕ)) → GoodView buffers v.now → GoodView others w.now
+        → IsTrue (is_short v.now) → result
+        ≡ bytes_eq (row_bytes buffers v.now) (row_bytes others w.now) }
 {
     v.same_bytes(w)
 }
@@ -54,7 +62,9 @@ pub fn guess_equal(v: &View, w: &View) -> bool
 #[inline(always)]
 pub fn lies_in_view(v: &View) -> bool
     ensures short { result ≡ is_short v.now }
-    ensures free { (buffers others : List (List ℕ)) (w : List ℕ) → GoodView buffers v.now → GoodView others w → IsTrue result → followed_eq (row_bytes buffers v.now) (row_bytes others w) ≡ false }
+    ensures free { (buffers others : List (List ℕ)) (w : List ℕ) → GoodView buffers v.now
+        → GoodView others w → IsTrue result
+        → followed_eq (row_bytes buffers v.now) (row_bytes others w) ≡ false }
 {
     v.is_short()
 }
@@ -71,8 +81,12 @@ pub fn row_less(
 ) -> bool
     requires left { i < length left.now.views }
     requires right { j < length right.now.views }
-    ensures less { result ≡ bytes_lt (slice_index_or (view_strings left.now) i []) (slice_index_or (view_strings right.now) j []) }
-    ensures counted { steps.new ≡ steps.old + (if followed_lt (slice_index_or (view_strings left.now) i []) (slice_index_or (view_strings right.now) j []) then 1 else 0) }
+    ensures less { result
+        ≡ bytes_lt (slice_index_or (view_strings left.now) i [])
+        (slice_index_or (view_strings right.now) j []) }
+    ensures counted { steps.new
+        ≡ steps.old + (if followed_lt (slice_index_or (view_strings left.now) i [])
+        (slice_index_or (view_strings right.now) j []) then 1 else 0) }
 {
     let v = left.view(i);
     let w = right.view(j);

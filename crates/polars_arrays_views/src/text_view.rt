@@ -1,6 +1,7 @@
 //! Arrays of texts, each described by a view.
 
-ghost use Rattle.std.specs.Prelude.{◌≡◌, ◌↔◌, ◌<◌, ◌≤◌, ◌+◌, [], length, slice_index_or, IfOk, IfErr, IsTrue, MatchOption, IsOk, MatchResult, ⊤, refl};
+ghost use Rattle.std.specs.Prelude.{◌≡◌, ◌↔◌, ◌<◌, ◌≤◌, ◌+◌, [], length, slice_index_or, IfOk};
+ghost use Rattle.std.specs.Prelude.{IfErr, IsTrue, MatchOption, IsOk, MatchResult, ⊤, refl};
 ghost use Rattle.std.specs.List.{All};
 ghost use Rattle.std.specs.Result.{OkIff};
 ghost use Rattle.std.specs.Str.{IsCharBoundary, IsUtf8};
@@ -10,8 +11,10 @@ ghost use Rattle.polars_arrays_flat.specs.Kind.{Utf8ViewKind};
 ghost use Rattle.polars_arrays_flat.specs.SlotLaws.{byte_slots-present};
 ghost use Rattle.polars_arrays_flat.specs.StoredRows.{rows_under, byte_slots};
 ghost use Rattle.polars_arrays_flat.specs.Validity.{masked_count, validity_window, window};
-ghost use Rattle.polars_arrays_views.specs.Parts.{contents, strings_of, view_rows, view_strings, GoodParts};
-ghost use Rattle.polars_arrays_views.specs.Texts.{AllText, IsFirstNotText, IsFirstTextFault, LiesBetween};
+ghost use Rattle.polars_arrays_views.specs.Parts.{contents, strings_of, view_rows, view_strings};
+ghost use Rattle.polars_arrays_views.specs.Parts.{GoodParts};
+ghost use Rattle.polars_arrays_views.specs.Texts.{AllText, IsFirstNotText, IsFirstTextFault};
+ghost use Rattle.polars_arrays_views.specs.Texts.{LiesBetween};
 ghost use Rattle.polars_arrays_views.specs.Views.{GoodView, InBuffer, row_bytes};
 
 use crate::binary_view::BinaryViewArray;
@@ -54,9 +57,28 @@ impl Utf8ViewArray {
         buffers: Vec<Buffer<u8>>,
         validity: Option<Bitmap>,
     ) -> Result<Utf8ViewArray, ArrayError>
-        ensures made { OkIff result (GoodParts (record { views = views.items; buffers = contents buffers.items; validity = validity }) × AllText (record { views = views.items; buffers = contents buffers.items; validity = validity })) (record { views = views.items; buffers = contents buffers.items; validity = validity }) }
-        ensures refused { IfErr result (IsFirstTextFault (record { views = views.items; buffers = contents buffers.items; validity = validity })) }
-        ensures rows { IfOk result (λ a. view_rows a ≡ rows_under validity (byte_slots (strings_of (contents buffers.items) views.items))) }
+        ensures made { OkIff result
+            (GoodParts
+            (record { views = views.items; buffers = contents buffers.items; validity = validity })
+            × AllText
+            (record { views = views.items; buffers = contents buffers.items; validity = validity }))
+            (record {
+              views = views.items;
+              buffers = contents buffers.items;
+              validity =
+                  validity;
+            }) }
+        ensures refused { IfErr result
+            (IsFirstTextFault
+            (record {
+              views = views.items;
+              buffers = contents buffers.items;
+              validity =
+                  validity;
+            })) }
+        ensures rows { IfOk result
+            (λ a. view_rows a
+            ≡ rows_under validity (byte_slots (strings_of (contents buffers.items) views.items))) }
     {
         let binary = BinaryViewArray::try_new(views, buffers, validity)?;
         match first_not_text(&binary) {
@@ -94,7 +116,13 @@ impl Utf8ViewArray {
     /// Keeps the `n` rows from row `at` on. No byte is moved.
     pub fn slice(&mut self, at: usize, n: usize)
         requires { at + n ≤ length self.old.views }
-        ensures stored { self.new ≡ record { views = window at n self.old.views; buffers = self.old.buffers; validity = validity_window at n self.old.validity } }
+        ensures stored { self.new
+            ≡ record {
+              views = window at n self.old.views;
+              buffers = self.old.buffers;
+              validity =
+                  validity_window at n self.old.validity;
+            } }
         ensures strings { view_strings self.new ≡ window at n (view_strings self.old) }
         ensures rows { view_rows self.new ≡ window at n (view_rows self.old) }
     {

@@ -5,7 +5,9 @@ ghost use Rattle.std.specs.Int.{w32, w64, w128, from_le_bytes, from_be_bytes};
 ghost use Rattle.std.specs.Str.{IsAscii};
 ghost use Rattle.polars_arrays_flat.specs.ByteOrder.{bytes_lt};
 ghost use Rattle.polars_arrays_views.specs.Parts.{contents};
-ghost use Rattle.polars_arrays_views.specs.Views.{short_view, is_short, IsView, GoodView, InBuffer, AllZero, buffer_at, row_bytes, view_len, view_buffer, view_offset, view_prefix};
+ghost use Rattle.polars_arrays_views.specs.Views.{short_view, is_short, IsView, GoodView, InBuffer};
+ghost use Rattle.polars_arrays_views.specs.Views.{AllZero, buffer_at, row_bytes, view_len};
+ghost use Rattle.polars_arrays_views.specs.Views.{view_buffer, view_offset, view_prefix};
 
 use polars_arrays_bits::buffer::Buffer;
 use polars_arrays_flat::byte_order::pair_less;
@@ -121,7 +123,10 @@ impl View {
     #[inline]
     pub fn in_buffer<'a>(&self, buffers: &'a [Buffer<u8>]) -> &'a [u8]
         requires { InBuffer (contents buffers.now) self.now }
-        ensures { result.now ≡ take (view_len self.now) (drop (view_offset self.now) (buffer_at (contents buffers.now) (view_buffer self.now))) }
+        ensures { result.now
+            ≡ take (view_len self.now)
+            (drop (view_offset self.now)
+            (buffer_at (contents buffers.now) (view_buffer self.now))) }
     {
         let at = self.offset();
         let buffer = &buffers[self.buffer()];
@@ -198,7 +203,9 @@ impl View {
         requires other_short { view_len other.now ≤ 12 }
         requires zeros { AllZero (drop (4 + view_len self.now) self.now) }
         requires other_zeros { AllZero (drop (4 + view_len other.now) other.now) }
-        ensures { result ≡ bytes_lt (take (view_len self.now) (drop 4 self.now)) (take (view_len other.now) (drop 4 other.now)) }
+        ensures { result
+            ≡ bytes_lt (take (view_len self.now) (drop 4 self.now))
+            (take (view_len other.now) (drop 4 other.now)) }
     {
         let (p, q) = (self.prefix(), other.prefix());
         let (s, t) = (self.rest(), other.rest());

@@ -1,5 +1,6 @@
 -- Truth values packed into 64-bit words in the Arrow layout: the first value is the lowest bit.
-use Rattle.std.specs.Prelude.{◌≡◌, ℕ, ◌+◌, ◌*◌, ◌/◌, ◌%◌, ◌^◌, ◌<◌, ◌≤◌, Bool, eqb, List, [], ◌∷◌, length, get_or, map, count_by}
+use Rattle.std.specs.Prelude.{◌≡◌, ℕ, ◌+◌, ◌*◌, ◌/◌, ◌%◌, ◌^◌, ◌<◌, ◌≤◌, Bool, eqb, List, [], ◌∷◌}
+use Rattle.std.specs.Prelude.{length, get_or, map, count_by}
 use Rattle.std.specs.List.{range_with_len}
 
 -- whether bit i of a word is 1; bit 0 is the lowest

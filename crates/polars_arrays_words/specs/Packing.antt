@@ -1,11 +1,13 @@
 -- Truth values while they are packed.
-use Rattle.std.specs.Prelude.{◌≡◌, ◌<◌, ◌≤◌, ◌+◌, ℕ, Bool, false, List, length, get_or, slice_index, slice_index_or, if◌then◌else◌}
+use Rattle.std.specs.Prelude.{◌≡◌, ◌<◌, ◌≤◌, ◌+◌, ℕ, Bool, false, List, length, get_or, slice_index}
+use Rattle.std.specs.Prelude.{slice_index_or, if◌then◌else◌}
 use Rattle.polars_arrays_words.specs.Bits.{is_bit, bit_of}
 
 -- n flags: flag i is 1 if i is before `to` and truth value `at + i` is true, and 0 otherwise
 pub record IsMarked (n : ℕ) (flags : List ℕ) (values : List Bool) (at to : ℕ) : Type 0 where
   pub long : length flags ≡ n
-  pub marked : (k : ℕ) → k < to → slice_index flags k ≡ (if slice_index_or values (at + k) false then 1 else 0)
+  pub marked : (k : ℕ) → k < to → slice_index flags k
+      ≡ (if slice_index_or values (at + k) false then 1 else 0)
   pub others : (k : ℕ) → to ≤ k → slice_index flags k ≡ 0
 
 -- the lowest `count` bits of a word are the truth values from place `at` on; the other bits are 0

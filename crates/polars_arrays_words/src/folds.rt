@@ -14,7 +14,8 @@ use crate::words::{join_from, word_or_zero};
 #[inline(always)]
 fn gather(word: u64, by: usize, mask: u64) -> u64
     requires { by < 64 }
-    ensures { (i : ℕ) → i < 64 → is_bit result i ≡ ((is_bit word i || is_bit word (by + i)) && is_bit mask i) }
+    ensures { (i : ℕ) → i < 64 → is_bit result i
+        ≡ ((is_bit word i || is_bit word (by + i)) && is_bit mask i) }
 {
     (word | (word >> by)) & mask
 }
@@ -59,7 +60,8 @@ fn fold_fours(word: u64) -> u64
 // Folds the fours of four words into one word.
 #[inline(always)]
 fn fold_four_words(first: u64, second: u64, third: u64, fourth: u64) -> u64
-    ensures { (i : ℕ) → i < 64 → is_bit result i ≡ block_true 4 (bit_of (first ∷ second ∷ third ∷ fourth ∷ [])) i }
+    ensures { (i : ℕ) → i < 64 → is_bit result i
+        ≡ block_true 4 (bit_of (first ∷ second ∷ third ∷ fourth ∷ [])) i }
 {
     let two = put(fold_fours(first), fold_fours(second), 16);
     let three = put(two, fold_fours(third), 32);

@@ -1,6 +1,7 @@
 //! Packing of truth values that are read one by one into words.
 
-ghost use Rattle.std.specs.Prelude.{◌≡◌, ℕ, ◌+◌, ◌-◌, ◌^◌, ◌<◌, ◌≤◌, Bool, List, false, not, ◌||◌, eqb, length, get_or, slice_index_or};
+ghost use Rattle.std.specs.Prelude.{◌≡◌, ℕ, ◌+◌, ◌-◌, ◌^◌, ◌<◌, ◌≤◌, Bool, List, false, not, ◌||◌};
+ghost use Rattle.std.specs.Prelude.{eqb, length, get_or, slice_index_or};
 ghost use Rattle.polars_arrays_words.specs.Bits.{is_bit};
 ghost use Rattle.polars_arrays_words.specs.Packing.{IsMarked, IsPacked};
 

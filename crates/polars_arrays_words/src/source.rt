@@ -1,6 +1,7 @@
 //! Bits that are read 64 at a time.
 
-ghost use Rattle.std.specs.Prelude.{◌≡◌, ℕ, ◌+◌, ◌-◌, ◌*◌, ◌^◌, ◌<◌, ◌≤◌, Bool, [], length, vec_capacity, count_by, IfOk};
+ghost use Rattle.std.specs.Prelude.{◌≡◌, ℕ, ◌+◌, ◌-◌, ◌*◌, ◌^◌, ◌<◌, ◌≤◌, Bool, [], length};
+ghost use Rattle.std.specs.Prelude.{vec_capacity, count_by, IfOk};
 ghost use Rattle.polars_arrays_words.specs.Bits.{bit_of, window, true_count, IsWord, AreWords};
 
 use crate::words::{WORD_BITS, join, join_from, join_lanes, word_or_zero};
@@ -229,7 +230,8 @@ pub fn collect_words<S: BitSource>(
 fn count_four_words<S: BitSource>(source: &S, k: usize) -> usize
     requires inner { k + 4 ≤ S.inner source.now }
     requires fits { k + 4 < 2 ^ 64 }
-    ensures { true_count (S.bit source.now) (64 * (k + 4)) ≡ true_count (S.bit source.now) (64 * k) + result }
+    ensures { true_count (S.bit source.now) (64 * (k + 4))
+        ≡ true_count (S.bit source.now) (64 * k) + result }
 {
     let first = source.inner_word(k).count_ones();
     let second = source.inner_word(k + 1).count_ones();

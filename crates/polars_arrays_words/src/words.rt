@@ -1,6 +1,7 @@
 //! Single bits and runs of bits of 64-bit words.
 
-ghost use Rattle.std.specs.Prelude.{◌≡◌, ℕ, ◌+◌, ◌-◌, ◌*◌, ◌/◌, ◌%◌, ◌^◌, ◌<◌, ◌≤◌, true, false, List, [], ◌∷◌, length, get_or, take, drop};
+ghost use Rattle.std.specs.Prelude.{◌≡◌, ℕ, ◌+◌, ◌-◌, ◌*◌, ◌/◌, ◌%◌, ◌^◌, ◌<◌, ◌≤◌, true, false};
+ghost use Rattle.std.specs.Prelude.{List, [], ◌∷◌, length, get_or, take, drop};
 ghost use Rattle.polars_arrays_words.specs.Bits.{is_bit, bit_of};
 
 /// The number of bits of a word.

@@ -87,7 +87,8 @@ fn put_word(words: &mut [u64], p: usize, word: u64)
 pub fn append_values<V: TruthValues>(words: &mut [u64], from: usize, values: &V)
     requires room { from + length (V.values values.now) ≤ 64 * length words.old }
     requires fits { from + length (V.values values.now) < 2 ^ 64 }
-    ensures { AreAppended words.old words.new from (V.values values.now) (length (V.values values.now)) }
+    ensures { AreAppended words.old words.new from (V.values values.now)
+        (length (V.values values.now)) }
 {
     let len = values.len();
     for k in 0..len / WORD_BITS {

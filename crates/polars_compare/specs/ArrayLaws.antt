@@ -1,5 +1,6 @@
 -- Laws of missing equality of any two arrays of one type and length.
-use Rattle.std.specs.Prelude.{◌≡◌, ◌<◌, ℕ, Bool, true, false, not, IsTrue, List, map, slice_index_or}
+use Rattle.std.specs.Prelude.{◌≡◌, ◌<◌, ℕ, Bool, true, false, not, IsTrue, List, map}
+use Rattle.std.specs.Prelude.{slice_index_or}
 use Rattle.polars_arrays_nested.specs.AnyRows.{rows}
 use Rattle.polars_arrays_nested.specs.Lengths.{len_of}
 use Rattle.polars_arrays_nested.specs.declared.any_array.AnyArray.{AnyArray}
@@ -17,9 +18,11 @@ ArraysAreSymmetric = (a b : AnyArray) (bits turned : List Bool) → len_of b ≡
 
 -- rows that are the same as a third row are the same
 abbrev pub ArraysAreTransitive : Type 0
-ArraysAreTransitive = (a b c : AnyArray) (first second both : List Bool) → len_of b ≡ len_of a → len_of c ≡ len_of a
+ArraysAreTransitive = (a b c : AnyArray) (first second both : List Bool) → len_of b ≡ len_of a
+    → len_of c ≡ len_of a
     → SameTrees true a b first → SameTrees true b c second → SameTrees true a c both
-    → (i : ℕ) → IsTrue (slice_index_or first i false) → IsTrue (slice_index_or second i false) → IsTrue (slice_index_or both i false)
+    → (i : ℕ) → IsTrue (slice_index_or first i false) → IsTrue (slice_index_or second i false)
+    → IsTrue (slice_index_or both i false)
 
 -- bits of inequality are the negated bits of equality
 abbrev pub ArraysUnequalIsNotEqual : Type 0
@@ -29,4 +32,5 @@ ArraysUnequalIsNotEqual = (a b : AnyArray) (equal unequal : List Bool)
 -- arrays with the same rows have the same bits
 abbrev pub ArraysByRows : Type 0
 ArraysByRows = (told : Bool) (a b a' b' : AnyArray) (bits bits' : List Bool) → len_of b ≡ len_of a
-    → rows a ≡ rows a' → rows b ≡ rows b' → SameTrees told a b bits → SameTrees told a' b' bits' → bits ≡ bits'
+    → rows a ≡ rows a' → rows b ≡ rows b' → SameTrees told a b bits → SameTrees told a' b' bits'
+    → bits ≡ bits'

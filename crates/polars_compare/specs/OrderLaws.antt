@@ -24,12 +24,15 @@ SameIsEqual = (x y : Row) → IsTrue (same_row x y) ↔ (x ≡ y)
 
 -- of two rows with an order, exactly one holds: less, equal, or greater
 abbrev pub OneOfThree : Type 0
-OneOfThree = (x y : Row) → IsTrue (have_order x y) → ExactlyOne (IsTrue (row_less x y)) (x ≡ y) (IsTrue (row_greater x y))
+OneOfThree = (x y : Row) → IsTrue (have_order x y)
+    → ExactlyOne (IsTrue (row_less x y)) (x ≡ y) (IsTrue (row_greater x y))
 
 -- of two rows with an order, one is at most the other if it is less or the same
 abbrev pub AtMostIsLessOrSame : Type 0
-AtMostIsLessOrSame = (x y : Row) → IsTrue (have_order x y) → row_at_most x y ≡ (row_less x y || same_row x y)
+AtMostIsLessOrSame = (x y : Row) → IsTrue (have_order x y) → row_at_most x y
+    ≡ (row_less x y || same_row x y)
 
 -- a row that is less than a lesser one is less
 abbrev pub LessIsTransitive : Type 0
-LessIsTransitive = (x y z : Row) → IsTrue (row_less x y) → IsTrue (row_less y z) → IsTrue (row_less x z)
+LessIsTransitive = (x y z : Row) → IsTrue (row_less x y) → IsTrue (row_less y z)
+    → IsTrue (row_less x z)

@@ -23,7 +23,8 @@ BothPresent left right i = (row (rows_of left) i ≢ Null) × (row (rows_of righ
 
 -- missing equality and missing inequality of the same rows are the same bits
 abbrev pub MissingByRows : Type 0
-MissingByRows = (told : Bool) (types : Types) (left right left' right' : Stored) (bits bits' : List Bool)
+MissingByRows =
+    (told : Bool) (types : Types) (left right left' right' : Stored) (bits bits' : List Bool)
     → rows_of left ≡ rows_of left' → rows_of right ≡ rows_of right'
     → MissingEquality told (OneType types) (rows_of left) (rows_of right) bits
     → MissingEquality told (OneType types) (rows_of left') (rows_of right') bits'
@@ -31,16 +32,20 @@ MissingByRows = (told : Bool) (types : Types) (left right left' right' : Stored)
 
 -- raw equality and inequality of the same rows have the same bit wherever both rows are present
 abbrev pub RawEqualityByRows : Type 0
-RawEqualityByRows = (told : Bool) (types : Types) (left right left' right' : Stored) (bits bits' : List Bool)
+RawEqualityByRows =
+    (told : Bool) (types : Types) (left right left' right' : Stored) (bits bits' : List Bool)
     → rows_of left ≡ rows_of left' → rows_of right ≡ rows_of right'
     → RawEquality told (OneType types) left.mask right.mask left.slots right.slots bits
     → RawEquality told (OneType types) left'.mask right'.mask left'.slots right'.slots bits'
-    → (i : ℕ) → BothPresent left right i → slice_index_or bits i false ≡ slice_index_or bits' i false
+    → (i : ℕ) → BothPresent left right i → slice_index_or bits i false
+    ≡ slice_index_or bits' i false
 
 -- the raw order of the same rows has the same bit wherever both rows are present, for any test
 abbrev pub RawOrderByRows : Type 0
-RawOrderByRows = (test : Row → Row → Bool) (left right left' right' : Stored) (bits bits' : List Bool)
+RawOrderByRows =
+    (test : Row → Row → Bool) (left right left' right' : Stored) (bits bits' : List Bool)
     → rows_of left ≡ rows_of left' → rows_of right ≡ rows_of right'
     → RawOrder test left.mask right.mask left.slots right.slots bits
     → RawOrder test left'.mask right'.mask left'.slots right'.slots bits'
-    → (i : ℕ) → BothPresent left right i → slice_index_or bits i false ≡ slice_index_or bits' i false
+    → (i : ℕ) → BothPresent left right i → slice_index_or bits i false
+    ≡ slice_index_or bits' i false

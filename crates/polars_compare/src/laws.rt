@@ -3,9 +3,13 @@
 //! comparisons of any two arrays by their leaf slots, and `law_steps` says that the counter's
 //! kernel tests equality.
 
-ghost use Rattle.polars_compare.specs.ArrayLaws.{ArraysAreReflexive, ArraysAreSymmetric, ArraysAreTransitive, ArraysByRows, ArraysUnequalIsNotEqual};
-ghost use Rattle.polars_compare.specs.MissingLaws.{MissingIsReflexive, MissingIsSymmetric, MissingIsTransitive, UnequalIsNotEqual};
-ghost use Rattle.polars_compare.specs.OrderLaws.{AtMostIsLessOrSame, LessIsTransitive, OneOfThree, SameIsEqual};
+ghost use Rattle.polars_compare.specs.ArrayLaws.{ArraysAreReflexive, ArraysAreSymmetric};
+ghost use Rattle.polars_compare.specs.ArrayLaws.{ArraysAreTransitive, ArraysByRows};
+ghost use Rattle.polars_compare.specs.ArrayLaws.{ArraysUnequalIsNotEqual};
+ghost use Rattle.polars_compare.specs.MissingLaws.{MissingIsReflexive, MissingIsSymmetric};
+ghost use Rattle.polars_compare.specs.MissingLaws.{MissingIsTransitive, UnequalIsNotEqual};
+ghost use Rattle.polars_compare.specs.OrderLaws.{AtMostIsLessOrSame, LessIsTransitive, OneOfThree};
+ghost use Rattle.polars_compare.specs.OrderLaws.{SameIsEqual};
 ghost use Rattle.polars_compare.specs.RowsLaws.{MissingByRows, RawEqualityByRows, RawOrderByRows};
 
 pub use polars_compare_nested::laws::{law_steps, law_tally};

@@ -1,7 +1,8 @@
 -- Results of a call that some kinds of array do not support.
 use Rattle.std.specs.Prelude.{Bool, true, false, IsTrue, Result, MatchResult}
 use Rattle.polars_arrays_bits.specs.declared.error.ComputeError.{ComputeError}
-use Rattle.polars_arrays_bits.specs.declared.error.ComputeError.TheVariants.{Memory, Unsupported, KeyOutOfRange}
+use Rattle.polars_arrays_bits.specs.declared.error.ComputeError.TheVariants.{Memory, Unsupported}
+use Rattle.polars_arrays_bits.specs.declared.error.ComputeError.TheVariants.{KeyOutOfRange}
 use Rattle.polars_arrays_bits.specs.Errors.{IsMemory}
 
 -- the error is that the kind does not support the operation

@@ -22,7 +22,8 @@ pub trait BytesEqKernel: ByteRows + Sized {
     /// Returns for each stored row whether it is equal to the byte string.
     fn tot_eq_kernel_broadcast(&self, alloc: Global, other: &[u8]) -> Result<Bitmap, ComputeError>
         ensures { MatchResult result
-            (RawEquality true ⊤ (Self.mask self.now) None (Self.slots self.now) (replicate (length (Self.slots self.now)) (Bytes other.now)))
+            (RawEquality true ⊤ (Self.mask self.now) None (Self.slots self.now)
+            (replicate (length (Self.slots self.now)) (Bytes other.now)))
             IsMemory }
     {
         compare_bytes(alloc, &Equal, self, other)
@@ -31,7 +32,8 @@ pub trait BytesEqKernel: ByteRows + Sized {
     /// Returns for each stored row whether it differs from the byte string.
     fn tot_ne_kernel_broadcast(&self, alloc: Global, other: &[u8]) -> Result<Bitmap, ComputeError>
         ensures { MatchResult result
-            (RawEquality false ⊤ (Self.mask self.now) None (Self.slots self.now) (replicate (length (Self.slots self.now)) (Bytes other.now)))
+            (RawEquality false ⊤ (Self.mask self.now) None (Self.slots self.now)
+            (replicate (length (Self.slots self.now)) (Bytes other.now)))
             IsMemory }
     {
         compare_bytes(alloc, &Unequal, self, other)
@@ -45,7 +47,8 @@ pub trait BytesEqKernel: ByteRows + Sized {
     ) -> Result<Bitmap, ComputeError>
         requires good { Self.good self.now }
         ensures { MatchResult result
-            (MissingEquality true ⊤ (rows_under (Self.mask self.now) (Self.slots self.now)) (replicate (length (Self.slots self.now)) (Bytes other.now)))
+            (MissingEquality true ⊤ (rows_under (Self.mask self.now) (Self.slots self.now))
+            (replicate (length (Self.slots self.now)) (Bytes other.now)))
             IsMemory }
     {
         let raw = self.tot_eq_kernel_broadcast(alloc, other)?;
@@ -60,7 +63,8 @@ pub trait BytesEqKernel: ByteRows + Sized {
     ) -> Result<Bitmap, ComputeError>
         requires good { Self.good self.now }
         ensures { MatchResult result
-            (MissingEquality false ⊤ (rows_under (Self.mask self.now) (Self.slots self.now)) (replicate (length (Self.slots self.now)) (Bytes other.now)))
+            (MissingEquality false ⊤ (rows_under (Self.mask self.now) (Self.slots self.now))
+            (replicate (length (Self.slots self.now)) (Bytes other.now)))
             IsMemory }
     {
         let raw = self.tot_ne_kernel_broadcast(alloc, other)?;
@@ -75,7 +79,8 @@ pub trait TextEqKernel: ByteRows + Sized {
     /// Returns for each stored row whether it is equal to the text.
     fn tot_eq_kernel_broadcast(&self, alloc: Global, other: &str) -> Result<Bitmap, ComputeError>
         ensures { MatchResult result
-            (RawEquality true ⊤ (Self.mask self.now) None (Self.slots self.now) (replicate (length (Self.slots self.now)) (Bytes other.now)))
+            (RawEquality true ⊤ (Self.mask self.now) None (Self.slots self.now)
+            (replicate (length (Self.slots self.now)) (Bytes other.now)))
             IsMemory }
     {
         compare_bytes(alloc, &Equal, self, other.as_bytes())
@@ -84,7 +89,8 @@ pub trait TextEqKernel: ByteRows + Sized {
     /// Returns for each stored row whether it differs from the text.
     fn tot_ne_kernel_broadcast(&self, alloc: Global, other: &str) -> Result<Bitmap, ComputeError>
         ensures { MatchResult result
-            (RawEquality false ⊤ (Self.mask self.now) None (Self.slots self.now) (replicate (length (Self.slots self.now)) (Bytes other.now)))
+            (RawEquality false ⊤ (Self.mask self.now) None (Self.slots self.now)
+            (replicate (length (Self.slots self.now)) (Bytes other.now)))
             IsMemory }
     {
         compare_bytes(alloc, &Unequal, self, other.as_bytes())
@@ -98,7 +104,8 @@ pub trait TextEqKernel: ByteRows + Sized {
     ) -> Result<Bitmap, ComputeError>
         requires good { Self.good self.now }
         ensures { MatchResult result
-            (MissingEquality true ⊤ (rows_under (Self.mask self.now) (Self.slots self.now)) (replicate (length (Self.slots self.now)) (Bytes other.now)))
+            (MissingEquality true ⊤ (rows_under (Self.mask self.now) (Self.slots self.now))
+            (replicate (length (Self.slots self.now)) (Bytes other.now)))
             IsMemory }
     {
         let raw = self.tot_eq_kernel_broadcast(alloc, other)?;
@@ -113,7 +120,8 @@ pub trait TextEqKernel: ByteRows + Sized {
     ) -> Result<Bitmap, ComputeError>
         requires good { Self.good self.now }
         ensures { MatchResult result
-            (MissingEquality false ⊤ (rows_under (Self.mask self.now) (Self.slots self.now)) (replicate (length (Self.slots self.now)) (Bytes other.now)))
+            (MissingEquality false ⊤ (rows_under (Self.mask self.now) (Self.slots self.now))
+            (replicate (length (Self.slots self.now)) (Bytes other.now)))
             IsMemory }
     {
         let raw = self.tot_ne_kernel_broadcast(alloc, other)?;

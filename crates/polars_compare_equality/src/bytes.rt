@@ -98,7 +98,8 @@ impl<O: Offset + 'static> BytesEqKernel for BinaryArray<O> {
 impl TotalEqKernel for FixedSizeBinaryArray {
     type Scalar = Vec<u8>;
 
-    ghost comparable = { λ a b. length (sized_strings a.size a.count a.values) ≡ length (sized_strings b.size b.count b.values) };
+    ghost comparable = { λ a b. length (sized_strings a.size a.count a.values)
+        ≡ length (sized_strings b.size b.count b.values) };
 
     ghost broadcasts = { true };
 
@@ -142,7 +143,8 @@ impl TotalEqKernel for FixedSizeBinaryArray {
         BytesEqKernel::tot_ne_kernel_broadcast(self, alloc, other.as_slice())
     }
 
-    ghost comparable_law = { λ a b e. byte_slots-as_long (sized_strings a.size a.count a.values) (sized_strings b.size b.count b.values) e };
+    ghost comparable_law = { λ a b e. byte_slots-as_long (sized_strings a.size a.count a.values)
+        (sized_strings b.size b.count b.values) e };
 
     ghost scalar_law = { λ s has e. cc };
 }

@@ -21,7 +21,8 @@ use std::alloc::Global;
 impl TotalEqKernel for DictionaryArray {
     type Scalar = AnyArray;
 
-    ghost comparable = { λ a b. (len_of (Dictionary a) ≡ len_of (Dictionary b)) × (type_of (Dictionary a) ≡ type_of (Dictionary b)) };
+    ghost comparable = { λ a b. (len_of (Dictionary a) ≡ len_of (Dictionary b))
+        × (type_of (Dictionary a) ≡ type_of (Dictionary b)) };
 
     ghost broadcasts = { false };
 

@@ -23,7 +23,8 @@ use std::alloc::Global;
 impl TotalEqKernel for FixedSizeListArray {
     type Scalar = AnyArray;
 
-    ghost comparable = { λ a b. (len_of (FixedSizeList a) ≡ len_of (FixedSizeList b)) × (type_of (fixed_values a) ≡ type_of (fixed_values b)) };
+    ghost comparable = { λ a b. (len_of (FixedSizeList a) ≡ len_of (FixedSizeList b))
+        × (type_of (fixed_values a) ≡ type_of (fixed_values b)) };
 
     ghost broadcasts = { true };
 

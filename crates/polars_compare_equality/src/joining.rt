@@ -27,9 +27,12 @@ pub(crate) fn join_rows<A: Array>(
     requires good_left { A.good left.now }
     requires good_right { A.good right.now }
     requires one_length { length (A.slots left.now) ≡ length (A.slots right.now) }
-    requires raw { RawEquality (told relation) (A.same_type left.now right.now) (A.mask left.now) (A.mask right.now) (A.slots left.now) (A.slots right.now) raw }
+    requires raw { RawEquality (told relation) (A.same_type left.now right.now) (A.mask left.now)
+        (A.mask right.now) (A.slots left.now) (A.slots right.now) raw }
     ensures { MatchResult result
-        (MissingEquality (told relation) (A.same_type left.now right.now) (rows_under (A.mask left.now) (A.slots left.now)) (rows_under (A.mask right.now) (A.slots right.now)))
+        (MissingEquality (told relation) (A.same_type left.now right.now)
+        (rows_under (A.mask left.now) (A.slots left.now))
+        (rows_under (A.mask right.now) (A.slots right.now)))
         IsMemory }
 {
     let left_mask = left.missing_mask(alloc)?;
@@ -50,8 +53,10 @@ pub(crate) fn join_scalar<A: Array>(
     requires one_length { length raw ≡ length (A.slots rows.now) }
     ensures { MatchResult result
         (λ bits. (scalar : Row) → scalar ≢ Null
-        → RawEquality (told relation) ⊤ (A.mask rows.now) None (A.slots rows.now) (replicate (length (A.slots rows.now)) scalar) raw
-        → MissingEquality (told relation) ⊤ (rows_under (A.mask rows.now) (A.slots rows.now)) (replicate (length (A.slots rows.now)) scalar) bits)
+        → RawEquality (told relation) ⊤ (A.mask rows.now) None (A.slots rows.now)
+        (replicate (length (A.slots rows.now)) scalar) raw
+        → MissingEquality (told relation) ⊤ (rows_under (A.mask rows.now) (A.slots rows.now))
+        (replicate (length (A.slots rows.now)) scalar) bits)
         IsMemory }
 {
     let mask = rows.missing_mask(alloc)?;

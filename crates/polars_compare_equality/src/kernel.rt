@@ -1,6 +1,7 @@
 //! Equality of the rows of two arrays, raw and missing.
 
-ghost use Rattle.std.specs.Prelude.{◌≡◌, ◌≢◌, ◌↔◌, List, Bool, Option, None, true, false, length, replicate, MatchResult, IsTrue, ⊤};
+ghost use Rattle.std.specs.Prelude.{◌≡◌, ◌≢◌, ◌↔◌, List, Bool, Option, None, true, false, length};
+ghost use Rattle.std.specs.Prelude.{replicate, MatchResult, IsTrue, ⊤};
 ghost use Rattle.polars_arrays_bits.specs.Errors.{IsMemory};
 ghost use Rattle.polars_arrays_flat.specs.Row.{Row, Null};
 ghost use Rattle.polars_arrays_flat.specs.StoredRows.{rows_under};
@@ -58,7 +59,8 @@ pub trait TotalEqKernel: Sized + Array {
         requires good_other { Self.good other.now }
         requires comparable { comparable self.now other.now }
         ensures { MatchResult result
-            (RawEquality true (Self.same_type self.now other.now) (Self.mask self.now) (Self.mask other.now) (Self.slots self.now) (Self.slots other.now))
+            (RawEquality true (Self.same_type self.now other.now) (Self.mask self.now)
+            (Self.mask other.now) (Self.slots self.now) (Self.slots other.now))
             IsMemory };
 
     /// Returns for each place whether the stored rows differ.
@@ -67,7 +69,8 @@ pub trait TotalEqKernel: Sized + Array {
         requires good_other { Self.good other.now }
         requires comparable { comparable self.now other.now }
         ensures { MatchResult result
-            (RawEquality false (Self.same_type self.now other.now) (Self.mask self.now) (Self.mask other.now) (Self.slots self.now) (Self.slots other.now))
+            (RawEquality false (Self.same_type self.now other.now) (Self.mask self.now)
+            (Self.mask other.now) (Self.slots self.now) (Self.slots other.now))
             IsMemory };
 
     /// Returns for each stored row whether it is equal to the scalar.
@@ -80,7 +83,8 @@ pub trait TotalEqKernel: Sized + Array {
         requires good_other { good_scalar other.now }
         requires fits { fits self.now other.now }
         ensures { Answers broadcasts result
-            (RawEquality true ⊤ (Self.mask self.now) None (Self.slots self.now) (replicate (length (Self.slots self.now)) (scalar_row other.now))) };
+            (RawEquality true ⊤ (Self.mask self.now) None (Self.slots self.now)
+            (replicate (length (Self.slots self.now)) (scalar_row other.now))) };
 
     /// Returns for each stored row whether it differs from the scalar.
     fn tot_ne_kernel_broadcast(
@@ -92,7 +96,8 @@ pub trait TotalEqKernel: Sized + Array {
         requires good_other { good_scalar other.now }
         requires fits { fits self.now other.now }
         ensures { Answers broadcasts result
-            (RawEquality false ⊤ (Self.mask self.now) None (Self.slots self.now) (replicate (length (Self.slots self.now)) (scalar_row other.now))) };
+            (RawEquality false ⊤ (Self.mask self.now) None (Self.slots self.now)
+            (replicate (length (Self.slots self.now)) (scalar_row other.now))) };
 
     /// Returns for each place whether the rows are equal; null is equal to null alone.
     fn tot_eq_missing_kernel(&self, alloc: Global, other: &Self) -> Result<Bitmap, ComputeError>
@@ -100,7 +105,9 @@ pub trait TotalEqKernel: Sized + Array {
         requires good_other { Self.good other.now }
         requires comparable { comparable self.now other.now }
         ensures { MatchResult result
-            (MissingEquality true (Self.same_type self.now other.now) (rows_under (Self.mask self.now) (Self.slots self.now)) (rows_under (Self.mask other.now) (Self.slots other.now)))
+            (MissingEquality true (Self.same_type self.now other.now)
+            (rows_under (Self.mask self.now) (Self.slots self.now))
+            (rows_under (Self.mask other.now) (Self.slots other.now)))
             IsMemory }
     {
         let raw = self.tot_eq_kernel(alloc, other)?;
@@ -113,7 +120,9 @@ pub trait TotalEqKernel: Sized + Array {
         requires good_other { Self.good other.now }
         requires comparable { comparable self.now other.now }
         ensures { MatchResult result
-            (MissingEquality false (Self.same_type self.now other.now) (rows_under (Self.mask self.now) (Self.slots self.now)) (rows_under (Self.mask other.now) (Self.slots other.now)))
+            (MissingEquality false (Self.same_type self.now other.now)
+            (rows_under (Self.mask self.now) (Self.slots self.now))
+            (rows_under (Self.mask other.now) (Self.slots other.now)))
             IsMemory }
     {
         let raw = self.tot_ne_kernel(alloc, other)?;
@@ -130,7 +139,8 @@ pub trait TotalEqKernel: Sized + Array {
         requires good_other { good_scalar other.now }
         requires fits { fits self.now other.now }
         ensures { Answers broadcasts result
-            (MissingEquality true ⊤ (rows_under (Self.mask self.now) (Self.slots self.now)) (replicate (length (Self.slots self.now)) (scalar_row other.now))) }
+            (MissingEquality true ⊤ (rows_under (Self.mask self.now) (Self.slots self.now))
+            (replicate (length (Self.slots self.now)) (scalar_row other.now))) }
     {
         let raw = self.tot_eq_kernel_broadcast(alloc, other)?;
         join_scalar(alloc, Relation::Equal, raw, self)
@@ -146,7 +156,8 @@ pub trait TotalEqKernel: Sized + Array {
         requires good_other { good_scalar other.now }
         requires fits { fits self.now other.now }
         ensures { Answers broadcasts result
-            (MissingEquality false ⊤ (rows_under (Self.mask self.now) (Self.slots self.now)) (replicate (length (Self.slots self.now)) (scalar_row other.now))) }
+            (MissingEquality false ⊤ (rows_under (Self.mask self.now) (Self.slots self.now))
+            (replicate (length (Self.slots self.now)) (scalar_row other.now))) }
     {
         let raw = self.tot_ne_kernel_broadcast(alloc, other)?;
         join_scalar(alloc, Relation::Unequal, raw, self)

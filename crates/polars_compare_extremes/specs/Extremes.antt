@@ -12,7 +12,8 @@ NonePresent rows = (k : ℕ) → k < length rows → row rows k ≡ Null
 pub record IsBest (better : Row → Row → Bool) (rows : List Row) (place : ℕ) : Type 0 where
   pub within : place < length rows
   pub present : row rows place ≢ Null
-  pub best : (k : ℕ) → k < length rows → row rows k ≢ Null → better (row rows k) (row rows place) ≡ false
+  pub best : (k : ℕ) → k < length rows → row rows k ≢ Null → better (row rows k) (row rows place)
+      ≡ false
   pub first : (k : ℕ) → k < place → row rows k ≢ Null → better (row rows place) (row rows k) ≡ true
 
 -- `found` is the first best row

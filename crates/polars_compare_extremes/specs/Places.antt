@@ -14,7 +14,8 @@ pub record IsFirstPresent (n : ℕ) (mask : Option (List Bool)) (i : ℕ) : Type
   pub before : (k : ℕ) → k < i → is_present mask k ≡ false
 
 -- of the first n stored rows, given by `slot`, the one at `place` is the first best present one
-pub record IsBestSlot (better : Row → Row → Bool) (slot : ℕ → Row) (mask : Option (List Bool)) (n place : ℕ) : Type 0 where
+pub record IsBestSlot (better : Row → Row → Bool) (slot : ℕ → Row) (mask : Option (List Bool))
+    (n place : ℕ) : Type 0 where
   pub within : place < n
   pub present : is_present mask place ≡ true
   pub best : (k : ℕ) → k < n → is_present mask k ≡ true → better (slot k) (slot place) ≡ false

@@ -22,15 +22,18 @@ module _ {A : Type 0} {R : A → A → Ordering} (total : IsTotalOrder R) where
   one_way x y h = ap is_lt (total.antisymm y x ∙ ap ordering_reverse (is_less (R x y) h))
 
   -- what is less than x is less than all that are not less than x
-  least_passes : (x y z : A) (o : Ordering) → R z x ≡ o → is_lt (R y x) ≡ true → is_lt o ≡ false → is_lt (R y z) ≡ true
+  least_passes : (x y z : A) (o : Ordering) → R z x ≡ o → is_lt (R y x) ≡ true → is_lt o ≡ false
+      → is_lt (R y z) ≡ true
   least_passes x y z Less e h g = cc
   least_passes x y z Equal e h g =
-      ap is_lt (total.antisymm y z ∙ ap ordering_reverse (total.congr z x y e ∙ total.antisymm x y ∙ ap ordering_reverse (is_less (R y x) h)))
+      ap is_lt (total.antisymm y z ∙ ap ordering_reverse
+      (total.congr z x y e ∙ total.antisymm x y ∙ ap ordering_reverse (is_less (R y x) h)))
   least_passes x y z Greater e h g =
       ap is_lt (total.trans y x z (is_less (R y x) h) (total.antisymm x z ∙ ap ordering_reverse e))
 
   -- what is greater than x is greater than all that are not greater than x
-  greatest_passes : (x y z : A) (o : Ordering) → R x z ≡ o → is_lt (R x y) ≡ true → is_lt o ≡ false → is_lt (R z y) ≡ true
+  greatest_passes : (x y z : A) (o : Ordering) → R x z ≡ o → is_lt (R x y) ≡ true → is_lt o ≡ false
+      → is_lt (R z y) ≡ true
   greatest_passes x y z Less e h g = cc
   greatest_passes x y z Equal e h g = ap is_lt (sym (total.congr x z y e) ∙ is_less (R x y) h)
   greatest_passes x y z Greater e h g =
@@ -39,13 +42,15 @@ module _ {A : Type 0} {R : A → A → Ordering} (total : IsTotalOrder R) where
 pub less_prefers : Prefers Bytes row_less
 less_prefers = record {
   one_way = λ xs ys h. one_way nat_list_cmp_total xs ys h;
-  passes = λ xs ys zs h g. least_passes nat_list_cmp_total xs ys zs (slice_cmp nat_cmp zs xs) refl h g;
+  passes = λ xs ys zs h g. least_passes nat_list_cmp_total xs ys zs (slice_cmp nat_cmp zs xs) refl h
+      g;
 }
 
 pub greater_prefers : Prefers Bytes row_greater
 greater_prefers = record {
   one_way = λ xs ys h. one_way nat_list_cmp_total ys xs h;
-  passes = λ xs ys zs h g. greatest_passes nat_list_cmp_total xs ys zs (slice_cmp nat_cmp xs zs) refl h g;
+  passes = λ xs ys zs h g. greatest_passes nat_list_cmp_total xs ys zs (slice_cmp nat_cmp xs zs)
+      refl h g;
 }
 
 lt-cond : (a b : Bool) → is_lt (cond a Less (cond b Greater Equal)) ≡ a
@@ -59,11 +64,13 @@ is-int_lt m n = lt-cond (int_lt m n) (int_lt n m)
 pub less_prefers-numbers : Prefers Int row_less
 less_prefers-numbers = record {
   one_way = λ m n h. sym (is-int_lt n m) ∙ one_way int_cmp_total m n (is-int_lt m n ∙ h);
-  passes = λ l m n h g. sym (is-int_lt m n) ∙ least_passes int_cmp_total l m n (int_cmp n l) refl (is-int_lt m l ∙ h) (is-int_lt n l ∙ g);
+  passes = λ l m n h g. sym (is-int_lt m n) ∙ least_passes int_cmp_total l m n (int_cmp n l) refl
+      (is-int_lt m l ∙ h) (is-int_lt n l ∙ g);
 }
 
 pub greater_prefers-numbers : Prefers Int row_greater
 greater_prefers-numbers = record {
   one_way = λ m n h. sym (is-int_lt m n) ∙ one_way int_cmp_total n m (is-int_lt n m ∙ h);
-  passes = λ l m n h g. sym (is-int_lt n m) ∙ greatest_passes int_cmp_total l m n (int_cmp l n) refl (is-int_lt l m ∙ h) (is-int_lt l n ∙ g);
+  passes = λ l m n h g. sym (is-int_lt n m) ∙ greatest_passes int_cmp_total l m n (int_cmp l n) refl
+      (is-int_lt l m ∙ h) (is-int_lt l n ∙ g);
 }

@@ -1,15 +1,27 @@
 -- The extremes of any array.
-use Rattle.std.specs.Prelude.{◌≡◌, Bool, true, false, IsTrue, IsFalse, List, Option, Result, MatchOption, MatchResult, pos}
+use Rattle.std.specs.Prelude.{◌≡◌, Bool, true, false, IsTrue, IsFalse, List, Option, Result}
+use Rattle.std.specs.Prelude.{MatchOption, MatchResult, pos}
 use Rattle.polars_arrays_bits.specs.declared.error.ComputeError.{ComputeError}
 use Rattle.polars_arrays_bits.specs.declared.error.ComputeError.TheVariants.{Unsupported}
-use Rattle.polars_arrays_flat.specs.Kind.{Kind, BooleanKind, Int8Kind, Int16Kind, Int32Kind, Int64Kind, Int128Kind, UInt8Kind, UInt16Kind, UInt32Kind, UInt64Kind, UInt128Kind, BinaryKind, LargeBinaryKind, Utf8Kind, LargeUtf8Kind, BinaryViewKind, Utf8ViewKind}
+use Rattle.polars_arrays_flat.specs.Kind.{Kind, BooleanKind, Int8Kind, Int16Kind, Int32Kind}
+use Rattle.polars_arrays_flat.specs.Kind.{Int64Kind, Int128Kind, UInt8Kind, UInt16Kind, UInt32Kind}
+use Rattle.polars_arrays_flat.specs.Kind.{UInt64Kind, UInt128Kind, BinaryKind, LargeBinaryKind}
+use Rattle.polars_arrays_flat.specs.Kind.{Utf8Kind, LargeUtf8Kind, BinaryViewKind, Utf8ViewKind}
 use Rattle.polars_arrays_flat.specs.Row.{Row, Int, Truth, Bytes}
 use Rattle.polars_compare_leaves.specs.Order.{row_less, row_greater}
 use Rattle.polars_compare_extremes.specs.Extremes.{FindsBest, NonePresent}
 use Rattle.polars_compare_extremes.specs.declared.extreme.Extreme.{Extreme}
 use Rattle.polars_compare_extremes.specs.declared.extreme.Extreme.TheVariants.{Least, Greatest}
 use Rattle.polars_compare_extremes.specs.declared.scalar.AnyScalar.{AnyScalar}
-use Rattle.polars_compare_extremes.specs.declared.scalar.AnyScalar.TheVariants.{Boolean, Int8, Int16, Int32, Int64, Int128, UInt8, UInt16, UInt32, UInt64, UInt128, Binary, LargeBinary, Utf8, LargeUtf8, BinaryView, Utf8View}
+use Rattle.polars_compare_extremes.specs.declared.scalar.AnyScalar.TheVariants.{Boolean, Int8}
+use Rattle.polars_compare_extremes.specs.declared.scalar.AnyScalar.TheVariants.{Int16, Int32, Int64}
+use Rattle.polars_compare_extremes.specs.declared.scalar.AnyScalar.TheVariants.{Int128, UInt8}
+use Rattle.polars_compare_extremes.specs.declared.scalar.AnyScalar.TheVariants.{UInt16, UInt32}
+use Rattle.polars_compare_extremes.specs.declared.scalar.AnyScalar.TheVariants.{UInt64, UInt128}
+use Rattle.polars_compare_extremes.specs.declared.scalar.AnyScalar.TheVariants.{Binary, LargeBinary}
+use Rattle.polars_compare_extremes.specs.declared.scalar.AnyScalar.TheVariants.{Utf8, LargeUtf8}
+use Rattle.polars_compare_extremes.specs.declared.scalar.AnyScalar.TheVariants.{BinaryView}
+use Rattle.polars_compare_extremes.specs.declared.scalar.AnyScalar.TheVariants.{Utf8View}
 
 -- the test of whether a row is a better extreme than another
 abbrev pub better_of : Extreme → Row → Row → Bool
@@ -80,14 +92,19 @@ scalar_row (Utf8View text) = Bytes text.now
 -- an extreme of rows of this kind: a scalar of that kind that is the best row, or none
 abbrev pub IsExtreme : Extreme → Kind → List Row → Option AnyScalar → Type 0
 IsExtreme extreme kind rows found =
-    MatchOption found (NonePresent rows) (λ scalar. (scalar_kind scalar ≡ kind) × FindsBest (better_of extreme) rows (scalar_row scalar))
+    MatchOption found (NonePresent rows)
+    (λ scalar. (scalar_kind scalar ≡ kind)
+    × FindsBest (better_of extreme) rows (scalar_row scalar))
 
 -- both extremes of rows of this kind
 abbrev pub AreExtremes : Kind → List Row → Option (AnyScalar × AnyScalar) → Type 0
 AreExtremes kind rows found =
-    MatchOption found (NonePresent rows) (λ pair. ((scalar_kind pair.0 ≡ kind) × FindsBest row_less rows (scalar_row pair.0)) × ((scalar_kind pair.1 ≡ kind) × FindsBest row_greater rows (scalar_row pair.1)))
+    MatchOption found (NonePresent rows)
+    (λ pair. ((scalar_kind pair.0 ≡ kind) × FindsBest row_less rows (scalar_row pair.0))
+    × ((scalar_kind pair.1 ≡ kind) × FindsBest row_greater rows (scalar_row pair.1)))
 
 -- P holds of the result if the kind has extremes; otherwise the error is Unsupported
 abbrev pub AnswersKind : {A : Type 0} → Kind → Result A ComputeError → (A → Type 0) → Type 0
 AnswersKind kind result P =
-    MatchResult result (λ found. IsTrue (has_extremes kind) × P found) (λ error. IsFalse (has_extremes kind) × (error ≡ Unsupported))
+    MatchResult result (λ found. IsTrue (has_extremes kind) × P found)
+    (λ error. IsFalse (has_extremes kind) × (error ≡ Unsupported))

@@ -17,7 +17,8 @@ use polars_arrays_flat::boolean::BooleanArray;
 #[tactic(auto, using(crate::proofs::Truths::truth_counts))]
 fn present_count(values: &Bitmap, validity: Option<&Bitmap>) -> usize
     requires { HasBits (length values.now) (option_copied validity) }
-    ensures { result ≡ count_by is_there (rows_under (option_copied validity.entry) (truth_slots values.now)) }
+    ensures { result
+        ≡ count_by is_there (rows_under (option_copied validity.entry) (truth_slots values.now)) }
 {
     match validity {
         Some(bits) => bits.set_bits(),
@@ -29,7 +30,9 @@ fn present_count(values: &Bitmap, validity: Option<&Bitmap>) -> usize
 #[tactic(auto, using(crate::proofs::Truths::truth_counts))]
 fn true_count(values: &Bitmap, validity: Option<&Bitmap>) -> usize
     requires { HasBits (length values.now) (option_copied validity) }
-    ensures { result ≡ count_by (is_truth true) (rows_under (option_copied validity.entry) (truth_slots values.now)) }
+    ensures { result
+        ≡ count_by (is_truth true)
+        (rows_under (option_copied validity.entry) (truth_slots values.now)) }
 {
     match validity {
         Some(bits) => values.num_intersections_with(bits),

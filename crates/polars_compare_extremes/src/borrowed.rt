@@ -14,19 +14,24 @@ pub trait BytesMinMaxKernel: ByteRows {
     fn min_ignore_nan_kernel(&self) -> Option<&[u8]>
         ensures { MatchOption result
             (NonePresent (rows_under (Self.mask self.now) (Self.slots self.now)))
-            (λ bytes. IsLeast (rows_under (Self.mask self.now) (Self.slots self.now)) (Bytes bytes.now)) };
+            (λ bytes. IsLeast (rows_under (Self.mask self.now) (Self.slots self.now))
+            (Bytes bytes.now)) };
 
     /// Returns the greatest present row, or `None` if no row is present.
     fn max_ignore_nan_kernel(&self) -> Option<&[u8]>
         ensures { MatchOption result
             (NonePresent (rows_under (Self.mask self.now) (Self.slots self.now)))
-            (λ bytes. IsGreatest (rows_under (Self.mask self.now) (Self.slots self.now)) (Bytes bytes.now)) };
+            (λ bytes. IsGreatest (rows_under (Self.mask self.now) (Self.slots self.now))
+            (Bytes bytes.now)) };
 
     /// Returns the least and the greatest present row, or `None` if no row is present.
     final fn min_max_ignore_nan_kernel(&self) -> Option<(&[u8], &[u8])>
         ensures { MatchOption result
             (NonePresent (rows_under (Self.mask self.now) (Self.slots self.now)))
-            (λ pair. IsLeast (rows_under (Self.mask self.now) (Self.slots self.now)) (Bytes pair.0.now) × IsGreatest (rows_under (Self.mask self.now) (Self.slots self.now)) (Bytes pair.1.now)) }
+            (λ pair. IsLeast (rows_under (Self.mask self.now) (Self.slots self.now))
+            (Bytes pair.0.now)
+            × IsGreatest (rows_under (Self.mask self.now) (Self.slots self.now))
+            (Bytes pair.1.now)) }
     {
         let least = self.min_ignore_nan_kernel()?;
         let greatest = self.max_ignore_nan_kernel()?;
@@ -37,7 +42,8 @@ pub trait BytesMinMaxKernel: ByteRows {
     final fn min_propagate_nan_kernel(&self) -> Option<&[u8]>
         ensures { MatchOption result
             (NonePresent (rows_under (Self.mask self.now) (Self.slots self.now)))
-            (λ bytes. IsLeast (rows_under (Self.mask self.now) (Self.slots self.now)) (Bytes bytes.now)) }
+            (λ bytes. IsLeast (rows_under (Self.mask self.now) (Self.slots self.now))
+            (Bytes bytes.now)) }
     {
         self.min_ignore_nan_kernel()
     }
@@ -46,7 +52,8 @@ pub trait BytesMinMaxKernel: ByteRows {
     final fn max_propagate_nan_kernel(&self) -> Option<&[u8]>
         ensures { MatchOption result
             (NonePresent (rows_under (Self.mask self.now) (Self.slots self.now)))
-            (λ bytes. IsGreatest (rows_under (Self.mask self.now) (Self.slots self.now)) (Bytes bytes.now)) }
+            (λ bytes. IsGreatest (rows_under (Self.mask self.now) (Self.slots self.now))
+            (Bytes bytes.now)) }
     {
         self.max_ignore_nan_kernel()
     }
@@ -55,7 +62,10 @@ pub trait BytesMinMaxKernel: ByteRows {
     final fn min_max_propagate_nan_kernel(&self) -> Option<(&[u8], &[u8])>
         ensures { MatchOption result
             (NonePresent (rows_under (Self.mask self.now) (Self.slots self.now)))
-            (λ pair. IsLeast (rows_under (Self.mask self.now) (Self.slots self.now)) (Bytes pair.0.now) × IsGreatest (rows_under (Self.mask self.now) (Self.slots self.now)) (Bytes pair.1.now)) }
+            (λ pair. IsLeast (rows_under (Self.mask self.now) (Self.slots self.now))
+            (Bytes pair.0.now)
+            × IsGreatest (rows_under (Self.mask self.now) (Self.slots self.now))
+            (Bytes pair.1.now)) }
     {
         self.min_max_ignore_nan_kernel()
     }
@@ -68,19 +78,24 @@ pub trait TextMinMaxKernel: ByteRows {
     fn min_ignore_nan_kernel(&self) -> Option<&str>
         ensures { MatchOption result
             (NonePresent (rows_under (Self.mask self.now) (Self.slots self.now)))
-            (λ text. IsLeast (rows_under (Self.mask self.now) (Self.slots self.now)) (Bytes text.now)) };
+            (λ text. IsLeast (rows_under (Self.mask self.now) (Self.slots self.now))
+            (Bytes text.now)) };
 
     /// Returns the greatest present row, or `None` if no row is present.
     fn max_ignore_nan_kernel(&self) -> Option<&str>
         ensures { MatchOption result
             (NonePresent (rows_under (Self.mask self.now) (Self.slots self.now)))
-            (λ text. IsGreatest (rows_under (Self.mask self.now) (Self.slots self.now)) (Bytes text.now)) };
+            (λ text. IsGreatest (rows_under (Self.mask self.now) (Self.slots self.now))
+            (Bytes text.now)) };
 
     /// Returns the least and the greatest present row, or `None` if no row is present.
     final fn min_max_ignore_nan_kernel(&self) -> Option<(&str, &str)>
         ensures { MatchOption result
             (NonePresent (rows_under (Self.mask self.now) (Self.slots self.now)))
-            (λ pair. IsLeast (rows_under (Self.mask self.now) (Self.slots self.now)) (Bytes pair.0.now) × IsGreatest (rows_under (Self.mask self.now) (Self.slots self.now)) (Bytes pair.1.now)) }
+            (λ pair. IsLeast (rows_under (Self.mask self.now) (Self.slots self.now))
+            (Bytes pair.0.now)
+            × IsGreatest (rows_under (Self.mask self.now) (Self.slots self.now))
+            (Bytes pair.1.now)) }
     {
         let least = self.min_ignore_nan_kernel()?;
         let greatest = self.max_ignore_nan_kernel()?;
@@ -91,7 +106,8 @@ pub trait TextMinMaxKernel: ByteRows {
     final fn min_propagate_nan_kernel(&self) -> Option<&str>
         ensures { MatchOption result
             (NonePresent (rows_under (Self.mask self.now) (Self.slots self.now)))
-            (λ text. IsLeast (rows_under (Self.mask self.now) (Self.slots self.now)) (Bytes text.now)) }
+            (λ text. IsLeast (rows_under (Self.mask self.now) (Self.slots self.now))
+            (Bytes text.now)) }
     {
         self.min_ignore_nan_kernel()
     }
@@ -100,7 +116,8 @@ pub trait TextMinMaxKernel: ByteRows {
     final fn max_propagate_nan_kernel(&self) -> Option<&str>
         ensures { MatchOption result
             (NonePresent (rows_under (Self.mask self.now) (Self.slots self.now)))
-            (λ text. IsGreatest (rows_under (Self.mask self.now) (Self.slots self.now)) (Bytes text.now)) }
+            (λ text. IsGreatest (rows_under (Self.mask self.now) (Self.slots self.now))
+            (Bytes text.now)) }
     {
         self.max_ignore_nan_kernel()
     }
@@ -109,7 +126,10 @@ pub trait TextMinMaxKernel: ByteRows {
     final fn min_max_propagate_nan_kernel(&self) -> Option<(&str, &str)>
         ensures { MatchOption result
             (NonePresent (rows_under (Self.mask self.now) (Self.slots self.now)))
-            (λ pair. IsLeast (rows_under (Self.mask self.now) (Self.slots self.now)) (Bytes pair.0.now) × IsGreatest (rows_under (Self.mask self.now) (Self.slots self.now)) (Bytes pair.1.now)) }
+            (λ pair. IsLeast (rows_under (Self.mask self.now) (Self.slots self.now))
+            (Bytes pair.0.now)
+            × IsGreatest (rows_under (Self.mask self.now) (Self.slots self.now))
+            (Bytes pair.1.now)) }
     {
         self.min_max_ignore_nan_kernel()
     }

@@ -33,7 +33,8 @@ macro_rules! each_extreme {
 // Returns an extreme of an array of any kind.
 #[tactic(auto, using(crate::proofs::ListKinds::no_extremes))]
 fn any_extreme(array: &AnyArray, extreme: Extreme) -> Result<Option<AnyScalar<'_>>, ComputeError>
-    ensures { AnswersKind (type_of array.now) result (IsExtreme extreme (type_of array.now) (rows array.now)) }
+    ensures { AnswersKind (type_of array.now) result
+        (IsExtreme extreme (type_of array.now) (rows array.now)) }
 {
     each_extreme!(
         (array, extreme),
@@ -50,7 +51,8 @@ fn any_extreme(array: &AnyArray, extreme: Extreme) -> Result<Option<AnyScalar<'_
 /// `Unsupported`, exactly for arrays whose rows have no order: nulls, byte strings of one size, and
 /// nested arrays. Does not allocate.
 pub fn dyn_array_min_ignore_nan(array: &AnyArray) -> Result<Option<AnyScalar<'_>>, ComputeError>
-    ensures { AnswersKind (type_of array.now) result (IsExtreme Extreme.Least (type_of array.now) (rows array.now)) }
+    ensures { AnswersKind (type_of array.now) result
+        (IsExtreme Extreme.Least (type_of array.now) (rows array.now)) }
 {
     any_extreme(array, Extreme::Least)
 }
@@ -58,21 +60,24 @@ pub fn dyn_array_min_ignore_nan(array: &AnyArray) -> Result<Option<AnyScalar<'_>
 /// Returns the greatest present row, borrowed, or `None` if no row is present. The error is that of
 /// `dyn_array_min_ignore_nan`.
 pub fn dyn_array_max_ignore_nan(array: &AnyArray) -> Result<Option<AnyScalar<'_>>, ComputeError>
-    ensures { AnswersKind (type_of array.now) result (IsExtreme Extreme.Greatest (type_of array.now) (rows array.now)) }
+    ensures { AnswersKind (type_of array.now) result
+        (IsExtreme Extreme.Greatest (type_of array.now) (rows array.now)) }
 {
     any_extreme(array, Extreme::Greatest)
 }
 
 /// Returns what `dyn_array_min_ignore_nan` does.
 pub fn dyn_array_min_propagate_nan(array: &AnyArray) -> Result<Option<AnyScalar<'_>>, ComputeError>
-    ensures { AnswersKind (type_of array.now) result (IsExtreme Extreme.Least (type_of array.now) (rows array.now)) }
+    ensures { AnswersKind (type_of array.now) result
+        (IsExtreme Extreme.Least (type_of array.now) (rows array.now)) }
 {
     any_extreme(array, Extreme::Least)
 }
 
 /// Returns what `dyn_array_max_ignore_nan` does.
 pub fn dyn_array_max_propagate_nan(array: &AnyArray) -> Result<Option<AnyScalar<'_>>, ComputeError>
-    ensures { AnswersKind (type_of array.now) result (IsExtreme Extreme.Greatest (type_of array.now) (rows array.now)) }
+    ensures { AnswersKind (type_of array.now) result
+        (IsExtreme Extreme.Greatest (type_of array.now) (rows array.now)) }
 {
     any_extreme(array, Extreme::Greatest)
 }
@@ -82,7 +87,8 @@ pub fn dyn_array_max_propagate_nan(array: &AnyArray) -> Result<Option<AnyScalar<
 pub fn dyn_array_min_max_propagate_nan(
     array: &AnyArray,
 ) -> Result<Option<(AnyScalar<'_>, AnyScalar<'_>)>, ComputeError>
-    ensures { AnswersKind (type_of array.now) result (AreExtremes (type_of array.now) (rows array.now)) }
+    ensures { AnswersKind (type_of array.now) result
+        (AreExtremes (type_of array.now) (rows array.now)) }
 {
     let least = any_extreme(array, Extreme::Least)?;
     let greatest = any_extreme(array, Extreme::Greatest)?;

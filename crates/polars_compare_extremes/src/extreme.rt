@@ -45,7 +45,8 @@ macro_rules! extreme_of {
 pub(crate) fn truth_extreme(array: &BooleanArray, extreme: Extreme) -> Option<bool>
     ensures { MatchOption result
         (NonePresent (listed (row_at (truth_rows array.now)) (length array.now.values)))
-        (λ found. FindsBest (better_of extreme) (listed (row_at (truth_rows array.now)) (length array.now.values)) (Truth found)) }
+        (λ found. FindsBest (better_of extreme)
+        (listed (row_at (truth_rows array.now)) (length array.now.values)) (Truth found)) }
 {
     extreme_of!(array, extreme)
 }
@@ -57,7 +58,9 @@ pub(crate) fn number_extreme<T: NativeType + 'static>(
 ) -> Option<T>
     ensures { MatchOption result
         (NonePresent (listed (row_at (number_rows T.value array.now)) (length array.now.values)))
-        (λ found. FindsBest (better_of extreme) (listed (row_at (number_rows T.value array.now)) (length array.now.values)) (Int (T.value found))) }
+        (λ found. FindsBest (better_of extreme)
+        (listed (row_at (number_rows T.value array.now)) (length array.now.values))
+        (Int (T.value found))) }
 {
     extreme_of!(array, extreme)
 }
@@ -65,8 +68,11 @@ pub(crate) fn number_extreme<T: NativeType + 'static>(
 /// Returns an extreme of byte strings between offsets, or `None` if no row is present.
 pub(crate) fn bytes_extreme<O: Offset>(array: &BinaryArray<O>, extreme: Extreme) -> Option<&[u8]>
     ensures { MatchOption result
-        (NonePresent (listed (row_at (offset_rows O.value array.now)) (row_count array.now.offsets)))
-        (λ found. FindsBest (better_of extreme) (listed (row_at (offset_rows O.value array.now)) (row_count array.now.offsets)) (Bytes found.now)) }
+        (NonePresent (listed (row_at (offset_rows O.value array.now))
+        (row_count array.now.offsets)))
+        (λ found. FindsBest (better_of extreme)
+        (listed (row_at (offset_rows O.value array.now)) (row_count array.now.offsets))
+        (Bytes found.now)) }
 {
     extreme_of!(array, extreme)
 }
@@ -74,8 +80,11 @@ pub(crate) fn bytes_extreme<O: Offset>(array: &BinaryArray<O>, extreme: Extreme)
 /// Returns an extreme of texts between offsets, or `None` if no row is present.
 pub(crate) fn text_extreme<O: Offset>(array: &Utf8Array<O>, extreme: Extreme) -> Option<&str>
     ensures { MatchOption result
-        (NonePresent (listed (row_at (offset_rows O.value array.now)) (row_count array.now.offsets)))
-        (λ found. FindsBest (better_of extreme) (listed (row_at (offset_rows O.value array.now)) (row_count array.now.offsets)) (Bytes found.now)) }
+        (NonePresent (listed (row_at (offset_rows O.value array.now))
+        (row_count array.now.offsets)))
+        (λ found. FindsBest (better_of extreme)
+        (listed (row_at (offset_rows O.value array.now)) (row_count array.now.offsets))
+        (Bytes found.now)) }
 {
     extreme_of!(array, extreme)
 }
@@ -84,7 +93,8 @@ pub(crate) fn text_extreme<O: Offset>(array: &Utf8Array<O>, extreme: Extreme) ->
 pub(crate) fn view_extreme(array: &BinaryViewArray, extreme: Extreme) -> Option<&[u8]>
     ensures { MatchOption result
         (NonePresent (listed (row_at (view_rows array.now)) (length array.now.views)))
-        (λ found. FindsBest (better_of extreme) (listed (row_at (view_rows array.now)) (length array.now.views)) (Bytes found.now)) }
+        (λ found. FindsBest (better_of extreme)
+        (listed (row_at (view_rows array.now)) (length array.now.views)) (Bytes found.now)) }
 {
     extreme_of!(array, extreme)
 }
@@ -93,7 +103,8 @@ pub(crate) fn view_extreme(array: &BinaryViewArray, extreme: Extreme) -> Option<
 pub(crate) fn text_view_extreme(array: &Utf8ViewArray, extreme: Extreme) -> Option<&str>
     ensures { MatchOption result
         (NonePresent (listed (row_at (view_rows array.now)) (length array.now.views)))
-        (λ found. FindsBest (better_of extreme) (listed (row_at (view_rows array.now)) (length array.now.views)) (Bytes found.now)) }
+        (λ found. FindsBest (better_of extreme)
+        (listed (row_at (view_rows array.now)) (length array.now.views)) (Bytes found.now)) }
 {
     extreme_of!(array, extreme)
 }

@@ -18,15 +18,19 @@ pub trait MinMaxKernel {
 
     /// Returns the least present row, or `None` if no row is present.
     fn min_ignore_nan_kernel(&self) -> Option<Self::Scalar>
-        ensures { MatchOption result (NonePresent (rows self.now)) (λ found. IsLeast (rows self.now) (scalar_row found)) };
+        ensures { MatchOption result (NonePresent (rows self.now))
+            (λ found. IsLeast (rows self.now) (scalar_row found)) };
 
     /// Returns the greatest present row, or `None` if no row is present.
     fn max_ignore_nan_kernel(&self) -> Option<Self::Scalar>
-        ensures { MatchOption result (NonePresent (rows self.now)) (λ found. IsGreatest (rows self.now) (scalar_row found)) };
+        ensures { MatchOption result (NonePresent (rows self.now))
+            (λ found. IsGreatest (rows self.now) (scalar_row found)) };
 
     /// Returns the least and the greatest present row, or `None` if no row is present.
     fn min_max_ignore_nan_kernel(&self) -> Option<(Self::Scalar, Self::Scalar)>
-        ensures { MatchOption result (NonePresent (rows self.now)) (λ pair. IsLeast (rows self.now) (scalar_row pair.0) × IsGreatest (rows self.now) (scalar_row pair.1)) }
+        ensures { MatchOption result (NonePresent (rows self.now))
+            (λ pair. IsLeast (rows self.now) (scalar_row pair.0)
+            × IsGreatest (rows self.now) (scalar_row pair.1)) }
     {
         let least = self.min_ignore_nan_kernel()?;
         let greatest = self.max_ignore_nan_kernel()?;
@@ -35,21 +39,25 @@ pub trait MinMaxKernel {
 
     /// Returns what `min_ignore_nan_kernel` does.
     final fn min_propagate_nan_kernel(&self) -> Option<Self::Scalar>
-        ensures { MatchOption result (NonePresent (rows self.now)) (λ found. IsLeast (rows self.now) (scalar_row found)) }
+        ensures { MatchOption result (NonePresent (rows self.now))
+            (λ found. IsLeast (rows self.now) (scalar_row found)) }
     {
         self.min_ignore_nan_kernel()
     }
 
     /// Returns what `max_ignore_nan_kernel` does.
     final fn max_propagate_nan_kernel(&self) -> Option<Self::Scalar>
-        ensures { MatchOption result (NonePresent (rows self.now)) (λ found. IsGreatest (rows self.now) (scalar_row found)) }
+        ensures { MatchOption result (NonePresent (rows self.now))
+            (λ found. IsGreatest (rows self.now) (scalar_row found)) }
     {
         self.max_ignore_nan_kernel()
     }
 
     /// Returns what `min_max_ignore_nan_kernel` does.
     final fn min_max_propagate_nan_kernel(&self) -> Option<(Self::Scalar, Self::Scalar)>
-        ensures { MatchOption result (NonePresent (rows self.now)) (λ pair. IsLeast (rows self.now) (scalar_row pair.0) × IsGreatest (rows self.now) (scalar_row pair.1)) }
+        ensures { MatchOption result (NonePresent (rows self.now))
+            (λ pair. IsLeast (rows self.now) (scalar_row pair.0)
+            × IsGreatest (rows self.now) (scalar_row pair.1)) }
     {
         self.min_max_ignore_nan_kernel()
     }

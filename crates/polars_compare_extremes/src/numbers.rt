@@ -8,7 +8,8 @@ ghost use Rattle.polars_arrays_flat.specs.Row.{Row, Int};
 ghost use Rattle.polars_arrays_flat.specs.StoredRows.{number_slots, rows_under};
 ghost use Rattle.polars_arrays_flat.specs.Validity.{HasBits};
 ghost use Rattle.polars_compare_extremes.specs.BestNumber.{best_of};
-ghost use Rattle.polars_compare_extremes.specs.Extremes.{FindsBest, IsGreatest, IsLeast, NonePresent};
+ghost use Rattle.polars_compare_extremes.specs.Extremes.{FindsBest, IsGreatest, IsLeast};
+ghost use Rattle.polars_compare_extremes.specs.Extremes.{NonePresent};
 ghost use Rattle.polars_compare_extremes.specs.Preference.{Prefers};
 
 use crate::kernel::MinMaxKernel;
@@ -141,7 +142,9 @@ fn best_number<T: NativeType, B: BestFrom<T>>(numbers: &[T], present: Option<&Bi
     requires { HasBits (length numbers.now) (option_copied present) }
     ensures { MatchOption result
         (NonePresent (rows_under (option_copied present.entry) (number_slots T.value numbers.now)))
-        (λ found. FindsBest B.better (rows_under (option_copied present.entry) (number_slots T.value numbers.now)) (Int (T.value found))) }
+        (λ found. FindsBest B.better
+        (rows_under (option_copied present.entry) (number_slots T.value numbers.now))
+        (Int (T.value found))) }
 {
     match first_present(present, numbers.len()) {
         Some(first) => {
@@ -157,7 +160,8 @@ fn best_number<T: NativeType, B: BestFrom<T>>(numbers: &[T], present: Option<&Bi
 fn ends_of_all<T: NativeType>(numbers: &[T]) -> Option<(T, T)>
     ensures { MatchOption result
         (NonePresent (number_slots T.value numbers.now))
-        (λ pair. IsLeast (number_slots T.value numbers.now) (Int (T.value pair.0)) × IsGreatest (number_slots T.value numbers.now) (Int (T.value pair.1))) }
+        (λ pair. IsLeast (number_slots T.value numbers.now) (Int (T.value pair.0))
+        × IsGreatest (number_slots T.value numbers.now) (Int (T.value pair.1))) }
 {
     if numbers.is_empty() {
         return None;
@@ -173,7 +177,12 @@ fn ends<T: NativeType>(numbers: &[T], present: Option<&Bitmap>) -> Option<(T, T)
     requires { HasBits (length numbers.now) (option_copied present) }
     ensures { MatchOption result
         (NonePresent (rows_under (option_copied present.entry) (number_slots T.value numbers.now)))
-        (λ pair. IsLeast (rows_under (option_copied present.entry) (number_slots T.value numbers.now)) (Int (T.value pair.0)) × IsGreatest (rows_under (option_copied present.entry) (number_slots T.value numbers.now)) (Int (T.value pair.1))) }
+        (λ pair. IsLeast
+        (rows_under (option_copied present.entry) (number_slots T.value numbers.now))
+        (Int (T.value pair.0))
+        × IsGreatest
+        (rows_under (option_copied present.entry) (number_slots T.value numbers.now))
+        (Int (T.value pair.1))) }
 {
     if present.is_none() {
         return ends_of_all(numbers);

@@ -37,7 +37,8 @@ fn best_from<P: Preference, R: ByteRows>(
 ) -> usize
     requires bits { HasBits (length (R.strings rows.now)) (option_copied present) }
     requires first { IsFirstPresent (length (R.strings rows.now)) (option_copied present) first }
-    ensures { IsBestSlot P.rows (string_row (R.strings rows.now)) (option_copied present.entry) (length (R.strings rows.now)) result }
+    ensures { IsBestSlot P.rows (string_row (R.strings rows.now)) (option_copied present.entry)
+        (length (R.strings rows.now)) result }
 {
     let n = rows.count();
     let mut place = first;
@@ -62,9 +63,13 @@ pub fn best_place<P: Preference, R: ByteRows>(
     requires { HasBits (length (R.strings rows.now)) (option_copied present) }
     ensures best { MatchOption result
         (NonePresent (rows_under (option_copied present.entry) (byte_slots (R.strings rows.now))))
-        (IsBest P.rows (rows_under (option_copied present.entry) (byte_slots (R.strings rows.now)))) }
+        (IsBest P.rows
+        (rows_under (option_copied present.entry) (byte_slots (R.strings rows.now)))) }
     ensures within { IfSome result (λ place. place < length (R.strings rows.now)) }
-    ensures found { IfSome result (λ place. FindsBest P.rows (rows_under (option_copied present.entry) (byte_slots (R.strings rows.now))) (string_row (R.strings rows.now) place)) }
+    ensures found { IfSome result
+        (λ place. FindsBest P.rows
+        (rows_under (option_copied present.entry) (byte_slots (R.strings rows.now)))
+        (string_row (R.strings rows.now) place)) }
 {
     match first_present(present, rows.count()) {
         Some(first) => Some(best_from(preference, rows, present, first)),
@@ -82,7 +87,9 @@ pub fn best_string<'a, P: Preference, R: ByteRows>(
     requires { HasBits (length (R.strings rows.now)) (option_copied present) }
     ensures { MatchOption result
         (NonePresent (rows_under (option_copied present.entry) (byte_slots (R.strings rows.now))))
-        (λ bytes. FindsBest P.rows (rows_under (option_copied present.entry) (byte_slots (R.strings rows.now))) (Bytes bytes.now)) }
+        (λ bytes. FindsBest P.rows
+        (rows_under (option_copied present.entry) (byte_slots (R.strings rows.now)))
+        (Bytes bytes.now)) }
 {
     match best_place(preference, rows, present) {
         Some(place) => Some(rows.bytes(place)),

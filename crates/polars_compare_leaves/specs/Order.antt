@@ -1,5 +1,6 @@
 -- The order of rows.
-use Rattle.std.specs.Prelude.{◌≡◌, ◌<◌, ℕ, Bool, false, not, ◌&&◌, IsTrue, List, Option, length, int_lt, slice_index_or}
+use Rattle.std.specs.Prelude.{◌≡◌, ◌<◌, ℕ, Bool, false, not, ◌&&◌, IsTrue, List, Option, length}
+use Rattle.std.specs.Prelude.{int_lt, slice_index_or}
 use Rattle.std.specs.Ordering.{nat_cmp, is_lt}
 use Rattle.std.specs.Cmp.Lexicographic.{slice_cmp}
 use Rattle.polars_arrays_flat.specs.Row.{Row, Int, Truth, Bytes}
@@ -26,7 +27,9 @@ abbrev pub row_at_least : Row → Row → Bool
 row_at_least x y = not (row_less x y)
 
 -- Bits of a test of stored rows: one for each row, right if both rows are present, else arbitrary.
-pub record RawOrder (test : Row → Row → Bool) (left_mask right_mask : Option (List Bool)) (left right : List Row) (bits : List Bool) : Type 0 where
+pub record RawOrder (test : Row → Row → Bool) (left_mask right_mask : Option (List Bool))
+    (left right : List Row) (bits : List Bool) : Type 0 where
   pub size : length bits ≡ length left
-  pub at_present : (i : ℕ) → i < length left → IsTrue (is_present left_mask i) → IsTrue (is_present right_mask i)
+  pub at_present : (i : ℕ) → i < length left → IsTrue (is_present left_mask i)
+      → IsTrue (is_present right_mask i)
       → slice_index_or bits i false ≡ test (row left i) (row right i)

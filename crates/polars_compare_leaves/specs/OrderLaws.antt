@@ -6,8 +6,10 @@ use Rattle.std.proofs.lemmas.Bool.Decides.{leb_tells}
 -- of two naturals, one is at most the other exactly if the other is not less
 at_most-not_less : (m n : ℕ) → leb m n ≡ not (ltb n m)
 at_most-not_less m n = elim (leb_tells m n) [
-  | inl p ↦ elim (leb_tells (suc n) m) [ inl q ↦ absurd (omega (arith, p.1, q.1)) | inr q ↦ p.0 ∙ sym (ap not q.0) ]
-  | inr p ↦ elim (leb_tells (suc n) m) [ inl q ↦ p.0 ∙ sym (ap not q.0) | inr q ↦ absurd (omega (arith, p.1, q.1)) ]
+  | inl p ↦ elim (leb_tells (suc n) m)
+      [ inl q ↦ absurd (omega (arith, p.1, q.1)) | inr q ↦ p.0 ∙ sym (ap not q.0) ]
+  | inr p ↦ elim (leb_tells (suc n) m)
+      [ inl q ↦ p.0 ∙ sym (ap not q.0) | inr q ↦ absurd (omega (arith, p.1, q.1)) ]
 ]
 
 -- of two whole numbers, one is at most the other exactly if the other is not less

@@ -3,7 +3,8 @@ use Rattle.std.specs.Prelude.{Bool, true, false, not, ◌&&◌}
 use Rattle.std.specs.Bool.{beq}
 use Rattle.std.specs.Ordering.{int_eq}
 use Rattle.std.specs.Str.{bytes_eq}
-use Rattle.polars_arrays_flat.specs.Row.{Row, Null, Int, Truth, Bytes, Rows, Fields, Entry, RowList, no_rows, more_rows}
+use Rattle.polars_arrays_flat.specs.Row.{Row, Null, Int, Truth, Bytes, Rows, Fields, Entry, RowList}
+use Rattle.polars_arrays_flat.specs.Row.{no_rows, more_rows}
 
 -- two leaf rows (numbers, truth values, bytes) are of one sort and equal
 abbrev pub same_leaf : Row → Row → Bool

@@ -6,7 +6,8 @@ ghost use Rattle.polars_arrays_bits.specs.Errors.{IsMemory};
 ghost use Rattle.polars_arrays_flat.specs.Row.{Row, Truth};
 ghost use Rattle.polars_arrays_flat.specs.StoredRows.{truth_slots};
 ghost use Rattle.polars_arrays_flat.specs.Validity.{window};
-ghost use Rattle.polars_compare_leaves.specs.Order.{row_at_least, row_at_most, row_greater, row_less};
+ghost use Rattle.polars_compare_leaves.specs.Order.{row_at_least, row_at_most, row_greater};
+ghost use Rattle.polars_compare_leaves.specs.Order.{row_less};
 ghost use Rattle.polars_compare_leaves.specs.Sameness.{other_row, same_row};
 
 use polars_arrays_bits::bit_mask::BitMask;
@@ -36,7 +37,8 @@ pub trait TruthComparison {
         right: &BitMask<'_>,
     ) -> Result<Bitmap, ComputeError>
         requires { length right.now ≡ length left.now }
-        ensures { MatchResult result (λ bits. bits ≡ zip2 (λ l r. rows (Truth l) (Truth r)) left.now right.now) IsMemory };
+        ensures { MatchResult result
+            (λ bits. bits ≡ zip2 (λ l r. rows (Truth l) (Truth r)) left.now right.now) IsMemory };
 }
 
 impl TruthComparison for Equal {

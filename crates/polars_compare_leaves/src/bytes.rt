@@ -6,7 +6,8 @@ ghost use Rattle.polars_arrays_bits.specs.Errors.{IsMemory};
 ghost use Rattle.polars_arrays_flat.specs.Row.{Row, Bytes};
 ghost use Rattle.polars_arrays_flat.specs.StoredRows.{byte_slots};
 ghost use Rattle.polars_arrays_flat.specs.Validity.{window};
-ghost use Rattle.polars_compare_leaves.specs.Order.{row_at_least, row_at_most, row_greater, row_less};
+ghost use Rattle.polars_compare_leaves.specs.Order.{row_at_least, row_at_most, row_greater};
+ghost use Rattle.polars_compare_leaves.specs.Order.{row_less};
 ghost use Rattle.polars_compare_leaves.specs.Sameness.{other_row, same_row};
 
 use polars_arrays_bits::bitmap::Bitmap;
@@ -156,7 +157,8 @@ struct StringPairs<'a, L: ByteRows, R: ByteRows, E> {
 }
 
 impl<'a, L: ByteRows, R: ByteRows, E: ByteComparison> TruthValues for StringPairs<'a, L, R, E> {
-    ghost values = { λ p. zip2 E.rows (window p.a p.n (byte_slots (L.strings p.left.now))) (window p.b p.n (byte_slots (R.strings p.right.now))) };
+    ghost values = { λ p. zip2 E.rows (window p.a p.n (byte_slots (L.strings p.left.now)))
+        (window p.b p.n (byte_slots (R.strings p.right.now))) };
 
     #[inline(always)]
     fn len(&self) -> usize {
@@ -247,7 +249,8 @@ struct StringsOnBlock<'a, L, E> {
 }
 
 impl<'a, L: ByteRows, E: ByteComparison> TruthValues for StringsOnBlock<'a, L, E> {
-    ghost values = { λ s. map (λ row. E.rows row (Bytes (take s.m s.block.now))) (byte_slots (L.strings s.left.now)) };
+    ghost values = { λ s. map
+        (λ row. E.rows row (Bytes (take s.m s.block.now))) (byte_slots (L.strings s.left.now)) };
 
     #[inline(always)]
     fn len(&self) -> usize {

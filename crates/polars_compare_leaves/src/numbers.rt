@@ -103,7 +103,8 @@ pub fn join_numbers<T: NativeType, E: RowComparison<T>>(
     requires left_bits { HasBits (length left.now.values) left_mask.now }
     requires right_bits { HasBits (length left.now.values) right_mask.now }
     ensures { MatchResult result (Joined (told relation) left_mask.now right_mask.now
-        (zip2 E.rows (number_slots T.value left.now.values) (number_slots T.value right.now.values))) IsMemory }
+        (zip2 E.rows (number_slots T.value left.now.values)
+        (number_slots T.value right.now.values))) IsMemory }
 {
     let pairs = Pairs {
         comparison,

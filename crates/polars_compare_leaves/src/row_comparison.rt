@@ -2,7 +2,8 @@
 
 ghost use Rattle.std.specs.Prelude.{◌≡◌, Bool, refl};
 ghost use Rattle.polars_arrays_flat.specs.Row.{Row, Int};
-ghost use Rattle.polars_compare_leaves.specs.Order.{row_at_least, row_at_most, row_greater, row_less};
+ghost use Rattle.polars_compare_leaves.specs.Order.{row_at_least, row_at_most, row_greater};
+ghost use Rattle.polars_compare_leaves.specs.Order.{row_less};
 ghost use Rattle.polars_compare_leaves.specs.OrderLaws.{int_le-not_less};
 ghost use Rattle.polars_compare_leaves.specs.Sameness.{other_row, same_row};
 
@@ -17,7 +18,8 @@ pub trait RowComparison<T: NativeType>: Comparison<T, T> {
     ghost rows: { Row → Row → Bool };
 
     // It holds of two numbers exactly if it holds of their rows.
-    ghost rows_law: { (comparison : Self) (l r : T) → Self.holds comparison l r ≡ rows (Int (T.value l)) (Int (T.value r)) };
+    ghost rows_law: { (comparison : Self) (l r : T) → Self.holds comparison l r
+        ≡ rows (Int (T.value l)) (Int (T.value r)) };
 }
 
 impl<T: NativeType> RowComparison<T> for Equal {

@@ -1,6 +1,7 @@
 -- Bits of a comparison of n rows from row a of the left array with those from row b of the right
 -- one.
-use Rattle.std.specs.Prelude.{◌≡◌, ◌+◌, ◌<◌, ◌&&◌, ℕ, Bool, false, IsTrue, List, Option, length, slice_index_or}
+use Rattle.std.specs.Prelude.{◌≡◌, ◌+◌, ◌<◌, ◌&&◌, ℕ, Bool, false, IsTrue, List, Option, length}
+use Rattle.std.specs.Prelude.{slice_index_or}
 use Rattle.std.specs.Simd.Lanes.{zip2}
 use Rattle.polars_arrays_words.specs.Bits.{first_of, is_bit}
 use Rattle.polars_arrays_flat.specs.Row.{Row}
@@ -16,25 +17,32 @@ BothPresent left a right b i =
     IsTrue (is_present (mask_of left) (a + i)) × IsTrue (is_present (mask_of right) (b + i))
 
 -- each bit says whether two rows are the same; leaf rows are if they `agree`
-pub record SameBits (agree : Row → Row → Bool) (left : AnyArray) (a : ℕ) (right : AnyArray) (b n : ℕ) (bits : List Bool) : Type 0 where
+pub record SameBits (agree : Row → Row → Bool) (left : AnyArray) (a : ℕ) (right : AnyArray)
+    (b n : ℕ) (bits : List Bool) : Type 0 where
   pub size : length bits ≡ n
-  pub at_each : (i : ℕ) → i < n → slice_index_or bits i false ≡ same agree (row left (a + i)) (row right (b + i))
+  pub at_each : (i : ℕ) → i < n → slice_index_or bits i false
+      ≡ same agree (row left (a + i)) (row right (b + i))
 
 -- each bit of two present rows says whether they are the same; other bits are arbitrary
-pub record RawBits (agree : Row → Row → Bool) (left : AnyArray) (a : ℕ) (right : AnyArray) (b n : ℕ) (bits : List Bool) : Type 0 where
+pub record RawBits (agree : Row → Row → Bool) (left : AnyArray) (a : ℕ) (right : AnyArray) (b n : ℕ)
+    (bits : List Bool) : Type 0 where
   pub size : length bits ≡ n
   pub at_present : (i : ℕ) → i < n → BothPresent left a right b i
       → slice_index_or bits i false ≡ same agree (row left (a + i)) (row right (b + i))
 
 -- each bit of two present rows says whether they agree; `left` and `right` give rows by place
-pub record PresentBits (agree : Row → Row → Bool) (left : ℕ → Row) (left_mask : Option (List Bool)) (a : ℕ) (right : ℕ → Row) (right_mask : Option (List Bool)) (b n : ℕ) (bits : List Bool) : Type 0 where
+pub record PresentBits (agree : Row → Row → Bool) (left : ℕ → Row) (left_mask : Option (List Bool))
+    (a : ℕ) (right : ℕ → Row) (right_mask : Option (List Bool)) (b n : ℕ) (bits : List Bool) :
+    Type 0 where
   pub size : length bits ≡ n
-  pub at_present : (i : ℕ) → i < n → IsTrue (is_present left_mask (a + i)) × IsTrue (is_present right_mask (b + i))
+  pub at_present : (i : ℕ) → i < n → IsTrue (is_present left_mask (a + i))
+      × IsTrue (is_present right_mask (b + i))
       → slice_index_or bits i false ≡ agree (left (a + i)) (right (b + i))
 
 -- each bit of two present leaf rows says whether they agree
 abbrev pub LeafBits : (Row → Row → Bool) → AnyArray → ℕ → AnyArray → ℕ → ℕ → List Bool → Type 0
-LeafBits agree left a right b n = PresentBits agree (row left) (mask_of left) a (row right) (mask_of right) b n
+LeafBits agree left a right b n =
+    PresentBits agree (row left) (mask_of left) a (row right) (mask_of right) b n
 
 -- the n lowest bits of a word are `LeafBits`
 abbrev pub LeafWord : (Row → Row → Bool) → AnyArray → ℕ → AnyArray → ℕ → ℕ → ℕ → Type 0
@@ -47,23 +55,29 @@ pub record JoinsBits (Bits : List Bool → Type 0) (old new : List Bool) : Type 
   pub joined : new ≡ zip2 ◌&&◌ old same
 
 -- each bit is set if it was and the two leaf rows at its place agree; arbitrary if one is null
-abbrev pub JoinsLeafBits : (Row → Row → Bool) → AnyArray → ℕ → AnyArray → ℕ → List Bool → List Bool → Type 0
+abbrev pub JoinsLeafBits : (Row → Row → Bool) → AnyArray → ℕ → AnyArray → ℕ → List Bool → List Bool
+    → Type 0
 JoinsLeafBits agree left a right b old = JoinsBits (LeafBits agree left a right b (length old)) old
 
 -- if both rows are present, the bit says whether they agree; `left` and `right` give rows by place
-pub record PresentBit (agree : Row → Row → Bool) (left : ℕ → Row) (left_mask : Option (List Bool)) (a : ℕ) (right : ℕ → Row) (right_mask : Option (List Bool)) (b : ℕ) (bit : Bool) : Type 0 where
-  pub at_present : IsTrue (is_present left_mask a) × IsTrue (is_present right_mask b) → bit ≡ agree (left a) (right b)
+pub record PresentBit (agree : Row → Row → Bool) (left : ℕ → Row) (left_mask : Option (List Bool))
+    (a : ℕ) (right : ℕ → Row) (right_mask : Option (List Bool)) (b : ℕ) (bit : Bool) : Type 0 where
+  pub at_present : IsTrue (is_present left_mask a) × IsTrue (is_present right_mask b) → bit
+      ≡ agree (left a) (right b)
 
 -- a bit of two leaf rows
 abbrev pub LeafBit : (Row → Row → Bool) → AnyArray → ℕ → AnyArray → ℕ → Bool → Type 0
-LeafBit agree left a right b = PresentBit agree (row left) (mask_of left) a (row right) (mask_of right) b
+LeafBit agree left a right b =
+    PresentBit agree (row left) (mask_of left) a (row right) (mask_of right) b
 
 -- bits for n rows are appended; those of present rows say whether they are the same
-pub record AddsRawBits (agree : Row → Row → Bool) (left : AnyArray) (a : ℕ) (right : AnyArray) (b n : ℕ) (old new : List Bool) : Type 0 where
+pub record AddsRawBits (agree : Row → Row → Bool) (left : AnyArray) (a : ℕ) (right : AnyArray)
+    (b n : ℕ) (old new : List Bool) : Type 0 where
   pub size : length new ≡ length old + n
   pub kept : (i : ℕ) → i < length old → slice_index_or new i false ≡ slice_index_or old i false
   pub at_present : (i : ℕ) → i < n → BothPresent left a right b i
-      → slice_index_or new (length old + i) false ≡ same agree (row left (a + i)) (row right (b + i))
+      → slice_index_or new (length old + i) false
+      ≡ same agree (row left (a + i)) (row right (b + i))
 
 -- if two rows are both present, the bit says whether they are the same
 abbrev pub SamePresent : (Row → Row → Bool) → AnyArray → ℕ → AnyArray → ℕ → Bool → Type 0

@@ -10,10 +10,12 @@ use Rattle.polars_compare_nested.specs.declared.entries.EntryPair.{EntryPair}
 -- whether row i of one array and row j of the other are both present
 abbrev pub both_present : DictionaryArray → ℕ → DictionaryArray → ℕ → Bool
 both_present l i r j =
-    is_present (key_validity (dictionary_keys l)) i && is_present (key_validity (dictionary_keys r)) j
+    is_present (key_validity (dictionary_keys l)) i
+    && is_present (key_validity (dictionary_keys r)) j
 
 -- two entries that the rows name
-pub record AreEntries (l : DictionaryArray) (i : ℕ) (r : DictionaryArray) (j : ℕ) (pair : EntryPair) : Type 0 where
+pub record AreEntries (l : DictionaryArray) (i : ℕ) (r : DictionaryArray) (j : ℕ)
+    (pair : EntryPair) : Type 0 where
   pub present : both_present l i r j ≡ true
   pub left_is : pair.left ≡ key_at (dictionary_keys l) i
   pub right_is : pair.right ≡ key_at (dictionary_keys r) j

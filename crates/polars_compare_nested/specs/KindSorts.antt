@@ -1,6 +1,7 @@
 -- Sorts of kinds that have a parameter.
 use Rattle.std.specs.Prelude.{Bool, true, false}
-use Rattle.polars_arrays_flat.specs.Kind.{Kind, FixedSizeBinaryKind, ListKind, LargeListKind, FixedSizeListKind, StructKind, DictionaryKind}
+use Rattle.polars_arrays_flat.specs.Kind.{Kind, FixedSizeBinaryKind, ListKind, LargeListKind}
+use Rattle.polars_arrays_flat.specs.Kind.{FixedSizeListKind, StructKind, DictionaryKind}
 
 -- byte strings of one size
 abbrev pub is_sized : Kind → Bool

@@ -7,7 +7,8 @@ use Rattle.polars_compare_nested.specs.declared.runs.NextRows.{NextRows}
 use Rattle.polars_compare_nested.specs.declared.runs.NextRows.TheVariants.{Apart, Run}
 
 -- at most 64 of n lists, from lists a and b on, are known to match or not
-pub record AreKnown (l : ListArray) (a : ℕ) (r : ListArray) (b n : ℕ) (matches : Matches) : Type 0 where
+pub record AreKnown (l : ListArray) (a : ℕ) (r : ListArray) (b n : ℕ) (matches : Matches) :
+    Type 0 where
   pub few : matches.len ≤ 64
   pub within : matches.len ≤ n
   pub tell : TellMatches l a r b matches.len matches.word

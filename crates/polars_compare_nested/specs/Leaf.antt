@@ -1,6 +1,10 @@
 -- Arrays whose rows are leaves: numbers, truth values, byte strings and texts.
 use Rattle.std.specs.Prelude.{Bool, true, false}
-use Rattle.polars_arrays_flat.specs.Kind.{Kind, BooleanKind, Int8Kind, Int16Kind, Int32Kind, Int64Kind, Int128Kind, UInt8Kind, UInt16Kind, UInt32Kind, UInt64Kind, UInt128Kind, BinaryKind, LargeBinaryKind, Utf8Kind, LargeUtf8Kind, BinaryViewKind, Utf8ViewKind, FixedSizeBinaryKind}
+use Rattle.polars_arrays_flat.specs.Kind.{Kind, BooleanKind, Int8Kind, Int16Kind, Int32Kind}
+use Rattle.polars_arrays_flat.specs.Kind.{Int64Kind, Int128Kind, UInt8Kind, UInt16Kind, UInt32Kind}
+use Rattle.polars_arrays_flat.specs.Kind.{UInt64Kind, UInt128Kind, BinaryKind, LargeBinaryKind}
+use Rattle.polars_arrays_flat.specs.Kind.{Utf8Kind, LargeUtf8Kind, BinaryViewKind, Utf8ViewKind}
+use Rattle.polars_arrays_flat.specs.Kind.{FixedSizeBinaryKind}
 
 -- whether arrays of this kind have leaves as rows: they hold no array, and are not of nulls
 abbrev pub is_leaf : Kind → Bool

@@ -1,5 +1,6 @@
 -- Runs of lists whose items are adjacent on both sides.
-use Rattle.std.specs.Prelude.{◌≡◌, ◌≢◌, ◌+◌, ◌-◌, ◌≤◌, ◌<◌, ℕ, Bool, false, ◌&&◌, ◌||◌, eqb, IsTrue, List, Option, None, length, slice_index_or}
+use Rattle.std.specs.Prelude.{◌≡◌, ◌≢◌, ◌+◌, ◌-◌, ◌≤◌, ◌<◌, ℕ, Bool, false, ◌&&◌, ◌||◌, eqb, IsTrue}
+use Rattle.std.specs.Prelude.{List, Option, None, length, slice_index_or}
 use Rattle.std.specs.List.{list_all}
 use Rattle.polars_arrays_bits.specs.Bits.{first_of, is_bit}
 use Rattle.polars_arrays_bytes.specs.OffsetStrings.{place_at}
@@ -23,7 +24,8 @@ span_between all i = start_of all (i + 1) - start_of all i
 
 -- list i lies between two places that do not decrease
 abbrev pub IsSpan : List (Option ℕ) → ℕ → Type 0
-IsSpan all i = (place_at all i ≢ None) × (place_at all (i + 1) ≢ None) × (start_of all i ≤ start_of all (i + 1))
+IsSpan all i = (place_at all i ≢ None) × (place_at all (i + 1) ≢ None)
+    × (start_of all i ≤ start_of all (i + 1))
 
 -- each of n lists from list a on lies between places that do not decrease
 abbrev pub AreSpans : List (Option ℕ) → ℕ → ℕ → Type 0
@@ -32,11 +34,14 @@ AreSpans all a n = (i : ℕ) → i < n → IsSpan all (a + i)
 -- lists i and j match: they have equally many items, and are both present or have none
 abbrev pub is_match : ListArray → ℕ → ListArray → ℕ → Bool
 is_match l i r j =
-    eqb (span (list_offsets l) i) (span (list_offsets r) j) && (is_present (list_validity l) i && is_present (list_validity r) j || eqb (span (list_offsets l) i) 0)
+    eqb (span (list_offsets l) i) (span (list_offsets r) j)
+    && (is_present (list_validity l) i && is_present (list_validity r) j
+    || eqb (span (list_offsets l) i) 0)
 
 -- for n pairs of lists from lists a and b on, whether they have equally many items
 abbrev pub same_counts : List (Option ℕ) → ℕ → List (Option ℕ) → ℕ → ℕ → List Bool
-same_counts all a others b n = first_of (λ i. eqb (span_between all (a + i)) (span_between others (b + i))) n
+same_counts all a others b n = first_of
+    (λ i. eqb (span_between all (a + i)) (span_between others (b + i))) n
 
 -- whether each of n lists from list a on has `width` items
 abbrev pub lists_of_width : List (Option ℕ) → ℕ → ℕ → ℕ → List Bool
@@ -72,7 +77,8 @@ AreNext l a r b n (Run run) = IsRun l a r b n run
 
 -- whether all items of list k have their bits set; the first bit is that of item `from`
 abbrev pub all_items : List Bool → List (Option ℕ) → ℕ → ℕ → Bool
-all_items items all from k = list_all (λ b. b) (window (start_of all k - from) (span_between all k) items)
+all_items items all from k = list_all
+    (λ b. b) (window (start_of all k - from) (span_between all k) items)
 
 -- for each of n lists from list a on, whether all items have their bits set
 abbrev pub all_lists : List Bool → List (Option ℕ) → ℕ → ℕ → ℕ → List Bool
@@ -80,10 +86,13 @@ all_lists items all from a n = first_of (λ i. all_items items all from (a + i))
 
 -- each of n lists from list a on lies within the `count` items from item `from` on
 abbrev pub AreWithin : ℕ → List (Option ℕ) → ℕ → ℕ → ℕ → Type 0
-AreWithin count all from a n = (i : ℕ) → i < n → start_of all (a + i) - from + span_between all (a + i) ≤ count
+AreWithin count all from a n = (i : ℕ) → i < n
+    → start_of all (a + i) - from + span_between all (a + i) ≤ count
 
 -- a bit is appended for each of n lists from list a on: whether the bits of its items are all set
-pub record AddsRun (items : List Bool) (all : List (Option ℕ)) (a n : ℕ) (old new : List Bool) : Type 0 where
+pub record AddsRun (items : List Bool) (all : List (Option ℕ)) (a n : ℕ) (old new : List Bool) :
+    Type 0 where
   pub size : length new ≡ length old + n
   pub kept : (i : ℕ) → i < length old → slice_index_or new i false ≡ slice_index_or old i false
-  pub added : (i : ℕ) → i < n → slice_index_or new (length old + i) false ≡ all_items items all (start_of all a) (a + i)
+  pub added : (i : ℕ) → i < n → slice_index_or new (length old + i) false
+      ≡ all_items items all (start_of all a) (a + i)

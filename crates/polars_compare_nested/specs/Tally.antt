@@ -3,7 +3,17 @@ use Rattle.std.specs.Prelude.{ℕ, zero, suc, ◌+◌, ◌*◌, ◌&&◌, eqb, c
 use Rattle.polars_arrays_flat.specs.Validity.{is_present}
 use Rattle.polars_arrays_nested.specs.DictKeys.{key_at, key_validity}
 use Rattle.polars_arrays_nested.specs.ListOffsets.{offset_at, span}
-use Rattle.polars_arrays_nested.specs.declared.any_array.AnyArray.{AnyArray, Null, Boolean, Int8, Int16, Int32, Int64, Int128, UInt8, UInt16, UInt32, UInt64, UInt128, Binary, LargeBinary, Utf8, LargeUtf8, BinaryView, Utf8View, FixedSizeBinary, List', FixedSizeList', Struct', Dictionary', Row_of-AnyArray, end_of-AnyArray, more_of-AnyArray, items-the_row-AnyArray}
+use Rattle.polars_arrays_nested.specs.declared.any_array.AnyArray.{AnyArray, Null, Boolean, Int8}
+use Rattle.polars_arrays_nested.specs.declared.any_array.AnyArray.{Int16, Int32, Int64, Int128}
+use Rattle.polars_arrays_nested.specs.declared.any_array.AnyArray.{UInt8, UInt16, UInt32, UInt64}
+use Rattle.polars_arrays_nested.specs.declared.any_array.AnyArray.{UInt128, Binary, LargeBinary}
+use Rattle.polars_arrays_nested.specs.declared.any_array.AnyArray.{Utf8, LargeUtf8, BinaryView}
+use Rattle.polars_arrays_nested.specs.declared.any_array.AnyArray.{Utf8View, FixedSizeBinary, List'}
+use Rattle.polars_arrays_nested.specs.declared.any_array.AnyArray.{FixedSizeList', Struct'}
+use Rattle.polars_arrays_nested.specs.declared.any_array.AnyArray.{Dictionary', Row_of-AnyArray}
+use Rattle.polars_arrays_nested.specs.declared.any_array.AnyArray.{end_of-AnyArray}
+use Rattle.polars_arrays_nested.specs.declared.any_array.AnyArray.{more_of-AnyArray}
+use Rattle.polars_arrays_nested.specs.declared.any_array.AnyArray.{items-the_row-AnyArray}
 use Rattle.polars_arrays_nested.specs.declared.dict_keys.DictKeys.{DictKeys}
 use Rattle.polars_arrays_nested.specs.declared.list_offsets.ListOffsets.{ListOffsets}
 
@@ -13,7 +23,8 @@ total_pairs f a b zero = 0
 total_pairs f a b (suc count) = total_pairs f a b count + f (a + count) (b + count)
 
 -- the cost of lists i and j: `items` of their windows if both are present and equally long, else 0
-abbrev pub pair_tally : (ℕ → ℕ → ℕ → ℕ) → ListOffsets → Option (List Bool) → ListOffsets → Option (List Bool) → ℕ → ℕ → ℕ
+abbrev pub pair_tally : (ℕ → ℕ → ℕ → ℕ) → ListOffsets → Option (List Bool) → ListOffsets
+    → Option (List Bool) → ℕ → ℕ → ℕ
 pair_tally items offsets validity offsets' validity' i j =
     cond (is_present validity i && is_present validity' j && eqb (span offsets i) (span offsets' j))
     (items (offset_at offsets i) (offset_at offsets' j) (span offsets i))
@@ -22,7 +33,8 @@ pair_tally items offsets validity offsets' validity' i j =
 -- the cost of rows i and j of two dictionaries: `entries` of their entries if present, else 0
 abbrev pub entry_tally : (ℕ → ℕ → ℕ → ℕ) → DictKeys → DictKeys → ℕ → ℕ → ℕ
 entry_tally entries keys keys' i j =
-    cond (is_present (key_validity keys) i && is_present (key_validity keys') j) (entries (key_at keys i) (key_at keys' j) 1) 0
+    cond (is_present (key_validity keys) i && is_present (key_validity keys') j)
+    (entries (key_at keys i) (key_at keys' j) 1) 0
 
 abbrev mutual
   -- the cost of n rows from row a on of one array and row b on of another: one for a pair of
@@ -30,8 +42,10 @@ abbrev mutual
   -- items for lists of one width, and the sum over columns for structs
   pub tally : AnyArray → AnyArray → ℕ → ℕ → ℕ → ℕ
   tally (List' offsets p values validity) (List' offsets' p' values' validity') a b n =
-      total_pairs (pair_tally (λ i j m. tally values values' i j m) offsets validity offsets' validity') a b n
-  tally (FixedSizeList' width len p values validity) (FixedSizeList' width' len' p' values' validity') a b n =
+      total_pairs (pair_tally
+      (λ i j m. tally values values' i j m) offsets validity offsets' validity') a b n
+  tally (FixedSizeList' width len p values validity)
+      (FixedSizeList' width' len' p' values' validity') a b n =
       tally values values' (width * a) (width * b) (width * n)
   tally (Struct' fields len p values validity) (Struct' fields' len' p' values' validity') a b n =
       tally_across values (items-the_row-AnyArray _ values') a b n

@@ -7,4 +7,5 @@ use Rattle.polars_compare_nested.specs.Tally.{tally}
 abbrev pub columns_tally : List AnyArray → List AnyArray → ℕ → ℕ → ℕ → ℕ
 columns_tally [] others a b n = 0
 columns_tally (first ∷ rest) [] a b n = 0
-columns_tally (first ∷ rest) (other ∷ others) a b n = tally first other a b n + columns_tally rest others a b n
+columns_tally (first ∷ rest) (other ∷ others) a b n =
+    tally first other a b n + columns_tally rest others a b n

@@ -20,15 +20,18 @@ use Rattle.polars_compare_nested.specs.TallyColumns.{columns_tally}
 
 -- the tally is at most the leaf slots of the left window
 abbrev pub TallyIsWithinLeaves : Type 0
-TallyIsWithinLeaves = (x y : AnyArray) → IsGood x → (a b n : ℕ) → a + n ≤ len_of x → tally x y a b n ≤ leaves x a n
+TallyIsWithinLeaves = (x y : AnyArray) → IsGood x → (a b n : ℕ) → a + n ≤ len_of x
+    → tally x y a b n ≤ leaves x a n
 
 -- the tallies of adjacent windows add up
 abbrev pub TallyAddsUp : Type 0
-TallyAddsUp = (x y : AnyArray) (a b m n : ℕ) → tally x y a b (m + n) ≡ tally x y a b m + tally x y (a + m) (b + m) n
+TallyAddsUp = (x y : AnyArray) (a b m n : ℕ) → tally x y a b (m + n)
+    ≡ tally x y a b m + tally x y (a + m) (b + m) n
 
 -- the tally is the same with the sides exchanged
 abbrev pub TallyIsSymmetric : Type 0
-TallyIsSymmetric = (x y : AnyArray) → IsGood x → IsGood y → type_of x ≡ type_of y → (a b n : ℕ) → tally x y a b n ≡ tally y x b a n
+TallyIsSymmetric = (x y : AnyArray) → IsGood x → IsGood y → type_of x ≡ type_of y → (a b n : ℕ)
+    → tally x y a b n ≡ tally y x b a n
 
 -- the number of items of the n lists from list a on
 abbrev pub items_in : ListOffsets → ℕ → ℕ → ℕ
@@ -42,30 +45,39 @@ ListsAreAdjacent = (l : ListArray) → IsGood (List l) → (i : ℕ) → i < len
 -- the leaf slots of a window of lists are those of one window of items
 abbrev pub ListLeavesAreOneWindow : Type 0
 ListLeavesAreOneWindow = (l : ListArray) (a n : ℕ)
-    → leaves (List l) a n ≡ leaves (list_values l) (offset_at (list_offsets l) a) (items_in (list_offsets l) a n)
+    → leaves (List l) a n
+    ≡ leaves (list_values l) (offset_at (list_offsets l) a) (items_in (list_offsets l) a n)
 
 -- adjacent lists that match have the tally of one window of their items
 abbrev pub ListTallyIsOneWindow : Type 0
-ListTallyIsOneWindow = (l r : ListArray) → IsGood (List l) → IsGood (List r) → (a b n : ℕ) → a + n ≤ len_of (List l) → b + n ≤ len_of (List r) → Match l a r b n
-    → tally (List l) (List r) a b n ≡ tally (list_values l) (list_values r) (offset_at (list_offsets l) a) (offset_at (list_offsets r) b) (items_in (list_offsets l) a n)
+ListTallyIsOneWindow = (l r : ListArray) → IsGood (List l) → IsGood (List r) → (a b n : ℕ)
+    → a + n ≤ len_of (List l) → b + n ≤ len_of (List r) → Match l a r b n
+    → tally (List l) (List r) a b n
+    ≡ tally (list_values l) (list_values r) (offset_at (list_offsets l) a)
+    (offset_at (list_offsets r) b) (items_in (list_offsets l) a n)
 
 -- the leaf slots of a struct are those of its columns, each counted once
 abbrev pub StructLeavesAreColumns : Type 0
-StructLeavesAreColumns = (s : StructArray) (a n : ℕ) → leaves (Struct s) a n ≡ columns_leaves (columns s) a n
+StructLeavesAreColumns = (s : StructArray) (a n : ℕ) → leaves (Struct s) a n
+    ≡ columns_leaves (columns s) a n
 
 -- the tally of two structs is that of their columns, each counted once
 abbrev pub StructTallyIsColumns : Type 0
-StructTallyIsColumns = (s t : StructArray) (a b n : ℕ) → tally (Struct s) (Struct t) a b n ≡ columns_tally (columns s) (columns t) a b n
+StructTallyIsColumns = (s t : StructArray) (a b n : ℕ) → tally (Struct s) (Struct t) a b n
+    ≡ columns_tally (columns s) (columns t) a b n
 
 -- windows that are kept alike have equal tallies with any other window
 abbrev pub TallyIsKept : Type 0
-TallyIsKept = (x y other : AnyArray) (a a' b n : ℕ) → KeptAlike x y a a' n → tally x other a b n ≡ tally y other a' b n
+TallyIsKept = (x y other : AnyArray) (a a' b n : ℕ) → KeptAlike x y a a' n → tally x other a b n
+    ≡ tally y other a' b n
 
 -- a slice has the tally of the same rows before
 abbrev pub TallyOfCut : Type 0
 TallyOfCut =
-    (x y other : AnyArray) (at n : ℕ) → IsCut x y at n → (i m b : ℕ) → i + m ≤ n → tally x other i b m ≡ tally y other (at + i) b m
+    (x y other : AnyArray) (at n : ℕ) → IsCut x y at n → (i m b : ℕ) → i + m ≤ n
+    → tally x other i b m ≡ tally y other (at + i) b m
 
 -- a clone has the tally of its original
 abbrev pub TallyOfClone : Type 0
-TallyOfClone = (x y other : AnyArray) → IsClone x y → (a b n : ℕ) → tally x other a b n ≡ tally y other a b n
+TallyOfClone = (x y other : AnyArray) → IsClone x y → (a b n : ℕ) → tally x other a b n
+    ≡ tally y other a b n

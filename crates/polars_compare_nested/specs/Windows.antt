@@ -17,7 +17,9 @@ pub record AreWindows (left : AnyArray) (a : ℕ) (right : AnyArray) (b n : ℕ)
   pub right_in : b + n ≤ len_of right
 
 -- two windows are compared: `Bits` holds of the result, and the tally is added; or Memory
-pub record Compares (Bits : AnyArray → ℕ → AnyArray → ℕ → ℕ → List Bool → Type 0) (left : AnyArray) (a : ℕ) (right : AnyArray) (b n old new : ℕ) (result : Result (List Bool) ComputeError) : Type 0 where
+pub record Compares (Bits : AnyArray → ℕ → AnyArray → ℕ → ℕ → List Bool → Type 0) (left : AnyArray)
+    (a : ℕ) (right : AnyArray) (b n old new : ℕ) (result : Result (List Bool) ComputeError) :
+    Type 0 where
   pub told : MatchResult result (Bits left a right b n) IsMemory
   pub counted : IfOk result (λ _. new ≡ old + tally left right a b n)
   pub kept : old ≤ new

@@ -39,7 +39,10 @@ fn are_all_rows(
     requires rows_good { IsGood rows.now }
     requires one_type { type_of items.now ≡ type_of rows.now }
     requires within { from + count ≤ len_of items.now }
-    ensures { MatchResult result (λ bit. bit ≡ same_rows same_leaf (rows_from (row items.now) from count) (rows_from (row rows.now) 0 (len_of rows.now))) IsMemory }
+    ensures { MatchResult result
+        (λ bit. bit
+        ≡ same_rows same_leaf (rows_from (row items.now) from count)
+        (rows_from (row rows.now) 0 (len_of rows.now))) IsMemory }
 {
     if count != rows.len() {
         return Ok(false);
@@ -58,7 +61,9 @@ pub fn list_broadcast(
     requires lists_good { IsGood (List lists.now) }
     requires rows_good { IsGood rows.now }
     requires one_type { type_of (list_values lists.now) ≡ type_of rows.now }
-    ensures { MatchResult result (SameAsAll (stored_list lists.now) rows.now (list_count (list_offsets lists.now))) IsMemory }
+    ensures { MatchResult result
+        (SameAsAll (stored_list lists.now) rows.now (list_count (list_offsets lists.now)))
+        IsMemory }
 {
     let n = lists.offsets().len();
     let mut bits = BitmapBuilder::with_capacity(alloc, n)?;
@@ -81,7 +86,9 @@ pub fn fixed_size_list_broadcast(
     requires lists_good { IsGood (FixedSizeList lists.now) }
     requires rows_good { IsGood rows.now }
     requires one_type { type_of (fixed_values lists.now) ≡ type_of rows.now }
-    ensures { MatchResult result (SameAsAll (stored_fixed_list lists.now) rows.now (len_of (FixedSizeList lists.now))) IsMemory }
+    ensures { MatchResult result
+        (SameAsAll (stored_fixed_list lists.now) rows.now (len_of (FixedSizeList lists.now)))
+        IsMemory }
 {
     let n = lists.len();
     let mut bits = BitmapBuilder::with_capacity(alloc, n)?;

@@ -3,8 +3,10 @@
 
 ghost use Rattle.std.specs.Prelude.{◌≡◌, IsTrue};
 ghost use Rattle.polars_arrays_nested.specs.Types.{type_of};
-ghost use Rattle.polars_arrays_nested.specs.declared.any_array.AnyArray.{List, FixedSizeList, Struct, Dictionary};
-ghost use Rattle.polars_compare_nested.specs.KindSorts.{is_list, is_fixed_list, is_struct, is_dictionary};
+ghost use Rattle.polars_arrays_nested.specs.declared.any_array.AnyArray.{List, FixedSizeList};
+ghost use Rattle.polars_arrays_nested.specs.declared.any_array.AnyArray.{Struct, Dictionary};
+ghost use Rattle.polars_compare_nested.specs.KindSorts.{is_list, is_fixed_list, is_struct};
+ghost use Rattle.polars_compare_nested.specs.KindSorts.{is_dictionary};
 
 use polars_arrays_nested::any_array::AnyArray;
 use polars_arrays_nested::dictionary::DictionaryArray;

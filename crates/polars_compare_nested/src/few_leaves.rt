@@ -68,8 +68,10 @@ pub(crate) fn same_few<K: LeafKernel>(
 ) -> Result<u64, ComputeError>
     requires windows { AreWindows left.now a right.now b n }
     requires few { AreFewLeaves left.now right.now n }
-    ensures told { MatchResult result (λ word. SameBits K.agree left.now a right.now b n (first_of (is_bit word) n)) IsMemory }
-    ensures counted { IfOk result (λ _. K.count steps.new ≡ K.count steps.old + tally left.now right.now a b n) }
+    ensures told { MatchResult result
+        (λ word. SameBits K.agree left.now a right.now b n (first_of (is_bit word) n)) IsMemory }
+    ensures counted { IfOk result
+        (λ _. K.count steps.new ≡ K.count steps.old + tally left.now right.now a b n) }
     ensures kept { K.count steps.old ≤ K.count steps.new }
 {
     steps.leaf_word_eq(alloc, left, a, right, b, n)

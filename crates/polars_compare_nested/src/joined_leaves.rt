@@ -24,7 +24,8 @@ use std::alloc::Global;
 // Compares windows of two arrays of one kind of leaf: by the function named before the kinds for
 // those kinds, and by a bitmap for all others.
 macro_rules! join_leaves {
-    (($alloc:expr, $bits:expr, $left:expr, $a:expr, $right:expr, $b:expr), $join:ident: $($kind:ident)+) => {
+    (($alloc:expr, $bits:expr, $left:expr, $a:expr, $right:expr, $b:expr), $join:ident:
+        $($kind:ident)+) => {
         match $left {
             $(AnyArray::$kind(left) => {
                 $join($bits, left, $a, downcast!($right, $kind), $b);
@@ -52,7 +53,8 @@ pub(crate) fn and_leaf_windows(
     requires one_type { type_of left.now ≡ type_of right.now }
     requires left_in { a + length bits.old ≤ len_of left.now }
     requires right_in { b + length bits.old ≤ len_of right.now }
-    ensures { MatchResult result (λ _. JoinsLeafBits same_leaf left.now a right.now b bits.old bits.new) IsMemory }
+    ensures { MatchResult result
+        (λ _. JoinsLeafBits same_leaf left.now a right.now b bits.old bits.new) IsMemory }
 {
     join_leaves!(
         (alloc, bits, left, a, right, b),
@@ -73,7 +75,8 @@ fn and_by_bitmap(
     requires one_type { type_of left.now ≡ type_of right.now }
     requires left_in { a + length bits.old ≤ len_of left.now }
     requires right_in { b + length bits.old ≤ len_of right.now }
-    ensures { MatchResult result (λ _. JoinsLeafBits same_leaf left.now a right.now b bits.old bits.new) IsMemory }
+    ensures { MatchResult result
+        (λ _. JoinsLeafBits same_leaf left.now a right.now b bits.old bits.new) IsMemory }
 {
     let n = bits.len();
     let same = leaf_windows(alloc, left, a, right, b, n)?;
@@ -91,7 +94,10 @@ fn and_numbers<T: NativeType>(
 )
     requires left_in { a + length bits.old ≤ length left.now.values }
     requires right_in { b + length bits.old ≤ length right.now.values }
-    ensures { JoinsBits (PresentBits same_leaf (row_at (number_rows T.value left.now)) left.now.validity a (row_at (number_rows T.value right.now)) right.now.validity b (length bits.old)) bits.old bits.new }
+    ensures { JoinsBits
+        (PresentBits same_leaf (row_at (number_rows T.value left.now)) left.now.validity a
+        (row_at (number_rows T.value right.now)) right.now.validity b (length bits.old)) bits.old
+        bits.new }
 {
     and_number_windows(bits, &Equal, left, a, right, b);
 }

@@ -41,7 +41,9 @@ pub fn array_tot_eq_missing_kernel_counted<K: LeafKernel>(
     requires one_length { len_of left.now ≡ len_of right.now }
     ensures told { MatchResult result (SameRows true K.agree left.now right.now) IsMemory }
     ensures trees { IsEquality K.agree → MatchResult result (SameTrees true left.now right.now) IsMemory }
-    ensures counted { IfOk result (λ _. K.count steps.new ≡ K.count steps.old + tally left.now right.now 0 0 (len_of left.now)) }
+    ensures counted { IfOk result
+        (λ _. K.count steps.new
+        ≡ K.count steps.old + tally left.now right.now 0 0 (len_of left.now)) }
     ensures within_left { tally left.now right.now 0 0 (len_of left.now) ≤ leaves left.now 0 (len_of left.now) }
     ensures within_right { tally left.now right.now 0 0 (len_of left.now) ≤ leaves right.now 0 (len_of right.now) }
     ensures kept { K.count steps.old ≤ K.count steps.new }
@@ -65,7 +67,9 @@ pub fn array_tot_ne_missing_kernel_counted<K: LeafKernel>(
     requires one_length { len_of left.now ≡ len_of right.now }
     ensures told { MatchResult result (SameRows false K.agree left.now right.now) IsMemory }
     ensures trees { IsEquality K.agree → MatchResult result (SameTrees false left.now right.now) IsMemory }
-    ensures counted { IfOk result (λ _. K.count steps.new ≡ K.count steps.old + tally left.now right.now 0 0 (len_of left.now)) }
+    ensures counted { IfOk result
+        (λ _. K.count steps.new
+        ≡ K.count steps.old + tally left.now right.now 0 0 (len_of left.now)) }
     ensures within_left { tally left.now right.now 0 0 (len_of left.now) ≤ leaves left.now 0 (len_of left.now) }
     ensures within_right { tally left.now right.now 0 0 (len_of left.now) ≤ leaves right.now 0 (len_of right.now) }
     ensures kept { K.count steps.old ≤ K.count steps.new }
@@ -93,7 +97,8 @@ pub fn array_tot_eq_missing_kernel_with_steps(
     requires one_type { type_of left.now ≡ type_of right.now }
     requires one_length { len_of left.now ≡ len_of right.now }
     ensures trees { MatchResult result (SameTrees true left.now right.now) IsMemory }
-    ensures counted { IfOk result (λ _. steps.new ≡ steps.old + tally left.now right.now 0 0 (len_of left.now)) }
+    ensures counted { IfOk result
+        (λ _. steps.new ≡ steps.old + tally left.now right.now 0 0 (len_of left.now)) }
     ensures within_left { tally left.now right.now 0 0 (len_of left.now) ≤ leaves left.now 0 (len_of left.now) }
     ensures within_right { tally left.now right.now 0 0 (len_of left.now) ≤ leaves right.now 0 (len_of right.now) }
     ensures kept { steps.old ≤ steps.new }
@@ -113,7 +118,9 @@ pub fn array_tot_eq_missing_kernel(
     requires one_type { type_of left.now ≡ type_of right.now }
     requires one_length { len_of left.now ≡ len_of right.now }
     ensures trees { MatchResult result (SameTrees true left.now right.now) IsMemory }
-    ensures missing { MatchResult result (MissingEquality true (type_of left.now ≡ type_of right.now) (rows left.now) (rows right.now)) IsMemory }
+    ensures missing { MatchResult result
+        (MissingEquality true (type_of left.now ≡ type_of right.now) (rows left.now)
+        (rows right.now)) IsMemory }
 {
     array_tot_eq_missing_kernel_with_steps(alloc, left, right, &mut Steps::new())
 }
@@ -130,7 +137,9 @@ pub fn array_tot_ne_missing_kernel(
     requires one_type { type_of left.now ≡ type_of right.now }
     requires one_length { len_of left.now ≡ len_of right.now }
     ensures trees { MatchResult result (SameTrees false left.now right.now) IsMemory }
-    ensures missing { MatchResult result (MissingEquality false (type_of left.now ≡ type_of right.now) (rows left.now) (rows right.now)) IsMemory }
+    ensures missing { MatchResult result
+        (MissingEquality false (type_of left.now ≡ type_of right.now) (rows left.now)
+        (rows right.now)) IsMemory }
 {
     array_tot_ne_missing_kernel_counted(alloc, left, right, &mut Steps::new())
 }

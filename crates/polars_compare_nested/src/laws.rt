@@ -3,7 +3,12 @@
 ghost use Rattle.polars_arrays_nested.specs.Leaves.{LeavesAddUp};
 ghost use Rattle.polars_compare_leaves.specs.Sameness.{same_leaf};
 ghost use Rattle.polars_compare_nested.specs.Headline.{EqualityTellsTrees, IsEquality};
-ghost use Rattle.polars_compare_nested.specs.TallyLaws.{ListLeavesAreOneWindow, ListTallyIsOneWindow, ListsAreAdjacent, StructLeavesAreColumns, StructTallyIsColumns, TallyAddsUp, TallyIsSymmetric, TallyIsWithinLeaves, TallyOfClone, TallyOfCut};
+ghost use Rattle.polars_compare_nested.specs.TallyLaws.{ListLeavesAreOneWindow};
+ghost use Rattle.polars_compare_nested.specs.TallyLaws.{ListTallyIsOneWindow, ListsAreAdjacent};
+ghost use Rattle.polars_compare_nested.specs.TallyLaws.{StructLeavesAreColumns};
+ghost use Rattle.polars_compare_nested.specs.TallyLaws.{StructTallyIsColumns, TallyAddsUp};
+ghost use Rattle.polars_compare_nested.specs.TallyLaws.{TallyIsSymmetric, TallyIsWithinLeaves};
+ghost use Rattle.polars_compare_nested.specs.TallyLaws.{TallyOfClone, TallyOfCut};
 
 use polars_arrays_nested::laws::law_leaves;
 

@@ -87,7 +87,8 @@ pub trait LeafKernel {
     ) -> Result<(), ComputeError>
         requires leaves { IsTrue (is_leaf (type_of left.now)) }
         requires windows { AreWindows left.now a right.now b (length bits.old) }
-        ensures told { MatchResult result (λ _. JoinsLeafBits agree left.now a right.now b bits.old bits.new) IsMemory }
+        ensures told { MatchResult result
+            (λ _. JoinsLeafBits agree left.now a right.now b bits.old bits.new) IsMemory }
         ensures counted { IfOk result (λ _. count self.new ≡ count self.old + length bits.old) }
         ensures kept { count self.old ≤ count self.new }
     {

@@ -60,7 +60,8 @@ pub(crate) fn leaf_rows(left: &AnyArray, a: usize, right: &AnyArray, b: usize) -
 fn same_truth(left: &BooleanArray, a: usize, right: &BooleanArray, b: usize) -> bool
     requires left_in { a < length left.now.values }
     requires right_in { b < length right.now.values }
-    ensures { PresentBit same_leaf (row_at (truth_rows left.now)) left.now.validity a (row_at (truth_rows right.now)) right.now.validity b result }
+    ensures { PresentBit same_leaf (row_at (truth_rows left.now)) left.now.validity a
+        (row_at (truth_rows right.now)) right.now.validity b result }
 {
     let (left, right) = (left.values(), right.values());
     let (x, y) = (left.get_bit(a), right.get_bit(b));
@@ -77,7 +78,8 @@ fn same_number<T: NativeType>(
 ) -> bool
     requires left_in { a < length left.now.values }
     requires right_in { b < length right.now.values }
-    ensures { PresentBit same_leaf (row_at (number_rows T.value left.now)) left.now.validity a (row_at (number_rows T.value right.now)) right.now.validity b result }
+    ensures { PresentBit same_leaf (row_at (number_rows T.value left.now)) left.now.validity a
+        (row_at (number_rows T.value right.now)) right.now.validity b result }
 {
     let (left, right) = (left.values(), right.values());
     Comparison::compare(&Equal, left[a], right[b])
@@ -88,7 +90,10 @@ fn same_number<T: NativeType>(
 fn same_bytes<R: ByteRows>(left: &R, a: usize, right: &R, b: usize) -> bool
     requires left_in { a < length (R.strings left.now) }
     requires right_in { b < length (R.strings right.now) }
-    ensures { PresentBit same_leaf (row_at (rows_under (R.mask left.now) (byte_slots (R.strings left.now)))) (R.mask left.now) a (row_at (rows_under (R.mask right.now) (byte_slots (R.strings right.now)))) (R.mask right.now) b result }
+    ensures { PresentBit same_leaf
+        (row_at (rows_under (R.mask left.now) (byte_slots (R.strings left.now)))) (R.mask left.now)
+        a (row_at (rows_under (R.mask right.now) (byte_slots (R.strings right.now))))
+        (R.mask right.now) b result }
 {
     let (left, n) = left.bytes_on(a);
     let (right, m) = right.bytes_on(b);
@@ -100,7 +105,8 @@ fn same_bytes<R: ByteRows>(left: &R, a: usize, right: &R, b: usize) -> bool
 fn same_text(left: &Utf8ViewArray, a: usize, right: &Utf8ViewArray, b: usize) -> bool
     requires left_in { a < length left.now.views }
     requires right_in { b < length right.now.views }
-    ensures { PresentBit same_leaf (row_at (view_rows left.now)) left.now.validity a (row_at (view_rows right.now)) right.now.validity b result }
+    ensures { PresentBit same_leaf (row_at (view_rows left.now)) left.now.validity a
+        (row_at (view_rows right.now)) right.now.validity b result }
 {
     same_view(left.as_binview(), a, right.as_binview(), b)
 }
@@ -111,7 +117,8 @@ fn same_text(left: &Utf8ViewArray, a: usize, right: &Utf8ViewArray, b: usize) ->
 fn same_view(left: &BinaryViewArray, a: usize, right: &BinaryViewArray, b: usize) -> bool
     requires left_in { a < length left.now.views }
     requires right_in { b < length right.now.views }
-    ensures { PresentBit same_leaf (row_at (view_rows left.now)) left.now.validity a (row_at (view_rows right.now)) right.now.validity b result }
+    ensures { PresentBit same_leaf (row_at (view_rows left.now)) left.now.validity a
+        (row_at (view_rows right.now)) right.now.validity b result }
 {
     rows_equal(left, a, right, b, &mut Steps::new())
 }

@@ -37,7 +37,8 @@ use std::alloc::Global;
 
 // Compares windows of two arrays of one kind of leaf by the function named before the kind.
 macro_rules! compare_leaves {
-    (($alloc:expr, $left:expr, $a:expr, $right:expr, $b:expr, $n:expr), $($windows:ident: $($kind:ident)+);+) => {
+    (($alloc:expr, $left:expr, $a:expr, $right:expr, $b:expr, $n:expr),
+        $($windows:ident: $($kind:ident)+);+) => {
         match $left {
             $($(AnyArray::$kind(left) => $windows($alloc, left, $a, downcast!($right, $kind), $b, $n),)+)+
             _ => unreachable!(),
@@ -87,7 +88,9 @@ fn truth_windows(
 ) -> Result<Bitmap, ComputeError>
     requires left_in { a + n ≤ length left.now.values }
     requires right_in { b + n ≤ length right.now.values }
-    ensures { MatchResult result (PresentBits same_leaf (row_at (truth_rows left.now)) left.now.validity a (row_at (truth_rows right.now)) right.now.validity b n) IsMemory }
+    ensures { MatchResult result
+        (PresentBits same_leaf (row_at (truth_rows left.now)) left.now.validity a
+        (row_at (truth_rows right.now)) right.now.validity b n) IsMemory }
 {
     compare_truth_windows(alloc, &Equal, left, a, right, b, n)
 }
@@ -104,7 +107,9 @@ fn number_windows<T: NativeType>(
 ) -> Result<Bitmap, ComputeError>
     requires left_in { a + n ≤ length left.now.values }
     requires right_in { b + n ≤ length right.now.values }
-    ensures { MatchResult result (PresentBits same_leaf (row_at (number_rows T.value left.now)) left.now.validity a (row_at (number_rows T.value right.now)) right.now.validity b n) IsMemory }
+    ensures { MatchResult result
+        (PresentBits same_leaf (row_at (number_rows T.value left.now)) left.now.validity a
+        (row_at (number_rows T.value right.now)) right.now.validity b n) IsMemory }
 {
     compare_number_windows(alloc, &Equal, left, a, right, b, n)
 }
@@ -122,7 +127,9 @@ fn string_windows<O: Offset>(
 ) -> Result<Bitmap, ComputeError>
     requires left_in { a + n ≤ row_count left.now.offsets }
     requires right_in { b + n ≤ row_count right.now.offsets }
-    ensures { MatchResult result (PresentBits same_leaf (row_at (offset_rows O.value left.now)) left.now.validity a (row_at (offset_rows O.value right.now)) right.now.validity b n) IsMemory }
+    ensures { MatchResult result
+        (PresentBits same_leaf (row_at (offset_rows O.value left.now)) left.now.validity a
+        (row_at (offset_rows O.value right.now)) right.now.validity b n) IsMemory }
 {
     compare_byte_windows(alloc, &Equal, &left.lent(), a, &right.lent(), b, n)
 }
@@ -139,7 +146,9 @@ fn utf8_windows<O: Offset>(
 ) -> Result<Bitmap, ComputeError>
     requires left_in { a + n ≤ row_count left.now.offsets }
     requires right_in { b + n ≤ row_count right.now.offsets }
-    ensures { MatchResult result (PresentBits same_leaf (row_at (offset_rows O.value left.now)) left.now.validity a (row_at (offset_rows O.value right.now)) right.now.validity b n) IsMemory }
+    ensures { MatchResult result
+        (PresentBits same_leaf (row_at (offset_rows O.value left.now)) left.now.validity a
+        (row_at (offset_rows O.value right.now)) right.now.validity b n) IsMemory }
 {
     string_windows(alloc, left.as_binary(), a, right.as_binary(), b, n)
 }
@@ -156,7 +165,9 @@ fn sized_windows(
 ) -> Result<Bitmap, ComputeError>
     requires left_in { a + n ≤ left.now.count }
     requires right_in { b + n ≤ right.now.count }
-    ensures { MatchResult result (PresentBits same_leaf (row_at (sized_rows left.now)) left.now.validity a (row_at (sized_rows right.now)) right.now.validity b n) IsMemory }
+    ensures { MatchResult result
+        (PresentBits same_leaf (row_at (sized_rows left.now)) left.now.validity a
+        (row_at (sized_rows right.now)) right.now.validity b n) IsMemory }
 {
     compare_sized_windows(alloc, &Equal, left, a, right, b, n)
 }
@@ -173,7 +184,9 @@ fn text_windows(
 ) -> Result<Bitmap, ComputeError>
     requires left_in { a + n ≤ length left.now.views }
     requires right_in { b + n ≤ length right.now.views }
-    ensures { MatchResult result (PresentBits same_leaf (row_at (view_rows left.now)) left.now.validity a (row_at (view_rows right.now)) right.now.validity b n) IsMemory }
+    ensures { MatchResult result
+        (PresentBits same_leaf (row_at (view_rows left.now)) left.now.validity a
+        (row_at (view_rows right.now)) right.now.validity b n) IsMemory }
 {
     view_windows(alloc, left.as_binview(), a, right.as_binview(), b, n)
 }
@@ -191,7 +204,9 @@ fn view_windows(
 ) -> Result<Bitmap, ComputeError>
     requires left_in { a + n ≤ length left.now.views }
     requires right_in { b + n ≤ length right.now.views }
-    ensures { MatchResult result (PresentBits same_leaf (row_at (view_rows left.now)) left.now.validity a (row_at (view_rows right.now)) right.now.validity b n) IsMemory }
+    ensures { MatchResult result
+        (PresentBits same_leaf (row_at (view_rows left.now)) left.now.validity a
+        (row_at (view_rows right.now)) right.now.validity b n) IsMemory }
 {
     compare_view_windows(alloc, &Equal, left, a, right, b, n, &mut Steps::new())
 }

@@ -26,7 +26,8 @@ use std::alloc::Global;
 // Compares windows of two arrays of one kind of leaf: by the function named before the kinds for
 // those kinds, and by a bitmap for all others.
 macro_rules! compare_few_leaves {
-    (($alloc:expr, $left:expr, $a:expr, $right:expr, $b:expr, $n:expr), $word:ident: $($kind:ident)+) => {
+    (($alloc:expr, $left:expr, $a:expr, $right:expr, $b:expr, $n:expr), $word:ident:
+        $($kind:ident)+) => {
         match $left {
             $(AnyArray::$kind(left) => Ok($word(left, $a, downcast!($right, $kind), $b, $n)),)+
             _ => word_of_windows($alloc, $left, $a, $right, $b, $n),
@@ -92,7 +93,9 @@ fn number_word<T: NativeType>(
     requires left_in { a + n ≤ length left.now.values }
     requires right_in { b + n ≤ length right.now.values }
     requires few { n ≤ 64 }
-    ensures { PresentBits same_leaf (row_at (number_rows T.value left.now)) left.now.validity a (row_at (number_rows T.value right.now)) right.now.validity b n (first_of (is_bit result) n) }
+    ensures { PresentBits same_leaf (row_at (number_rows T.value left.now)) left.now.validity a
+        (row_at (number_rows T.value right.now)) right.now.validity b n
+        (first_of (is_bit result) n) }
 {
     compare_few_numbers(&Equal, left, a, right, b, n)
 }

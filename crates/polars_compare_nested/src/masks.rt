@@ -31,7 +31,9 @@ pub(crate) fn join_windows(
     requires one_type { type_of left.now ≡ type_of right.now }
     requires left_in { a + length raw ≤ len_of left.now }
     requires right_in { b + length raw ≤ len_of right.now }
-    ensures { MatchResult result (λ bits. (agree : Row → Row → Bool) → RawBits agree left.now a right.now b (length raw) raw → SameBits agree left.now a right.now b (length raw) bits) IsMemory }
+    ensures { MatchResult result
+        (λ bits. (agree : Row → Row → Bool) → RawBits agree left.now a right.now b (length raw) raw
+        → SameBits agree left.now a right.now b (length raw) bits) IsMemory }
 {
     if !left.may_have_nulls() && !right.may_have_nulls() {
         return Ok(raw);

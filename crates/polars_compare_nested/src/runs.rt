@@ -213,7 +213,8 @@ pub(crate) fn next_rows(
     requires right_in { b + n ≤ len_of (List right.now) }
     requires known { AreKnown left.now a right.now b n matches.old }
     ensures next { AreNext left.now a right.now b n result }
-    ensures known { AreKnown left.now (a + row_total result) right.now (b + row_total result) (n - row_total result) matches.new }
+    ensures known { AreKnown left.now (a + row_total result) right.now (b + row_total result)
+        (n - row_total result) matches.new }
 {
     let rows = matching_run(left, a, right, b, n, matches);
     if rows == 0 {
@@ -242,9 +243,11 @@ pub(crate) fn push_rows(
 )
     requires good { IsGood (List array.now) }
     requires within { a + rows ≤ len_of (List array.now) }
-    requires items { length items.now ≡ offset_at (list_offsets array.now) (a + rows) - offset_at (list_offsets array.now) a }
+    requires items { length items.now
+        ≡ offset_at (list_offsets array.now) (a + rows) - offset_at (list_offsets array.now) a }
     requires room { rows ≤ bits.old.room }
-    ensures bits { AddsRun items.now (list_places (list_offsets array.now)) a rows bits.old.bits bits.new.bits }
+    ensures bits { AddsRun items.now (list_places (list_offsets array.now)) a rows bits.old.bits
+        bits.new.bits }
     ensures room { bits.new.room ≡ bits.old.room - rows }
 {
     match array.offsets() {
@@ -268,9 +271,13 @@ pub(crate) fn push_word(
 )
     requires good { IsGood (List array.now) }
     requires within { a + rows ≤ len_of (List array.now) }
-    requires few { offset_at (list_offsets array.now) (a + rows) - offset_at (list_offsets array.now) a ≤ 64 }
+    requires few { offset_at (list_offsets array.now) (a + rows) - offset_at
+        (list_offsets array.now) a ≤ 64 }
     requires room { rows ≤ bits.old.room }
-    ensures bits { AddsRun (first_of (is_bit word) (offset_at (list_offsets array.now) (a + rows) - offset_at (list_offsets array.now) a)) (list_places (list_offsets array.now)) a rows bits.old.bits bits.new.bits }
+    ensures bits { AddsRun
+        (first_of (is_bit word)
+        (offset_at (list_offsets array.now) (a + rows) - offset_at (list_offsets array.now) a))
+        (list_places (list_offsets array.now)) a rows bits.old.bits bits.new.bits }
     ensures room { bits.new.room ≡ bits.old.room - rows }
 {
     match array.offsets() {

@@ -33,7 +33,8 @@ pub fn compare_sized_windows<E: ByteComparison>(
     requires right_in { b + n ≤ length (sized_strings right.now.size right.now.count right.now.values) }
     ensures { MatchResult result (λ bits. bits ≡ zip2 E.rows
         (window a n (byte_slots (sized_strings left.now.size left.now.count left.now.values)))
-        (window b n (byte_slots (sized_strings right.now.size right.now.count right.now.values)))) IsMemory }
+        (window b n (byte_slots (sized_strings right.now.size right.now.count right.now.values))))
+        IsMemory }
 {
     if left.size() == UUID_SIZE && right.size() == UUID_SIZE {
         let left = OfSize::<UUID_SIZE>::new(left);

@@ -2,7 +2,8 @@
 //! their items are set. The offsets are passed as slices, beside their array.
 
 ghost use Rattle.std.specs.Option.{option_copied};
-ghost use Rattle.std.specs.Prelude.{◌≡◌, ℕ, ◌+◌, ◌-◌, ◌^◌, ◌<◌, ◌≤◌, ◌↔◌, ◌&&◌, IfSome, IsTrue, Some, true, false, length};
+ghost use Rattle.std.specs.Prelude.{◌≡◌, ℕ, ◌+◌, ◌-◌, ◌^◌, ◌<◌, ◌≤◌, ◌↔◌, ◌&&◌, IfSome, IsTrue};
+ghost use Rattle.std.specs.Prelude.{Some, true, false, length};
 ghost use Rattle.polars_arrays_bytes.specs.OffsetStrings.{place_at, places, row_count};
 ghost use Rattle.polars_arrays_flat.specs.Validity.{is_present};
 ghost use Rattle.polars_arrays_nested.specs.GoodParts.{IsGood};
@@ -12,7 +13,10 @@ ghost use Rattle.polars_arrays_nested.specs.Parts.{list_offsets, list_validity};
 ghost use Rattle.polars_arrays_nested.specs.Places.{place_or_zero};
 ghost use Rattle.polars_arrays_nested.specs.declared.any_array.AnyArray.{List};
 ghost use Rattle.polars_arrays_words.specs.Bits.{first_of, is_bit};
-ghost use Rattle.polars_compare_nested.specs.Runs.{AddsRun, AreSpans, AreWithin, HaveWidth, IsSpan, Match, TellMatches, all_lists, is_match, lists_of_width, same_counts, span_between, start_of};
+ghost use Rattle.polars_compare_nested.specs.Runs.{AddsRun, AreSpans, AreWithin, HaveWidth, IsSpan};
+ghost use Rattle.polars_compare_nested.specs.Runs.{Match, TellMatches, all_lists, is_match};
+ghost use Rattle.polars_compare_nested.specs.Runs.{lists_of_width, same_counts, span_between};
+ghost use Rattle.polars_compare_nested.specs.Runs.{start_of};
 
 use polars_arrays_bits::bit_mask::BitMask;
 use polars_arrays_bits::bitmap::Bitmap;
@@ -63,7 +67,8 @@ struct SameCounts<'m, L: Offset, R: Offset> {
 }
 
 impl<L: Offset, R: Offset> TruthValues for SameCounts<'_, L, R> {
-    ghost values = { λ l. same_counts (places L.value l.left.now) l.a (places R.value l.right.now) l.b l.rows };
+    ghost values = { λ l. same_counts (places L.value l.left.now) l.a (places R.value l.right.now) l.b
+        l.rows };
 
     #[inline(always)]
     fn len(&self) -> usize {
@@ -110,7 +115,8 @@ impl<O: Offset> TruthValues for ListsOfWidth<'_, O> {
 fn present_bits(validity: Option<&Bitmap>, at: usize, n: usize) -> u64
     requires within { IfSome (option_copied validity) (λ bits. at + n ≤ length bits) }
     requires few { n ≤ 64 }
-    ensures { (i : ℕ) → i < n → is_bit result i ≡ is_present (option_copied validity.entry) (at + i) }
+    ensures { (i : ℕ) → i < n → is_bit result i
+        ≡ is_present (option_copied validity.entry) (at + i) }
 {
     match validity {
         Some(bits) => BitMask::from_bitmap(bits).few_bits(at, n),
@@ -126,7 +132,9 @@ fn both_present(left: &ListArray, a: usize, right: &ListArray, b: usize, n: usiz
     requires left_in { a + n ≤ len_of (List left.now) }
     requires right_in { b + n ≤ len_of (List right.now) }
     requires few { n ≤ 64 }
-    ensures { (i : ℕ) → i < n → is_bit result i ≡ (is_present (list_validity left.now) (a + i) && is_present (list_validity right.now) (b + i)) }
+    ensures { (i : ℕ) → i < n → is_bit result i
+        ≡ (is_present (list_validity left.now) (a + i)
+        && is_present (list_validity right.now) (b + i)) }
 {
     present_bits(left.validity(), a, n) & present_bits(right.validity(), b, n)
 }
@@ -299,7 +307,10 @@ fn one_width<O: Offset>(offsets: &[O], a: usize, rows: usize) -> Option<usize>
     requires within { a + rows < length offsets.now }
     requires good { AreSpans (places O.value offsets.now) a rows }
     ensures alike { IfSome result (λ width. HaveWidth (places O.value offsets.now) a rows width) }
-    ensures found { 64 ≤ rows → HaveWidth (places O.value offsets.now) a rows (span_between (places O.value offsets.now) a) → result ≡ Some (span_between (places O.value offsets.now) a) }
+    ensures found { 64 ≤ rows
+        → HaveWidth (places O.value offsets.now) a rows
+        (span_between (places O.value offsets.now) a) → result
+        ≡ Some (span_between (places O.value offsets.now) a) }
 {
     if rows < WORD_BITS {
         return None;
@@ -326,9 +337,11 @@ pub(crate) fn push_lists<O: Offset>(
     requires good { IsGood (List array.now) }
     requires offsets { places O.value offsets.now ≡ list_places (list_offsets array.now) }
     requires within { a + rows ≤ len_of (List array.now) }
-    requires items { length items.now ≡ offset_at (list_offsets array.now) (a + rows) - offset_at (list_offsets array.now) a }
+    requires items { length items.now
+        ≡ offset_at (list_offsets array.now) (a + rows) - offset_at (list_offsets array.now) a }
     requires room { rows ≤ bits.old.room }
-    ensures bits { AddsRun items.now (list_places (list_offsets array.now)) a rows bits.old.bits bits.new.bits }
+    ensures bits { AddsRun items.now (list_places (list_offsets array.now)) a rows bits.old.bits
+        bits.new.bits }
     ensures room { bits.new.room ≡ bits.old.room - rows }
 {
     // For the proof: the number of lists fits in 64 bits, so the sums don't overflow.
@@ -363,7 +376,8 @@ struct WordLists<'m, O: Offset> {
 }
 
 impl<O: Offset> TruthValues for WordLists<'_, O> {
-    ghost values = { λ l. all_lists (first_of (is_bit l.word) 64) (places O.value l.offsets.now) l.first l.a l.rows };
+    ghost values = { λ l. all_lists (first_of (is_bit l.word) 64) (places O.value l.offsets.now) l.first l.a
+        l.rows };
 
     #[inline(always)]
     fn len(&self) -> usize {
@@ -397,9 +411,13 @@ pub(crate) fn push_word_lists<O: Offset>(
     requires good { IsGood (List array.now) }
     requires offsets { places O.value offsets.now ≡ list_places (list_offsets array.now) }
     requires within { a + rows ≤ len_of (List array.now) }
-    requires few { offset_at (list_offsets array.now) (a + rows) - offset_at (list_offsets array.now) a ≤ 64 }
+    requires few { offset_at (list_offsets array.now) (a + rows) - offset_at
+        (list_offsets array.now) a ≤ 64 }
     requires room { rows ≤ bits.old.room }
-    ensures bits { AddsRun (first_of (is_bit word) (offset_at (list_offsets array.now) (a + rows) - offset_at (list_offsets array.now) a)) (list_places (list_offsets array.now)) a rows bits.old.bits bits.new.bits }
+    ensures bits { AddsRun
+        (first_of (is_bit word)
+        (offset_at (list_offsets array.now) (a + rows) - offset_at (list_offsets array.now) a))
+        (list_places (list_offsets array.now)) a rows bits.old.bits bits.new.bits }
     ensures room { bits.new.room ≡ bits.old.room - rows }
 {
     // For the proof: the number of lists fits in 64 bits, so the sums don't overflow.

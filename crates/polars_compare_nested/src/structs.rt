@@ -5,7 +5,8 @@ ghost use Rattle.polars_arrays_nested.specs.GoodParts.{IsGood};
 ghost use Rattle.polars_arrays_nested.specs.Lengths.{len_of};
 ghost use Rattle.polars_arrays_nested.specs.Parts.{columns};
 ghost use Rattle.polars_arrays_nested.specs.Types.{type_of};
-ghost use Rattle.polars_arrays_nested.specs.declared.any_array.AnyArray.{AnyArray, Struct, size-AnyArray};
+ghost use Rattle.polars_arrays_nested.specs.declared.any_array.AnyArray.{AnyArray, Struct};
+ghost use Rattle.polars_arrays_nested.specs.declared.any_array.AnyArray.{size-AnyArray};
 ghost use Rattle.polars_arrays_nested.specs.declared.struct_array.StructArray.{size-StructArray};
 
 use polars_arrays_nested::any_array::AnyArray;

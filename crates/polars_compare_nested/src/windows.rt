@@ -10,8 +10,11 @@
 ghost use Rattle.std.specs.Prelude.{◌≡◌, ◌+◌, ◌-◌, ◌<◌, ◌≤◌, IsTrue, length, IfOk, MatchResult};
 ghost use Rattle.polars_arrays_bits.specs.Errors.{IsMemory};
 ghost use Rattle.polars_arrays_nested.specs.Parts.{list_values};
-ghost use Rattle.polars_arrays_nested.specs.declared.any_array.AnyArray.{AnyArray, List, FixedSizeList, Struct, Dictionary};
-ghost use Rattle.polars_compare_nested.specs.Bits.{AddsRawBits, JoinsBits, RawBits, SameBits, SamePresent};
+ghost use Rattle.polars_arrays_nested.specs.declared.any_array.AnyArray.{AnyArray, List};
+ghost use Rattle.polars_arrays_nested.specs.declared.any_array.AnyArray.{FixedSizeList, Struct};
+ghost use Rattle.polars_arrays_nested.specs.declared.any_array.AnyArray.{Dictionary};
+ghost use Rattle.polars_compare_nested.specs.Bits.{AddsRawBits, JoinsBits, RawBits, SameBits};
+ghost use Rattle.polars_compare_nested.specs.Bits.{SamePresent};
 ghost use Rattle.polars_compare_nested.specs.FewLeaves.{AreLeavesWithoutNulls};
 ghost use Rattle.polars_compare_nested.specs.Known.{AreKnown};
 ghost use Rattle.polars_compare_nested.specs.Tally.{tally};
@@ -51,7 +54,8 @@ pub fn equal_windows<K: LeafKernel>(
     steps: &mut K,
 ) -> Result<Bitmap, ComputeError>
     requires { AreWindows left.now a right.now b n }
-    ensures { Compares (SameBits K.agree) left.now a right.now b n (K.count steps.old) (K.count steps.new) result }
+    ensures { Compares (SameBits K.agree) left.now a right.now b n (K.count steps.old)
+        (K.count steps.new) result }
 {
     let raw = raw_windows(alloc, left, a, right, b, n, steps)?;
     join_windows(alloc, raw, left, a, right, b)
@@ -70,7 +74,8 @@ fn raw_windows<K: LeafKernel>(
     steps: &mut K,
 ) -> Result<Bitmap, ComputeError>
     requires { AreWindows left.now a right.now b n }
-    ensures { Compares (RawBits K.agree) left.now a right.now b n (K.count steps.old) (K.count steps.new) result }
+    ensures { Compares (RawBits K.agree) left.now a right.now b n (K.count steps.old)
+        (K.count steps.new) result }
 {
     match left {
         AnyArray::Null(_) => Bitmap::new_with_value(alloc, true, n),
@@ -99,7 +104,8 @@ pub fn list_windows<K: LeafKernel>(
     steps: &mut K,
 ) -> Result<Bitmap, ComputeError>
     requires { AreWindows (List left.now) a (List right.now) b n }
-    ensures { Compares (RawBits K.agree) (List left.now) a (List right.now) b n (K.count steps.old) (K.count steps.new) result }
+    ensures { Compares (RawBits K.agree) (List left.now) a (List right.now) b n (K.count steps.old)
+        (K.count steps.new) result }
 {
     // For the proof: both lengths fit in 64 bits, so the places don't overflow.
     let (_rows, _others) = (left.offsets().len(), right.offsets().len());
@@ -147,10 +153,15 @@ fn push_next<K: LeafKernel>(
     requires known { AreKnown left.now a right.now b n matches.old }
     ensures some { MatchResult result (λ rows. 1 ≤ rows) IsMemory }
     ensures within { IfOk result (λ rows. rows ≤ n) }
-    ensures told { IfOk result (λ rows. AddsRawBits K.agree (List left.now) a (List right.now) b rows bits.old.bits bits.new.bits) }
+    ensures told { IfOk result
+        (λ rows. AddsRawBits K.agree (List left.now) a (List right.now) b rows bits.old.bits
+        bits.new.bits) }
     ensures room { IfOk result (λ rows. bits.new.room ≡ bits.old.room - rows) }
-    ensures known { IfOk result (λ rows. AreKnown left.now (a + rows) right.now (b + rows) (n - rows) matches.new) }
-    ensures counted { IfOk result (λ rows. K.count steps.new ≡ K.count steps.old + tally (List left.now) (List right.now) a b rows) }
+    ensures known { IfOk result
+        (λ rows. AreKnown left.now (a + rows) right.now (b + rows) (n - rows) matches.new) }
+    ensures counted { IfOk result
+        (λ rows. K.count steps.new
+        ≡ K.count steps.old + tally (List left.now) (List right.now) a b rows) }
     ensures kept { K.count steps.old ≤ K.count steps.new }
 {
     match next_rows(left, a, right, b, n, matches) {
@@ -186,7 +197,8 @@ pub fn fixed_size_list_windows<K: LeafKernel>(
     steps: &mut K,
 ) -> Result<Bitmap, ComputeError>
     requires { AreWindows (FixedSizeList left.now) a (FixedSizeList right.now) b n }
-    ensures { Compares (RawBits K.agree) (FixedSizeList left.now) a (FixedSizeList right.now) b n (K.count steps.old) (K.count steps.new) result }
+    ensures { Compares (RawBits K.agree) (FixedSizeList left.now) a (FixedSizeList right.now) b n
+        (K.count steps.old) (K.count steps.new) result }
 {
     let (left_start, count) = item_window(left, a, n);
     let (right_start, _) = item_window(right, b, n);
@@ -217,7 +229,8 @@ pub fn struct_windows<K: LeafKernel>(
     steps: &mut K,
 ) -> Result<Bitmap, ComputeError>
     requires { AreWindows (Struct left.now) a (Struct right.now) b n }
-    ensures { Compares (RawBits K.agree) (Struct left.now) a (Struct right.now) b n (K.count steps.old) (K.count steps.new) result }
+    ensures { Compares (RawBits K.agree) (Struct left.now) a (Struct right.now) b n
+        (K.count steps.old) (K.count steps.new) result }
 {
     let count = left.values().len();
     if count == 0 {
@@ -249,8 +262,10 @@ fn join_column<K: LeafKernel>(
 ) -> Result<(), ComputeError>
     requires windows { AreWindows left.now a right.now b n }
     requires as_many { length bits.old ≡ n }
-    ensures told { MatchResult result (λ _. JoinsBits (SameBits K.agree left.now a right.now b n) bits.old bits.new) IsMemory }
-    ensures counted { IfOk result (λ _. K.count steps.new ≡ K.count steps.old + tally left.now right.now a b n) }
+    ensures told { MatchResult result
+        (λ _. JoinsBits (SameBits K.agree left.now a right.now b n) bits.old bits.new) IsMemory }
+    ensures counted { IfOk result
+        (λ _. K.count steps.new ≡ K.count steps.old + tally left.now right.now a b n) }
     ensures kept { K.count steps.old ≤ K.count steps.new }
 {
     if are_leaves(left, right) {
@@ -274,7 +289,8 @@ pub fn dictionary_windows<K: LeafKernel>(
     steps: &mut K,
 ) -> Result<Bitmap, ComputeError>
     requires { AreWindows (Dictionary left.now) a (Dictionary right.now) b n }
-    ensures { Compares (RawBits K.agree) (Dictionary left.now) a (Dictionary right.now) b n (K.count steps.old) (K.count steps.new) result }
+    ensures { Compares (RawBits K.agree) (Dictionary left.now) a (Dictionary right.now) b n
+        (K.count steps.old) (K.count steps.new) result }
 {
     // For the proof: both lengths fit in 64 bits, so the places don't overflow.
     let (_rows, _others) = (left.keys().len(), right.keys().len());
@@ -299,8 +315,11 @@ fn equal_entries<K: LeafKernel>(
     steps: &mut K,
 ) -> Result<bool, ComputeError>
     requires { AreWindows (Dictionary left.now) a (Dictionary right.now) b 1 }
-    ensures told { MatchResult result (λ bit. SamePresent K.agree (Dictionary left.now) a (Dictionary right.now) b bit) IsMemory }
-    ensures counted { IfOk result (λ _. K.count steps.new ≡ K.count steps.old + tally (Dictionary left.now) (Dictionary right.now) a b 1) }
+    ensures told { MatchResult result
+        (λ bit. SamePresent K.agree (Dictionary left.now) a (Dictionary right.now) b bit) IsMemory }
+    ensures counted { IfOk result
+        (λ _. K.count steps.new
+        ≡ K.count steps.old + tally (Dictionary left.now) (Dictionary right.now) a b 1) }
     ensures kept { K.count steps.old ≤ K.count steps.new }
 {
     match row_entries(left, a, right, b) {
@@ -327,8 +346,10 @@ fn raw_row<K: LeafKernel>(
     steps: &mut K,
 ) -> Result<bool, ComputeError>
     requires { AreWindows left.now a right.now b 1 }
-    ensures told { MatchResult result (λ bit. SamePresent K.agree left.now a right.now b bit) IsMemory }
-    ensures counted { IfOk result (λ _. K.count steps.new ≡ K.count steps.old + tally left.now right.now a b 1) }
+    ensures told { MatchResult result
+        (λ bit. SamePresent K.agree left.now a right.now b bit) IsMemory }
+    ensures counted { IfOk result
+        (λ _. K.count steps.new ≡ K.count steps.old + tally left.now right.now a b 1) }
     ensures kept { K.count steps.old ≤ K.count steps.new }
 {
     match left {
@@ -353,8 +374,10 @@ fn nested_row<K: LeafKernel>(
     steps: &mut K,
 ) -> Result<bool, ComputeError>
     requires { AreWindows left.now a right.now b 1 }
-    ensures told { MatchResult result (λ bit. SamePresent K.agree left.now a right.now b bit) IsMemory }
-    ensures counted { IfOk result (λ _. K.count steps.new ≡ K.count steps.old + tally left.now right.now a b 1) }
+    ensures told { MatchResult result
+        (λ bit. SamePresent K.agree left.now a right.now b bit) IsMemory }
+    ensures counted { IfOk result
+        (λ _. K.count steps.new ≡ K.count steps.old + tally left.now right.now a b 1) }
     ensures kept { K.count steps.old ≤ K.count steps.new }
 {
     match left {

@@ -3,7 +3,8 @@
 ghost use Rattle.std.specs.Prelude.{◌≡◌, None, length, replicate, MatchResult};
 ghost use Rattle.polars_arrays_bits.specs.Errors.{IsMemory};
 ghost use Rattle.polars_arrays_flat.specs.Row.{Bytes};
-ghost use Rattle.polars_compare_leaves.specs.Order.{RawOrder, row_at_least, row_at_most, row_greater, row_less};
+ghost use Rattle.polars_compare_leaves.specs.Order.{RawOrder, row_at_least, row_at_most};
+ghost use Rattle.polars_compare_leaves.specs.Order.{row_greater, row_less};
 
 use polars_arrays_bits::bitmap::Bitmap;
 use polars_arrays_bits::error::ComputeError;
@@ -18,7 +19,8 @@ pub trait BytesOrdKernel: ByteRows + Sized {
     /// Returns for each row whether it is less than the byte string.
     fn tot_lt_kernel_broadcast(&self, alloc: Global, other: &[u8]) -> Result<Bitmap, ComputeError>
         ensures { MatchResult result
-            (RawOrder row_less (Self.mask self.now) None (Self.slots self.now) (replicate (length (Self.slots self.now)) (Bytes other.now)))
+            (RawOrder row_less (Self.mask self.now) None (Self.slots self.now)
+            (replicate (length (Self.slots self.now)) (Bytes other.now)))
             IsMemory }
     {
         compare_bytes(alloc, &Less, self, other)
@@ -27,7 +29,8 @@ pub trait BytesOrdKernel: ByteRows + Sized {
     /// Returns for each row whether it is less than or equal to the byte string.
     fn tot_le_kernel_broadcast(&self, alloc: Global, other: &[u8]) -> Result<Bitmap, ComputeError>
         ensures { MatchResult result
-            (RawOrder row_at_most (Self.mask self.now) None (Self.slots self.now) (replicate (length (Self.slots self.now)) (Bytes other.now)))
+            (RawOrder row_at_most (Self.mask self.now) None (Self.slots self.now)
+            (replicate (length (Self.slots self.now)) (Bytes other.now)))
             IsMemory }
     {
         compare_bytes(alloc, &LessOrEqual, self, other)
@@ -36,7 +39,8 @@ pub trait BytesOrdKernel: ByteRows + Sized {
     /// Returns for each row whether it is greater than the byte string.
     fn tot_gt_kernel_broadcast(&self, alloc: Global, other: &[u8]) -> Result<Bitmap, ComputeError>
         ensures { MatchResult result
-            (RawOrder row_greater (Self.mask self.now) None (Self.slots self.now) (replicate (length (Self.slots self.now)) (Bytes other.now)))
+            (RawOrder row_greater (Self.mask self.now) None (Self.slots self.now)
+            (replicate (length (Self.slots self.now)) (Bytes other.now)))
             IsMemory }
     {
         compare_bytes(alloc, &Greater, self, other)
@@ -45,7 +49,8 @@ pub trait BytesOrdKernel: ByteRows + Sized {
     /// Returns for each row whether it is greater than or equal to the byte string.
     fn tot_ge_kernel_broadcast(&self, alloc: Global, other: &[u8]) -> Result<Bitmap, ComputeError>
         ensures { MatchResult result
-            (RawOrder row_at_least (Self.mask self.now) None (Self.slots self.now) (replicate (length (Self.slots self.now)) (Bytes other.now)))
+            (RawOrder row_at_least (Self.mask self.now) None (Self.slots self.now)
+            (replicate (length (Self.slots self.now)) (Bytes other.now)))
             IsMemory }
     {
         compare_bytes(alloc, &GreaterOrEqual, self, other)
@@ -59,7 +64,8 @@ pub trait TextOrdKernel: ByteRows + Sized {
     /// Returns for each row whether it is less than the text.
     fn tot_lt_kernel_broadcast(&self, alloc: Global, other: &str) -> Result<Bitmap, ComputeError>
         ensures { MatchResult result
-            (RawOrder row_less (Self.mask self.now) None (Self.slots self.now) (replicate (length (Self.slots self.now)) (Bytes other.now)))
+            (RawOrder row_less (Self.mask self.now) None (Self.slots self.now)
+            (replicate (length (Self.slots self.now)) (Bytes other.now)))
             IsMemory }
     {
         compare_bytes(alloc, &Less, self, other.as_bytes())
@@ -68,7 +74,8 @@ pub trait TextOrdKernel: ByteRows + Sized {
     /// Returns for each row whether it is less than or equal to the text.
     fn tot_le_kernel_broadcast(&self, alloc: Global, other: &str) -> Result<Bitmap, ComputeError>
         ensures { MatchResult result
-            (RawOrder row_at_most (Self.mask self.now) None (Self.slots self.now) (replicate (length (Self.slots self.now)) (Bytes other.now)))
+            (RawOrder row_at_most (Self.mask self.now) None (Self.slots self.now)
+            (replicate (length (Self.slots self.now)) (Bytes other.now)))
             IsMemory }
     {
         compare_bytes(alloc, &LessOrEqual, self, other.as_bytes())
@@ -77,7 +84,8 @@ pub trait TextOrdKernel: ByteRows + Sized {
     /// Returns for each row whether it is greater than the text.
     fn tot_gt_kernel_broadcast(&self, alloc: Global, other: &str) -> Result<Bitmap, ComputeError>
         ensures { MatchResult result
-            (RawOrder row_greater (Self.mask self.now) None (Self.slots self.now) (replicate (length (Self.slots self.now)) (Bytes other.now)))
+            (RawOrder row_greater (Self.mask self.now) None (Self.slots self.now)
+            (replicate (length (Self.slots self.now)) (Bytes other.now)))
             IsMemory }
     {
         compare_bytes(alloc, &Greater, self, other.as_bytes())
@@ -86,7 +94,8 @@ pub trait TextOrdKernel: ByteRows + Sized {
     /// Returns for each row whether it is greater than or equal to the text.
     fn tot_ge_kernel_broadcast(&self, alloc: Global, other: &str) -> Result<Bitmap, ComputeError>
         ensures { MatchResult result
-            (RawOrder row_at_least (Self.mask self.now) None (Self.slots self.now) (replicate (length (Self.slots self.now)) (Bytes other.now)))
+            (RawOrder row_at_least (Self.mask self.now) None (Self.slots self.now)
+            (replicate (length (Self.slots self.now)) (Bytes other.now)))
             IsMemory }
     {
         compare_bytes(alloc, &GreaterOrEqual, self, other.as_bytes())

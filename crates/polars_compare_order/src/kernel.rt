@@ -3,7 +3,8 @@
 ghost use Rattle.std.specs.Prelude.{◌≡◌, None, length, replicate, MatchResult};
 ghost use Rattle.polars_arrays_bits.specs.Errors.{IsMemory};
 ghost use Rattle.polars_arrays_flat.specs.Row.{Row};
-ghost use Rattle.polars_compare_leaves.specs.Order.{RawOrder, row_at_least, row_at_most, row_greater, row_less};
+ghost use Rattle.polars_compare_leaves.specs.Order.{RawOrder, row_at_least, row_at_most};
+ghost use Rattle.polars_compare_leaves.specs.Order.{row_greater, row_less};
 
 use polars_arrays_bits::bitmap::Bitmap;
 use polars_arrays_bits::error::ComputeError;
@@ -25,21 +26,24 @@ pub trait TotalOrdKernel: Sized + Array {
     fn tot_lt_kernel(&self, alloc: Global, other: &Self) -> Result<Bitmap, ComputeError>
         requires { length (Self.slots other.now) ≡ length (Self.slots self.now) }
         ensures { MatchResult result
-            (RawOrder row_less (Self.mask self.now) (Self.mask other.now) (Self.slots self.now) (Self.slots other.now))
+            (RawOrder row_less (Self.mask self.now) (Self.mask other.now) (Self.slots self.now)
+            (Self.slots other.now))
             IsMemory };
 
     /// Returns for each place whether the row is less than or equal to the other one.
     fn tot_le_kernel(&self, alloc: Global, other: &Self) -> Result<Bitmap, ComputeError>
         requires { length (Self.slots other.now) ≡ length (Self.slots self.now) }
         ensures { MatchResult result
-            (RawOrder row_at_most (Self.mask self.now) (Self.mask other.now) (Self.slots self.now) (Self.slots other.now))
+            (RawOrder row_at_most (Self.mask self.now) (Self.mask other.now) (Self.slots self.now)
+            (Self.slots other.now))
             IsMemory };
 
     /// Returns for each place whether the row is greater than the other one.
     final fn tot_gt_kernel(&self, alloc: Global, other: &Self) -> Result<Bitmap, ComputeError>
         requires { length (Self.slots other.now) ≡ length (Self.slots self.now) }
         ensures { MatchResult result
-            (RawOrder row_greater (Self.mask self.now) (Self.mask other.now) (Self.slots self.now) (Self.slots other.now))
+            (RawOrder row_greater (Self.mask self.now) (Self.mask other.now) (Self.slots self.now)
+            (Self.slots other.now))
             IsMemory }
     {
         other.tot_lt_kernel(alloc, self)
@@ -49,7 +53,8 @@ pub trait TotalOrdKernel: Sized + Array {
     final fn tot_ge_kernel(&self, alloc: Global, other: &Self) -> Result<Bitmap, ComputeError>
         requires { length (Self.slots other.now) ≡ length (Self.slots self.now) }
         ensures { MatchResult result
-            (RawOrder row_at_least (Self.mask self.now) (Self.mask other.now) (Self.slots self.now) (Self.slots other.now))
+            (RawOrder row_at_least (Self.mask self.now) (Self.mask other.now) (Self.slots self.now)
+            (Self.slots other.now))
             IsMemory }
     {
         other.tot_le_kernel(alloc, self)
@@ -62,7 +67,8 @@ pub trait TotalOrdKernel: Sized + Array {
         other: &Self::Scalar,
     ) -> Result<Bitmap, ComputeError>
         ensures { MatchResult result
-            (RawOrder row_less (Self.mask self.now) None (Self.slots self.now) (replicate (length (Self.slots self.now)) (scalar_row other.now)))
+            (RawOrder row_less (Self.mask self.now) None (Self.slots self.now)
+            (replicate (length (Self.slots self.now)) (scalar_row other.now)))
             IsMemory };
 
     /// Returns for each row whether it is less than or equal to the scalar.
@@ -72,7 +78,8 @@ pub trait TotalOrdKernel: Sized + Array {
         other: &Self::Scalar,
     ) -> Result<Bitmap, ComputeError>
         ensures { MatchResult result
-            (RawOrder row_at_most (Self.mask self.now) None (Self.slots self.now) (replicate (length (Self.slots self.now)) (scalar_row other.now)))
+            (RawOrder row_at_most (Self.mask self.now) None (Self.slots self.now)
+            (replicate (length (Self.slots self.now)) (scalar_row other.now)))
             IsMemory };
 
     /// Returns for each row whether it is greater than the scalar.
@@ -82,7 +89,8 @@ pub trait TotalOrdKernel: Sized + Array {
         other: &Self::Scalar,
     ) -> Result<Bitmap, ComputeError>
         ensures { MatchResult result
-            (RawOrder row_greater (Self.mask self.now) None (Self.slots self.now) (replicate (length (Self.slots self.now)) (scalar_row other.now)))
+            (RawOrder row_greater (Self.mask self.now) None (Self.slots self.now)
+            (replicate (length (Self.slots self.now)) (scalar_row other.now)))
             IsMemory };
 
     /// Returns for each row whether it is greater than or equal to the scalar.
@@ -92,6 +100,7 @@ pub trait TotalOrdKernel: Sized + Array {
         other: &Self::Scalar,
     ) -> Result<Bitmap, ComputeError>
         ensures { MatchResult result
-            (RawOrder row_at_least (Self.mask self.now) None (Self.slots self.now) (replicate (length (Self.slots self.now)) (scalar_row other.now)))
+            (RawOrder row_at_least (Self.mask self.now) None (Self.slots self.now)
+            (replicate (length (Self.slots self.now)) (scalar_row other.now)))
             IsMemory };
 }

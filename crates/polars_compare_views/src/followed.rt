@@ -32,8 +32,13 @@ pub trait FollowedKernel: ByteRows + Sized {
         steps: &mut Steps,
     ) -> Result<Bitmap, ComputeError>
         requires { length (Self.strings other.now) ≡ length (Self.strings self.now) }
-        ensures told { MatchResult result (ComparesPairs same_row (Self.strings self.now) (Self.strings other.now) 0 0 (length (Self.strings self.now))) IsMemory }
-        ensures counted { IfOk result (λ _. steps.new ≡ steps.old + followed followed_eq (Self.strings self.now) (Self.strings other.now) 0 0 (length (Self.strings self.now))) }
+        ensures told { MatchResult result
+            (ComparesPairs same_row (Self.strings self.now) (Self.strings other.now) 0 0
+            (length (Self.strings self.now))) IsMemory }
+        ensures counted { IfOk result
+            (λ _. steps.new
+            ≡ steps.old + followed followed_eq (Self.strings self.now) (Self.strings other.now) 0 0
+            (length (Self.strings self.now))) }
         ensures kept { steps.old ≤ steps.new };
 
     /// Returns for each place whether the stored row is less than the other one.
@@ -44,8 +49,13 @@ pub trait FollowedKernel: ByteRows + Sized {
         steps: &mut Steps,
     ) -> Result<Bitmap, ComputeError>
         requires { length (Self.strings other.now) ≡ length (Self.strings self.now) }
-        ensures told { MatchResult result (ComparesPairs row_less (Self.strings self.now) (Self.strings other.now) 0 0 (length (Self.strings self.now))) IsMemory }
-        ensures counted { IfOk result (λ _. steps.new ≡ steps.old + followed followed_lt (Self.strings self.now) (Self.strings other.now) 0 0 (length (Self.strings self.now))) }
+        ensures told { MatchResult result
+            (ComparesPairs row_less (Self.strings self.now) (Self.strings other.now) 0 0
+            (length (Self.strings self.now))) IsMemory }
+        ensures counted { IfOk result
+            (λ _. steps.new
+            ≡ steps.old + followed followed_lt (Self.strings self.now) (Self.strings other.now) 0 0
+            (length (Self.strings self.now))) }
         ensures kept { steps.old ≤ steps.new };
 }
 

@@ -1,10 +1,13 @@
 //! Comparisons of two rows of arrays of views.
 
-ghost use Rattle.std.specs.Prelude.{◌≡◌, ◌<◌, ◌+◌, ℕ, Bool, List, [], IsTrue, false, if◌then◌else◌, length, slice_index_or};
+ghost use Rattle.std.specs.Prelude.{◌≡◌, ◌<◌, ◌+◌, ℕ, Bool, List, [], IsTrue, false, if◌then◌else◌};
+ghost use Rattle.std.specs.Prelude.{length, slice_index_or};
 ghost use Rattle.polars_arrays_flat.specs.Row.{Row, Bytes};
 ghost use Rattle.polars_arrays_views.specs.Parts.{view_strings};
-ghost use Rattle.polars_arrays_views.specs.Views.{GoodView, is_short, row_bytes, followed_eq, followed_lt};
-ghost use Rattle.polars_compare_leaves.specs.Order.{row_at_least, row_at_most, row_greater, row_less};
+ghost use Rattle.polars_arrays_views.specs.Views.{GoodView, is_short, row_bytes, followed_eq};
+ghost use Rattle.polars_arrays_views.specs.Views.{followed_lt};
+ghost use Rattle.polars_compare_leaves.specs.Order.{row_at_least, row_at_most, row_greater};
+ghost use Rattle.polars_compare_leaves.specs.Order.{row_less};
 ghost use Rattle.polars_compare_leaves.specs.Sameness.{other_row, same_row};
 
 use polars_arrays_numbers::comparison::{
@@ -42,20 +45,28 @@ pub trait ViewComparison {
     ) -> bool
         requires left { i < length left.now.views }
         requires right { j < length right.now.views }
-        ensures told { result ≡ rows (Bytes (slice_index_or (view_strings left.now) i [])) (Bytes (slice_index_or (view_strings right.now) j [])) }
-        ensures counted { steps.new ≡ steps.old + (if follows (slice_index_or (view_strings left.now) i []) (slice_index_or (view_strings right.now) j []) then 1 else 0) };
+        ensures told { result
+            ≡ rows (Bytes (slice_index_or (view_strings left.now) i []))
+            (Bytes (slice_index_or (view_strings right.now) j [])) }
+        ensures counted { steps.new
+            ≡ steps.old + (if follows (slice_index_or (view_strings left.now) i [])
+            (slice_index_or (view_strings right.now) j []) then 1 else 0) };
 
     /// Guesses the comparison of the rows of two views. If `is_sure`, the guess is right; otherwise
     /// it may be wrong.
     fn guess(&self, v: &View, w: &View) -> bool
-        ensures { (buffers others : List (List ℕ)) → GoodView buffers v.now → GoodView others w.now → IsTrue (sure v.now w.now) → result ≡ rows (Bytes (row_bytes buffers v.now)) (Bytes (row_bytes others w.now)) };
+        ensures { (buffers others : List (List ℕ)) → GoodView buffers v.now → GoodView others w.now
+            → IsTrue (sure v.now w.now) → result
+            ≡ rows (Bytes (row_bytes buffers v.now)) (Bytes (row_bytes others w.now)) };
 
     /// Returns whether the guess for two views is sure to be right. Their comparison then reads no
     /// buffer.
     #[inline(always)]
     fn is_sure(&self, _v: &View, _w: &View) -> bool
         ensures sure { IsTrue result → IsTrue (sure _v.now _w.now) }
-        ensures free { (buffers others : List (List ℕ)) → GoodView buffers _v.now → GoodView others _w.now → IsTrue result → follows (row_bytes buffers _v.now) (row_bytes others _w.now) ≡ false }
+        ensures free { (buffers others : List (List ℕ)) → GoodView buffers _v.now
+            → GoodView others _w.now → IsTrue result
+            → follows (row_bytes buffers _v.now) (row_bytes others _w.now) ≡ false }
     {
         false
     }
@@ -63,7 +74,8 @@ pub trait ViewComparison {
     /// Compares row `i`, masked or not, with a byte string.
     fn compare_bytes(&self, left: &BinaryViewArray, i: usize, right: &ScalarRow) -> bool
         requires { i < length left.now.views }
-        ensures { result ≡ rows (Bytes (slice_index_or (view_strings left.now) i [])) (Bytes right.now) };
+        ensures { result
+            ≡ rows (Bytes (slice_index_or (view_strings left.now) i [])) (Bytes right.now) };
 }
 
 impl ViewComparison for Equal {

@@ -1,6 +1,7 @@
 //! Comparisons of stored rows of arrays of views, place by place, whatever the validity.
 
-ghost use Rattle.std.specs.Prelude.{◌≡◌, ◌+◌, ◌^◌, ◌<◌, ◌≤◌, length, map, slice_index_or, [], IfOk, MatchResult};
+ghost use Rattle.std.specs.Prelude.{◌≡◌, ◌+◌, ◌^◌, ◌<◌, ◌≤◌, length, map, slice_index_or, [], IfOk};
+ghost use Rattle.std.specs.Prelude.{MatchResult};
 ghost use Rattle.std.specs.List.{All};
 ghost use Rattle.polars_arrays_bits.specs.Bits.{first_of};
 ghost use Rattle.polars_arrays_bits.specs.Errors.{IsMemory};
@@ -54,19 +55,23 @@ impl<'a, E: ViewComparison> ViewPairs<'a, E> {
         ensures right { result.1.now ≡ slice_index_or self.now.right_views.now (self.now.b + i) [] }
         ensures left_good { GoodView self.now.left.now.buffers result.0.now }
         ensures right_good { GoodView self.now.right.now.buffers result.1.now }
-        ensures left_row { row_bytes self.now.left.now.buffers result.0.now ≡ slice_index_or (view_strings self.now.left.now) (self.now.a + i) [] }
-        ensures right_row { row_bytes self.now.right.now.buffers result.1.now ≡ slice_index_or (view_strings self.now.right.now) (self.now.b + i) [] }
+        ensures left_row { row_bytes self.now.left.now.buffers result.0.now
+            ≡ slice_index_or (view_strings self.now.left.now) (self.now.a + i) [] }
+        ensures right_row { row_bytes self.now.right.now.buffers result.1.now
+            ≡ slice_index_or (view_strings self.now.right.now) (self.now.b + i) [] }
     {
         (&self.left_views[self.a + i], &self.right_views[self.b + i])
     }
 }
 
 impl<'a, E: ViewComparison> CountedValues for ViewPairs<'a, E> {
-    ghost values = { λ p. first_of (compared_pair E.rows (view_strings p.left.now) (view_strings p.right.now) p.a p.b) p.n };
+    ghost values = { λ p. first_of
+        (compared_pair E.rows (view_strings p.left.now) (view_strings p.right.now) p.a p.b) p.n };
 
     ghost costs = { λ p. pair_cost E.follows (view_strings p.left.now) (view_strings p.right.now) p.a p.b };
 
-    ghost sure = { λ p i. E.sure (slice_index_or p.left_views.now (p.a + i) []) (slice_index_or p.right_views.now (p.b + i) []) };
+    ghost sure = { λ p i. E.sure (slice_index_or p.left_views.now (p.a + i) [])
+        (slice_index_or p.right_views.now (p.b + i) []) };
 
     #[inline(always)]
     fn len(&self) -> usize {
@@ -108,8 +113,11 @@ pub fn compare_view_windows<E: ViewComparison>(
 ) -> Result<Bitmap, ComputeError>
     requires left_in { a + n ≤ length left.now.views }
     requires right_in { b + n ≤ length right.now.views }
-    ensures told { MatchResult result (ComparesPairs E.rows (view_strings left.now) (view_strings right.now) a b n) IsMemory }
-    ensures counted { IfOk result (λ _. steps.new ≡ steps.old + followed E.follows (view_strings left.now) (view_strings right.now) a b n) }
+    ensures told { MatchResult result
+        (ComparesPairs E.rows (view_strings left.now) (view_strings right.now) a b n) IsMemory }
+    ensures counted { IfOk result
+        (λ _. steps.new
+        ≡ steps.old + followed E.follows (view_strings left.now) (view_strings right.now) a b n) }
     ensures kept { steps.old ≤ steps.new }
 {
     // Have no effect at run time. The proof learns from them that places fit in 64 bits.

@@ -1,6 +1,7 @@
 -- Quotients and moduli, by products and order alone, for a divisor b other than 0: so q lies
 -- between 0 and a / b exactly if q times b lies between 0 and a.
-use Rattle.std.specs.Prelude.{◌≡◌, ◌≢◌, ◌<◌, ◌≤◌, ◌≤ℤ◌, ◌↔◌, ◌+ℤ◌, ◌-ℤ◌, ◌*ℤ◌, ℕ, ℤ, pos, negsuc, unsigned_abs}
+use Rattle.std.specs.Prelude.{◌≡◌, ◌≢◌, ◌<◌, ◌≤◌, ◌≤ℤ◌, ◌↔◌, ◌+ℤ◌, ◌-ℤ◌, ◌*ℤ◌, ℕ, ℤ, pos, negsuc}
+use Rattle.std.specs.Prelude.{unsigned_abs}
 use Rattle.polars_compute_arithmetic.specs.Quotients.{floor_quotient, modulus, truncated_quotient}
 
 -- q is not above a / b

@@ -25,8 +25,10 @@ ByRows Answers read = (a a' : Stored) (answer answer' : _) → rows_of a ≡ row
 
 -- two arrays of any kind with the same type and rows have equal results
 abbrev pub AnyByRows : {A B : Type 0} → (Kind → List Row → A → Type 0) → (A → B) → Type 0
-AnyByRows Answers read = (a a' : AnyArray) (answer answer' : _) → type_of a ≡ type_of a' → rows a ≡ rows a'
-    → Answers (type_of a) (rows a) answer → Answers (type_of a') (rows a') answer' → read answer ≡ read answer'
+AnyByRows Answers read = (a a' : AnyArray) (answer answer' : _) → type_of a ≡ type_of a' → rows a
+    ≡ rows a'
+    → Answers (type_of a) (rows a) answer → Answers (type_of a') (rows a') answer' → read answer
+    ≡ read answer'
 
 -- ---- results
 
@@ -39,18 +41,22 @@ abbrev pub IsReduction : (List Bool → Bool) → ℕ → List Row → Option (L
 IsReduction test width rows bits = bits ≡ reduced test width rows
 
 -- `found` is the best present row, or none; `put` gives the row of a result
-abbrev pub IsExtremeOf : {A : Type 0} → (Row → Row → Bool) → (A → Row) → List Row → Option A → Type 0
-IsExtremeOf better put rows found = MatchOption found (NonePresent rows) (λ x. FindsBest better rows (put x))
+abbrev pub IsExtremeOf : {A : Type 0} → (Row → Row → Bool) → (A → Row) → List Row → Option A
+    → Type 0
+IsExtremeOf better put rows found = MatchOption found (NonePresent rows)
+    (λ x. FindsBest better rows (put x))
 
 -- the least and the greatest present row
 abbrev pub AreBothOf : {A : Type 0} → (A → Row) → List Row → Option (A × A) → Type 0
 AreBothOf put rows found =
-    MatchOption found (NonePresent rows) (λ pair. IsLeast rows (put pair.0) × IsGreatest rows (put pair.1))
+    MatchOption found (NonePresent rows)
+    (λ pair. IsLeast rows (put pair.0) × IsGreatest rows (put pair.1))
 
 -- a scalar of this kind is the best present row, or there is none
 abbrev pub IsScalarOf : (Row → Row → Bool) → Kind → List Row → Option AnyScalar → Type 0
 IsScalarOf better kind rows found =
-    MatchOption found (NonePresent rows) (λ scalar. (scalar_kind scalar ≡ kind) × FindsBest better rows (scalar_row scalar))
+    MatchOption found (NonePresent rows)
+    (λ scalar. (scalar_kind scalar ≡ kind) × FindsBest better rows (scalar_row scalar))
 
 -- ---- what a caller sees of a result
 
@@ -63,7 +69,8 @@ abbrev pub scalar_told : AnyScalar → Kind × Row
 scalar_told scalar = (scalar_kind scalar, scalar_row scalar)
 
 -- an error, or the result
-abbrev pub told : {A B : Type 0} → (A → B) → Result (Option A) ComputeError → Result (Option B) ComputeError
+abbrev pub told : {A B : Type 0} → (A → B) → Result (Option A) ComputeError
+    → Result (Option B) ComputeError
 told read result = result_map_both (option_map read) (λ error. error) result
 
 -- ---- the laws
@@ -74,7 +81,8 @@ SumsByRows least width = ByRows (IsSum least width) (λ sum. sum)
 
 -- counts of each row's bits are equal
 abbrev pub CountsByRows : ℕ → Type 0
-CountsByRows width = (count : List Bool → ℕ) → ByRows (AreCounts count width) (number_rows (λ (n : ℕ). pos n))
+CountsByRows width = (count : List Bool → ℕ)
+    → ByRows (AreCounts count width) (number_rows (λ (n : ℕ). pos n))
 
 -- reductions are equal
 abbrev pub ReductionsByRows : ℕ → Type 0
@@ -90,8 +98,11 @@ BothByRows put = ByRows (AreBothOf put) (option_map (both put))
 
 -- extremes of arrays of any kind are the same row, or both are unsupported
 abbrev pub AnyExtremesByRows : Type 0
-AnyExtremesByRows = (better : Row → Row → Bool) → AnyByRows (λ kind rows result. AnswersKind kind result (IsScalarOf better kind rows)) (told scalar_told)
+AnyExtremesByRows = (better : Row → Row → Bool)
+    → AnyByRows
+    (λ kind rows result. AnswersKind kind result (IsScalarOf better kind rows)) (told scalar_told)
 
 -- pairs of extremes of arrays of any kind are the same rows, or both are unsupported
 abbrev pub AnyBothByRows : Type 0
-AnyBothByRows = AnyByRows (λ kind rows result. AnswersKind kind result (AreExtremes kind rows)) (told (both scalar_told))
+AnyBothByRows = AnyByRows
+    (λ kind rows result. AnswersKind kind result (AreExtremes kind rows)) (told (both scalar_told))

@@ -7,4 +7,5 @@ use Rattle.polars_compute_bits.specs.Sum.{total}
 -- the sum of two lists of rows is the sum of their sums
 abbrev pub SumsJoin : ℤ → ℕ → Type 0
 SumsJoin least width = (rows more : List Row)
-    → wrapped least width (total (rows ++ more)) ≡ wrapped least width (wrapped least width (total rows) +ℤ wrapped least width (total more))
+    → wrapped least width (total (rows ++ more))
+    ≡ wrapped least width (wrapped least width (total rows) +ℤ wrapped least width (total more))

@@ -4,10 +4,17 @@
 
 ghost use Rattle.num_traits.specs.Laws.{bit_len};
 ghost use Rattle.polars_arrays_flat.specs.Row.{Bytes, Int, Truth};
-ghost use Rattle.polars_compute.specs.ArithmeticLaws.{AnswersByRows, DividesBack, NumberOnLeft, NumberOnRight, ResultsByRows};
-ghost use Rattle.polars_compute.specs.QuotientLaws.{FloorIsGreatest, FloorLeavesModulus, ModulusIsRest, TruncatedIsNearest};
-ghost use Rattle.polars_compute.specs.ReductionLaws.{AnyBothByRows, AnyExtremesByRows, BothByRows, CountsByRows, ExtremesByRows, ReductionsByRows, SumsByRows};
-ghost use Rattle.polars_compute.specs.StateLaws.{MergesAsAppended, MergesEitherWay, MergesInGroups, MergesWithItself, ReadStaysWhenAppended, ReadStaysWhenMerged, ReadsByRows, StatesByRows, StaysWhenAppended, StaysWhenMerged};
+ghost use Rattle.polars_compute.specs.ArithmeticLaws.{AnswersByRows, DividesBack, NumberOnLeft};
+ghost use Rattle.polars_compute.specs.ArithmeticLaws.{NumberOnRight, ResultsByRows};
+ghost use Rattle.polars_compute.specs.QuotientLaws.{FloorIsGreatest, FloorLeavesModulus};
+ghost use Rattle.polars_compute.specs.QuotientLaws.{ModulusIsRest, TruncatedIsNearest};
+ghost use Rattle.polars_compute.specs.ReductionLaws.{AnyBothByRows, AnyExtremesByRows, BothByRows};
+ghost use Rattle.polars_compute.specs.ReductionLaws.{CountsByRows, ExtremesByRows};
+ghost use Rattle.polars_compute.specs.ReductionLaws.{ReductionsByRows, SumsByRows};
+ghost use Rattle.polars_compute.specs.StateLaws.{MergesAsAppended, MergesEitherWay, MergesInGroups};
+ghost use Rattle.polars_compute.specs.StateLaws.{MergesWithItself, ReadStaysWhenAppended};
+ghost use Rattle.polars_compute.specs.StateLaws.{ReadStaysWhenMerged, ReadsByRows, StatesByRows};
+ghost use Rattle.polars_compute.specs.StateLaws.{StaysWhenAppended, StaysWhenMerged};
 ghost use Rattle.polars_compute.specs.SumLaw.{SumsJoin};
 
 use polars_compute_arithmetic::arithmetic::pl_num::PlNumArithmetic;
@@ -26,7 +33,8 @@ pub fn law_3<T: PlNumArithmetic>()
     ensures sums { SumsByRows T.low (bit_len T.width) }
     ensures reductions { ReductionsByRows (bit_len T.width) }
     ensures truth_reductions { ReductionsByRows 1 }
-    ensures number_extremes { ExtremesByRows (λ number. Int (T.value number)) × BothByRows (λ number. Int (T.value number)) }
+    ensures number_extremes { ExtremesByRows (λ number. Int (T.value number))
+        × BothByRows (λ number. Int (T.value number)) }
     ensures truth_extremes { ExtremesByRows Truth × BothByRows Truth }
     ensures string_extremes { ExtremesByRows Bytes × BothByRows Bytes }
     ensures any_extremes { AnyExtremesByRows × AnyBothByRows }

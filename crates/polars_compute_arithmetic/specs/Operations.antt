@@ -1,5 +1,6 @@
 -- Operations on whole numbers and on rows of numbers, and their results in types that wrap.
-use Rattle.std.specs.Prelude.{◌+ℤ◌, ◌-ℤ◌, ◌*ℤ◌, ℕ, zero, suc, ℤ, pos, negsuc, neg_ℤ, unsigned_abs, List, map, Option, Some, None}
+use Rattle.std.specs.Prelude.{◌+ℤ◌, ◌-ℤ◌, ◌*ℤ◌, ℕ, zero, suc, ℤ, pos, negsuc, neg_ℤ, unsigned_abs}
+use Rattle.std.specs.Prelude.{List, map, Option, Some, None}
 use Rattle.std.specs.Simd.Lanes.{zip2}
 use Rattle.polars_arrays_flat.specs.Row.{Row, Null, Int}
 use Rattle.polars_arrays_numbers.specs.Wrapping.{wrapped}
@@ -60,7 +61,8 @@ on_row f row = Null
 
 -- the result for two rows, wrapped: Null if one of them is Null or there is no result
 abbrev pub result_row : ℤ → ℕ → Operation → Row → Row → Row
-result_row least width operation x y = on_row (λ a. on_row (λ b. answer_row least width (operation a b)) y) x
+result_row least width operation x y = on_row
+    (λ a. on_row (λ b. answer_row least width (operation a b)) y) x
 
 -- the rows of the results for two columns, row by row
 abbrev pub result_rows : ℤ → ℕ → Operation → List Row → List Row → List Row

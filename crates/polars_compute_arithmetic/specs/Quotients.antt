@@ -1,5 +1,6 @@
 -- Quotients of whole numbers by a divisor other than 0.
-use Rattle.std.specs.Prelude.{◌-ℤ◌, ◌*ℤ◌, ◌/◌, ℕ, zero, suc, ℤ, pos, negsuc, neg_ℤ, int_div, Bool, true, false}
+use Rattle.std.specs.Prelude.{◌-ℤ◌, ◌*ℤ◌, ◌/◌, ℕ, zero, suc, ℤ, pos, negsuc, neg_ℤ, int_div, Bool}
+use Rattle.std.specs.Prelude.{true, false}
 
 -- a / n rounded down, for n above 0
 abbrev pub floor_by : ℤ → ℕ → ℤ

@@ -1,5 +1,6 @@
 -- Masks of zeros.
-use Rattle.std.specs.Prelude.{◌≡◌, ◌<◌, ◌&&◌, ℕ, zero, suc, ℤ, pos, negsuc, Bool, true, false, length, slice_index_or}
+use Rattle.std.specs.Prelude.{◌≡◌, ◌<◌, ◌&&◌, ℕ, zero, suc, ℤ, pos, negsuc, Bool, true, false}
+use Rattle.std.specs.Prelude.{length, slice_index_or}
 use Rattle.polars_arrays_flat.specs.Numbers.{Numbers}
 use Rattle.polars_arrays_flat.specs.Validity.{HasBits, is_present}
 use Rattle.polars_compute_arithmetic.specs.Maps.{MapsEach, MapsPairs}
@@ -19,13 +20,15 @@ pub record MasksZeros {A : Type 0} (value : A → ℤ) (before after : Numbers A
   pub bits_after : HasBits (length after.values) after.validity
 
 -- each stored value is a result for the value before, and rows that were 0 are masked as well
-pub record DividesEach {A : Type 0} (value : A → ℤ) (Answers : A → A → Type 0) (before after : Numbers A) : Type 0 where
+pub record DividesEach {A : Type 0} (value : A → ℤ) (Answers : A → A → Type 0)
+    (before after : Numbers A) : Type 0 where
   pub between : Numbers A
   pub masks : MasksZeros value before between
   pub maps : MapsEach Answers between after
 
 -- each value is a result for two; a row is present if both are and the right one is not 0
-pub record DividesPairs {A : Type 0} (value : A → ℤ) (Answers : A → A → A → Type 0) (left right after : Numbers A) : Type 0 where
+pub record DividesPairs {A : Type 0} (value : A → ℤ) (Answers : A → A → A → Type 0)
+    (left right after : Numbers A) : Type 0 where
   pub between : Numbers A
   pub masks : MasksZeros value right between
   pub maps : MapsPairs Answers left between after

@@ -4,7 +4,10 @@ ghost use Rattle.std.specs.Prelude.{◌≡◌, ◌||◌, ℕ, ℤ, Bool, IfOk, I
 ghost use Rattle.num_traits.specs.Laws.{bit_len};
 ghost use Rattle.polars_arrays_bits.specs.Errors.{IsMemory};
 ghost use Rattle.polars_arrays_flat.specs.StoredRows.{rows_under};
-ghost use Rattle.polars_compute_arithmetic.specs.Operations.{answer_rows, difference_of, floor_division, magnitude_of, modulo, negation_of, product_of, result_rows, sum_of, truncated_division};
+ghost use Rattle.polars_compute_arithmetic.specs.Operations.{answer_rows, difference_of};
+ghost use Rattle.polars_compute_arithmetic.specs.Operations.{floor_division, magnitude_of, modulo};
+ghost use Rattle.polars_compute_arithmetic.specs.Operations.{negation_of, product_of, result_rows};
+ghost use Rattle.polars_compute_arithmetic.specs.Operations.{sum_of, truncated_division};
 ghost use Rattle.polars_compute_arithmetic.specs.Zeros.{is_nonzero};
 
 mod applied;
@@ -49,61 +52,93 @@ pub trait ArithmeticKernel: Sized + Array {
 
     /// Returns the absolute values.
     fn wrapping_abs(self, alloc: Global) -> Result<Self, ComputeError>
-        ensures answers { MatchResult result (λ a. rows_under (Self.mask a) (Self.slots a) ≡ answer_rows least width magnitude_of (rows_under (Self.mask self) (Self.slots self))) IsMemory }
+        ensures answers { MatchResult result
+            (λ a. rows_under (Self.mask a) (Self.slots a)
+            ≡ answer_rows least width magnitude_of (rows_under (Self.mask self) (Self.slots self)))
+            IsMemory }
         ensures owned { IfOk result (λ a. IsTrue (owns a)) }
         ensures in_place { IsTrue (owns self) → IsOk result };
 
     /// Returns the negated numbers.
     fn wrapping_neg(self, alloc: Global) -> Result<Self, ComputeError>
-        ensures answers { MatchResult result (λ a. rows_under (Self.mask a) (Self.slots a) ≡ answer_rows least width negation_of (rows_under (Self.mask self) (Self.slots self))) IsMemory }
+        ensures answers { MatchResult result
+            (λ a. rows_under (Self.mask a) (Self.slots a)
+            ≡ answer_rows least width negation_of (rows_under (Self.mask self) (Self.slots self)))
+            IsMemory }
         ensures owned { IfOk result (λ a. IsTrue (owns a)) }
         ensures in_place { IsTrue (owns self) → IsOk result };
 
     /// Returns the sums.
     fn wrapping_add(self, alloc: Global, rhs: Self) -> Result<Self, ComputeError>
         requires { length (Self.slots self) ≡ length (Self.slots rhs) }
-        ensures answers { MatchResult result (λ a. rows_under (Self.mask a) (Self.slots a) ≡ result_rows least width sum_of (rows_under (Self.mask self) (Self.slots self)) (rows_under (Self.mask rhs) (Self.slots rhs))) IsMemory }
+        ensures answers { MatchResult result
+            (λ a. rows_under (Self.mask a) (Self.slots a)
+            ≡ result_rows least width sum_of (rows_under (Self.mask self) (Self.slots self))
+            (rows_under (Self.mask rhs) (Self.slots rhs))) IsMemory }
         ensures owned { IfOk result (λ a. IsTrue (owns a)) };
 
     /// Returns the differences.
     fn wrapping_sub(self, alloc: Global, rhs: Self) -> Result<Self, ComputeError>
         requires { length (Self.slots self) ≡ length (Self.slots rhs) }
-        ensures answers { MatchResult result (λ a. rows_under (Self.mask a) (Self.slots a) ≡ result_rows least width difference_of (rows_under (Self.mask self) (Self.slots self)) (rows_under (Self.mask rhs) (Self.slots rhs))) IsMemory }
+        ensures answers { MatchResult result
+            (λ a. rows_under (Self.mask a) (Self.slots a)
+            ≡ result_rows least width difference_of (rows_under (Self.mask self) (Self.slots self))
+            (rows_under (Self.mask rhs) (Self.slots rhs))) IsMemory }
         ensures owned { IfOk result (λ a. IsTrue (owns a)) };
 
     /// Returns the products.
     fn wrapping_mul(self, alloc: Global, rhs: Self) -> Result<Self, ComputeError>
         requires { length (Self.slots self) ≡ length (Self.slots rhs) }
-        ensures answers { MatchResult result (λ a. rows_under (Self.mask a) (Self.slots a) ≡ result_rows least width product_of (rows_under (Self.mask self) (Self.slots self)) (rows_under (Self.mask rhs) (Self.slots rhs))) IsMemory }
+        ensures answers { MatchResult result
+            (λ a. rows_under (Self.mask a) (Self.slots a)
+            ≡ result_rows least width product_of (rows_under (Self.mask self) (Self.slots self))
+            (rows_under (Self.mask rhs) (Self.slots rhs))) IsMemory }
         ensures owned { IfOk result (λ a. IsTrue (owns a)) };
 
     /// Returns the quotients, rounded down.
     fn wrapping_floor_div(self, alloc: Global, rhs: Self) -> Result<Self, ComputeError>
         requires { length (Self.slots self) ≡ length (Self.slots rhs) }
-        ensures answers { MatchResult result (λ a. rows_under (Self.mask a) (Self.slots a) ≡ result_rows least width floor_division (rows_under (Self.mask self) (Self.slots self)) (rows_under (Self.mask rhs) (Self.slots rhs))) IsMemory }
+        ensures answers { MatchResult result
+            (λ a. rows_under (Self.mask a) (Self.slots a)
+            ≡ result_rows least width floor_division (rows_under (Self.mask self) (Self.slots self))
+            (rows_under (Self.mask rhs) (Self.slots rhs))) IsMemory }
         ensures owned { IfOk result (λ a. IsTrue (owns a)) };
 
     /// Returns the quotients, rounded toward 0.
     fn wrapping_trunc_div(self, alloc: Global, rhs: Self) -> Result<Self, ComputeError>
         requires { length (Self.slots self) ≡ length (Self.slots rhs) }
-        ensures answers { MatchResult result (λ a. rows_under (Self.mask a) (Self.slots a) ≡ result_rows least width truncated_division (rows_under (Self.mask self) (Self.slots self)) (rows_under (Self.mask rhs) (Self.slots rhs))) IsMemory }
+        ensures answers { MatchResult result
+            (λ a. rows_under (Self.mask a) (Self.slots a)
+            ≡ result_rows least width truncated_division
+            (rows_under (Self.mask self) (Self.slots self))
+            (rows_under (Self.mask rhs) (Self.slots rhs))) IsMemory }
         ensures owned { IfOk result (λ a. IsTrue (owns a)) };
 
     /// Returns the remainders of the quotients that are rounded down.
     fn wrapping_mod(self, alloc: Global, rhs: Self) -> Result<Self, ComputeError>
         requires { length (Self.slots self) ≡ length (Self.slots rhs) }
-        ensures answers { MatchResult result (λ a. rows_under (Self.mask a) (Self.slots a) ≡ result_rows least width modulo (rows_under (Self.mask self) (Self.slots self)) (rows_under (Self.mask rhs) (Self.slots rhs))) IsMemory }
+        ensures answers { MatchResult result
+            (λ a. rows_under (Self.mask a) (Self.slots a)
+            ≡ result_rows least width modulo (rows_under (Self.mask self) (Self.slots self))
+            (rows_under (Self.mask rhs) (Self.slots rhs))) IsMemory }
         ensures owned { IfOk result (λ a. IsTrue (owns a)) };
 
     /// Adds a number to each row.
     fn wrapping_add_scalar(self, alloc: Global, rhs: Self::Scalar) -> Result<Self, ComputeError>
-        ensures answers { MatchResult result (λ a. rows_under (Self.mask a) (Self.slots a) ≡ answer_rows least width (λ n. sum_of n (number rhs)) (rows_under (Self.mask self) (Self.slots self))) IsMemory }
+        ensures answers { MatchResult result
+            (λ a. rows_under (Self.mask a) (Self.slots a)
+            ≡ answer_rows least width
+            (λ n. sum_of n (number rhs)) (rows_under (Self.mask self) (Self.slots self))) IsMemory }
         ensures owned { IfOk result (λ a. IsTrue (owns a)) }
         ensures in_place { IsTrue (owns self) → IsOk result };
 
     /// Subtracts a number from each row.
     fn wrapping_sub_scalar(self, alloc: Global, rhs: Self::Scalar) -> Result<Self, ComputeError>
-        ensures answers { MatchResult result (λ a. rows_under (Self.mask a) (Self.slots a) ≡ answer_rows least width (λ n. difference_of n (number rhs)) (rows_under (Self.mask self) (Self.slots self))) IsMemory }
+        ensures answers { MatchResult result
+            (λ a. rows_under (Self.mask a) (Self.slots a)
+            ≡ answer_rows least width
+            (λ n. difference_of n (number rhs)) (rows_under (Self.mask self) (Self.slots self)))
+            IsMemory }
         ensures owned { IfOk result (λ a. IsTrue (owns a)) }
         ensures in_place { IsTrue (owns self) → IsOk result };
 
@@ -113,13 +148,20 @@ pub trait ArithmeticKernel: Sized + Array {
         lhs: Self::Scalar,
         rhs: Self,
     ) -> Result<Self, ComputeError>
-        ensures answers { MatchResult result (λ a. rows_under (Self.mask a) (Self.slots a) ≡ answer_rows least width (difference_of (number lhs)) (rows_under (Self.mask rhs) (Self.slots rhs))) IsMemory }
+        ensures answers { MatchResult result
+            (λ a. rows_under (Self.mask a) (Self.slots a)
+            ≡ answer_rows least width (difference_of (number lhs))
+            (rows_under (Self.mask rhs) (Self.slots rhs))) IsMemory }
         ensures owned { IfOk result (λ a. IsTrue (owns a)) }
         ensures in_place { IsTrue (owns rhs) → IsOk result };
 
     /// Multiplies each row by a number.
     fn wrapping_mul_scalar(self, alloc: Global, rhs: Self::Scalar) -> Result<Self, ComputeError>
-        ensures answers { MatchResult result (λ a. rows_under (Self.mask a) (Self.slots a) ≡ answer_rows least width (λ n. product_of n (number rhs)) (rows_under (Self.mask self) (Self.slots self))) IsMemory }
+        ensures answers { MatchResult result
+            (λ a. rows_under (Self.mask a) (Self.slots a)
+            ≡ answer_rows least width
+            (λ n. product_of n (number rhs)) (rows_under (Self.mask self) (Self.slots self)))
+            IsMemory }
         ensures owned { IfOk result (λ a. IsTrue (owns a)) }
         ensures in_place { IsTrue (owns self) → IsOk result };
 
@@ -129,7 +171,11 @@ pub trait ArithmeticKernel: Sized + Array {
         alloc: Global,
         rhs: Self::Scalar,
     ) -> Result<Self, ComputeError>
-        ensures answers { MatchResult result (λ a. rows_under (Self.mask a) (Self.slots a) ≡ answer_rows least width (λ n. floor_division n (number rhs)) (rows_under (Self.mask self) (Self.slots self))) IsMemory }
+        ensures answers { MatchResult result
+            (λ a. rows_under (Self.mask a) (Self.slots a)
+            ≡ answer_rows least width
+            (λ n. floor_division n (number rhs)) (rows_under (Self.mask self) (Self.slots self)))
+            IsMemory }
         ensures owned { IfOk result (λ a. owns a ≡ (owns self || is_nonzero (number rhs))) };
 
     /// Divides a number by each row, rounding down.
@@ -138,7 +184,10 @@ pub trait ArithmeticKernel: Sized + Array {
         lhs: Self::Scalar,
         rhs: Self,
     ) -> Result<Self, ComputeError>
-        ensures answers { MatchResult result (λ a. rows_under (Self.mask a) (Self.slots a) ≡ answer_rows least width (floor_division (number lhs)) (rows_under (Self.mask rhs) (Self.slots rhs))) IsMemory }
+        ensures answers { MatchResult result
+            (λ a. rows_under (Self.mask a) (Self.slots a)
+            ≡ answer_rows least width (floor_division (number lhs))
+            (rows_under (Self.mask rhs) (Self.slots rhs))) IsMemory }
         ensures owned { IfOk result (λ a. IsTrue (owns a)) };
 
     /// Divides each row by a number, rounding toward 0.
@@ -147,7 +196,11 @@ pub trait ArithmeticKernel: Sized + Array {
         alloc: Global,
         rhs: Self::Scalar,
     ) -> Result<Self, ComputeError>
-        ensures answers { MatchResult result (λ a. rows_under (Self.mask a) (Self.slots a) ≡ answer_rows least width (λ n. truncated_division n (number rhs)) (rows_under (Self.mask self) (Self.slots self))) IsMemory }
+        ensures answers { MatchResult result
+            (λ a. rows_under (Self.mask a) (Self.slots a)
+            ≡ answer_rows least width
+            (λ n. truncated_division n (number rhs))
+            (rows_under (Self.mask self) (Self.slots self))) IsMemory }
         ensures owned { IfOk result (λ a. owns a ≡ (owns self || is_nonzero (number rhs))) };
 
     /// Divides a number by each row, rounding toward 0.
@@ -156,12 +209,18 @@ pub trait ArithmeticKernel: Sized + Array {
         lhs: Self::Scalar,
         rhs: Self,
     ) -> Result<Self, ComputeError>
-        ensures answers { MatchResult result (λ a. rows_under (Self.mask a) (Self.slots a) ≡ answer_rows least width (truncated_division (number lhs)) (rows_under (Self.mask rhs) (Self.slots rhs))) IsMemory }
+        ensures answers { MatchResult result
+            (λ a. rows_under (Self.mask a) (Self.slots a)
+            ≡ answer_rows least width (truncated_division (number lhs))
+            (rows_under (Self.mask rhs) (Self.slots rhs))) IsMemory }
         ensures owned { IfOk result (λ a. IsTrue (owns a)) };
 
     /// Returns the remainders of each row divided by a number, rounding down.
     fn wrapping_mod_scalar(self, alloc: Global, rhs: Self::Scalar) -> Result<Self, ComputeError>
-        ensures answers { MatchResult result (λ a. rows_under (Self.mask a) (Self.slots a) ≡ answer_rows least width (λ n. modulo n (number rhs)) (rows_under (Self.mask self) (Self.slots self))) IsMemory }
+        ensures answers { MatchResult result
+            (λ a. rows_under (Self.mask a) (Self.slots a)
+            ≡ answer_rows least width
+            (λ n. modulo n (number rhs)) (rows_under (Self.mask self) (Self.slots self))) IsMemory }
         ensures owned { IfOk result (λ a. owns a ≡ (owns self || is_nonzero (number rhs))) };
 
     /// Returns the remainders of a number divided by each row, rounding down.
@@ -170,13 +229,19 @@ pub trait ArithmeticKernel: Sized + Array {
         lhs: Self::Scalar,
         rhs: Self,
     ) -> Result<Self, ComputeError>
-        ensures answers { MatchResult result (λ a. rows_under (Self.mask a) (Self.slots a) ≡ answer_rows least width (modulo (number lhs)) (rows_under (Self.mask rhs) (Self.slots rhs))) IsMemory }
+        ensures answers { MatchResult result
+            (λ a. rows_under (Self.mask a) (Self.slots a)
+            ≡ answer_rows least width (modulo (number lhs))
+            (rows_under (Self.mask rhs) (Self.slots rhs))) IsMemory }
         ensures owned { IfOk result (λ a. IsTrue (owns a)) };
 
     /// Returns the quotients, rounded down. Another name of `wrapping_floor_div`.
     final fn legacy_div(self, alloc: Global, rhs: Self) -> Result<Self, ComputeError>
         requires { length (Self.slots self) ≡ length (Self.slots rhs) }
-        ensures answers { MatchResult result (λ a. rows_under (Self.mask a) (Self.slots a) ≡ result_rows least width floor_division (rows_under (Self.mask self) (Self.slots self)) (rows_under (Self.mask rhs) (Self.slots rhs))) IsMemory }
+        ensures answers { MatchResult result
+            (λ a. rows_under (Self.mask a) (Self.slots a)
+            ≡ result_rows least width floor_division (rows_under (Self.mask self) (Self.slots self))
+            (rows_under (Self.mask rhs) (Self.slots rhs))) IsMemory }
         ensures owned { IfOk result (λ a. IsTrue (owns a)) }
     {
         self.wrapping_floor_div(alloc, rhs)
@@ -184,7 +249,11 @@ pub trait ArithmeticKernel: Sized + Array {
 
     /// Divides each row by a number, rounding down. Another name of `wrapping_floor_div_scalar`.
     final fn legacy_div_scalar(self, alloc: Global, rhs: Self::Scalar) -> Result<Self, ComputeError>
-        ensures answers { MatchResult result (λ a. rows_under (Self.mask a) (Self.slots a) ≡ answer_rows least width (λ n. floor_division n (number rhs)) (rows_under (Self.mask self) (Self.slots self))) IsMemory }
+        ensures answers { MatchResult result
+            (λ a. rows_under (Self.mask a) (Self.slots a)
+            ≡ answer_rows least width
+            (λ n. floor_division n (number rhs)) (rows_under (Self.mask self) (Self.slots self)))
+            IsMemory }
         ensures owned { IfOk result (λ a. owns a ≡ (owns self || is_nonzero (number rhs))) }
     {
         self.wrapping_floor_div_scalar(alloc, rhs)
@@ -197,7 +266,10 @@ pub trait ArithmeticKernel: Sized + Array {
         lhs: Self::Scalar,
         rhs: Self,
     ) -> Result<Self, ComputeError>
-        ensures answers { MatchResult result (λ a. rows_under (Self.mask a) (Self.slots a) ≡ answer_rows least width (floor_division (number lhs)) (rows_under (Self.mask rhs) (Self.slots rhs))) IsMemory }
+        ensures answers { MatchResult result
+            (λ a. rows_under (Self.mask a) (Self.slots a)
+            ≡ answer_rows least width (floor_division (number lhs))
+            (rows_under (Self.mask rhs) (Self.slots rhs))) IsMemory }
         ensures owned { IfOk result (λ a. IsTrue (owns a)) }
     {
         Self::wrapping_floor_div_scalar_lhs(alloc, lhs, rhs)

@@ -3,7 +3,8 @@
 ghost use Rattle.std.specs.Prelude.{◌≡◌, All, IfOk, IsFalse, IsOk, IsTrue, MatchResult, length};
 ghost use Rattle.std.specs.List.{AllZip};
 ghost use Rattle.polars_arrays_bits.specs.Errors.{IsMemory};
-ghost use Rattle.polars_compute_arithmetic.specs.Maps.{AllPairs, AsLong, MapsEach, MapsPairs, TakesPairs, joined_validity};
+ghost use Rattle.polars_compute_arithmetic.specs.Maps.{AllPairs, AsLong, MapsEach, MapsPairs};
+ghost use Rattle.polars_compute_arithmetic.specs.Maps.{TakesPairs, joined_validity};
 
 use polars_arrays_bits::bitmap::Bitmap;
 use polars_arrays_bits::error::ComputeError;

@@ -1,5 +1,6 @@
 -- The bits of rows, their counts, and bitwise reductions of rows.
-use Rattle.std.specs.Prelude.{◌≡◌, ◌%◌, ◌^◌, ℕ, ℤ, pos, Bool, cond, eqb, true, false, List, [], ◌∷◌, map, reverse, get_or, count_by, unsigned_abs, Option, Some, None}
+use Rattle.std.specs.Prelude.{◌≡◌, ◌%◌, ◌^◌, ℕ, ℤ, pos, Bool, cond, eqb, true, false, List, [], ◌∷◌}
+use Rattle.std.specs.Prelude.{map, reverse, get_or, count_by, unsigned_abs, Option, Some, None}
 use Rattle.std.specs.Int.{int_rem_euclid}
 use Rattle.std.specs.List.{prefix_len}
 use Rattle.polars_arrays_flat.specs.ArrayRows.{is_null, number_rows}
@@ -40,11 +41,13 @@ counted count width row = Int (pos (count (row_bits width row)))
 abbrev pub place_bits : ℕ → ℕ → List Row → List Bool
 place_bits width i [] = []
 place_bits width i (row ∷ rows) =
-    cond (is_null row) (place_bits width i rows) (get_or (row_bits width row) i false ∷ place_bits width i rows)
+    cond (is_null row) (place_bits width i rows)
+    (get_or (row_bits width row) i false ∷ place_bits width i rows)
 
 -- bit i is the test of bit i of all present rows; None if no row is present
 abbrev pub reduced : (List Bool → Bool) → ℕ → List Row → Option (List Bool)
-reduced test width rows = cond (none_present rows) None (Some (first_of (λ i. test (place_bits width i rows)) width))
+reduced test width rows =
+    cond (none_present rows) None (Some (first_of (λ i. test (place_bits width i rows)) width))
 
 -- whether an odd number of bits are 1
 abbrev pub is_odd : List Bool → Bool
@@ -52,7 +55,8 @@ is_odd bits = eqb (count_by (λ b. b) bits % 2) 1
 
 -- two numbers joined by an operator on their bits
 abbrev pub joined_bits : (ℕ → ℕ → ℕ) → ℤ → ℕ → ℤ → ℤ → ℤ
-joined_bits operator least width a b = wrapped least width (pos (operator (pattern width a) (pattern width b)))
+joined_bits operator least width a b =
+    wrapped least width (pos (operator (pattern width a) (pattern width b)))
 
 -- an array has the counts of rows
 abbrev pub AreCounts : (List Bool → ℕ) → ℕ → List Row → Numbers ℕ → Type 0

@@ -13,13 +13,15 @@ zero_add : (a : ℤ) → pos 0 +ℤ a ≡ a
 zero_add a = omega (arith, ints)
 
 module _ (least : ℤ) (width : ℕ) where
-  wrapped-add_right : (a b : ℤ) → wrapped least width (a +ℤ wrapped least width b) ≡ wrapped least width (a +ℤ b)
+  wrapped-add_right : (a b : ℤ) → wrapped least width (a +ℤ wrapped least width b)
+      ≡ wrapped least width (a +ℤ b)
   wrapped-add_right a b =
       ap (wrapped least width) (+ℤ_comm a (wrapped least width b))
       ∙ wrapped-add least width b a
       ∙ ap (wrapped least width) (+ℤ_comm b a)
 
-  of_zero : (a : ℤ) → wrapped_sum least width (wrapped least width (pos 0)) (wrapped least width a) ≡ wrapped least width a
+  of_zero : (a : ℤ) → wrapped_sum least width (wrapped least width (pos 0)) (wrapped least width a)
+      ≡ wrapped least width a
   of_zero a =
       wrapped-add least width (pos 0) (wrapped least width a)
       ∙ wrapped-add_right (pos 0) a
@@ -27,7 +29,8 @@ module _ (least : ℤ) (width : ℕ) where
 
   pub sum_folds : Folds (wrapped_sum least width) (wrapped least width (pos 0))
   sum_folds = record {
-    any_groups = λ a b c. wrapped-add least width (a +ℤ b) c ∙ ap (wrapped least width) (+ℤ_assoc a b c) ∙ sym (wrapped-add_right a (b +ℤ c));
+    any_groups = λ a b c. wrapped-add least width (a +ℤ b) c ∙ ap (wrapped least width)
+        (+ℤ_assoc a b c) ∙ sym (wrapped-add_right a (b +ℤ c));
     any_order = λ a b. ap (wrapped least width) (+ℤ_comm a b);
     any_times = of_zero (pos 0);
   }
@@ -35,7 +38,9 @@ module _ (least : ℤ) (width : ℕ) where
   nothing_more : (rest : ℤ) → wrapped least width rest ≡ wrapped least width (pos 0 +ℤ rest)
   nothing_more rest = ap (wrapped least width) (sym (zero_add rest))
 
-  row-total : (row : Row) (rest : ℤ) → row_joined (wrapped_sum least width) row (wrapped least width rest) ≡ wrapped least width (addend row +ℤ rest)
+  row-total : (row : Row) (rest : ℤ)
+      → row_joined (wrapped_sum least width) row (wrapped least width rest)
+      ≡ wrapped least width (addend row +ℤ rest)
   row-total (Int n) rest = wrapped-add_right n rest
   row-total Null rest = nothing_more rest
   row-total (Truth x) rest = nothing_more rest
@@ -45,6 +50,9 @@ module _ (least : ℤ) (width : ℕ) where
   row-total (Entry x) rest = nothing_more rest
 
   -- the fold of rows by wrapping addition is their sum, wrapped
-  pub folded-total : (rows : List Row) → folded (wrapped_sum least width) (wrapped least width (pos 0)) rows ≡ wrapped least width (total rows)
+  pub folded-total : (rows : List Row)
+      → folded (wrapped_sum least width) (wrapped least width (pos 0)) rows
+      ≡ wrapped least width (total rows)
   folded-total [] = refl
-  folded-total (row ∷ rows) = ap (row_joined (wrapped_sum least width) row) (folded-total rows) ∙ row-total row (total rows)
+  folded-total (row ∷ rows) =
+      ap (row_joined (wrapped_sum least width) row) (folded-total rows) ∙ row-total row (total rows)

@@ -129,7 +129,9 @@ fn count_each<T: NativeType, C: BitCount<T>>(
     count: &C,
     numbers: &[T],
 ) -> Result<Vec<u32>, AllocError>
-    ensures { IfOk result (λ counts. counts.items ≡ map (λ x. C.amount (number_bits (bit_len T.width) (T.value x))) numbers.now) }
+    ensures { IfOk result
+        (λ counts. counts.items
+        ≡ map (λ x. C.amount (number_bits (bit_len T.width) (T.value x))) numbers.now) }
 {
     let mut counts = Vec::with_capacity(alloc, numbers.len())?;
     for number in numbers {
@@ -160,7 +162,8 @@ pub fn count_rows<T: NativeType, C: BitCount<T>>(
     count: &C,
     array: &PrimitiveArray<T>,
 ) -> Result<PrimitiveArray<u32>, ComputeError>
-    ensures { MatchResult result (AreCounts C.amount (bit_len T.width) (number_rows T.value array.now)) IsMemory }
+    ensures { MatchResult result
+        (AreCounts C.amount (bit_len T.width) (number_rows T.value array.now)) IsMemory }
 {
     let counts = count_each(alloc, count, array.values())?;
     let validity = copied_validity(alloc, array.validity())?;

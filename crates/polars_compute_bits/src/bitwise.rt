@@ -1,11 +1,13 @@
 //! Bits of columns of numbers and of truth values: counts, reductions, and operators on two
 //! scalars.
 
-ghost use Rattle.std.specs.Prelude.{◌≡◌, ℕ, [], ◌∷◌, List, Some, not, count_by, option_map, MatchResult};
+ghost use Rattle.std.specs.Prelude.{◌≡◌, ℕ, [], ◌∷◌, List, Some, not, count_by, option_map};
+ghost use Rattle.std.specs.Prelude.{MatchResult};
 ghost use Rattle.std.specs.List.{list_all, list_any};
 ghost use Rattle.polars_arrays_bits.specs.Errors.{IsMemory};
 ghost use Rattle.polars_arrays_flat.specs.Row.{Row};
-ghost use Rattle.polars_compute_bits.specs.Bitwise.{AreCounts, is_odd, leading_run, reduced, row_bits, trailing_run};
+ghost use Rattle.polars_compute_bits.specs.Bitwise.{AreCounts, is_odd, leading_run, reduced};
+ghost use Rattle.polars_compute_bits.specs.Bitwise.{row_bits, trailing_run};
 
 use crate::bit_counts::{
     LeadingOnes, LeadingZeros, Ones, TrailingOnes, TrailingZeros, Zeros, count_rows,
@@ -35,7 +37,8 @@ pub trait BitwiseKernel {
 
     /// Counts the ones of each row.
     fn count_ones(&self, alloc: Global) -> Result<PrimitiveArray<u32>, ComputeError>
-        ensures { MatchResult result (AreCounts (count_by (λ b. b)) width (rows self.now)) IsMemory };
+        ensures { MatchResult result (AreCounts (count_by (λ b. b)) width (rows self.now))
+            IsMemory };
 
     /// Counts the zeros of each row.
     fn count_zeros(&self, alloc: Global) -> Result<PrimitiveArray<u32>, ComputeError>
@@ -43,7 +46,8 @@ pub trait BitwiseKernel {
 
     /// Counts the ones of each row from the highest bit down, up to the first 0.
     fn leading_ones(&self, alloc: Global) -> Result<PrimitiveArray<u32>, ComputeError>
-        ensures { MatchResult result (AreCounts (leading_run (λ b. b)) width (rows self.now)) IsMemory };
+        ensures { MatchResult result (AreCounts (leading_run (λ b. b)) width (rows self.now))
+            IsMemory };
 
     /// Counts the zeros of each row from the highest bit down, up to the first 1.
     fn leading_zeros(&self, alloc: Global) -> Result<PrimitiveArray<u32>, ComputeError>
@@ -51,36 +55,44 @@ pub trait BitwiseKernel {
 
     /// Counts the ones of each row from the lowest bit up, up to the first 0.
     fn trailing_ones(&self, alloc: Global) -> Result<PrimitiveArray<u32>, ComputeError>
-        ensures { MatchResult result (AreCounts (trailing_run (λ b. b)) width (rows self.now)) IsMemory };
+        ensures { MatchResult result (AreCounts (trailing_run (λ b. b)) width (rows self.now))
+            IsMemory };
 
     /// Counts the zeros of each row from the lowest bit up, up to the first 1.
     fn trailing_zeros(&self, alloc: Global) -> Result<PrimitiveArray<u32>, ComputeError>
-        ensures { MatchResult result (AreCounts (trailing_run not) width (rows self.now)) IsMemory };
+        ensures { MatchResult result (AreCounts (trailing_run not) width (rows self.now))
+            IsMemory };
 
     /// Returns the AND of the present rows.
     fn reduce_and(&self) -> Option<Self::Scalar>
-        ensures { option_map (λ x. row_bits width (scalar_row x)) result ≡ reduced (list_all (λ b. b)) width (rows self.now) };
+        ensures { option_map (λ x. row_bits width (scalar_row x)) result
+            ≡ reduced (list_all (λ b. b)) width (rows self.now) };
 
     /// Returns the OR of the present rows.
     fn reduce_or(&self) -> Option<Self::Scalar>
-        ensures { option_map (λ x. row_bits width (scalar_row x)) result ≡ reduced (list_any (λ b. b)) width (rows self.now) };
+        ensures { option_map (λ x. row_bits width (scalar_row x)) result
+            ≡ reduced (list_any (λ b. b)) width (rows self.now) };
 
     /// Returns the exclusive OR of the present rows: a bit is 1 if it is 1 in an odd number of
     /// them.
     fn reduce_xor(&self) -> Option<Self::Scalar>
-        ensures { option_map (λ x. row_bits width (scalar_row x)) result ≡ reduced is_odd width (rows self.now) };
+        ensures { option_map (λ x. row_bits width (scalar_row x)) result
+            ≡ reduced is_odd width (rows self.now) };
 
     /// Returns what `reduce_and` does for two present rows.
     fn bit_and(lhs: Self::Scalar, rhs: Self::Scalar) -> Self::Scalar
-        ensures { Some (row_bits width (scalar_row result)) ≡ reduced (list_all (λ b. b)) width (scalar_row lhs ∷ scalar_row rhs ∷ []) };
+        ensures { Some (row_bits width (scalar_row result))
+            ≡ reduced (list_all (λ b. b)) width (scalar_row lhs ∷ scalar_row rhs ∷ []) };
 
     /// Returns what `reduce_or` does for two present rows.
     fn bit_or(lhs: Self::Scalar, rhs: Self::Scalar) -> Self::Scalar
-        ensures { Some (row_bits width (scalar_row result)) ≡ reduced (list_any (λ b. b)) width (scalar_row lhs ∷ scalar_row rhs ∷ []) };
+        ensures { Some (row_bits width (scalar_row result))
+            ≡ reduced (list_any (λ b. b)) width (scalar_row lhs ∷ scalar_row rhs ∷ []) };
 
     /// Returns what `reduce_xor` does for two present rows.
     fn bit_xor(lhs: Self::Scalar, rhs: Self::Scalar) -> Self::Scalar
-        ensures { Some (row_bits width (scalar_row result)) ≡ reduced is_odd width (scalar_row lhs ∷ scalar_row rhs ∷ []) };
+        ensures { Some (row_bits width (scalar_row result))
+            ≡ reduced is_odd width (scalar_row lhs ∷ scalar_row rhs ∷ []) };
 }
 
 impl<T: BitNumber> BitwiseKernel for PrimitiveArray<T> {

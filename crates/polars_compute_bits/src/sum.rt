@@ -20,7 +20,8 @@ use polars_arrays_numbers::native_type::NativeType;
 pub trait WrappingAdd: WrappingNumber {
     /// Returns the sum of the two numbers, wrapped.
     fn wrapping_add(&self, v: &Self) -> Self
-        ensures { Self.value result ≡ wrapped Self.low (bit_len Self.width) (Self.value self.now +ℤ Self.value v.now) };
+        ensures { Self.value result
+            ≡ wrapped Self.low (bit_len Self.width) (Self.value self.now +ℤ Self.value v.now) };
 }
 
 impl<T: WrappingNumber + num_traits::WrappingAdd> WrappingAdd for T {
@@ -34,12 +35,15 @@ impl<T: WrappingNumber + num_traits::WrappingAdd> WrappingAdd for T {
 pub trait WrappingSum: NativeType {
     /// Returns the sum of the numbers, wrapped, or 0 for none.
     fn wrapping_sum(vals: &[Self]) -> Self
-        ensures { Self.value result ≡ wrapped Self.low (bit_len Self.width) (total (number_slots Self.value vals.now)) };
+        ensures { Self.value result
+            ≡ wrapped Self.low (bit_len Self.width) (total (number_slots Self.value vals.now)) };
 
     /// Returns the sum of the numbers whose bit is 1, wrapped, or 0 for none.
     fn wrapping_sum_with_validity(vals: &[Self], mask: &BitMask<'_>) -> Self
         requires { length mask.now ≡ length vals.now }
-        ensures { Self.value result ≡ wrapped Self.low (bit_len Self.width) (total (masked mask.now (number_slots Self.value vals.now))) };
+        ensures { Self.value result
+            ≡ wrapped Self.low (bit_len Self.width)
+            (total (masked mask.now (number_slots Self.value vals.now))) };
 }
 
 /// A fold of numbers to their sum, wrapped.
@@ -82,7 +86,8 @@ impl<T: NativeType + WrappingAdd + Zero> WrappingSum for T {
 
 /// Returns the sum of the present rows, wrapped, or 0 for none.
 pub fn wrapping_sum_arr<T: WrappingSum>(array: &PrimitiveArray<T>) -> T
-    ensures { T.value result ≡ wrapped T.low (bit_len T.width) (total (number_rows T.value array.now)) }
+    ensures { T.value result
+        ≡ wrapped T.low (bit_len T.width) (total (number_rows T.value array.now)) }
 {
     match array.validity() {
         Some(validity) => {

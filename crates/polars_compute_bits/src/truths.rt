@@ -42,7 +42,10 @@ pub(crate) fn count_truth_rows(
     array: &BooleanArray,
     ones: bool,
 ) -> Result<PrimitiveArray<u32>, ComputeError>
-    ensures { MatchResult result (λ counts. number_rows (λ n. pos n) counts ≡ rows_under array.now.validity (number_slots (λ n. pos n) (map (truth_count ones) array.now.values))) IsMemory }
+    ensures { MatchResult result
+        (λ counts. number_rows (λ n. pos n) counts
+        ≡ rows_under array.now.validity
+        (number_slots (λ n. pos n) (map (truth_count ones) array.now.values))) IsMemory }
 {
     let counts = count_each_bit(alloc, array.values(), ones)?;
     let validity = copied_validity(alloc, array.validity())?;

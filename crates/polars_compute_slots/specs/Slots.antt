@@ -1,5 +1,6 @@
 -- The stored form of a state: a slot for each value of a range, ascending, and one for null.
-use Rattle.std.specs.Prelude.{◌≡◌, ◌+ℤ◌, ◌-ℤ◌, ◌≤ℤ◌, ◌<ℤ◌, ◌+◌, ◌<◌, ◌^◌, ℕ, ℤ, pos, Bool, false, List, length, map, slice_index_or, unsigned_abs, ⊤}
+use Rattle.std.specs.Prelude.{◌≡◌, ◌+ℤ◌, ◌-ℤ◌, ◌≤ℤ◌, ◌<ℤ◌, ◌+◌, ◌<◌, ◌^◌, ℕ, ℤ, pos, Bool, false}
+use Rattle.std.specs.Prelude.{List, length, map, slice_index_or, unsigned_abs, ⊤}
 use Rattle.std.specs.List.{range_with_len}
 use Rattle.polars_arrays_flat.specs.Row.{Row, Null, Int}
 use Rattle.polars_arrays_flat.specs.StoredRows.{row}

@@ -1,5 +1,7 @@
 -- States of distinct values, and the effect of rows and of other states on them.
-use Rattle.std.specs.Prelude.{◌+ℤ◌, ◌-ℤ◌, ◌≤ℤ◌, ◌<ℤ◌, ◌+◌, ◌-◌, ◌^◌, ◌*◌, ◌/◌, ◌||◌, ◌&&◌, ◌++◌, ℕ, suc, ℤ, pos, Bool, false, cond, not, List, [], ◌∷◌, length, map, filter, min, unsigned_abs, All, Contains}
+use Rattle.std.specs.Prelude.{◌+ℤ◌, ◌-ℤ◌, ◌≤ℤ◌, ◌<ℤ◌, ◌+◌, ◌-◌, ◌^◌, ◌*◌, ◌/◌, ◌||◌, ◌&&◌, ◌++◌, ℕ}
+use Rattle.std.specs.Prelude.{suc, ℤ, pos, Bool, false, cond, not, List, [], ◌∷◌, length, map}
+use Rattle.std.specs.Prelude.{filter, min, unsigned_abs, All, Contains}
 use Rattle.std.specs.List.{list_all, list_any, range_with_len}
 use Rattle.std.specs.Ordering.{int_eq}
 use Rattle.std.specs.Simd.Lanes.{zip2}
@@ -67,7 +69,12 @@ are_within range rows = list_all (is_within range) rows
 
 -- the set joined with the values of the present rows; the flag is set if a row is null
 abbrev pub appended : List Row → State → State
-appended rows s = record { values = map (λ v. (v.0, v.1 || holds rows v.0)) s.values; has_null = s.has_null || any_null rows }
+appended rows s =
+    record {
+      values = map (λ v. (v.0, v.1 || holds rows v.0)) s.values;
+      has_null = s.has_null
+          || any_null rows;
+    }
 
 -- the rows of several arrays appended in order
 abbrev pub appended_all : List (List Row) → State → State
@@ -76,7 +83,11 @@ appended_all (rows ∷ more) s = appended_all more (appended rows s)
 
 -- two states of one range merged: the union of the sets, and the OR of the flags
 abbrev pub merged : State → State → State
-merged s t = record { values = zip2 (λ v w. (v.0, v.1 || w.1)) s.values t.values; has_null = s.has_null || t.has_null }
+merged s t = record {
+  values = zip2 (λ v w. (v.0, v.1 || w.1)) s.values t.values;
+  has_null = s.has_null
+      || t.has_null;
+}
 
 -- ---- readings of a state
 
@@ -133,4 +144,5 @@ whole_blocks n = 512 * ((n + 511) / 512)
 
 -- the number of rows read: all if one is null, else blocks of 512 until all values were seen
 abbrev pub rows_read : State → List Row → ℕ
-rows_read s rows = cond (any_null rows) (length rows) (min (length rows) (whole_blocks (fullpoint s rows)))
+rows_read s rows =
+    cond (any_null rows) (length rows) (min (length rows) (whole_blocks (fullpoint s rows)))

@@ -17,7 +17,9 @@ use polars_arrays_flat::validity::is_present;
 
 // Returns whether a row is null or a number of a range.
 fn accepts_row<T: UniqueNumber>(span: &Span<T>, present: bool, number: T) -> bool
-    ensures { result ≡ is_within (numbers_from (T.value span.now.least) span.now.count) (kept present (Int (T.value number))) }
+    ensures { result
+        ≡ is_within (numbers_from (T.value span.now.least) span.now.count)
+        (kept present (Int (T.value number))) }
 {
     if present { span.holds(number) } else { true }
 }
@@ -25,7 +27,9 @@ fn accepts_row<T: UniqueNumber>(span: &Span<T>, present: bool, number: T) -> boo
 // Returns whether each number is masked or in a range.
 fn accepts_under<T: UniqueNumber>(span: &Span<T>, numbers: &[T], validity: Option<&Bitmap>) -> bool
     requires { HasBits (length numbers.now) (option_copied validity) }
-    ensures { result ≡ are_within (numbers_from (T.value span.now.least) span.now.count) (rows_under (option_copied validity.entry) (number_slots T.value numbers.now)) }
+    ensures { result
+        ≡ are_within (numbers_from (T.value span.now.least) span.now.count)
+        (rows_under (option_copied validity.entry) (number_slots T.value numbers.now)) }
 {
     for i in 0..numbers.len() {
         if !accepts_row(span, is_present(validity, i), numbers[i]) {
@@ -37,7 +41,9 @@ fn accepts_under<T: UniqueNumber>(span: &Span<T>, numbers: &[T], validity: Optio
 
 /// Returns whether each row is null or a number of a range.
 pub fn accepts_rows<T: UniqueNumber>(span: &Span<T>, array: &PrimitiveArray<T>) -> bool
-    ensures { result ≡ are_within (numbers_from (T.value span.now.least) span.now.count) (number_rows T.value array.now) }
+    ensures { result
+        ≡ are_within (numbers_from (T.value span.now.least) span.now.count)
+        (number_rows T.value array.now) }
 {
     accepts_under(span, array.values(), array.validity())
 }

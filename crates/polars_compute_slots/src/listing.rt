@@ -1,6 +1,8 @@
 //! Contents of slots, as arrays and counts.
 
-ghost use Rattle.std.specs.Prelude.{◌≡◌, ◌↔◌, ◌+◌, ◌++◌, ◌<◌, ◌≤ℤ◌, ◌<ℤ◌, ◌^◌, ℤ, pos, cond, [], ◌∷◌, true, false, length, map, replicate, vec_len, vec_capacity, IfOk, IsTrue, MatchOption, MatchResult, All};
+ghost use Rattle.std.specs.Prelude.{◌≡◌, ◌↔◌, ◌+◌, ◌++◌, ◌<◌, ◌≤ℤ◌, ◌<ℤ◌, ◌^◌, ℤ, pos, cond, []};
+ghost use Rattle.std.specs.Prelude.{◌∷◌, true, false, length, map, replicate, vec_len};
+ghost use Rattle.std.specs.Prelude.{vec_capacity, IfOk, IsTrue, MatchOption, MatchResult, All};
 ghost use Rattle.polars_arrays_bits.specs.Errors.{IsMemory};
 ghost use Rattle.polars_arrays_flat.specs.ArrayRows.{number_rows};
 ghost use Rattle.polars_arrays_flat.specs.Row.{Int, Null, Row};
@@ -28,7 +30,8 @@ pub fn all_set<S: Slots>(slots: &S, count: usize) -> bool
 /// Returns the number of values whose slots are set.
 pub fn count_set<S: Slots>(slots: &S, count: usize) -> usize
     requires { length (S.set_slots slots.now) ≡ count + 1 }
-    ensures { (least : ℤ) → result ≡ length (set_of (slot_state least count (S.set_slots slots.now))) }
+    ensures { (least : ℤ) → result
+        ≡ length (set_of (slot_state least count (S.set_slots slots.now))) }
 {
     slots.count_values(count)
 }
@@ -37,7 +40,8 @@ pub fn count_set<S: Slots>(slots: &S, count: usize) -> usize
 pub fn count_rows<S: Slots>(slots: &S, count: usize) -> usize
     requires size { length (S.set_slots slots.now) ≡ count + 1 }
     requires few { count + 1 < 2 ^ 64 }
-    ensures { (least : ℤ) (put : ℤ → Row) → result ≡ length (finalised put (slot_state least count (S.set_slots slots.now))) }
+    ensures { (least : ℤ) (put : ℤ → Row) → result
+        ≡ length (finalised put (slot_state least count (S.set_slots slots.now))) }
 {
     slots.count_values(count) + usize::from(slots.is_set(count))
 }
@@ -61,7 +65,10 @@ fn list_numbers<T: UniqueNumber, S: Slots>(
 ) -> Result<Vec<T>, AllocError>
     requires size { length (S.set_slots slots.now) ≡ span.now.count + 1 }
     requires numbers { AreNumbers T.low T.high (T.value span.now.least) span.now.count }
-    ensures numbers { IfOk result (λ numbers. number_slots T.value numbers.items ≡ map Int (set_of (slot_state (T.value span.now.least) span.now.count (S.set_slots slots.now)))) }
+    ensures numbers { IfOk result
+        (λ numbers. number_slots T.value numbers.items
+        ≡ map Int
+        (set_of (slot_state (T.value span.now.least) span.now.count (S.set_slots slots.now)))) }
     ensures room { IfOk result (λ numbers. vec_len numbers < vec_capacity numbers) }
 {
     let room = slots.count_values(span.count) + 1;
@@ -89,7 +96,9 @@ pub(crate) fn with_null<T: UniqueNumber>(
     numbers: Vec<T>,
 ) -> Result<PrimitiveArray<T>, ComputeError>
     requires { vec_len numbers < vec_capacity numbers }
-    ensures { MatchResult result (λ array. number_rows T.value array ≡ number_slots T.value numbers.items ++ Null ∷ []) IsMemory }
+    ensures { MatchResult result
+        (λ array. number_rows T.value array ≡ number_slots T.value numbers.items ++ Null ∷ [])
+        IsMemory }
 {
     let validity = last_masked(alloc, numbers.len())?;
     let mut numbers = numbers;
@@ -106,7 +115,10 @@ pub fn list_set<T: UniqueNumber, S: Slots>(
 ) -> Result<PrimitiveArray<T>, ComputeError>
     requires size { length (S.set_slots slots.now) ≡ span.now.count + 1 }
     requires numbers { AreNumbers T.low T.high (T.value span.now.least) span.now.count }
-    ensures { MatchResult result (λ array. number_rows T.value array ≡ finalised Int (slot_state (T.value span.now.least) span.now.count (S.set_slots slots.now))) IsMemory }
+    ensures { MatchResult result
+        (λ array. number_rows T.value array
+        ≡ finalised Int
+        (slot_state (T.value span.now.least) span.now.count (S.set_slots slots.now))) IsMemory }
 {
     let numbers = list_numbers(alloc, slots, span)?;
     if slots.is_set(span.count) {
@@ -128,7 +140,12 @@ fn is_from<T: UniqueNumber>(in_set: bool, number: T, bound: i128) -> bool
 pub fn least_from<T: UniqueNumber, S: Slots>(slots: &S, span: &Span<T>, bound: i128) -> Option<T>
     requires size { length (S.set_slots slots.now) ≡ span.now.count + 1 }
     requires numbers { AreNumbers T.low T.high (T.value span.now.least) span.now.count }
-    ensures { MatchOption result (All (λ v. v <ℤ bound) (set_of (slot_state (T.value span.now.least) span.now.count (S.set_slots slots.now)))) (λ x. IsLeastFrom bound (set_of (slot_state (T.value span.now.least) span.now.count (S.set_slots slots.now))) (T.value x)) }
+    ensures { MatchOption result
+        (All (λ v. v <ℤ bound)
+        (set_of (slot_state (T.value span.now.least) span.now.count (S.set_slots slots.now))))
+        (λ x. IsLeastFrom bound
+        (set_of (slot_state (T.value span.now.least) span.now.count (S.set_slots slots.now)))
+        (T.value x)) }
 {
     for i in 0..span.count {
         let number = span.number(i);

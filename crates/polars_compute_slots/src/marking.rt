@@ -26,8 +26,10 @@ const WORD_ROWS: usize = 64;
 #[inline(always)]
 fn mark_all<T: UniqueNumber, S: Slots>(slots: &mut S, span: &Span<T>, numbers: &[T])
     requires size { length (S.set_slots slots.old) ≡ span.now.count + 1 }
-    requires fit { HaveSlots (T.value span.now.least) span.now.count (number_slots T.value numbers.now) }
-    ensures { Marks (T.value span.now.least) span.now.count (number_slots T.value numbers.now) (S.set_slots slots.old) (S.set_slots slots.new) }
+    requires fit { HaveSlots (T.value span.now.least) span.now.count
+        (number_slots T.value numbers.now) }
+    ensures { Marks (T.value span.now.least) span.now.count (number_slots T.value numbers.now)
+        (S.set_slots slots.old) (S.set_slots slots.new) }
 {
     for number in numbers {
         slots.set(span.slot(*number));
@@ -39,8 +41,11 @@ fn mark_all<T: UniqueNumber, S: Slots>(slots: &mut S, span: &Span<T>, numbers: &
 fn mark_word<T: UniqueNumber, S: Slots>(slots: &mut S, span: &Span<T>, numbers: &[T], word: u64)
     requires size { length (S.set_slots slots.old) ≡ span.now.count + 1 }
     requires few { length numbers.now ≡ 64 }
-    requires fit { HaveSlots (T.value span.now.least) span.now.count (masked (first_of (is_bit word) 64) (number_slots T.value numbers.now)) }
-    ensures { Marks (T.value span.now.least) span.now.count (masked (first_of (is_bit word) 64) (number_slots T.value numbers.now)) (S.set_slots slots.old) (S.set_slots slots.new) }
+    requires fit { HaveSlots (T.value span.now.least) span.now.count
+        (masked (first_of (is_bit word) 64) (number_slots T.value numbers.now)) }
+    ensures { Marks (T.value span.now.least) span.now.count
+        (masked (first_of (is_bit word) 64) (number_slots T.value numbers.now))
+        (S.set_slots slots.old) (S.set_slots slots.new) }
 {
     for i in 0..numbers.len() {
         let present = (word >> i) & 1 == 1;
@@ -58,8 +63,11 @@ fn mark_few<T: UniqueNumber, S: Slots>(
 )
     requires size { length (S.set_slots slots.old) ≡ span.now.count + 1 }
     requires bits { length mask.now ≡ length numbers.now }
-    requires fit { HaveSlots (T.value span.now.least) span.now.count (masked mask.now (number_slots T.value numbers.now)) }
-    ensures { Marks (T.value span.now.least) span.now.count (masked mask.now (number_slots T.value numbers.now)) (S.set_slots slots.old) (S.set_slots slots.new) }
+    requires fit { HaveSlots (T.value span.now.least) span.now.count
+        (masked mask.now (number_slots T.value numbers.now)) }
+    ensures { Marks (T.value span.now.least) span.now.count
+        (masked mask.now (number_slots T.value numbers.now)) (S.set_slots slots.old)
+        (S.set_slots slots.new) }
 {
     for i in 0..numbers.len() {
         slots.set(span.row_slot(mask.get(i), numbers[i]));
@@ -76,8 +84,11 @@ fn mark_masked<T: UniqueNumber, S: Slots>(
 )
     requires size { length (S.set_slots slots.old) ≡ span.now.count + 1 }
     requires bits { length mask.now ≡ length numbers.now }
-    requires fit { HaveSlots (T.value span.now.least) span.now.count (masked mask.now (number_slots T.value numbers.now)) }
-    ensures { Marks (T.value span.now.least) span.now.count (masked mask.now (number_slots T.value numbers.now)) (S.set_slots slots.old) (S.set_slots slots.new) }
+    requires fit { HaveSlots (T.value span.now.least) span.now.count
+        (masked mask.now (number_slots T.value numbers.now)) }
+    ensures { Marks (T.value span.now.least) span.now.count
+        (masked mask.now (number_slots T.value numbers.now)) (S.set_slots slots.old)
+        (S.set_slots slots.new) }
 {
     let blocks = numbers.len() / WORD_ROWS;
     for k in 0..blocks {
@@ -99,9 +110,14 @@ fn mark_until_full<T: UniqueNumber, S: Slots>(
     steps: &mut Steps,
 )
     requires size { length (S.set_slots slots.old) ≡ span.now.count + 1 }
-    requires fit { HaveSlots (T.value span.now.least) span.now.count (number_slots T.value numbers.now) }
-    ensures marks { Marks (T.value span.now.least) span.now.count (number_slots T.value numbers.now) (S.set_slots slots.old) (S.set_slots slots.new) }
-    ensures read { steps.new ≡ steps.old + rows_read (slot_state (T.value span.now.least) span.now.count (S.set_slots slots.old)) (number_slots T.value numbers.now) }
+    requires fit { HaveSlots (T.value span.now.least) span.now.count
+        (number_slots T.value numbers.now) }
+    ensures marks { Marks (T.value span.now.least) span.now.count (number_slots T.value numbers.now)
+        (S.set_slots slots.old) (S.set_slots slots.new) }
+    ensures read { steps.new
+        ≡ steps.old + rows_read
+        (slot_state (T.value span.now.least) span.now.count (S.set_slots slots.old))
+        (number_slots T.value numbers.now) }
 {
     let mut at = 0;
     while at < numbers.len() && slots.count_values(span.count) < span.count {
@@ -124,9 +140,15 @@ fn mark_under<T: UniqueNumber, S: Slots>(
 )
     requires size { length (S.set_slots slots.old) ≡ span.now.count + 1 }
     requires bits { length validity.now ≡ length numbers.now }
-    requires fit { HaveSlots (T.value span.now.least) span.now.count (masked validity.now (number_slots T.value numbers.now)) }
-    ensures marks { Marks (T.value span.now.least) span.now.count (masked validity.now (number_slots T.value numbers.now)) (S.set_slots slots.old) (S.set_slots slots.new) }
-    ensures read { steps.new ≡ steps.old + rows_read (slot_state (T.value span.now.least) span.now.count (S.set_slots slots.old)) (masked validity.now (number_slots T.value numbers.now)) }
+    requires fit { HaveSlots (T.value span.now.least) span.now.count
+        (masked validity.now (number_slots T.value numbers.now)) }
+    ensures marks { Marks (T.value span.now.least) span.now.count
+        (masked validity.now (number_slots T.value numbers.now)) (S.set_slots slots.old)
+        (S.set_slots slots.new) }
+    ensures read { steps.new
+        ≡ steps.old + rows_read
+        (slot_state (T.value span.now.least) span.now.count (S.set_slots slots.old))
+        (masked validity.now (number_slots T.value numbers.now)) }
 {
     if validity.unset_bits() == 0 {
         mark_until_full(slots, span, numbers, steps);
@@ -145,9 +167,14 @@ pub fn mark_rows<T: UniqueNumber, S: Slots>(
     steps: &mut Steps,
 )
     requires size { length (S.set_slots slots.old) ≡ span.now.count + 1 }
-    requires fit { HaveSlots (T.value span.now.least) span.now.count (number_rows T.value array.now) }
-    ensures marks { Marks (T.value span.now.least) span.now.count (number_rows T.value array.now) (S.set_slots slots.old) (S.set_slots slots.new) }
-    ensures read { steps.new ≡ steps.old + rows_read (slot_state (T.value span.now.least) span.now.count (S.set_slots slots.old)) (number_rows T.value array.now) }
+    requires fit { HaveSlots (T.value span.now.least) span.now.count
+        (number_rows T.value array.now) }
+    ensures marks { Marks (T.value span.now.least) span.now.count (number_rows T.value array.now)
+        (S.set_slots slots.old) (S.set_slots slots.new) }
+    ensures read { steps.new
+        ≡ steps.old + rows_read
+        (slot_state (T.value span.now.least) span.now.count (S.set_slots slots.old))
+        (number_rows T.value array.now) }
 {
     match array.validity() {
         Some(validity) => mark_under(slots, span, array.values(), validity, steps),

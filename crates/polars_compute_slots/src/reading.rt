@@ -1,7 +1,8 @@
 //! Contents of slots in a reading in which some values of the range mean null, as the keys to null
 //! entries of a dictionary do.
 
-ghost use Rattle.std.specs.Prelude.{◌≡◌, ◌+◌, ◌<◌, ◌≤◌, ◌^◌, ◌&&◌, ◌||◌, ℤ, Bool, false, cond, not, length, map, vec_len, vec_capacity, IfOk, MatchResult};
+ghost use Rattle.std.specs.Prelude.{◌≡◌, ◌+◌, ◌<◌, ◌≤◌, ◌^◌, ◌&&◌, ◌||◌, ℤ, Bool, false, cond, not};
+ghost use Rattle.std.specs.Prelude.{length, map, vec_len, vec_capacity, IfOk, MatchResult};
 ghost use Rattle.polars_arrays_bits.specs.Errors.{IsMemory};
 ghost use Rattle.polars_arrays_flat.specs.ArrayRows.{number_rows};
 ghost use Rattle.polars_arrays_flat.specs.Row.{Int};
@@ -82,7 +83,9 @@ pub fn read_counts<T: UniqueNumber, S: Slots, N: NullValues>(
     requires good { N.good nulls.now }
     requires size { length (S.set_slots slots.now) ≡ span.now.count + 1 }
     requires numbers { AreNumbers T.low T.high (T.value span.now.least) span.now.count }
-    ensures counted { IsCounted (read_by (N.is_null nulls.now) (slot_state (T.value span.now.least) span.now.count (S.set_slots slots.now))) result }
+    ensures counted { IsCounted
+        (read_by (N.is_null nulls.now)
+        (slot_state (T.value span.now.least) span.now.count (S.set_slots slots.now))) result }
     ensures few { result.seen + 1 < 2 ^ 64 }
 {
     if !nulls.may_be_null() {
@@ -112,8 +115,14 @@ fn list_values<T: UniqueNumber, S: Slots, N: NullValues>(
     requires good { N.good nulls.now }
     requires size { length (S.set_slots slots.now) ≡ span.now.count + 1 }
     requires numbers { AreNumbers T.low T.high (T.value span.now.least) span.now.count }
-    requires room { length (set_of (read_by (N.is_null nulls.now) (slot_state (T.value span.now.least) span.now.count (S.set_slots slots.now)))) < room }
-    ensures numbers { IfOk result (λ numbers. number_slots T.value numbers.items ≡ map Int (set_of (read_by (N.is_null nulls.now) (slot_state (T.value span.now.least) span.now.count (S.set_slots slots.now))))) }
+    requires room { length (set_of
+        (read_by (N.is_null nulls.now)
+        (slot_state (T.value span.now.least) span.now.count (S.set_slots slots.now)))) < room }
+    ensures numbers { IfOk result
+        (λ numbers. number_slots T.value numbers.items
+        ≡ map Int
+        (set_of (read_by (N.is_null nulls.now)
+        (slot_state (T.value span.now.least) span.now.count (S.set_slots slots.now))))) }
     ensures room { IfOk result (λ numbers. vec_len numbers < vec_capacity numbers) }
 {
     let mut numbers = Vec::with_capacity(alloc, room)?;
@@ -137,7 +146,11 @@ pub fn list_read<T: UniqueNumber, S: Slots, N: NullValues>(
     requires good { N.good nulls.now }
     requires size { length (S.set_slots slots.now) ≡ span.now.count + 1 }
     requires numbers { AreNumbers T.low T.high (T.value span.now.least) span.now.count }
-    ensures { MatchResult result (λ array. number_rows T.value array ≡ finalised Int (read_by (N.is_null nulls.now) (slot_state (T.value span.now.least) span.now.count (S.set_slots slots.now)))) IsMemory }
+    ensures { MatchResult result
+        (λ array. number_rows T.value array
+        ≡ finalised Int
+        (read_by (N.is_null nulls.now)
+        (slot_state (T.value span.now.least) span.now.count (S.set_slots slots.now)))) IsMemory }
 {
     if !nulls.may_be_null() {
         return list_set(alloc, slots, span);

@@ -1,6 +1,7 @@
 //! Slots that are set one by one. Up to 128 are stored in one word, and more in a bitmap.
 
-ghost use Rattle.std.specs.Prelude.{◌≡◌, ◌+◌, ◌<◌, ◌≤◌, ◌^◌, ◌||◌, List, Bool, true, false, length, count_by, take, replicate, slice_get, slice_set};
+ghost use Rattle.std.specs.Prelude.{◌≡◌, ◌+◌, ◌<◌, ◌≤◌, ◌^◌, ◌||◌, List, Bool, true, false, length};
+ghost use Rattle.std.specs.Prelude.{count_by, take, replicate, slice_get, slice_set};
 ghost use Rattle.std.specs.Simd.Lanes.{zip2};
 
 use polars_arrays_bits::mutable_bitmap::MutableBitmap;

@@ -1,6 +1,7 @@
 //! Ranges of states of numbers.
 
-ghost use Rattle.std.specs.Prelude.{◌≡◌, ◌<◌, ◌^◌, ◌+ℤ◌, ◌-ℤ◌, ◌≤ℤ◌, ◌<ℤ◌, ◌↔◌, pos, unsigned_abs, IsTrue};
+ghost use Rattle.std.specs.Prelude.{◌≡◌, ◌<◌, ◌^◌, ◌+ℤ◌, ◌-ℤ◌, ◌≤ℤ◌, ◌<ℤ◌, ◌↔◌, pos, unsigned_abs};
+ghost use Rattle.std.specs.Prelude.{IsTrue};
 ghost use Rattle.polars_arrays_flat.specs.Row.{Int};
 ghost use Rattle.polars_arrays_flat.specs.StoredRows.{kept};
 ghost use Rattle.polars_compute_slots.specs.Slots.{AreNumbers, HasSlot, place, slot_of};
@@ -90,7 +91,8 @@ impl<T: UniqueNumber> Span<T> {
     /// Returns whether a number is in the range.
     #[inline(always)]
     pub fn holds(&self, number: T) -> bool
-        ensures { IsTrue result ↔ HasSlot (T.value self.now.least) self.now.count (Int (T.value number)) }
+        ensures { IsTrue result
+            ↔ HasSlot (T.value self.now.least) self.now.count (Int (T.value number)) }
     {
         let count = self.count;
         match usize::try_from(number.whole() - self.least.whole()) {
@@ -101,7 +103,9 @@ impl<T: UniqueNumber> Span<T> {
 
     /// Returns whether two ranges have the same numbers.
     pub fn same(&self, other: &Span<T>) -> bool
-        ensures { IsTrue result ↔ (numbers_from (T.value self.now.least) self.now.count ≡ numbers_from (T.value other.now.least) other.now.count) }
+        ensures { IsTrue result
+            ↔ (numbers_from (T.value self.now.least) self.now.count
+            ≡ numbers_from (T.value other.now.least) other.now.count) }
     {
         self.count == other.count && (self.count == 0 || Equal.compare(self.least, other.least))
     }
@@ -110,8 +114,11 @@ impl<T: UniqueNumber> Span<T> {
     /// compiled without a branch.
     #[inline(always)]
     pub fn row_slot(&self, present: bool, number: T) -> usize
-        requires { HasSlot (T.value self.now.least) self.now.count (kept present (Int (T.value number))) }
-        ensures { result ≡ slot_of (T.value self.now.least) self.now.count (kept present (Int (T.value number))) }
+        requires { HasSlot (T.value self.now.least) self.now.count
+            (kept present (Int (T.value number))) }
+        ensures { result
+            ≡ slot_of (T.value self.now.least) self.now.count
+            (kept present (Int (T.value number))) }
     {
         if present {
             self.slot(number)

@@ -1,5 +1,6 @@
 -- States of the keys of a dictionary.
-use Rattle.std.specs.Prelude.{◌≡◌, ◌<ℤ◌, ◌≤◌, ◌&&◌, ℕ, ℤ, ltb, pos, negsuc, Bool, true, false, List, [], Option, Some, None, All, Contains, ⊤}
+use Rattle.std.specs.Prelude.{◌≡◌, ◌<ℤ◌, ◌≤◌, ◌&&◌, ℕ, ℤ, ltb, pos, negsuc, Bool, true, false, List}
+use Rattle.std.specs.Prelude.{[], Option, Some, None, All, Contains, ⊤}
 use Rattle.polars_arrays_bits.specs.declared.error.ComputeError.{ComputeError}
 use Rattle.polars_arrays_bits.specs.declared.error.ComputeError.TheVariants.{Memory, KeyOutOfRange}
 use Rattle.polars_arrays_flat.specs.ArrayRows.{is_null, number_rows}

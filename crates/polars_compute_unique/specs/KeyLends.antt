@@ -15,4 +15,6 @@ use Rattle.polars_compute_unique.specs.contracts.primitive.PrimitiveRangedUnique
 
 -- the state of the keys is the one last written through r
 abbrev pub lends_keys : MutBor KeyState → MutBor State → Fml
-lends_keys s r = Lends the_row (keys_row u32 ord eq partial_ord bounded number fixed_width zero add) s r (λ keys. record s.now { keys = keys })
+lends_keys s r =
+    Lends the_row (keys_row u32 ord eq partial_ord bounded number fixed_width zero add) s r
+    (λ keys. record s.now { keys = keys })

@@ -12,4 +12,8 @@ pub record KeyState : Type 0 where
 -- coded as its parts; the code of arrays is a parameter
 abbrev pub key_state_code : Coded AnyArray → Coded KeyState
 key_state_code code =
-    code_by (List (ℤ × Bool) × (Bool × AnyArray)) (coded× (coded_list (coded× coded_ℤ coded_bool)) (coded× coded_bool code)) (λ s. (s.keys.values, (s.keys.has_null, s.entries))) (λ p. record { keys = record { values = p.0; has_null = p.1.0 }; entries = p.1.1 }) (λ _. refl)
+    code_by (List (ℤ × Bool) × (Bool × AnyArray))
+    (coded× (coded_list (coded× coded_ℤ coded_bool)) (coded× coded_bool code))
+    (λ s. (s.keys.values, (s.keys.has_null, s.entries)))
+    (λ p. record { keys = record { values = p.0; has_null = p.1.0 }; entries = p.1.1 })
+    (λ _. refl)

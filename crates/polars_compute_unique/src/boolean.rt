@@ -1,9 +1,12 @@
 //! States of truth values.
 
-ghost use Rattle.std.specs.Prelude.{◌≡◌, ◌+◌, ◌++◌, ◌<◌, ◌≤◌, cond, count_by, [], ◌∷◌, pos, true, false, length, replicate, Some, None, if◌then◌else◌, IsTrue, MatchResult};
+ghost use Rattle.std.specs.Prelude.{◌≡◌, ◌+◌, ◌++◌, ◌<◌, ◌≤◌, cond, count_by, [], ◌∷◌, pos, true};
+ghost use Rattle.std.specs.Prelude.{false, length, replicate, Some, None, if◌then◌else◌, IsTrue};
+ghost use Rattle.std.specs.Prelude.{MatchResult};
 ghost use Rattle.polars_arrays_bits.specs.Errors.{IsMemory};
 ghost use Rattle.polars_arrays_flat.specs.ArrayRows.{truth_rows};
-ghost use Rattle.polars_compute_slots.specs.State.{any_null, appended, holds, is_value, new_state, truth_numbers};
+ghost use Rattle.polars_compute_slots.specs.State.{any_null, appended, holds, is_value, new_state};
+ghost use Rattle.polars_compute_slots.specs.State.{truth_numbers};
 ghost use Rattle.polars_compute_unique.specs.Truths.{seen_bits};
 
 use crate::kernel::{GenericUniqueKernel, RangedUniqueKernel};
@@ -30,7 +33,8 @@ impl Model for BooleanUniqueKernelState {
 
     ghost Value = { State };
 
-    ghost view = { λ s. record { values = (pos 0, s.seen_false) ∷ (pos 1, s.seen_true) ∷ []; has_null = s.seen_null } };
+    ghost view = { λ s. record
+        { values = (pos 0, s.seen_false) ∷ (pos 1, s.seen_true) ∷ []; has_null = s.seen_null } };
 }
 
 // The distinct values of rows.
@@ -122,7 +126,9 @@ fn seen_validity(
     seen_null: bool,
 ) -> Result<Option<Bitmap>, ComputeError>
     requires { present ≤ 2 }
-    ensures { MatchResult result (λ validity. validity ≡ (if seen_null then Some (replicate present true ++ false ∷ []) else None)) IsMemory }
+    ensures { MatchResult result
+        (λ validity. validity
+        ≡ (if seen_null then Some (replicate present true ++ false ∷ []) else None)) IsMemory }
 {
     if seen_null {
         let bits = last_masked(alloc, present)?;

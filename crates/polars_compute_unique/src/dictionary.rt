@@ -1,7 +1,8 @@
 //! States of the keys of dictionaries.
 
 ghost use Rattle.std.specs.Borrow.{sem};
-ghost use Rattle.std.specs.Prelude.{◌≡◌, ◌↔◌, ◌+◌, ◌<◌, ◌≤◌, ◌^◌, pos, IfOk, IsOk, IsTrue, MatchResult, Some};
+ghost use Rattle.std.specs.Prelude.{◌≡◌, ◌↔◌, ◌+◌, ◌<◌, ◌≤◌, ◌^◌, pos, IfOk, IsOk, IsTrue};
+ghost use Rattle.std.specs.Prelude.{MatchResult, Some};
 ghost use Rattle.polars_arrays_bits.specs.Errors.{IsMemory};
 ghost use Rattle.polars_arrays_flat.specs.ArrayRows.{number_rows};
 ghost use Rattle.polars_arrays_flat.specs.Row.{Int};
@@ -11,7 +12,8 @@ ghost use Rattle.polars_arrays_nested.specs.Parts.{dictionary_keys, dictionary_v
 ghost use Rattle.polars_arrays_nested.specs.declared.any_array.AnyArray.{Dictionary};
 ghost use Rattle.polars_compute_slots.specs.Slots.{IsCounted};
 ghost use Rattle.polars_compute_slots.specs.State.{finalised, new_state, numbers_from, read_by};
-ghost use Rattle.polars_compute_unique.specs.Dictionaries.{IsFinalFault, IsMissingKey, NamesEntries, names_null};
+ghost use Rattle.polars_compute_unique.specs.Dictionaries.{IsFinalFault, IsMissingKey};
+ghost use Rattle.polars_compute_unique.specs.Dictionaries.{NamesEntries, names_null};
 
 use crate::kernel::RangedUniqueKernel;
 use crate::primitive::PrimitiveRangedUniqueState;
@@ -78,7 +80,10 @@ impl DictionaryRangedUniqueState {
     pub fn new(alloc: Global, values: AnyArray) -> Result<DictionaryRangedUniqueState, ComputeError>
         requires good { IsGood values }
         requires fit { len_of values ≤ 2 ^ 32 }
-        ensures state { MatchResult result (λ state. state ≡ record { keys = new_state (numbers_from (pos 0) (len_of values)); entries = values }) IsMemory }
+        ensures state { MatchResult result
+            (λ state. state
+            ≡ record { keys = new_state (numbers_from (pos 0) (len_of values)); entries = values })
+            IsMemory }
         ensures few { len_of values ≤ 127 → IsOk result }
     {
         match new_keys(alloc, values.len()) {
@@ -141,7 +146,8 @@ fn keyed_array(
 ) -> Result<DictionaryArray, ComputeError>
     requires good { IsGood entries }
     requires named { AreKeys (len_of entries) (DictKeys.UInt32 keys) }
-    ensures keys { MatchResult result (λ array. dictionary_keys array ≡ DictKeys.UInt32 keys) IsMemory }
+    ensures keys { MatchResult result
+        (λ array. dictionary_keys array ≡ DictKeys.UInt32 keys) IsMemory }
     ensures entries { IfOk result (λ array. dictionary_values array ≡ entries) }
     ensures good { IfOk result (λ array. IsGood (Dictionary array)) }
 {
@@ -209,7 +215,10 @@ fn named_keys(
     entries: &AnyArray,
 ) -> Result<PrimitiveArray<u32>, ComputeError>
     requires good { IsGood entries.now }
-    ensures rows { MatchResult result (λ array. number_rows (λ x. pos x) array ≡ finalised (λ v. Int v) (read_by (names_null entries.now) keys)) (IsFinalFault (Some entries.now) keys) }
+    ensures rows { MatchResult result
+        (λ array. number_rows (λ x. pos x) array
+        ≡ finalised (λ v. Int v) (read_by (names_null entries.now) keys))
+        (IsFinalFault (Some entries.now) keys) }
     ensures entries { IfOk result (λ _. NamesEntries (len_of entries.now) keys) }
 {
     name_entries(&keys, entries.len())?;

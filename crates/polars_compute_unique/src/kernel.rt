@@ -1,13 +1,17 @@
 //! Traits of states that collect distinct values, and of arrays that have distinct values.
 
-ghost use Rattle.std.specs.Prelude.{◌≡◌, ◌↔◌, ◌&&◌, ◌++◌, ℤ, Bool, List, Option, IsTrue, IfOk, MatchResult, All, length};
+ghost use Rattle.std.specs.Prelude.{◌≡◌, ◌↔◌, ◌&&◌, ◌++◌, ℤ, Bool, List, Option, IsTrue, IfOk};
+ghost use Rattle.std.specs.Prelude.{MatchResult, All, length};
 ghost use Rattle.polars_arrays_bits.specs.Errors.{IsMemory};
 ghost use Rattle.polars_arrays_flat.specs.Row.{Row};
 ghost use Rattle.polars_arrays_flat.specs.StoredRows.{rows_under};
 ghost use Rattle.polars_arrays_nested.specs.declared.any_array.AnyArray.{AnyArray};
-ghost use Rattle.polars_compute_slots.specs.State.{State, all_seen, appended, are_within, distinct, distinct_values, finalised, merged, range_of, set_of};
+ghost use Rattle.polars_compute_slots.specs.State.{State, all_seen, appended, are_within, distinct};
+ghost use Rattle.polars_compute_slots.specs.State.{distinct_values, finalised, merged, range_of};
+ghost use Rattle.polars_compute_slots.specs.State.{set_of};
 ghost use Rattle.polars_compute_unique.specs.Dictionaries.{HasEntries, IsFinalFault};
-ghost use Rattle.polars_compute_unique.specs.Sorted.{AreAdjacent, AreDistinct, CountsDistinct, CountsPresent, rows_of_all};
+ghost use Rattle.polars_compute_unique.specs.Sorted.{AreAdjacent, AreDistinct, CountsDistinct};
+ghost use Rattle.polars_compute_unique.specs.Sorted.{CountsPresent, rows_of_all};
 
 use polars_arrays_bits::error::ComputeError;
 use polars_arrays_flat::array::Array;
@@ -50,7 +54,8 @@ pub trait RangedUniqueKernel {
     /// Returns whether the state accepts the array: each present row is in the range, and a
     /// dictionary has keys of type `u32`.
     fn accepts(&self, array: &Self::Array) -> bool
-        ensures { result ≡ (is_taken array.now && are_within (range_of (state self.now)) (fed array.now)) };
+        ensures { result
+            ≡ (is_taken array.now && are_within (range_of (state self.now)) (fed array.now)) };
 
     /// Returns whether two states have the same range.
     fn same_range(&self, other: &Self) -> bool
@@ -77,7 +82,9 @@ pub trait RangedUniqueKernel {
     ///
     /// The array is of a type that states accept: a dictionary has keys of type `u32`.
     fn finalize_unique(self, alloc: Global) -> Result<Self::Array, ComputeError>
-        ensures rows { MatchResult result (λ array. fed array ≡ finalised value_row (read self)) (IsFinalFault (dictionary self) (state self)) }
+        ensures rows { MatchResult result
+            (λ array. fed array ≡ finalised value_row (read self))
+            (IsFinalFault (dictionary self) (state self)) }
         ensures entries { IfOk result (λ array. HasEntries (dictionary self) (state self)) }
         ensures dictionary { IfOk result (λ array. array_dictionary array ≡ dictionary self) }
         ensures taken { IfOk result (λ array. IsTrue (is_taken array)) }
@@ -104,7 +111,8 @@ pub trait GenericUniqueKernel: Sized {
     /// Returns the distinct rows, ascending, and a null last, if there is one. The error is
     /// `Memory`.
     fn unique(&self, alloc: Global) -> Result<Self, ComputeError>
-        ensures { MatchResult result (λ unique. rows unique ≡ distinct value_row range (rows self.now)) IsMemory };
+        ensures { MatchResult result
+            (λ unique. rows unique ≡ distinct value_row range (rows self.now)) IsMemory };
 
     /// Returns the number of distinct rows, including null.
     fn n_unique(&self) -> usize
@@ -126,8 +134,14 @@ pub trait SortedUniqueKernel: Sized + Array {
         requires good { Self.good fst.now }
         requires all_good { All (λ array. Self.good array.now) others.now }
         requires one_type { All (λ array. Self.same_type fst.now array.now) others.now }
-        requires adjacent { AreAdjacent (rows_under (Self.mask fst.now) (Self.slots fst.now) ++ rows_of_all (λ array. rows_under (Self.mask array) (Self.slots array)) others.now) }
-        ensures rows { MatchResult result (λ unique. AreDistinct (rows_under (Self.mask fst.now) (Self.slots fst.now) ++ rows_of_all (λ array. rows_under (Self.mask array) (Self.slots array)) others.now) (rows_under (Self.mask unique) (Self.slots unique))) IsMemory }
+        requires adjacent { AreAdjacent
+            (rows_under (Self.mask fst.now) (Self.slots fst.now)
+            ++ rows_of_all (λ array. rows_under (Self.mask array) (Self.slots array)) others.now) }
+        ensures rows { MatchResult result
+            (λ unique. AreDistinct
+            (rows_under (Self.mask fst.now) (Self.slots fst.now)
+            ++ rows_of_all (λ array. rows_under (Self.mask array) (Self.slots array)) others.now)
+            (rows_under (Self.mask unique) (Self.slots unique))) IsMemory }
         ensures good { IfOk result (λ unique. Self.good unique) }
         ensures one_type { IfOk result (λ unique. Self.same_type fst.now unique) };
 
@@ -138,7 +152,9 @@ pub trait SortedUniqueKernel: Sized + Array {
     fn unique(&self, alloc: Global) -> Result<Self, ComputeError>
         requires good { Self.good self.now }
         requires adjacent { AreAdjacent (rows_under (Self.mask self.now) (Self.slots self.now)) }
-        ensures rows { MatchResult result (λ unique. AreDistinct (rows_under (Self.mask self.now) (Self.slots self.now)) (rows_under (Self.mask unique) (Self.slots unique))) IsMemory }
+        ensures rows { MatchResult result
+            (λ unique. AreDistinct (rows_under (Self.mask self.now) (Self.slots self.now))
+            (rows_under (Self.mask unique) (Self.slots unique))) IsMemory }
         ensures good { IfOk result (λ unique. Self.good unique) }
         ensures one_type { IfOk result (λ unique. Self.same_type self.now unique) };
 

@@ -9,7 +9,8 @@ use crate::kernel::RangedUniqueKernel;
 /// Appends all arrays, in order. Does not allocate.
 pub fn append_all<S: RangedUniqueKernel>(state: &mut S, arrays: &[S::Array])
     requires taken { All (λ array. IsTrue (S.is_taken array)) arrays.now }
-    requires within { All (λ array. IsTrue (are_within (range_of (S.state state.old)) (S.fed array))) arrays.now }
+    requires within { All (λ array. IsTrue (are_within (range_of (S.state state.old)) (S.fed array)))
+        arrays.now }
     ensures state { S.state state.new ≡ appended_all (map S.fed arrays.now) (S.state state.old) }
     ensures dictionary { S.dictionary state.new ≡ S.dictionary state.old }
 {
@@ -48,7 +49,8 @@ impl<S: RangedUniqueKernel> MergeTree<S> {
 
     /// Returns whether all states have one range.
     pub fn one_range(&self) -> bool
-        ensures { IsTrue result ↔ HaveRange S.state (range_of (S.state (leftmost self.now))) self.now }
+        ensures { IsTrue result
+            ↔ HaveRange S.state (range_of (S.state (leftmost self.now))) self.now }
     {
         self.has_range_of(self.leftmost())
     }

@@ -1,12 +1,16 @@
 //! States of numbers in a range.
 
-ghost use Rattle.std.specs.Prelude.{◌≡◌, ◌↔◌, ◌+◌, ◌<◌, ◌≤◌, ◌^◌, ◌||◌, ◌+ℤ◌, ◌-ℤ◌, ◌<ℤ◌, ◌≤ℤ◌, [], pos, true, false, IsOk, IsTrue, nat_le, MatchOption, MatchResult, All, None, length, replicate};
+ghost use Rattle.std.specs.Prelude.{◌≡◌, ◌↔◌, ◌+◌, ◌<◌, ◌≤◌, ◌^◌, ◌||◌, ◌+ℤ◌, ◌-ℤ◌, ◌<ℤ◌, ◌≤ℤ◌, []};
+ghost use Rattle.std.specs.Prelude.{pos, true, false, IsOk, IsTrue, nat_le, MatchOption};
+ghost use Rattle.std.specs.Prelude.{MatchResult, All, None, length, replicate};
 ghost use Rattle.std.specs.Simd.Lanes.{zip2};
 ghost use Rattle.polars_arrays_bits.specs.Errors.{IsMemory};
 ghost use Rattle.polars_arrays_flat.specs.ArrayRows.{number_rows};
 ghost use Rattle.polars_arrays_flat.specs.Row.{Int};
 ghost use Rattle.polars_compute_slots.specs.Slots.{IsCounted};
-ghost use Rattle.polars_compute_slots.specs.State.{IsLeastFrom, RangeFits, appended, are_within, finalised, new_state, numbers_between, range_of, read_by, rows_read, set_of};
+ghost use Rattle.polars_compute_slots.specs.State.{IsLeastFrom, RangeFits, appended, are_within};
+ghost use Rattle.polars_compute_slots.specs.State.{finalised, new_state, numbers_between, range_of};
+ghost use Rattle.polars_compute_slots.specs.State.{read_by, rows_read, set_of};
 ghost use Rattle.polars_compute_unique.specs.Seen.{in_word, seen_slots};
 
 use crate::kernel::RangedUniqueKernel;
@@ -96,7 +100,9 @@ impl<T: UniqueNumber> PrimitiveRangedUniqueState<T> {
         max_value: T,
     ) -> Result<PrimitiveRangedUniqueState<T>, ComputeError>
         requires { RangeFits (T.value min_value) (T.value max_value) }
-        ensures state { MatchResult result (λ state. state ≡ new_state (numbers_between (T.value min_value) (T.value max_value))) IsMemory }
+        ensures state { MatchResult result
+            (λ state. state ≡ new_state (numbers_between (T.value min_value) (T.value max_value)))
+            IsMemory }
         ensures few { (T.value max_value -ℤ T.value min_value +ℤ pos 2) ≤ℤ pos 128 → IsOk result }
     {
         let span = Span::between(min_value, max_value);
@@ -152,7 +158,9 @@ impl<T: UniqueNumber> PrimitiveRangedUniqueState<T> {
         nulls: &N,
     ) -> Result<PrimitiveArray<T>, ComputeError>
         requires { N.good nulls.now }
-        ensures { MatchResult result (λ array. number_rows T.value array ≡ finalised Int (read_by (N.is_null nulls.now) self.now)) IsMemory }
+        ensures { MatchResult result
+            (λ array. number_rows T.value array
+            ≡ finalised Int (read_by (N.is_null nulls.now) self.now)) IsMemory }
     {
         match &self.seen {
             Seen::Few(slots) => list_read(alloc, slots, &self.span, nulls),
@@ -162,7 +170,8 @@ impl<T: UniqueNumber> PrimitiveRangedUniqueState<T> {
 
     // Returns the least number seen that is at least a bound.
     pub(crate) fn least_from(&self, bound: i128) -> Option<T>
-        ensures { MatchOption result (All (λ v. v <ℤ bound) (set_of self.now)) (λ x. IsLeastFrom bound (set_of self.now) (T.value x)) }
+        ensures { MatchOption result (All (λ v. v <ℤ bound) (set_of self.now))
+            (λ x. IsLeastFrom bound (set_of self.now) (T.value x)) }
     {
         match &self.seen {
             Seen::Few(slots) => least_from(slots, &self.span, bound),

@@ -4,7 +4,8 @@ use Rattle.std.specs.Str.{bytes_eq}
 use Rattle.std.specs.declared.io.ErrorKind.{ErrorKind}
 use Rattle.std.specs.declared.io.ErrorKind.TheVariants.{OutOfMemory}
 use Rattle.polars_tables_lines.specs.declared.program.Command.{Command}
-use Rattle.polars_tables_lines.specs.declared.program.Command.TheVariants.{Lines, Demo, Help, Version, Usage}
+use Rattle.polars_tables_lines.specs.declared.program.Command.TheVariants.{Lines, Demo, Help}
+use Rattle.polars_tables_lines.specs.declared.program.Command.TheVariants.{Version, Usage}
 use Rattle.polars_tables_lines.specs.declared.running.Report.{Report}
 use Rattle.polars_tables_lines.specs.declared.running.RunError.{RunError}
 use Rattle.polars_tables_lines.specs.declared.running.RunError.TheVariants.{Read, Write, Memory}

@@ -1,11 +1,13 @@
 -- The output for an input of lines.
-use Rattle.std.specs.Prelude.{◌≡◌, ℕ, ◌+◌, ◌==◌, if◌then◌else◌, List, [], ◌∷◌, ◌++◌, length, codes, Result, Ok, Err}
+use Rattle.std.specs.Prelude.{◌≡◌, ℕ, ◌+◌, ◌==◌, if◌then◌else◌, List, [], ◌∷◌, ◌++◌, length, codes}
+use Rattle.std.specs.Prelude.{Result, Ok, Err}
 use Rattle.std.specs.Result.{is_err}
 use Rattle.std.specs.List.{slice_split}
 use Rattle.std.specs.Str.{is_utf8}
 use Rattle.std.specs.Fmt.{decimal}
 use Rattle.polars_tables_rows.specs.declared.fault.LineError.{LineError}
-use Rattle.polars_tables_rows.specs.declared.fault.LineError.TheVariants.{Op, TypeName, Row, Length, Range, Memory}
+use Rattle.polars_tables_rows.specs.declared.fault.LineError.TheVariants.{Op, TypeName, Row, Length}
+use Rattle.polars_tables_rows.specs.declared.fault.LineError.TheVariants.{Range, Memory}
 use Rattle.polars_tables_lines.specs.declared.running.Report.{Report}
 use Rattle.polars_tables_lines.specs.Line.{line_meaning}
 
@@ -44,7 +46,8 @@ printed number (Err fault) = refusal number fault
 -- the output of lines, given the number of the first one
 abbrev pub output_from : ℕ → List (List ℕ) → List ℕ
 output_from number [] = []
-output_from number (line ∷ more) = printed number (meaning_of line) ++ 10 ∷ output_from (number + 1) more
+output_from number (line ∷ more) = printed number (meaning_of line)
+    ++ 10 ∷ output_from (number + 1) more
 
 -- the output for an input: for each line its text and a line feed
 abbrev pub output_of : List ℕ → List ℕ

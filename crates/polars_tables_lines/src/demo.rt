@@ -13,7 +13,8 @@ use std::io::Write;
 /// nothing is written.
 pub fn demo<W: Write>(alloc: Global, writer: &mut W) -> Result<(), RunError>
     // Writes nothing on an error, except if a write failed.
-    ensures unwritten { IfErr result (λ e. (e ≡ RunError.Write) ⊎ Keeps (W.contents writer.old) (W.contents writer.new)) }
+    ensures unwritten { IfErr result
+        (λ e. (e ≡ RunError.Write) ⊎ Keeps (W.contents writer.old) (W.contents writer.new)) }
 {
     let text = demo_text(alloc)?;
     write_text(writer, &text)

@@ -1,11 +1,13 @@
 //! The program's run: reads an input, and writes the results of its lines.
 
-ghost use Rattle.std.specs.Prelude.{◌≡◌, ◌⊎◌, ◌++◌, ◌∷◌, [], length, vec_len, ◌<◌, ◌==◌, ◌+◌, ◌^◌, IfOk, IfErr, IfSome, OnOk};
+ghost use Rattle.std.specs.Prelude.{◌≡◌, ◌⊎◌, ◌++◌, ◌∷◌, [], length, vec_len, ◌<◌, ◌==◌, ◌+◌, ◌^◌};
+ghost use Rattle.std.specs.Prelude.{IfOk, IfErr, IfSome, OnOk};
 ghost use Rattle.std.specs.List.{position};
 ghost use Rattle.std.specs.String.{string_bytes};
 ghost use Rattle.std.specs.Io.KnownBytes.{Appends, Keeps};
 ghost use Rattle.polars_tables_rows.specs.Faults.{Tells};
-ghost use Rattle.polars_tables_lines.specs.Output.{fault_word, meaning_of, refusal, lines_of, output_of, Reports};
+ghost use Rattle.polars_tables_lines.specs.Output.{fault_word, meaning_of, refusal, lines_of};
+ghost use Rattle.polars_tables_lines.specs.Output.{output_of, Reports};
 ghost use Rattle.polars_tables_lines.specs.Answers.{AddsLine};
 ghost use Rattle.polars_tables_lines.specs.Reading.{ReadsOn};
 ghost use Rattle.polars_tables_lines.specs.declared.running.RunError.TheVariants.{Memory};
@@ -65,7 +67,9 @@ fn read_once<R: Read>(
 ) -> Result<bool, RunError>
     requires { 0 < vec_len chunk.old }
     ensures room { vec_len chunk.new ≡ vec_len chunk.old }
-    ensures bytes { IfOk result (λ ended. ReadsOn (R.remaining reader.old) (R.remaining reader.new) input.old.items input.new.items ended) }
+    ensures bytes { IfOk result
+        (λ ended. ReadsOn (R.remaining reader.old) (R.remaining reader.new) input.old.items
+        input.new.items ended) }
     ensures fault { IfErr result (λ e. (e ≡ RunError.Read) ⊎ (e ≡ RunError.Memory)) }
 {
     match reader.read(chunk.as_mut_slice()) {
@@ -137,7 +141,8 @@ fn push_refusal(
     number: u64,
     fault: &LineError,
 ) -> Result<(), AllocError>
-    ensures { OnOk result (string_bytes text.new ≡ string_bytes text.old ++ refusal number fault.now) }
+    ensures { OnOk result
+        (string_bytes text.new ≡ string_bytes text.old ++ refusal number fault.now) }
 {
     let digits = number.to_string(alloc)?;
     text.push_str("line ")?;

@@ -4,7 +4,11 @@ use Rattle.polars_arrays_flat.specs.Row.{Row, Int, Truth}
 use Rattle.polars_arrays_numbers.specs.Wrapping.{wrapped}
 use Rattle.polars_compute_bits.specs.Bitwise.{leading_run, trailing_run}
 use Rattle.polars_tables_operations.specs.declared.operation.BitCount.{BitCount}
-use Rattle.polars_tables_operations.specs.declared.operation.BitCount.TheVariants.{Ones, Zeros, LeadingOnes, LeadingZeros, TrailingOnes, TrailingZeros}
+use Rattle.polars_tables_operations.specs.declared.operation.BitCount.TheVariants.{Ones, Zeros}
+use Rattle.polars_tables_operations.specs.declared.operation.BitCount.TheVariants.{LeadingOnes}
+use Rattle.polars_tables_operations.specs.declared.operation.BitCount.TheVariants.{LeadingZeros}
+use Rattle.polars_tables_operations.specs.declared.operation.BitCount.TheVariants.{TrailingOnes}
+use Rattle.polars_tables_operations.specs.declared.operation.BitCount.TheVariants.{TrailingZeros}
 use Rattle.polars_tables_rows.specs.declared.row_type.RowType.{RowType}
 use Rattle.polars_tables_rows.specs.Types.{is_boolean, least_in, width_of}
 
@@ -29,4 +33,6 @@ lowest_bit (b ∷ bits) = b
 
 -- the row of a type that has these bits
 abbrev pub bits_row : RowType → List Bool → Row
-bits_row type bits = cond (is_boolean type) (Truth (lowest_bit bits)) (Int (wrapped (least_in type) (width_of type) (pos (bits_value bits))))
+bits_row type bits =
+    cond (is_boolean type) (Truth (lowest_bit bits))
+    (Int (wrapped (least_in type) (width_of type) (pos (bits_value bits))))

@@ -1,11 +1,20 @@
 -- Calculations with numbers.
-use Rattle.polars_compute_arithmetic.specs.Operations.{Function, Operation, difference_of, floor_division, magnitude_of, modulo, negation_of, product_of, sum_of, truncated_division}
+use Rattle.polars_compute_arithmetic.specs.Operations.{Function, Operation, difference_of}
+use Rattle.polars_compute_arithmetic.specs.Operations.{floor_division, magnitude_of, modulo}
+use Rattle.polars_compute_arithmetic.specs.Operations.{negation_of, product_of, sum_of}
+use Rattle.polars_compute_arithmetic.specs.Operations.{truncated_division}
 use Rattle.polars_tables_operations.specs.declared.operation.Calculation.{Calculation}
-use Rattle.polars_tables_operations.specs.declared.operation.Calculation.TheVariants.{Add, Multiply, Ordered}
+use Rattle.polars_tables_operations.specs.declared.operation.Calculation.TheVariants.{Add, Multiply}
+use Rattle.polars_tables_operations.specs.declared.operation.Calculation.TheVariants.{Ordered}
 use Rattle.polars_tables_operations.specs.declared.operation.Change.{Change}
-use Rattle.polars_tables_operations.specs.declared.operation.Change.TheVariants.{Magnitude, Negation}
+use Rattle.polars_tables_operations.specs.declared.operation.Change.TheVariants.{Magnitude}
+use Rattle.polars_tables_operations.specs.declared.operation.Change.TheVariants.{Negation}
 use Rattle.polars_tables_operations.specs.declared.operation.OrderedCalculation.{OrderedCalculation}
-use Rattle.polars_tables_operations.specs.declared.operation.OrderedCalculation.TheVariants.{Subtract, FloorDivide, TruncatedDivide, Modulo, LegacyDivide}
+use Rattle.polars_tables_operations.specs.declared.operation.OrderedCalculation.TheVariants.{Subtract}
+use Rattle.polars_tables_operations.specs.declared.operation.OrderedCalculation.TheVariants.{FloorDivide}
+use Rattle.polars_tables_operations.specs.declared.operation.OrderedCalculation.TheVariants.{TruncatedDivide}
+use Rattle.polars_tables_operations.specs.declared.operation.OrderedCalculation.TheVariants.{Modulo}
+use Rattle.polars_tables_operations.specs.declared.operation.OrderedCalculation.TheVariants.{LegacyDivide}
 
 -- a function of one number
 abbrev pub change_of : Change → Function

@@ -1,5 +1,6 @@
 -- The results of comparisons of rows.
-use Rattle.std.specs.Prelude.{◌≡◌, ◌<◌, ◌||◌, ℕ, Bool, true, false, cond, List, length, Option, None, slice_index_or}
+use Rattle.std.specs.Prelude.{◌≡◌, ◌<◌, ◌||◌, ℕ, Bool, true, false, cond, List, length, Option}
+use Rattle.std.specs.Prelude.{None, slice_index_or}
 use Rattle.std.specs.Simd.Lanes.{zip2}
 use Rattle.polars_arrays_flat.specs.ArrayRows.{is_null}
 use Rattle.polars_arrays_flat.specs.Row.{Row, Null, Truth}
@@ -8,7 +9,13 @@ use Rattle.polars_compare_leaves.specs.Sameness.{same_row, other_row}
 use Rattle.polars_compare_leaves.specs.Order.{row_less, row_at_most, row_greater, row_at_least}
 use Rattle.polars_compute_arithmetic.specs.Maps.{joined_validity}
 use Rattle.polars_tables_operations.specs.declared.operation.Comparison.{Comparison}
-use Rattle.polars_tables_operations.specs.declared.operation.Comparison.TheVariants.{Equal, Unequal, Less, LessOrEqual, Greater, GreaterOrEqual, EqualMissing, UnequalMissing}
+use Rattle.polars_tables_operations.specs.declared.operation.Comparison.TheVariants.{Equal, Unequal}
+use Rattle.polars_tables_operations.specs.declared.operation.Comparison.TheVariants.{Less}
+use Rattle.polars_tables_operations.specs.declared.operation.Comparison.TheVariants.{LessOrEqual}
+use Rattle.polars_tables_operations.specs.declared.operation.Comparison.TheVariants.{Greater}
+use Rattle.polars_tables_operations.specs.declared.operation.Comparison.TheVariants.{GreaterOrEqual}
+use Rattle.polars_tables_operations.specs.declared.operation.Comparison.TheVariants.{EqualMissing}
+use Rattle.polars_tables_operations.specs.declared.operation.Comparison.TheVariants.{UnequalMissing}
 
 -- null if either row is null, else the test of the two
 abbrev pub if_present : (Row → Row → Bool) → Row → Row → Row
@@ -30,9 +37,11 @@ abbrev pub compared_rows : Comparison → List Row → List Row → List Row
 compared_rows comparison left right = zip2 (compared comparison) left right
 
 -- Bits of a comparison: one for each row, right if the result is a truth value, else arbitrary.
-pub record ComparesRows (comparison : Comparison) (left right : List Row) (bits : List Bool) : Type 0 where
+pub record ComparesRows (comparison : Comparison) (left right : List Row) (bits : List Bool) :
+    Type 0 where
   pub size : length bits ≡ length left
-  pub at_truth : (i : ℕ) (truth : Bool) → i < length left → compared comparison (row left i) (row right i) ≡ Truth truth
+  pub at_truth : (i : ℕ) (truth : Bool) → i < length left
+      → compared comparison (row left i) (row right i) ≡ Truth truth
       → slice_index_or bits i false ≡ truth
 
 -- the last two comparisons, in which null is equal to null alone
@@ -42,5 +51,7 @@ is_missing UnequalMissing = true
 is_missing comparison = false
 
 -- the validity of the results of a comparison of two lists of rows with these validities
-abbrev pub answer_validity : Comparison → Option (List Bool) → Option (List Bool) → Option (List Bool)
-answer_validity comparison left right = cond (is_missing comparison) None (joined_validity left right)
+abbrev pub answer_validity : Comparison → Option (List Bool) → Option (List Bool)
+    → Option (List Bool)
+answer_validity comparison left right =
+    cond (is_missing comparison) None (joined_validity left right)

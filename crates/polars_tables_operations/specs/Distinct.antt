@@ -1,9 +1,12 @@
 -- Questions about distinct rows.
-use Rattle.std.specs.Prelude.{◌-ℤ◌, ◌&&◌, ℤ, pos, Bool, cond, int_lt, not, List, [], ◌∷◌, length, Result, Err}
+use Rattle.std.specs.Prelude.{◌-ℤ◌, ◌&&◌, ℤ, pos, Bool, cond, int_lt, not, List, [], ◌∷◌, length}
+use Rattle.std.specs.Prelude.{Result, Err}
 use Rattle.polars_arrays_flat.specs.Row.{Row, Int}
-use Rattle.polars_compute_slots.specs.State.{State, appended, are_within, finalised, new_state, numbers_between, set_of}
+use Rattle.polars_compute_slots.specs.State.{State, appended, are_within, finalised, new_state}
+use Rattle.polars_compute_slots.specs.State.{numbers_between, set_of}
 use Rattle.polars_tables_operations.specs.declared.operation.Distinct.{Distinct}
-use Rattle.polars_tables_operations.specs.declared.operation.Distinct.TheVariants.{Listed, Counted, PresentCounted}
+use Rattle.polars_tables_operations.specs.declared.operation.Distinct.TheVariants.{Listed, Counted}
+use Rattle.polars_tables_operations.specs.declared.operation.Distinct.TheVariants.{PresentCounted}
 use Rattle.polars_tables_rows.specs.declared.fault.LineError.{LineError}
 use Rattle.polars_tables_rows.specs.declared.fault.LineError.TheVariants.{Range}
 
@@ -18,6 +21,8 @@ abbrev pub are_ends : ℤ → ℤ → Bool
 are_ends first last = not (int_lt last first) && int_lt (last -ℤ first) (pos 1000000)
 
 -- the result for the state of a range and appended rows, or the fault of the range or of a row
-abbrev pub of_state : {B : Type 0} → ℤ → ℤ → List Row → (State → Result B LineError) → Result B LineError
+abbrev pub of_state : {B : Type 0} → ℤ → ℤ → List Row → (State → Result B LineError)
+    → Result B LineError
 of_state first last rows answer =
-    cond (are_ends first last && are_within (numbers_between first last) rows) (answer (appended rows (new_state (numbers_between first last)))) (Err Range)
+    cond (are_ends first last && are_within (numbers_between first last) rows)
+    (answer (appended rows (new_state (numbers_between first last)))) (Err Range)

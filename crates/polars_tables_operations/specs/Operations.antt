@@ -1,17 +1,45 @@
 -- The operations: their names, and the types of rows that they accept.
 use Rattle.std.specs.Prelude.{ℕ, Bool, true, not, List, [], ◌∷◌, codes, Option}
-use Rattle.polars_tables_operations.specs.declared.operation.BitCount.TheVariants.{Ones, Zeros, LeadingOnes, LeadingZeros, TrailingOnes, TrailingZeros}
-use Rattle.polars_tables_operations.specs.declared.operation.Calculation.TheVariants.{Add, Multiply, Ordered}
-use Rattle.polars_tables_operations.specs.declared.operation.Change.TheVariants.{Magnitude, Negation}
-use Rattle.polars_tables_operations.specs.declared.operation.Comparison.TheVariants.{Equal, Unequal, Less, LessOrEqual, Greater, GreaterOrEqual, EqualMissing, UnequalMissing}
-use Rattle.polars_tables_operations.specs.declared.operation.Distinct.TheVariants.{Listed, Counted, PresentCounted}
-use Rattle.polars_tables_operations.specs.declared.operation.GeneralOperation.TheVariants.{Compare, CountBits, Reduce, Extremes}
-use Rattle.polars_tables_operations.specs.declared.operation.NumericOperation.TheVariants.{Change, Calculate, CalculateFromScalar, Sum, DistinctInRange, HasAllOfRange}
+use Rattle.polars_tables_operations.specs.declared.operation.BitCount.TheVariants.{Ones, Zeros}
+use Rattle.polars_tables_operations.specs.declared.operation.BitCount.TheVariants.{LeadingOnes}
+use Rattle.polars_tables_operations.specs.declared.operation.BitCount.TheVariants.{LeadingZeros}
+use Rattle.polars_tables_operations.specs.declared.operation.BitCount.TheVariants.{TrailingOnes}
+use Rattle.polars_tables_operations.specs.declared.operation.BitCount.TheVariants.{TrailingZeros}
+use Rattle.polars_tables_operations.specs.declared.operation.Calculation.TheVariants.{Add, Multiply}
+use Rattle.polars_tables_operations.specs.declared.operation.Calculation.TheVariants.{Ordered}
+use Rattle.polars_tables_operations.specs.declared.operation.Change.TheVariants.{Magnitude}
+use Rattle.polars_tables_operations.specs.declared.operation.Change.TheVariants.{Negation}
+use Rattle.polars_tables_operations.specs.declared.operation.Comparison.TheVariants.{Equal, Unequal}
+use Rattle.polars_tables_operations.specs.declared.operation.Comparison.TheVariants.{Less}
+use Rattle.polars_tables_operations.specs.declared.operation.Comparison.TheVariants.{LessOrEqual}
+use Rattle.polars_tables_operations.specs.declared.operation.Comparison.TheVariants.{Greater}
+use Rattle.polars_tables_operations.specs.declared.operation.Comparison.TheVariants.{GreaterOrEqual}
+use Rattle.polars_tables_operations.specs.declared.operation.Comparison.TheVariants.{EqualMissing}
+use Rattle.polars_tables_operations.specs.declared.operation.Comparison.TheVariants.{UnequalMissing}
+use Rattle.polars_tables_operations.specs.declared.operation.Distinct.TheVariants.{Listed, Counted}
+use Rattle.polars_tables_operations.specs.declared.operation.Distinct.TheVariants.{PresentCounted}
+use Rattle.polars_tables_operations.specs.declared.operation.GeneralOperation.TheVariants.{Compare}
+use Rattle.polars_tables_operations.specs.declared.operation.GeneralOperation.TheVariants.{CountBits}
+use Rattle.polars_tables_operations.specs.declared.operation.GeneralOperation.TheVariants.{Reduce}
+use Rattle.polars_tables_operations.specs.declared.operation.GeneralOperation.TheVariants.{Extremes}
+use Rattle.polars_tables_operations.specs.declared.operation.NumericOperation.TheVariants.{Change}
+use Rattle.polars_tables_operations.specs.declared.operation.NumericOperation.TheVariants.{Calculate}
+use Rattle.polars_tables_operations.specs.declared.operation.NumericOperation.TheVariants.{CalculateFromScalar}
+use Rattle.polars_tables_operations.specs.declared.operation.NumericOperation.TheVariants.{Sum}
+use Rattle.polars_tables_operations.specs.declared.operation.NumericOperation.TheVariants.{DistinctInRange}
+use Rattle.polars_tables_operations.specs.declared.operation.NumericOperation.TheVariants.{HasAllOfRange}
 use Rattle.polars_tables_operations.specs.declared.operation.Operand.TheVariants.{Rows, Scalar}
 use Rattle.polars_tables_operations.specs.declared.operation.Operation.{Operation}
-use Rattle.polars_tables_operations.specs.declared.operation.Operation.TheVariants.{General, Numeric, DistinctTruths}
-use Rattle.polars_tables_operations.specs.declared.operation.OrderedCalculation.TheVariants.{Subtract, FloorDivide, TruncatedDivide, Modulo, LegacyDivide}
-use Rattle.polars_tables_operations.specs.declared.operation.Reduction.TheVariants.{And, Or, Xor, Least, Greatest}
+use Rattle.polars_tables_operations.specs.declared.operation.Operation.TheVariants.{General}
+use Rattle.polars_tables_operations.specs.declared.operation.Operation.TheVariants.{Numeric}
+use Rattle.polars_tables_operations.specs.declared.operation.Operation.TheVariants.{DistinctTruths}
+use Rattle.polars_tables_operations.specs.declared.operation.OrderedCalculation.TheVariants.{Subtract}
+use Rattle.polars_tables_operations.specs.declared.operation.OrderedCalculation.TheVariants.{FloorDivide}
+use Rattle.polars_tables_operations.specs.declared.operation.OrderedCalculation.TheVariants.{TruncatedDivide}
+use Rattle.polars_tables_operations.specs.declared.operation.OrderedCalculation.TheVariants.{Modulo}
+use Rattle.polars_tables_operations.specs.declared.operation.OrderedCalculation.TheVariants.{LegacyDivide}
+use Rattle.polars_tables_operations.specs.declared.operation.Reduction.TheVariants.{And, Or, Xor}
+use Rattle.polars_tables_operations.specs.declared.operation.Reduction.TheVariants.{Least, Greatest}
 use Rattle.polars_tables_rows.specs.declared.row_type.RowType.{RowType}
 use Rattle.polars_tables_rows.specs.Tables.{find}
 use Rattle.polars_tables_rows.specs.Types.{is_boolean}

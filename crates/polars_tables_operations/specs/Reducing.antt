@@ -1,12 +1,14 @@
 -- Reductions of the present rows of a list.
-use Rattle.std.specs.Prelude.{◌&&◌, ◌||◌, Bool, cond, not, List, [], ◌∷◌, Option, None, Some, option_map}
+use Rattle.std.specs.Prelude.{◌&&◌, ◌||◌, Bool, cond, not, List, [], ◌∷◌, Option, None, Some}
+use Rattle.std.specs.Prelude.{option_map}
 use Rattle.std.specs.List.{list_all, list_any}
 use Rattle.polars_arrays_flat.specs.ArrayRows.{is_null}
 use Rattle.polars_arrays_flat.specs.Row.{Row}
 use Rattle.polars_compare_leaves.specs.Order.{row_less, row_greater}
 use Rattle.polars_compute_bits.specs.Bitwise.{is_odd, reduced}
 use Rattle.polars_tables_operations.specs.declared.operation.Reduction.{Reduction}
-use Rattle.polars_tables_operations.specs.declared.operation.Reduction.TheVariants.{And, Or, Xor, Least, Greatest}
+use Rattle.polars_tables_operations.specs.declared.operation.Reduction.TheVariants.{And, Or, Xor}
+use Rattle.polars_tables_operations.specs.declared.operation.Reduction.TheVariants.{Least, Greatest}
 use Rattle.polars_tables_rows.specs.declared.row_type.RowType.{RowType}
 use Rattle.polars_tables_rows.specs.Types.{width_of}
 use Rattle.polars_tables_operations.specs.Bits.{bits_row}

@@ -1,5 +1,6 @@
 -- Values mapped to rows are stored as values; numbers and truth values are such values.
-use Rattle.std.specs.Prelude.{◌≡◌, ◌<◌, ◌↔◌, ℕ, zero, suc, ℤ, Bool, IsTrue, List, [], ◌∷◌, length, map, refl}
+use Rattle.std.specs.Prelude.{◌≡◌, ◌<◌, ◌↔◌, ℕ, zero, suc, ℤ, Bool, IsTrue, List, [], ◌∷◌, length}
+use Rattle.std.specs.Prelude.{map, refl}
 use Rattle.std.proofs.Common.{◌∙◌, sym, ap, arith}
 use Rattle.std.proofs.lemmas.Bool.Decides.{Decides-int_eq}
 use Rattle.std.proofs.lemmas.List.{length-map}
@@ -9,7 +10,8 @@ use Rattle.polars_arrays_flat.specs.StoredRows.{row}
 use Rattle.polars_compare_leaves.specs.Sameness.{same_row}
 use Rattle.polars_tables_operations.specs.Stored.{AreValues, StoresValues}
 
-stored-at : {A : Type 0} (f : A → Row) (xs : List A) (i : ℕ) → i < length (map f xs) → (x : A) × (row (map f xs) i ≡ f x)
+stored-at : {A : Type 0} (f : A → Row) (xs : List A) (i : ℕ) → i < length (map f xs) → (x : A)
+    × (row (map f xs) i ≡ f x)
 stored-at f [] i h = absurd (omega arith)
 stored-at f (x ∷ xs) zero h = (x, refl)
 stored-at f (x ∷ xs) (suc i) h = stored-at f xs i (omega arith)
@@ -45,5 +47,6 @@ truths_are_values = record {
 }
 
 -- the number of stored rows is that of stored values
-pub as_long : {A : Type 0} (f : A → Row) (xs ys : List A) → length (map f xs) ≡ length (map f ys) → length xs ≡ length ys
+pub as_long : {A : Type 0} (f : A → Row) (xs ys : List A) → length (map f xs) ≡ length (map f ys)
+    → length xs ≡ length ys
 as_long f xs ys e = sym (length-map xs f) ∙ e ∙ length-map ys f

@@ -21,7 +21,9 @@ pub(crate) fn write_made<A: RowArray>(
     made: Result<A, ComputeError>,
 ) -> Result<String, LineError>
     requires { IfErr made IsMemory }
-    ensures { MatchResult made (λ a. Tells string_bytes (told (rows_under (A.mask a) (A.slots a))) result) (λ e. result ≡ Err Memory) }
+    ensures { MatchResult made
+        (λ a. Tells string_bytes (told (rows_under (A.mask a) (A.slots a))) result)
+        (λ e. result ≡ Err Memory) }
 {
     let rows = or_memory(made)?;
     Ok(write_rows(alloc, &rows)?)

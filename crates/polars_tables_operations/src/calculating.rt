@@ -20,7 +20,10 @@ pub fn change_rows<T: LineNumber>(
     change: Change,
     rows: PrimitiveArray<T>,
 ) -> Result<PrimitiveArray<T>, ComputeError>
-    ensures { MatchResult result (λ a. number_rows T.value a ≡ answer_rows (least_in T.kind) (width_of T.kind) (change_of change) (number_rows T.value rows)) IsMemory }
+    ensures { MatchResult result
+        (λ a. number_rows T.value a
+        ≡ answer_rows (least_in T.kind) (width_of T.kind) (change_of change)
+        (number_rows T.value rows)) IsMemory }
 {
     match change {
         Change::Magnitude => rows.wrapping_abs(alloc),
@@ -36,7 +39,10 @@ fn calculate_in_order<T: LineNumber>(
     right: PrimitiveArray<T>,
 ) -> Result<PrimitiveArray<T>, ComputeError>
     requires { length left.values ≡ length right.values }
-    ensures { MatchResult result (λ a. number_rows T.value a ≡ result_rows (least_in T.kind) (width_of T.kind) (ordered_of calculation) (number_rows T.value left) (number_rows T.value right)) IsMemory }
+    ensures { MatchResult result
+        (λ a. number_rows T.value a
+        ≡ result_rows (least_in T.kind) (width_of T.kind) (ordered_of calculation)
+        (number_rows T.value left) (number_rows T.value right)) IsMemory }
 {
     match calculation {
         OrderedCalculation::Subtract => left.wrapping_sub(alloc, right),
@@ -55,7 +61,10 @@ pub fn calculate_rows<T: LineNumber>(
     right: PrimitiveArray<T>,
 ) -> Result<PrimitiveArray<T>, ComputeError>
     requires { length left.values ≡ length right.values }
-    ensures { MatchResult result (λ a. number_rows T.value a ≡ result_rows (least_in T.kind) (width_of T.kind) (calculation_of calculation) (number_rows T.value left) (number_rows T.value right)) IsMemory }
+    ensures { MatchResult result
+        (λ a. number_rows T.value a
+        ≡ result_rows (least_in T.kind) (width_of T.kind) (calculation_of calculation)
+        (number_rows T.value left) (number_rows T.value right)) IsMemory }
 {
     match calculation {
         Calculation::Add => left.wrapping_add(alloc, right),
@@ -71,7 +80,10 @@ fn calculate_scalar_in_order<T: LineNumber>(
     rows: PrimitiveArray<T>,
     scalar: T,
 ) -> Result<PrimitiveArray<T>, ComputeError>
-    ensures { MatchResult result (λ a. number_rows T.value a ≡ answer_rows (least_in T.kind) (width_of T.kind) (λ n. ordered_of calculation n (T.value scalar)) (number_rows T.value rows)) IsMemory }
+    ensures { MatchResult result
+        (λ a. number_rows T.value a
+        ≡ answer_rows (least_in T.kind) (width_of T.kind)
+        (λ n. ordered_of calculation n (T.value scalar)) (number_rows T.value rows)) IsMemory }
 {
     match calculation {
         OrderedCalculation::Subtract => rows.wrapping_sub_scalar(alloc, scalar),
@@ -90,7 +102,10 @@ pub fn calculate_scalar<T: LineNumber>(
     rows: PrimitiveArray<T>,
     scalar: T,
 ) -> Result<PrimitiveArray<T>, ComputeError>
-    ensures { MatchResult result (λ a. number_rows T.value a ≡ answer_rows (least_in T.kind) (width_of T.kind) (λ n. calculation_of calculation n (T.value scalar)) (number_rows T.value rows)) IsMemory }
+    ensures { MatchResult result
+        (λ a. number_rows T.value a
+        ≡ answer_rows (least_in T.kind) (width_of T.kind)
+        (λ n. calculation_of calculation n (T.value scalar)) (number_rows T.value rows)) IsMemory }
 {
     match calculation {
         Calculation::Add => rows.wrapping_add_scalar(alloc, scalar),
@@ -107,7 +122,10 @@ pub fn calculate_from_scalar<T: LineNumber>(
     scalar: T,
     rows: PrimitiveArray<T>,
 ) -> Result<PrimitiveArray<T>, ComputeError>
-    ensures { MatchResult result (λ a. number_rows T.value a ≡ answer_rows (least_in T.kind) (width_of T.kind) (ordered_of calculation (T.value scalar)) (number_rows T.value rows)) IsMemory }
+    ensures { MatchResult result
+        (λ a. number_rows T.value a
+        ≡ answer_rows (least_in T.kind) (width_of T.kind) (ordered_of calculation (T.value scalar))
+        (number_rows T.value rows)) IsMemory }
 {
     match calculation {
         OrderedCalculation::Subtract => {

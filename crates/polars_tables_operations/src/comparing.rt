@@ -6,7 +6,8 @@ ghost use Rattle.polars_arrays_flat.specs.ArrayRows.{truth_rows};
 ghost use Rattle.polars_arrays_flat.specs.StoredRows.{rows_under, truth_slots};
 ghost use Rattle.polars_arrays_flat.specs.Validity.{HasBits};
 ghost use Rattle.polars_compute_arithmetic.specs.Maps.{joined_validity};
-ghost use Rattle.polars_tables_operations.specs.Comparing.{ComparesRows, answer_validity, compared_rows};
+ghost use Rattle.polars_tables_operations.specs.Comparing.{ComparesRows, answer_validity};
+ghost use Rattle.polars_tables_operations.specs.Comparing.{compared_rows};
 
 use crate::kernel_array::KernelArray;
 use crate::operation::Comparison;
@@ -29,7 +30,8 @@ fn compare_bits<A: KernelArray>(
     requires left_bits { HasBits (length (A.slots left.now)) (A.mask left.now) }
     requires right_bits { HasBits (length (A.slots right.now)) (A.mask right.now) }
     ensures { MatchResult result
-        (ComparesRows comparison (rows_under (A.mask left.now) (A.slots left.now)) (rows_under (A.mask right.now) (A.slots right.now)))
+        (ComparesRows comparison (rows_under (A.mask left.now) (A.slots left.now))
+        (rows_under (A.mask right.now) (A.slots right.now)))
         IsMemory }
 {
     match comparison {
@@ -54,7 +56,8 @@ fn compare_bits_scalar<A: KernelArray>(
 ) -> Result<Bitmap, ComputeError>
     requires { HasBits (length (A.slots rows.now)) (A.mask rows.now) }
     ensures { MatchResult result
-        (ComparesRows comparison (rows_under (A.mask rows.now) (A.slots rows.now)) (replicate (length (A.slots rows.now)) (A.value_row scalar.now)))
+        (ComparesRows comparison (rows_under (A.mask rows.now) (A.slots rows.now))
+        (replicate (length (A.slots rows.now)) (A.value_row scalar.now)))
         IsMemory }
 {
     match comparison {
@@ -98,7 +101,8 @@ fn validity_of(
 ) -> Result<Option<Bitmap>, ComputeError>
     requires left_bits { HasBits n left.now }
     requires right_bits { HasBits n right.now }
-    ensures { MatchResult result (λ bits. bits ≡ answer_validity comparison left.now right.now) IsMemory }
+    ensures { MatchResult result
+        (λ bits. bits ≡ answer_validity comparison left.now right.now) IsMemory }
 {
     match comparison {
         Comparison::EqualMissing | Comparison::UnequalMissing => Ok(None),
@@ -116,7 +120,9 @@ fn answered(
 ) -> Result<BooleanArray, ComputeError>
     requires left_bits { HasBits (length bits) left.now }
     requires right_bits { HasBits (length bits) right.now }
-    ensures { MatchResult result (λ answers. truth_rows answers ≡ rows_under (answer_validity comparison left.now right.now) (truth_slots bits)) IsMemory }
+    ensures { MatchResult result
+        (λ answers. truth_rows answers
+        ≡ rows_under (answer_validity comparison left.now right.now) (truth_slots bits)) IsMemory }
 {
     let validity = validity_of(alloc, comparison, left, right, bits.len())?;
     let Ok(answers) = BooleanArray::try_new(bits, validity) else {
@@ -133,7 +139,10 @@ pub fn compare_rows<A: KernelArray>(
     right: &A,
 ) -> Result<BooleanArray, ComputeError>
     requires { length (A.slots right.now) ≡ length (A.slots left.now) }
-    ensures { MatchResult result (λ answers. truth_rows answers ≡ compared_rows comparison (rows_under (A.mask left.now) (A.slots left.now)) (rows_under (A.mask right.now) (A.slots right.now))) IsMemory }
+    ensures { MatchResult result
+        (λ answers. truth_rows answers
+        ≡ compared_rows comparison (rows_under (A.mask left.now) (A.slots left.now))
+        (rows_under (A.mask right.now) (A.slots right.now))) IsMemory }
 {
     let left_mask = left.missing_mask(alloc)?;
     let right_mask = right.missing_mask(alloc)?;
@@ -149,7 +158,11 @@ pub fn compare_scalar<A: KernelArray>(
     rows: &A,
     scalar: &A::Value,
 ) -> Result<BooleanArray, ComputeError>
-    ensures { MatchResult result (λ answers. truth_rows answers ≡ compared_rows comparison (rows_under (A.mask rows.now) (A.slots rows.now)) (replicate (length (rows_under (A.mask rows.now) (A.slots rows.now))) (A.value_row scalar.now))) IsMemory }
+    ensures { MatchResult result
+        (λ answers. truth_rows answers
+        ≡ compared_rows comparison (rows_under (A.mask rows.now) (A.slots rows.now))
+        (replicate (length (rows_under (A.mask rows.now) (A.slots rows.now)))
+        (A.value_row scalar.now))) IsMemory }
 {
     let mask = rows.missing_mask(alloc)?;
     let bits = compare_bits_scalar(alloc, comparison, rows, scalar)?;

@@ -19,7 +19,9 @@ pub fn count_bits<A: KernelArray>(
     count: BitCount,
     array: &A,
 ) -> Result<PrimitiveArray<u32>, ComputeError>
-    ensures { MatchResult result (AreCounts (count_of count) (width_of A.kind) (rows_under (A.mask array.now) (A.slots array.now))) IsMemory }
+    ensures { MatchResult result
+        (AreCounts (count_of count) (width_of A.kind)
+        (rows_under (A.mask array.now) (A.slots array.now))) IsMemory }
 {
     match count {
         BitCount::Ones => array.count_ones(alloc),

@@ -3,9 +3,14 @@
 ghost use Rattle.std.specs.Prelude.{◌≡◌, IfOk, map, option_map};
 ghost use Rattle.std.specs.String.{string_bytes};
 ghost use Rattle.polars_arrays_flat.specs.StoredRows.{rows_under};
-ghost use Rattle.polars_tables_operations.specs.Answers.{comparison_answer, general_answer, row_or_none, rows_or_none};
-ghost use Rattle.polars_tables_operations.specs.declared.operation.GeneralOperation.TheVariants.{Compare, CountBits, Extremes, Reduce};
-ghost use Rattle.polars_tables_operations.specs.declared.operation.Operand.TheVariants.{Rows, Scalar};
+ghost use Rattle.polars_tables_operations.specs.Answers.{comparison_answer, general_answer};
+ghost use Rattle.polars_tables_operations.specs.Answers.{row_or_none, rows_or_none};
+ghost use Rattle.polars_tables_operations.specs.declared.operation.GeneralOperation.TheVariants.{Compare};
+ghost use Rattle.polars_tables_operations.specs.declared.operation.GeneralOperation.TheVariants.{CountBits};
+ghost use Rattle.polars_tables_operations.specs.declared.operation.GeneralOperation.TheVariants.{Extremes};
+ghost use Rattle.polars_tables_operations.specs.declared.operation.GeneralOperation.TheVariants.{Reduce};
+ghost use Rattle.polars_tables_operations.specs.declared.operation.Operand.TheVariants.{Rows};
+ghost use Rattle.polars_tables_operations.specs.declared.operation.Operand.TheVariants.{Scalar};
 ghost use Rattle.polars_tables_rows.specs.Faults.{Tells};
 
 use crate::answering::write_made;
@@ -25,7 +30,9 @@ fn answer_rows<A: KernelArray>(
     left: &A,
     right: &A,
 ) -> Result<String, LineError>
-    ensures { Tells string_bytes (comparison_answer comparison Rows (rows_under (A.mask left.now) (A.slots left.now)) (rows_under (A.mask right.now) (A.slots right.now))) result }
+    ensures { Tells string_bytes
+        (comparison_answer comparison Rows (rows_under (A.mask left.now) (A.slots left.now))
+        (rows_under (A.mask right.now) (A.slots right.now))) result }
 {
     if left.count() != right.count() {
         return Err(LineError::Length);
@@ -41,7 +48,9 @@ fn answer_scalar<A: KernelArray>(
     rows: &A,
     scalars: &A,
 ) -> Result<String, LineError>
-    ensures { Tells string_bytes (comparison_answer comparison Scalar (rows_under (A.mask rows.now) (A.slots rows.now)) (rows_under (A.mask scalars.now) (A.slots scalars.now))) result }
+    ensures { Tells string_bytes
+        (comparison_answer comparison Scalar (rows_under (A.mask rows.now) (A.slots rows.now))
+        (rows_under (A.mask scalars.now) (A.slots scalars.now))) result }
 {
     if scalars.count() != 1 {
         return Err(LineError::Length);
@@ -59,7 +68,9 @@ fn answer_comparison<A: KernelArray>(
     operand: Operand,
     lists: &[A],
 ) -> Result<String, LineError>
-    ensures { Tells string_bytes (general_answer (Compare comparison operand) A.kind (map (λ a. rows_under (A.mask a) (A.slots a)) lists.now)) result }
+    ensures { Tells string_bytes
+        (general_answer (Compare comparison operand) A.kind
+        (map (λ a. rows_under (A.mask a) (A.slots a)) lists.now)) result }
 {
     let [left, right] = lists else {
         return Err(LineError::Length);
@@ -77,7 +88,9 @@ fn answer_count<A: KernelArray>(
     count: BitCount,
     lists: &[A],
 ) -> Result<String, LineError>
-    ensures { Tells string_bytes (general_answer (CountBits count) A.kind (map (λ a. rows_under (A.mask a) (A.slots a)) lists.now)) result }
+    ensures { Tells string_bytes
+        (general_answer (CountBits count) A.kind
+        (map (λ a. rows_under (A.mask a) (A.slots a)) lists.now)) result }
 {
     let [list] = lists else {
         return Err(LineError::Length);
@@ -101,7 +114,9 @@ fn answer_reduction<A: KernelArray>(
     reduction: Reduction,
     lists: &[A],
 ) -> Result<String, LineError>
-    ensures { Tells string_bytes (general_answer (Reduce reduction) A.kind (map (λ a. rows_under (A.mask a) (A.slots a)) lists.now)) result }
+    ensures { Tells string_bytes
+        (general_answer (Reduce reduction) A.kind
+        (map (λ a. rows_under (A.mask a) (A.slots a)) lists.now)) result }
 {
     let [list] = lists else {
         return Err(LineError::Length);
@@ -114,7 +129,10 @@ fn write_pair<A: KernelArray>(
     alloc: Global,
     found: Option<(A::Value, A::Value)>,
 ) -> Result<String, AllocError>
-    ensures { IfOk result (λ text. string_bytes text ≡ rows_or_none (option_map (λ pair. A.value_row pair.0) found) (option_map (λ pair. A.value_row pair.1) found)) }
+    ensures { IfOk result
+        (λ text. string_bytes text
+        ≡ rows_or_none (option_map (λ pair. A.value_row pair.0) found)
+        (option_map (λ pair. A.value_row pair.1) found)) }
 {
     match found {
         Some((least, greatest)) => format!(in alloc; "{least} {greatest}"),
@@ -124,7 +142,9 @@ fn write_pair<A: KernelArray>(
 
 // Returns the least and the greatest row of a list, if one is present.
 fn answer_extremes<A: KernelArray>(alloc: Global, lists: &[A]) -> Result<String, LineError>
-    ensures { Tells string_bytes (general_answer Extremes A.kind (map (λ a. rows_under (A.mask a) (A.slots a)) lists.now)) result }
+    ensures { Tells string_bytes
+        (general_answer Extremes A.kind (map (λ a. rows_under (A.mask a) (A.slots a)) lists.now))
+        result }
 {
     let [list] = lists else {
         return Err(LineError::Length);
@@ -138,7 +158,9 @@ pub fn answer_general<A: KernelArray>(
     operation: GeneralOperation,
     lists: &[A],
 ) -> Result<String, LineError>
-    ensures { Tells string_bytes (general_answer operation A.kind (map (λ a. rows_under (A.mask a) (A.slots a)) lists.now)) result }
+    ensures { Tells string_bytes
+        (general_answer operation A.kind (map (λ a. rows_under (A.mask a) (A.slots a)) lists.now))
+        result }
 {
     match operation {
         GeneralOperation::Compare(comparison, operand) => {

@@ -8,7 +8,8 @@ ghost use Rattle.polars_compute_bits.specs.Bitwise.{row_bits};
 ghost use Rattle.polars_tables_rows.specs.Types.{width_of};
 ghost use Rattle.polars_tables_operations.specs.Bits.{bits_row};
 ghost use Rattle.polars_tables_operations.specs.Stored.{AreValues, StoresValues};
-ghost use Rattle.polars_tables_operations.specs.StoredLaws.{as_long, numbers_are_values, stores-map, truths_are_values};
+ghost use Rattle.polars_tables_operations.specs.StoredLaws.{as_long, numbers_are_values};
+ghost use Rattle.polars_tables_operations.specs.StoredLaws.{stores-map, truths_are_values};
 
 use crate::line_number::LineNumber;
 use polars_arrays_flat::boolean::BooleanArray;
@@ -28,7 +29,8 @@ pub trait KernelArray: RowArray
     + MinMaxKernel<Scalar = <Self as RowArray>::Value> {
     /// States that the row of a value is the one of its bits. Does nothing.
     fn law_bits(value: Self::Value)
-        ensures { bits_row Self.kind (row_bits (width_of Self.kind) (Self.value_row value)) ≡ Self.value_row value };
+        ensures { bits_row Self.kind (row_bits (width_of Self.kind) (Self.value_row value))
+            ≡ Self.value_row value };
 
     // Rows of an array are stored as values.
     ghost values_law: { AreValues Self.value_row };
@@ -52,7 +54,8 @@ pub trait KernelArray: RowArray
     ghost bit_width_law: { Self.BitwiseKernel.width ≡ width_of Self.kind };
 
     // Any two arrays of equal length can be compared, and any array with any scalar.
-    ghost comparable_law: { (a b : Self) → length (Self.slots a) ≡ length (Self.slots b) → Self.TotalEqKernel.comparable a b };
+    ghost comparable_law: { (a b : Self) → length (Self.slots a) ≡ length (Self.slots b)
+        → Self.TotalEqKernel.comparable a b };
 
     ghost fits_law: { (a : Self) (s : Self.Value) → Self.TotalEqKernel.fits a s };
 

@@ -25,7 +25,8 @@ pub trait LineNumber: RowNumber
 
     /// States that a number is the one of its bits. Does nothing.
     final fn law_number_bits(self)
-        ensures { bits_row Self.kind (number_bits (width_of Self.kind) (Self.value self)) ≡ Int (Self.value self) }
+        ensures { bits_row Self.kind (number_bits (width_of Self.kind) (Self.value self))
+            ≡ Int (Self.value self) }
     {
         let _ = self.whole();
         law_wrapped::<Self>();

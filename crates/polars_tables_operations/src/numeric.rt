@@ -7,10 +7,17 @@ ghost use Rattle.polars_arrays_flat.specs.Row.{Int};
 ghost use Rattle.polars_arrays_numbers.specs.Wrapping.{wrapped};
 ghost use Rattle.polars_compute_bits.specs.Sum.{total};
 ghost use Rattle.polars_compute_slots.specs.State.{State};
-ghost use Rattle.polars_tables_operations.specs.Answers.{calculation_answer, numeric_answer, scalar_calculation_answer};
+ghost use Rattle.polars_tables_operations.specs.Answers.{calculation_answer, numeric_answer};
+ghost use Rattle.polars_tables_operations.specs.Answers.{scalar_calculation_answer};
 ghost use Rattle.polars_tables_operations.specs.Distinct.{of_state};
-ghost use Rattle.polars_tables_operations.specs.declared.operation.NumericOperation.TheVariants.{Calculate, CalculateFromScalar, Change as ChangeRows, DistinctInRange, HasAllOfRange, Sum};
-ghost use Rattle.polars_tables_operations.specs.declared.operation.Operand.TheVariants.{Rows, Scalar};
+ghost use Rattle.polars_tables_operations.specs.declared.operation.NumericOperation.TheVariants.{Calculate};
+ghost use Rattle.polars_tables_operations.specs.declared.operation.NumericOperation.TheVariants.{CalculateFromScalar};
+ghost use Rattle.polars_tables_operations.specs.declared.operation.NumericOperation.TheVariants.{Change as ChangeRows};
+ghost use Rattle.polars_tables_operations.specs.declared.operation.NumericOperation.TheVariants.{DistinctInRange};
+ghost use Rattle.polars_tables_operations.specs.declared.operation.NumericOperation.TheVariants.{HasAllOfRange};
+ghost use Rattle.polars_tables_operations.specs.declared.operation.NumericOperation.TheVariants.{Sum};
+ghost use Rattle.polars_tables_operations.specs.declared.operation.Operand.TheVariants.{Rows};
+ghost use Rattle.polars_tables_operations.specs.declared.operation.Operand.TheVariants.{Scalar};
 ghost use Rattle.polars_tables_rows.specs.Faults.{Tells, of_ends, of_number_scalar, of_one, of_two};
 ghost use Rattle.polars_tables_rows.specs.Types.{least_in, width_of};
 ghost use Rattle.polars_tables_rows.specs.Written.{row_word};
@@ -46,7 +53,8 @@ fn into_one<A: Drop>(lists: Vec<A>) -> Result<A, LineError>
 
 // Returns the two lists.
 fn into_two<A: Drop>(lists: Vec<A>) -> Result<(A, A), LineError>
-    ensures { Tells {Y = A × A} (λ pair. pair) (of_two lists.items (λ left right. Ok (left, right))) result }
+    ensures { Tells {Y = A × A}
+        (λ pair. pair) (of_two lists.items (λ left right. Ok (left, right))) result }
 {
     let mut lists = lists;
     let Some(right) = lists.pop() else {
@@ -58,7 +66,8 @@ fn into_two<A: Drop>(lists: Vec<A>) -> Result<(A, A), LineError>
 
 // Returns the only number of a borrowed list of rows.
 fn lent_scalar<T: LineNumber>(scalars: &PrimitiveArray<T>) -> Result<T, LineError>
-    ensures { Tells T.value (of_number_scalar (number_rows T.value scalars.now) (λ n. Ok n)) result }
+    ensures { Tells T.value (of_number_scalar (number_rows T.value scalars.now) (λ n. Ok n))
+        result }
 {
     if scalars.count() != 1 {
         return Err(LineError::Length);
@@ -83,7 +92,8 @@ fn answer_change<T: LineNumber>(
     change: Change,
     lists: Vec<PrimitiveArray<T>>,
 ) -> Result<String, LineError>
-    ensures { Tells string_bytes (numeric_answer (ChangeRows change) T.kind (map (number_rows T.value) lists.items)) result }
+    ensures { Tells string_bytes
+        (numeric_answer (ChangeRows change) T.kind (map (number_rows T.value) lists.items)) result }
 {
     let rows = into_one(lists)?;
     write_made(alloc, change_rows(alloc, change, rows))
@@ -97,7 +107,9 @@ fn answer_rows<T: LineNumber>(
     left: PrimitiveArray<T>,
     right: PrimitiveArray<T>,
 ) -> Result<String, LineError>
-    ensures { Tells string_bytes (calculation_answer calculation Rows T.kind (number_rows T.value left) (number_rows T.value right)) result }
+    ensures { Tells string_bytes
+        (calculation_answer calculation Rows T.kind (number_rows T.value left)
+        (number_rows T.value right)) result }
 {
     if left.count() != right.count() {
         drop((left, right));
@@ -114,7 +126,9 @@ fn answer_scalar<T: LineNumber>(
     rows: PrimitiveArray<T>,
     scalars: PrimitiveArray<T>,
 ) -> Result<String, LineError>
-    ensures { Tells string_bytes (calculation_answer calculation Scalar T.kind (number_rows T.value rows) (number_rows T.value scalars)) result }
+    ensures { Tells string_bytes
+        (calculation_answer calculation Scalar T.kind (number_rows T.value rows)
+        (number_rows T.value scalars)) result }
 {
     let scalar = scalar_of(scalars)?;
     write_made(alloc, calculate_scalar(alloc, calculation, rows, scalar))
@@ -127,7 +141,9 @@ fn answer_calculation<T: LineNumber>(
     operand: Operand,
     lists: Vec<PrimitiveArray<T>>,
 ) -> Result<String, LineError>
-    ensures { Tells string_bytes (numeric_answer (Calculate calculation operand) T.kind (map (number_rows T.value) lists.items)) result }
+    ensures { Tells string_bytes
+        (numeric_answer (Calculate calculation operand) T.kind
+        (map (number_rows T.value) lists.items)) result }
 {
     let (left, right) = into_two(lists)?;
     match operand {
@@ -143,7 +159,9 @@ fn answer_from_scalar<T: LineNumber>(
     calculation: OrderedCalculation,
     lists: Vec<PrimitiveArray<T>>,
 ) -> Result<String, LineError>
-    ensures { Tells string_bytes (numeric_answer (CalculateFromScalar calculation) T.kind (map (number_rows T.value) lists.items)) result }
+    ensures { Tells string_bytes
+        (numeric_answer (CalculateFromScalar calculation) T.kind
+        (map (number_rows T.value) lists.items)) result }
 {
     let (scalars, rows) = into_two(lists)?;
     let scalar = scalar_of(scalars)?;
@@ -155,7 +173,11 @@ fn answer_from_scalar<T: LineNumber>(
 
 // Returns the word of the sum of rows.
 fn write_sum<T: LineNumber>(alloc: Global, rows: &PrimitiveArray<T>) -> Result<String, AllocError>
-    ensures { IfOk result (λ text. string_bytes text ≡ row_word (Int (wrapped (least_in T.kind) (width_of T.kind) (total (number_rows T.value rows.now))))) }
+    ensures { IfOk result
+        (λ text. string_bytes text
+        ≡ row_word
+        (Int (wrapped (least_in T.kind) (width_of T.kind)
+        (total (number_rows T.value rows.now))))) }
 {
     wrapping_sum_arr(rows).to_string(alloc)
 }
@@ -165,7 +187,8 @@ fn answer_sum<T: LineNumber>(
     alloc: Global,
     lists: Vec<PrimitiveArray<T>>,
 ) -> Result<String, LineError>
-    ensures { Tells string_bytes (numeric_answer Sum T.kind (map (number_rows T.value) lists.items)) result }
+    ensures { Tells string_bytes (numeric_answer Sum T.kind (map (number_rows T.value) lists.items))
+        result }
 {
     let rows = into_one(lists)?;
     Ok(write_sum(alloc, &rows)?)
@@ -176,7 +199,10 @@ fn state_of_lists<T: LineNumber>(
     alloc: Global,
     lists: Vec<PrimitiveArray<T>>,
 ) -> Result<PrimitiveRangedUniqueState<T>, LineError>
-    ensures { Tells {Y = State} (λ state. state) (of_two (map (number_rows T.value) lists.items) (λ ends rows. of_ends ends (λ m n. of_state m n rows (λ s. Ok s)))) result }
+    ensures { Tells {Y = State}
+        (λ state. state)
+        (of_two (map (number_rows T.value) lists.items)
+        (λ ends rows. of_ends ends (λ m n. of_state m n rows (λ s. Ok s)))) result }
 {
     let (ends, rows) = into_two(lists)?;
     let state = state_of(alloc, &ends, &rows);
@@ -190,7 +216,9 @@ fn answer_range<T: LineNumber>(
     asked: Distinct,
     lists: Vec<PrimitiveArray<T>>,
 ) -> Result<String, LineError>
-    ensures { Tells string_bytes (numeric_answer (DistinctInRange asked) T.kind (map (number_rows T.value) lists.items)) result }
+    ensures { Tells string_bytes
+        (numeric_answer (DistinctInRange asked) T.kind (map (number_rows T.value) lists.items))
+        result }
 {
     answer_distinct(alloc, asked, state_of_lists(alloc, lists)?)
 }
@@ -200,7 +228,8 @@ fn answer_all<T: LineNumber>(
     alloc: Global,
     lists: Vec<PrimitiveArray<T>>,
 ) -> Result<String, LineError>
-    ensures { Tells string_bytes (numeric_answer HasAllOfRange T.kind (map (number_rows T.value) lists.items)) result }
+    ensures { Tells string_bytes
+        (numeric_answer HasAllOfRange T.kind (map (number_rows T.value) lists.items)) result }
 {
     let state = state_of_lists(alloc, lists)?;
     Ok(write_all_seen(alloc, &state)?)
@@ -212,7 +241,8 @@ pub fn answer_numeric<T: LineNumber>(
     operation: NumericOperation,
     lists: Vec<PrimitiveArray<T>>,
 ) -> Result<String, LineError>
-    ensures { Tells string_bytes (numeric_answer operation T.kind (map (number_rows T.value) lists.items)) result }
+    ensures { Tells string_bytes
+        (numeric_answer operation T.kind (map (number_rows T.value) lists.items)) result }
 {
     match operation {
         NumericOperation::Change(change) => answer_change(alloc, change, lists),

@@ -16,7 +16,9 @@ use std::alloc::Global;
 
 // Returns the two ends in a list of rows.
 fn ends_of<T: LineNumber>(ends: &PrimitiveArray<T>) -> Result<(T, T), LineError>
-    ensures { Tells {Y = ℤ × ℤ} (λ pair. (T.value pair.0, T.value pair.1)) (of_ends (number_rows T.value ends.now) (λ m n. Ok (m, n))) result }
+    ensures { Tells {Y = ℤ × ℤ}
+        (λ pair. (T.value pair.0, T.value pair.1))
+        (of_ends (number_rows T.value ends.now) (λ m n. Ok (m, n))) result }
 {
     if ends.count() != 2 {
         return Err(LineError::Length);
@@ -42,7 +44,10 @@ fn seen_between<T: LineNumber>(
     last: T,
     rows: &PrimitiveArray<T>,
 ) -> Result<PrimitiveRangedUniqueState<T>, LineError>
-    ensures { Tells {Y = State} (λ state. state) (of_state (T.value first) (T.value last) (number_rows T.value rows.now) (λ s. Ok s)) result }
+    ensures { Tells {Y = State}
+        (λ state. state)
+        (of_state (T.value first) (T.value last) (number_rows T.value rows.now) (λ s. Ok s))
+        result }
 {
     if !are_ends(first, last) {
         return Err(LineError::Range);
@@ -62,7 +67,10 @@ pub fn state_of<T: LineNumber>(
     ends: &PrimitiveArray<T>,
     rows: &PrimitiveArray<T>,
 ) -> Result<PrimitiveRangedUniqueState<T>, LineError>
-    ensures { Tells {Y = State} (λ state. state) (of_ends (number_rows T.value ends.now) (λ m n. of_state m n (number_rows T.value rows.now) (λ s. Ok s))) result }
+    ensures { Tells {Y = State}
+        (λ state. state)
+        (of_ends (number_rows T.value ends.now)
+        (λ m n. of_state m n (number_rows T.value rows.now) (λ s. Ok s))) result }
 {
     let (first, last) = ends_of(ends)?;
     seen_between(alloc, first, last, rows)

@@ -14,7 +14,9 @@ use crate::operation::Reduction;
 // Returns a value unchanged. The proof learns from it that the value is the one of its bits.
 fn by_bits<A: KernelArray>(found: Option<A::Value>) -> Option<A::Value>
     ensures same { result ≡ found }
-    ensures bits { option_map A.value_row result ≡ option_map (bits_row A.kind) (option_map (λ x. row_bits (width_of A.kind) (A.value_row x)) found) }
+    ensures bits { option_map A.value_row result
+        ≡ option_map (bits_row A.kind)
+        (option_map (λ x. row_bits (width_of A.kind) (A.value_row x)) found) }
 {
     match found {
         Some(value) => {
@@ -27,7 +29,8 @@ fn by_bits<A: KernelArray>(found: Option<A::Value>) -> Option<A::Value>
 
 /// Reduces the rows of an array, if one is present.
 pub fn reduce<A: KernelArray>(reduction: Reduction, array: &A) -> Option<A::Value>
-    ensures { option_map A.value_row result ≡ reduction_of reduction A.kind (rows_under (A.mask array.now) (A.slots array.now)) }
+    ensures { option_map A.value_row result
+        ≡ reduction_of reduction A.kind (rows_under (A.mask array.now) (A.slots array.now)) }
 {
     match reduction {
         Reduction::And => by_bits::<A>(array.reduce_and()),
@@ -40,8 +43,10 @@ pub fn reduce<A: KernelArray>(reduction: Reduction, array: &A) -> Option<A::Valu
 
 /// Returns the least and the greatest row of an array, if one is present.
 pub fn find_extremes<A: KernelArray>(array: &A) -> Option<(A::Value, A::Value)>
-    ensures least { option_map (λ pair. A.value_row pair.0) result ≡ best_row row_less (rows_under (A.mask array.now) (A.slots array.now)) }
-    ensures greatest { option_map (λ pair. A.value_row pair.1) result ≡ best_row row_greater (rows_under (A.mask array.now) (A.slots array.now)) }
+    ensures least { option_map (λ pair. A.value_row pair.0) result
+        ≡ best_row row_less (rows_under (A.mask array.now) (A.slots array.now)) }
+    ensures greatest { option_map (λ pair. A.value_row pair.1) result
+        ≡ best_row row_greater (rows_under (A.mask array.now) (A.slots array.now)) }
 {
     array.min_max_ignore_nan_kernel()
 }

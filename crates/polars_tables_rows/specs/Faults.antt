@@ -1,5 +1,6 @@
 -- Conditions for the faults of a line.
-use Rattle.std.specs.Prelude.{◌≡◌, ◌⊎◌, ℤ, cond, List, [], ◌∷◌, Option, None, Some, Result, Ok, Err, MatchResult}
+use Rattle.std.specs.Prelude.{◌≡◌, ◌⊎◌, ℤ, cond, List, [], ◌∷◌, Option, None, Some, Result, Ok, Err}
+use Rattle.std.specs.Prelude.{MatchResult}
 use Rattle.polars_arrays_flat.specs.ArrayRows.{is_null}
 use Rattle.polars_arrays_flat.specs.Row.{Row, Int}
 use Rattle.polars_tables_rows.specs.declared.fault.LineError.{LineError}
@@ -11,10 +12,12 @@ UnlessMemory fault P = (fault ≡ Memory) ⊎ P
 
 -- the result, read by `read`, or the fault is that of `meaning`; or the fault is Memory
 abbrev pub Tells : {X Y : Type 0} → (X → Y) → Result Y LineError → Result X LineError → Type 0
-Tells read meaning result = MatchResult result (λ x. meaning ≡ Ok (read x)) (λ fault. UnlessMemory fault (meaning ≡ Err fault))
+Tells read meaning result = MatchResult result (λ x. meaning ≡ Ok (read x))
+    (λ fault. UnlessMemory fault (meaning ≡ Err fault))
 
 -- the result for a value if there is one, or else the fault
-abbrev pub or_fault : {A B : Type 0} → Option A → LineError → (A → Result B LineError) → Result B LineError
+abbrev pub or_fault : {A B : Type 0} → Option A → LineError → (A → Result B LineError)
+    → Result B LineError
 or_fault None fault answer = Err fault
 or_fault (Some x) fault answer = answer x
 
@@ -45,7 +48,8 @@ abbrev pub of_scalar : {B : Type 0} → List Row → (Row → Result B LineError
 of_scalar scalars answer = of_one scalars (λ scalar. unless_null scalar answer)
 
 -- the result for the only row of a list, which must be a number
-abbrev pub of_number_scalar : {B : Type 0} → List Row → (ℤ → Result B LineError) → Result B LineError
+abbrev pub of_number_scalar : {B : Type 0} → List Row → (ℤ → Result B LineError)
+    → Result B LineError
 of_number_scalar scalars answer = of_one scalars (λ scalar. of_number scalar answer)
 
 -- the result for the two ends of a range, which must be numbers

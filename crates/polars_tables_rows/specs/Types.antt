@@ -2,7 +2,8 @@
 use Rattle.std.specs.Prelude.{ℕ, ℤ, Bool, true, false, List, [], ◌∷◌, codes, Option}
 use Rattle.polars_arrays_numbers.specs.Ranges.{least_of}
 use Rattle.polars_tables_rows.specs.declared.row_type.RowType.{RowType}
-use Rattle.polars_tables_rows.specs.declared.row_type.RowType.TheVariants.{I8, I16, I32, I64, U8, U16, U32, U64, Boolean}
+use Rattle.polars_tables_rows.specs.declared.row_type.RowType.TheVariants.{I8, I16, I32, I64, U8}
+use Rattle.polars_tables_rows.specs.declared.row_type.RowType.TheVariants.{U16, U32, U64, Boolean}
 use Rattle.polars_tables_rows.specs.Tables.{find}
 
 -- the types by name

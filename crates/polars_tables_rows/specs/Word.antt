@@ -1,11 +1,15 @@
 -- The words of a line, and their rows.
-use Rattle.std.specs.Prelude.{ℕ, ℤ, pos, negsuc, Bool, true, false, not, ◌&&◌, ◌==◌, ◌-◌, ◌^◌, nat_lt, if◌then◌else◌, List, [], ◌∷◌, length, map, filter, codes, Option, None, Some, option_map}
+use Rattle.std.specs.Prelude.{ℕ, ℤ, pos, negsuc, Bool, true, false, not, ◌&&◌, ◌==◌, ◌-◌, ◌^◌}
+use Rattle.std.specs.Prelude.{nat_lt, if◌then◌else◌, List, [], ◌∷◌, length, map, filter, codes}
+use Rattle.std.specs.Prelude.{Option, None, Some, option_map}
 use Rattle.std.specs.List.{slice_split}
 use Rattle.std.specs.Str.{bytes_eq, all_ascii_digits}
-use Rattle.std.specs.Str.Parse.{digits_value, without_leading_plus, without_leading_sign, signed_digits_value}
+use Rattle.std.specs.Str.Parse.{digits_value, without_leading_plus, without_leading_sign}
+use Rattle.std.specs.Str.Parse.{signed_digits_value}
 use Rattle.polars_arrays_flat.specs.Row.{Row, Null, Int, Truth}
 use Rattle.polars_tables_rows.specs.declared.row_type.RowType.{RowType}
-use Rattle.polars_tables_rows.specs.declared.row_type.RowType.TheVariants.{I8, I16, I32, I64, U8, U16, U32, U64, Boolean}
+use Rattle.polars_tables_rows.specs.declared.row_type.RowType.TheVariants.{I8, I16, I32, I64, U8}
+use Rattle.polars_tables_rows.specs.declared.row_type.RowType.TheVariants.{U16, U32, U64, Boolean}
 
 -- the words of a text: its parts between spaces, except empty ones
 abbrev pub words_of : List ℕ → List (List ℕ)
@@ -27,17 +31,23 @@ is_signed bits (negsuc n) = nat_lt n (2 ^ (bits - 1))
 -- the number in that range written in digits, perhaps after a plus or a minus
 abbrev pub signed_number : ℕ → List ℕ → Option ℤ
 signed_number bits word =
-    if are_digits (without_leading_sign word) && is_signed bits (signed_digits_value 10 word) then Some (signed_digits_value 10 word) else None
+    if are_digits (without_leading_sign word)
+    && is_signed bits (signed_digits_value 10 word) then Some (signed_digits_value 10 word) else
+    None
 
 -- the natural number of `bits` bits written in digits, perhaps after a plus
 abbrev pub unsigned_number : ℕ → List ℕ → Option ℤ
 unsigned_number bits word =
     let digits = without_leading_plus word in
-    if are_digits digits && nat_lt (digits_value 10 digits) (2 ^ bits) then Some (pos (digits_value 10 digits)) else None
+    if are_digits digits
+    && nat_lt (digits_value 10 digits) (2 ^ bits) then Some (pos (digits_value 10 digits)) else
+    None
 
 -- the truth value of a word
 abbrev pub truth_of : List ℕ → Option Bool
-truth_of word = if bytes_eq word (codes "true") then Some true else (if bytes_eq word (codes "false") then Some false else None)
+truth_of word =
+    if bytes_eq word (codes "true") then Some true else
+    (if bytes_eq word (codes "false") then Some false else None)
 
 -- the row of this type that a word denotes, if it is not null
 abbrev pub value_of : RowType → List ℕ → Option Row

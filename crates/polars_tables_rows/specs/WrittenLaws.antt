@@ -3,6 +3,7 @@ use Rattle.std.specs.Prelude.{◌≡◌, Bool, true, false, if◌then◌else◌,
 use Rattle.polars_arrays_flat.specs.Row.{Truth}
 use Rattle.polars_tables_rows.specs.Written.{row_word}
 
-pub truth_shown : (b : Bool) → Some (if b then codes "true" else codes "false") ≡ Some (row_word (Truth b))
+pub truth_shown : (b : Bool) → Some (if b then codes "true" else codes "false")
+    ≡ Some (row_word (Truth b))
 truth_shown true = refl
 truth_shown false = refl

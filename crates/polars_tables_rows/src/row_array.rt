@@ -1,10 +1,12 @@
 //! Requirements of the line language on a kind of array.
 
-ghost use Rattle.std.specs.Prelude.{◌≡◌, ◌<◌, ℕ, List, Result, Some, length, map, option_map, vec_len, MatchResult};
+ghost use Rattle.std.specs.Prelude.{◌≡◌, ◌<◌, ℕ, List, Result, Some, length, map, option_map};
+ghost use Rattle.std.specs.Prelude.{vec_len, MatchResult};
 ghost use Rattle.std.specs.Result.{result_ok};
 ghost use Rattle.polars_arrays_bits.specs.Errors.{IsMemory};
 ghost use Rattle.polars_arrays_flat.specs.Row.{Row, Int, Truth};
-ghost use Rattle.polars_arrays_flat.specs.StoredRows.{masked, number_slots, row, rows_under, truth_slots};
+ghost use Rattle.polars_arrays_flat.specs.StoredRows.{masked, number_slots, row, rows_under};
+ghost use Rattle.polars_arrays_flat.specs.StoredRows.{truth_slots};
 ghost use Rattle.polars_tables_rows.specs.declared.row_type.RowType.{RowType};
 ghost use Rattle.polars_tables_rows.specs.declared.row_type.RowType.TheVariants.{Boolean};
 ghost use Rattle.polars_tables_rows.specs.ParsingLaws.{truth_row};
@@ -43,7 +45,8 @@ pub trait RowArray: Array + Sized + Drop {
     ) -> Result<Self, ComputeError>
         requires { length present ≡ vec_len values }
         ensures { MatchResult result
-            (λ array. rows_under (Self.mask array) (Self.slots array) ≡ masked present (map value_row values.items))
+            (λ array. rows_under (Self.mask array) (Self.slots array)
+            ≡ masked present (map value_row values.items))
             IsMemory };
 
     /// Returns the number of rows, null or not.
@@ -54,7 +57,8 @@ pub trait RowArray: Array + Sized + Drop {
     /// Returns the value of row `i`, or `None` if it is null.
     fn value(&self, i: usize) -> Option<Self::Value>
         requires { i < length (Self.slots self.now) }
-        ensures { row_from value_row result ≡ row (rows_under (Self.mask self.now) (Self.slots self.now)) i };
+        ensures { row_from value_row result
+            ≡ row (rows_under (Self.mask self.now) (Self.slots self.now)) i };
 
     // Parsing a word gives the value that the word denotes.
     ghost parse_law: { (word : List ℕ) (r : Result Self.Value Self.Value.Err) → Self.Value.from_str_gives word r
@@ -78,7 +82,8 @@ impl<T: RowNumber> RowArray for PrimitiveArray<T> {
     ) -> Result<PrimitiveArray<T>, ComputeError>
         requires { length present ≡ vec_len values }
         ensures { MatchResult result
-            (λ array. rows_under array.validity (number_slots T.value array.values) ≡ masked present (map (λ x. Int (T.value x)) values.items))
+            (λ array. rows_under array.validity (number_slots T.value array.values)
+            ≡ masked present (map (λ x. Int (T.value x)) values.items))
             IsMemory }
     {
         let array = PrimitiveArray::from_vec(values);
@@ -118,7 +123,8 @@ impl RowArray for BooleanArray {
     ) -> Result<BooleanArray, ComputeError>
         requires { length present ≡ vec_len values }
         ensures { MatchResult result
-            (λ array. rows_under array.validity (truth_slots array.values) ≡ masked present (map Truth values.items))
+            (λ array. rows_under array.validity (truth_slots array.values)
+            ≡ masked present (map Truth values.items))
             IsMemory }
     {
         let bits = Bitmap::from_bools(alloc, values.as_slice())?;

@@ -1,9 +1,11 @@
 //! Words of a line, and the arrays of their rows.
 
-ghost use Rattle.std.specs.Prelude.{◌≡◌, ◌∷◌, ◌<◌, ◌≤◌, [], Some, None, length, map, vec_len, option_map, is_some, IfOk, IfErr, IfSome, MatchOption};
+ghost use Rattle.std.specs.Prelude.{◌≡◌, ◌∷◌, ◌<◌, ◌≤◌, [], Some, None, length, map, vec_len};
+ghost use Rattle.std.specs.Prelude.{option_map, is_some, IfOk, IfErr, IfSome, MatchOption};
 ghost use Rattle.polars_arrays_flat.specs.StoredRows.{masked, rows_under};
 ghost use Rattle.polars_tables_rows.specs.Faults.{UnlessMemory};
-ghost use Rattle.polars_tables_rows.specs.Word.{words_of, is_bar, value_of, row_from, row_of, lists_of, lists_behind};
+ghost use Rattle.polars_tables_rows.specs.Word.{words_of, is_bar, value_of, row_from, row_of};
+ghost use Rattle.polars_tables_rows.specs.Word.{lists_of, lists_behind};
 ghost use Rattle.polars_tables_rows.specs.declared.fault.LineError.TheVariants.{Memory};
 
 use crate::fault::{LineError, or_memory};
@@ -14,7 +16,8 @@ use std::alloc::Global;
 /// Returns the first word of a text and the text after it, or `None` if the text has no word. Words
 /// are separated by spaces.
 pub fn next_word(text: &str) -> Option<(&str, &str)>
-    ensures word { MatchOption result (words_of text.now ≡ []) (λ pair. words_of text.now ≡ pair.0.now ∷ words_of pair.1.now) }
+    ensures word { MatchOption result (words_of text.now ≡ [])
+        (λ pair. words_of text.now ≡ pair.0.now ∷ words_of pair.1.now) }
     ensures shorter { IfSome result (λ pair. length pair.1.now < length text.now) }
 {
     let mut rest = text;
@@ -71,7 +74,9 @@ fn make_array<A: RowArray>(
     present: &[bool],
 ) -> Result<A, LineError>
     requires { length present.now ≡ vec_len values }
-    ensures rows { IfOk result (λ array. rows_under (A.mask array) (A.slots array) ≡ masked present.now (map A.value_row values.items)) }
+    ensures rows { IfOk result
+        (λ array. rows_under (A.mask array) (A.slots array)
+        ≡ masked present.now (map A.value_row values.items)) }
     ensures fault { IfErr result (λ e. e ≡ Memory) }
 {
     let bits = or_memory(Bitmap::from_bools(alloc, present))?;
@@ -85,7 +90,8 @@ fn parse_list<'a, A: RowArray>(
     text: &'a str,
 ) -> Result<(A, Option<&'a str>), LineError>
     ensures rows { IfOk result (λ list. lists_of A.kind (words_of text.now)
-        ≡ option_map (λ more. rows_under (A.mask list.0) (A.slots list.0) ∷ more) (lists_behind A.kind (option_map (λ t. t.now) list.1))) }
+        ≡ option_map (λ more. rows_under (A.mask list.0) (A.slots list.0) ∷ more)
+        (lists_behind A.kind (option_map (λ t. t.now) list.1))) }
     ensures fault { IfErr result (λ e. UnlessMemory e
         ((e ≡ LineError.Row) × (lists_of A.kind (words_of text.now) ≡ None))) }
 {

@@ -11,7 +11,9 @@ use std::alloc::{AllocError, Global};
 /// Appends the word of row `i` to a text.
 fn push_row<A: RowArray>(text: &mut String, array: &A, i: usize) -> Result<(), AllocError>
     requires { i < length (A.slots array.now) }
-    ensures { OnOk result (string_bytes text.new ≡ string_bytes text.old ++ row_word (row (rows_under (A.mask array.now) (A.slots array.now)) i)) }
+    ensures { OnOk result
+        (string_bytes text.new ≡ string_bytes text.old
+        ++ row_word (row (rows_under (A.mask array.now) (A.slots array.now)) i)) }
 {
     match array.value(i) {
         Some(value) => write!(text, "{value}"),
@@ -21,7 +23,9 @@ fn push_row<A: RowArray>(text: &mut String, array: &A, i: usize) -> Result<(), A
 
 /// Returns the rows of an array as words, separated by one space.
 pub fn write_rows<A: RowArray>(alloc: Global, array: &A) -> Result<String, AllocError>
-    ensures { IfOk result (λ text. string_bytes text ≡ row_words (rows_under (A.mask array.now) (A.slots array.now))) }
+    ensures { IfOk result
+        (λ text. string_bytes text
+        ≡ row_words (rows_under (A.mask array.now) (A.slots array.now))) }
 {
     let mut text = String::new(alloc);
     for i in 0..array.count() {

@@ -5,7 +5,8 @@
 //! for each present row of a dictionary.
 
 ghost use Rattle.polars_arrays_nested.specs.GoodParts.{IsGood};
-ghost use Rattle.polars_arrays_nested.specs.declared.any_array.AnyArray.{List, FixedSizeList, Struct, Dictionary};
+ghost use Rattle.polars_arrays_nested.specs.declared.any_array.AnyArray.{List, FixedSizeList};
+ghost use Rattle.polars_arrays_nested.specs.declared.any_array.AnyArray.{Struct, Dictionary};
 
 use crate::fault::Fault;
 use polars_arrays_flat::array::Array;

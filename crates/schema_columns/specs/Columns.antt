@@ -1,7 +1,7 @@
 -- What the cells of a column are.
 --
--- Of the cells 7, 12, an empty one and 7 one is missing. The others are whole numbers, of which two differ, and the least is 7
--- and the greatest 12.
+-- Of the cells 7, 12, an empty one and 7 one is missing. The others are whole numbers, of which two
+-- differ, and the least is 7 and the greatest 12.
 use Rattle.std.specs.List.{count_by}
 use Rattle.std.specs.Ordering.{int_eq}
 use Rattle.std.specs.Prelude.{◌≡◌, ℕ, List, length, map, Option, Some, option_map}
@@ -45,7 +45,8 @@ told_in s = record {
 }
 
 -- the schema of a column that has these cells
-pub record IsSchemaOf (named : List ℕ) (null : Option (List ℕ)) (cells : List (List ℕ)) (s : ColumnSchema) : Type 0 where
+pub record IsSchemaOf (named : List ℕ) (null : Option (List ℕ)) (cells : List (List ℕ))
+    (s : ColumnSchema) : Type 0 where
   pub name : s.name.items ≡ named
   pub rows : s.rows ≡ length cells
   pub nulls : s.nulls ≡ count_by (is_null null) cells

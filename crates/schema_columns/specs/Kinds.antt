@@ -1,7 +1,7 @@
 -- Kinds of cells.
 --
--- The cells 12 and -7 are whole numbers, with 1.5 among them all are numbers, and with 007 among them all are texts. The cells
--- true and false are truth values.
+-- The cells 12 and -7 are whole numbers, with 1.5 among them all are numbers, and with 007 among
+-- them all are texts. The cells true and false are truth values.
 use Rattle.std.specs.List.{All}
 use Rattle.std.specs.Prelude.{◌≡◌, ◌<◌, ◌⊎◌, ⊤, ℕ, ℤ, ◌==◌, Bool, List, [], FitsSigned, codes}
 use Rattle.std.specs.Int.{w64}

@@ -1,9 +1,10 @@
 -- The cells of a column that have a value.
 --
--- Where NA stands for no value, of the cells 7, NA, an empty one and 9 the cells 7 and 9 have a value, one is null, and one is
--- missing.
+-- Where NA stands for no value, of the cells 7, NA, an empty one and 9 the cells 7 and 9 have a
+-- value, one is null, and one is missing.
 use Rattle.std.specs.List.{count_by, filter}
-use Rattle.std.specs.Prelude.{◌≡◌, ℕ, ◌==◌, Bool, false, not, ◌&&◌, List, [], length, map, get_or, Option, None, Some}
+use Rattle.std.specs.Prelude.{◌≡◌, ℕ, ◌==◌, Bool, false, not, ◌&&◌, List, [], length, map, get_or}
+use Rattle.std.specs.Prelude.{Option, None, Some}
 use Rattle.std.specs.Str.{bytes_eq}
 use Rattle.polars_arrays_bytes.specs.OffsetStrings.{offset_strings}
 use Rattle.diff_tables.specs.Strings.{AreStrings}
@@ -38,7 +39,8 @@ pub record Gathers (null : Option (List ℕ)) (cells : List (List ℕ)) (g : Gat
   pub missing : g.missing ≡ count_by (is_missing null) cells
 
 -- the cells of a column that have a value, and how many have none
-pub record IsPresentOf (null : Option (List ℕ)) (column : List (List ℕ)) (p : Present) : Type 0 where
+pub record IsPresentOf (null : Option (List ℕ)) (column : List (List ℕ)) (p : Present) :
+    Type 0 where
   pub cells : offset_strings (λ x. x) p.cells ≡ present null column
   pub plain : p.cells.validity ≡ None
   pub nulls : p.nulls ≡ count_by (is_null null) column

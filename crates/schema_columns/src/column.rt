@@ -23,8 +23,8 @@ use schema_values::distinct::count_strings;
 use schema_values::numbers::{Values, number_values};
 use std::alloc::Global;
 
-/// What the cells of a column are. A cell is null where it is the word that stands for no value, and
-/// else missing where it is empty; what is said of values is said of the other cells.
+/// What the cells of a column are. A cell is null where it is the word that stands for no value,
+/// and else missing where it is empty; what is said of values is said of the other cells.
 #[derive(Drop)]
 pub struct ColumnSchema {
     pub name: Vec<u8>,
@@ -36,11 +36,11 @@ pub struct ColumnSchema {
     pub nulls: usize,
     /// How many of them are missing.
     pub missing: usize,
-    /// How many values differ: numbers by what they are worth, and else byte strings. It is not told of
-    /// numbers of which one has an exponent of more than 30 digits.
+    /// How many values differ: numbers by what they are worth, and else byte strings. It is not
+    /// told of numbers of which one has an exponent of more than 30 digits.
     pub distinct: Option<usize>,
-    /// The least value: as a number where all are numbers, and else as bytes. There is none where there
-    /// is no value, or `distinct` is not told.
+    /// The least value: as a number where all are numbers, and else as bytes. There is none where
+    /// there is no value, or `distinct` is not told.
     pub least: Option<Vec<u8>>,
     /// The greatest value, in the same way.
     pub greatest: Option<Vec<u8>>,
@@ -49,7 +49,8 @@ pub struct ColumnSchema {
 /// Returns what is said of byte strings.
 fn string_values(alloc: Global, cells: &BinaryArray<i64>) -> Result<Values, ComputeError>
     requires { cells.now.validity ≡ None }
-    ensures { MatchResult result (λ values. TellsStrings (offset_strings (λ x. x) cells.now) (told_of values)) IsMemory }
+    ensures { MatchResult result
+        (λ values. TellsStrings (offset_strings (λ x. x) cells.now) (told_of values)) IsMemory }
 {
     let distinct = Some(count_strings(alloc, cells)?);
     let ends = ends_of_strings(alloc, cells)?;
@@ -63,7 +64,8 @@ fn string_values(alloc: Global, cells: &BinaryArray<i64>) -> Result<Values, Comp
 /// Returns what is said of whole numbers.
 fn whole_values(alloc: Global, cells: &BinaryArray<i64>) -> Result<Values, ComputeError>
     requires { All IsWhole (offset_strings (λ x. x) cells.now) }
-    ensures { MatchResult result (λ values. TellsWholes (offset_strings (λ x. x) cells.now) (told_of values)) IsMemory }
+    ensures { MatchResult result
+        (λ values. TellsWholes (offset_strings (λ x. x) cells.now) (told_of values)) IsMemory }
 {
     let wholes = wholes_of(alloc, cells)?;
     let slice = wholes.as_slice();
@@ -81,7 +83,8 @@ fn whole_values(alloc: Global, cells: &BinaryArray<i64>) -> Result<Values, Compu
 fn values_of(alloc: Global, cells: &BinaryArray<i64>, kind: Kind) -> Result<Values, ComputeError>
     requires plain { cells.now.validity ≡ None }
     requires all { AreOf kind (offset_strings (λ x. x) cells.now) }
-    ensures { MatchResult result (λ values. TellsValues kind (offset_strings (λ x. x) cells.now) (told_of values)) IsMemory }
+    ensures { MatchResult result
+        (λ values. TellsValues kind (offset_strings (λ x. x) cells.now) (told_of values)) IsMemory }
 {
     match kind {
         Kind::Whole => whole_values(alloc, cells),
@@ -102,7 +105,8 @@ pub fn schema_of(
     null: Option<&[u8]>,
 ) -> Result<ColumnSchema, ComputeError>
     requires { column < table.now.width }
-    ensures { MatchResult result (IsSchemaOf name.now (option_copied null.entry) (cells_of column table.now.rows)) IsMemory }
+    ensures { MatchResult result
+        (IsSchemaOf name.now (option_copied null.entry) (cells_of column table.now.rows)) IsMemory }
 {
     let present = present_cells(alloc, table, column, null)?;
     let kind = kind_of(&present.cells);

@@ -46,7 +46,9 @@ fn decimal_of(alloc: Global, number: i64) -> Result<Vec<u8>, AllocError>
 /// Returns the least and the greatest of byte strings.
 pub(crate) fn ends_of_strings(alloc: Global, cells: &BinaryArray<i64>) -> Result<Ends, AllocError>
     requires { cells.now.validity ≡ None }
-    ensures { IfOk result (λ ends. TellsEnds (byte_slots (offset_strings (λ x. x) cells.now)) (option_map (λ v. v.items) ends.least) (option_map (λ v. v.items) ends.greatest)) }
+    ensures { IfOk result
+        (λ ends. TellsEnds (byte_slots (offset_strings (λ x. x) cells.now))
+        (option_map (λ v. v.items) ends.least) (option_map (λ v. v.items) ends.greatest)) }
 {
     let least = copied(alloc, BytesMinMaxKernel::min_ignore_nan_kernel(cells))?;
     let greatest = copied(alloc, BytesMinMaxKernel::max_ignore_nan_kernel(cells))?;
@@ -55,7 +57,10 @@ pub(crate) fn ends_of_strings(alloc: Global, cells: &BinaryArray<i64>) -> Result
 
 /// Returns the least and the greatest of numbers.
 pub(crate) fn ends_of_numbers(alloc: Global, ends: Option<(i64, i64)>) -> Result<Ends, AllocError>
-    ensures { IfOk result (λ texts. (option_map (λ v. v.items) texts.least ≡ option_map (λ e. signed_decimal e.0) ends) × (option_map (λ v. v.items) texts.greatest ≡ option_map (λ e. signed_decimal e.1) ends)) }
+    ensures { IfOk result
+        (λ texts. (option_map (λ v. v.items) texts.least
+        ≡ option_map (λ e. signed_decimal e.0) ends)
+        × (option_map (λ v. v.items) texts.greatest ≡ option_map (λ e. signed_decimal e.1) ends)) }
 {
     match ends {
         Some((least, greatest)) => Ok(Ends {

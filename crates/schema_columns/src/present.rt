@@ -51,7 +51,9 @@ fn is_null(null: Option<&[u8]>, cell: &[u8]) -> bool
 impl Gathered {
     /// Adds a cell.
     fn add(&mut self, null: Option<&[u8]>, cell: &[u8]) -> Result<(), AllocError>
-        ensures { OnOk result ((all : List (List ℕ)) → Gathers (option_copied null.entry) all self.old → Gathers (option_copied null.entry) (all ++ cell.now ∷ []) self.new) }
+        ensures { OnOk result
+            ((all : List (List ℕ)) → Gathers (option_copied null.entry) all self.old
+            → Gathers (option_copied null.entry) (all ++ cell.now ∷ []) self.new) }
     {
         if is_null(null, cell) {
             self.nulls = one_more(self.nulls)?;
@@ -75,7 +77,8 @@ pub fn present_cells(
     null: Option<&[u8]>,
 ) -> Result<Present, ComputeError>
     requires { column < table.now.width }
-    ensures { MatchResult result (IsPresentOf (option_copied null.entry) (cells_of column table.now.rows)) IsMemory }
+    ensures { MatchResult result
+        (IsPresentOf (option_copied null.entry) (cells_of column table.now.rows)) IsMemory }
 {
     let mut gathered = Gathered {
         cells: Strings::new(alloc)?,

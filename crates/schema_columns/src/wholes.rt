@@ -24,7 +24,8 @@ pub(crate) fn whole_in(cell: &[u8]) -> Option<i64>
 /// Returns the whole numbers that cells are.
 pub(crate) fn wholes_of(alloc: Global, cells: &BinaryArray<i64>) -> Result<Vec<i64>, AllocError>
     requires { All IsWhole (offset_strings (λ x. x) cells.now) }
-    ensures { IfOk result (λ wholes. wholes.items ≡ map whole_of (offset_strings (λ x. x) cells.now)) }
+    ensures { IfOk result
+        (λ wholes. wholes.items ≡ map whole_of (offset_strings (λ x. x) cells.now)) }
 {
     let mut wholes = Vec::with_capacity(alloc, cells.count())?;
     for i in 0..cells.count() {

@@ -2,7 +2,8 @@
 --
 -- The rows "id", "kind" and "amount", "text" are the lines `id      kind` and `amount  text`.
 use Rattle.std.specs.List.{count_by}
-use Rattle.std.specs.Prelude.{ℕ, zero, suc, ◌+◌, ◌-◌, Bool, ◌||◌, nat_lt, max, if◌then◌else◌, List, [], ◌∷◌, ◌++◌, length, get_or, replicate, codes}
+use Rattle.std.specs.Prelude.{ℕ, zero, suc, ◌+◌, ◌-◌, Bool, ◌||◌, nat_lt, max, if◌then◌else◌, List}
+use Rattle.std.specs.Prelude.{[], ◌∷◌, ◌++◌, length, get_or, replicate, codes}
 
 -- a character begins with a byte
 abbrev pub begins : ℕ → Bool
@@ -15,11 +16,14 @@ glyphs text = count_by begins text
 -- how many characters the longest cell of a column has, in the first n rows
 abbrev pub widest : ℕ → List (List (List ℕ)) → ℕ → ℕ
 widest column rows zero = 0
-widest column rows (suc n) = max (glyphs (get_or (get_or rows n []) column [])) (widest column rows n)
+widest column rows (suc n) =
+    max (glyphs (get_or (get_or rows n []) column [])) (widest column rows n)
 
 -- a cell, and what stands between it and the next of w columns
 abbrev pub aligned_cell : List (List (List ℕ)) → ℕ → ℕ → List ℕ → List ℕ
-aligned_cell rows w column cell = cell ++ (if nat_lt (column + 1) w then replicate (widest column rows (length rows) - glyphs cell) 32 ++ codes "  " else [])
+aligned_cell rows w column cell = cell
+    ++ (if nat_lt (column + 1) w then replicate (widest column rows (length rows) - glyphs cell) 32
+    ++ codes "  " else [])
 
 -- the first n cells of a row
 abbrev pub line_to : List (List (List ℕ)) → ℕ → List (List ℕ) → ℕ → List ℕ

@@ -1,10 +1,11 @@
 -- What the columns of two tables differ in.
 --
--- Of the left columns id and note, and the right columns id and day, where id is a whole number on the left and a text on the
--- right, one is changed, one is removed, and one is added.
+-- Of the left columns id and note, and the right columns id and day, where id is a whole number on
+-- the left and a text on the right, one is changed, one is removed, and one is added.
 use Rattle.std.specs.Fmt.{decimal}
 use Rattle.std.specs.List.{count_by, flat_map}
-use Rattle.std.specs.Prelude.{ℕ, ◌-◌, Bool, false, not, if◌then◌else◌, List, [], ◌∷◌, ◌++◌, length, codes, Option, None, Some, is_none}
+use Rattle.std.specs.Prelude.{ℕ, ◌-◌, Bool, false, not, if◌then◌else◌, List, [], ◌∷◌, ◌++◌, length}
+use Rattle.std.specs.Prelude.{codes, Option, None, Some, is_none}
 use Rattle.std.specs.Str.{bytes_eq}
 use Rattle.diff_columns.specs.declared.error.Side.TheVariants.{Left, Right}
 use Rattle.diff_json.specs.Columns.{column_object}
@@ -19,7 +20,8 @@ use Rattle.schema_report.specs.declared.changes.SchemaCounts.{SchemaCounts}
 -- the kind of the first column that has this name
 abbrev pub kind_named : List ℕ → List ColumnSchema → Option Kind
 kind_named name [] = None
-kind_named name (s ∷ more) = if bytes_eq s.name.items name then Some s.kind else kind_named name more
+kind_named name (s ∷ more) =
+    if bytes_eq s.name.items name then Some s.kind else kind_named name more
 
 -- no other column has the name of a column
 abbrev pub is_alone : List ColumnSchema → ColumnSchema → Bool
@@ -47,16 +49,19 @@ counts_of left right = record {
 
 -- the line of a column that one file has alone
 unfoldable pub alone_line : List ℕ → List ℕ → List ℕ
-alone_line file name = codes "! column " ++ word_text name ++ codes " only in " ++ word_text file ++ codes "\n"
+alone_line file name = codes "! column " ++ word_text name ++ codes " only in " ++ word_text file
+    ++ codes "\n"
 
 -- the line of a column whose kinds differ
 unfoldable pub kind_line : List ℕ → Kind → Kind → List ℕ
-kind_line name left right = codes "~ column " ++ word_text name ++ codes "  " ++ kind_word left ++ codes " -> " ++ kind_word right ++ codes "\n"
+kind_line name left right = codes "~ column " ++ word_text name ++ codes "  " ++ kind_word left
+    ++ codes " -> " ++ kind_word right ++ codes "\n"
 
 -- the line of a left column, by the kind of the right one of its name
 abbrev pub line_by : List ℕ → ColumnSchema → Option Kind → List ℕ
 line_by file s None = alone_line file s.name.items
-line_by file s (Some kind) = if same_kind s.kind kind then [] else kind_line s.name.items s.kind kind
+line_by file s (Some kind) =
+    if same_kind s.kind kind then [] else kind_line s.name.items s.kind kind
 
 -- the line of a left column, unless it is the same as the right one of its name
 abbrev pub change_line : List ℕ → List ColumnSchema → ColumnSchema → List ℕ
@@ -68,18 +73,21 @@ lone_line file left s = if is_alone left s then alone_line file s.name.items els
 
 -- the line of the counts
 unfoldable pub counts_line : SchemaCounts → List ℕ
-counts_line c = decimal c.changed ++ codes " changed, " ++ decimal c.removed ++ codes " removed, " ++ decimal c.added ++ codes " added, " ++ decimal c.same ++ codes " the same.\n"
+counts_line c = decimal c.changed ++ codes " changed, " ++ decimal c.removed ++ codes " removed, "
+    ++ decimal c.added ++ codes " added, " ++ decimal c.same ++ codes " the same.\n"
 
 -- what the columns of two files differ in
 abbrev pub changes_text : List ℕ → List ℕ → List ColumnSchema → List ColumnSchema → List ℕ
-changes_text left_file right_file left right = flat_map (change_line left_file right) left ++ flat_map (lone_line right_file left) right ++ counts_line (counts_of left right)
+changes_text left_file right_file left right = flat_map (change_line left_file right) left
+    ++ flat_map (lone_line right_file left) right ++ counts_line (counts_of left right)
 
 -- ---- as JSON lines
 
 -- the object of a column whose kinds differ
 unfoldable pub kind_object : List ℕ → Kind → Kind → List ℕ
 kind_object name left right =
-    codes "{\"kind\":\"type\",\"column\":" ++ json_string name ++ codes ",\"left\":\"" ++ kind_word left ++ codes "\",\"right\":\"" ++ kind_word right ++ codes "\"}\n"
+    codes "{\"kind\":\"type\",\"column\":" ++ json_string name
+    ++ codes ",\"left\":\"" ++ kind_word left ++ codes "\",\"right\":\"" ++ kind_word right ++ codes "\"}\n"
 
 -- the object of a left column, by the kind of the right one of its name
 abbrev pub object_by : ColumnSchema → Option Kind → List ℕ
@@ -97,9 +105,12 @@ lone_object left s = if is_alone left s then column_object Right s.name.items el
 -- the object of the counts
 unfoldable pub counts_object : SchemaCounts → List ℕ
 counts_object c =
-    codes "{\"kind\":\"counts\",\"changed\":" ++ decimal c.changed ++ codes ",\"removed\":" ++ decimal c.removed ++ codes ",\"added\":" ++ decimal c.added ++ codes ",\"same\":" ++ decimal c.same
+    codes "{\"kind\":\"counts\",\"changed\":" ++ decimal c.changed ++ codes ",\"removed\":"
+    ++ decimal c.removed ++ codes ",\"added\":" ++ decimal c.added ++ codes ",\"same\":"
+    ++ decimal c.same
     ++ codes "}\n"
 
 -- what the columns of two files differ in
 abbrev pub changes_json : List ColumnSchema → List ColumnSchema → List ℕ
-changes_json left right = flat_map (change_object right) left ++ flat_map (lone_object left) right ++ counts_object (counts_of left right)
+changes_json left right = flat_map (change_object right) left ++ flat_map (lone_object left) right
+    ++ counts_object (counts_of left right)

@@ -30,7 +30,9 @@ count_cells s = count_text (Some s.nulls) ∷ count_text (Some s.missing) ∷ co
 
 -- its least and its greatest value
 abbrev pub end_cells : ColumnSchema → List (List ℕ)
-end_cells s = value_text s.kind (option_map (λ t. t.items) s.least) ∷ value_text s.kind (option_map (λ t. t.items) s.greatest) ∷ []
+end_cells s =
+    value_text s.kind (option_map (λ t. t.items) s.least) ∷ value_text s.kind
+    (option_map (λ t. t.items) s.greatest) ∷ []
 
 -- what is shown of a column
 abbrev pub row_of : ColumnSchema → List (List ℕ)

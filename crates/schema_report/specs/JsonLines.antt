@@ -1,6 +1,7 @@
 -- Columns as JSON lines.
 --
--- {"column":"id","type":"whole number","rows":4,"null":0,"missing":0,"distinct":4,"least":"1","greatest":"4"}
+-- {"column":"id","type":"whole
+-- number","rows":4,"null":0,"missing":0,"distinct":4,"least":"1","greatest":"4"}
 use Rattle.std.specs.Fmt.{decimal}
 use Rattle.std.specs.List.{flat_map}
 use Rattle.std.specs.Prelude.{ℕ, List, ◌++◌, codes, Option, None, Some, option_map}
@@ -20,7 +21,8 @@ value_member (Some bytes) = json_string bytes
 
 -- the members with a column's name and its kind
 unfoldable pub head_members : ColumnSchema → List ℕ
-head_members s = codes "{\"column\":" ++ json_string s.name.items ++ codes ",\"type\":\"" ++ kind_word s.kind
+head_members s = codes "{\"column\":" ++ json_string s.name.items
+    ++ codes ",\"type\":\"" ++ kind_word s.kind
 
 -- the members with its counts
 unfoldable pub count_members : ColumnSchema → List ℕ
@@ -30,7 +32,9 @@ count_members s =
 -- the members with its least and its greatest value
 unfoldable pub end_members : ColumnSchema → List ℕ
 end_members s =
-    codes ",\"least\":" ++ value_member (option_map (λ t. t.items) s.least) ++ codes ",\"greatest\":" ++ value_member (option_map (λ t. t.items) s.greatest) ++ codes "}\n"
+    codes ",\"least\":" ++ value_member (option_map (λ t. t.items) s.least)
+    ++ codes ",\"greatest\":" ++ value_member (option_map (λ t. t.items) s.greatest)
+    ++ codes "}\n"
 
 -- a column as an object in a line
 abbrev pub column_line : ColumnSchema → List ℕ

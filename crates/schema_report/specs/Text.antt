@@ -8,8 +8,10 @@ use Rattle.schema_report.specs.Grid.{header, row_of}
 
 -- how many rows and columns a file has
 unfoldable pub head_line : List ℕ → ℕ → ℕ → List ℕ
-head_line file rows columns = word_text file ++ codes ": " ++ decimal rows ++ codes " rows, " ++ decimal columns ++ codes " columns\n"
+head_line file rows columns = word_text file ++ codes ": " ++ decimal rows ++ codes " rows, "
+    ++ decimal columns ++ codes " columns\n"
 
 -- what the columns of a file are, in a line each, below the names of what is shown
 abbrev pub schema_text : List ℕ → ℕ → List ColumnSchema → List ℕ
-schema_text file rows columns = head_line file rows (length columns) ++ aligned 7 (header ∷ map row_of columns)
+schema_text file rows columns = head_line file rows (length columns)
+    ++ aligned 7 (header ∷ map row_of columns)

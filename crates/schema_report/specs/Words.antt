@@ -1,8 +1,10 @@
 -- The words for what a column is.
 --
--- The least value Oslo of texts is shown as "Oslo", with its quotes, and the least value 7 of whole numbers as 7.
+-- The least value Oslo of texts is shown as "Oslo", with its quotes, and the least value 7 of whole
+-- numbers as 7.
 use Rattle.std.specs.Fmt.{decimal}
-use Rattle.std.specs.Prelude.{ℕ, zero, suc, ◌&&◌, nat_lt, nat_le, if◌then◌else◌, List, ◌++◌, length, take, get_or, codes, Option, None, Some}
+use Rattle.std.specs.Prelude.{ℕ, zero, suc, ◌&&◌, nat_lt, nat_le, if◌then◌else◌, List, ◌++◌, length}
+use Rattle.std.specs.Prelude.{take, get_or, codes, Option, None, Some}
 use Rattle.diff_words.specs.Quoted.{quoted}
 use Rattle.diff_words.specs.Words.{word_text}
 use Rattle.schema_columns.specs.declared.kind.Kind.{Kind}
@@ -24,11 +26,14 @@ count_text (Some n) = decimal n
 -- the longest front of at most n bytes that ends before the first byte of a character
 abbrev pub front_len : List ℕ → ℕ → ℕ
 front_len bytes zero = 0
-front_len bytes (suc n) = if nat_lt 127 (get_or bytes (suc n) 0) && nat_lt (get_or bytes (suc n) 0) 192 then front_len bytes n else suc n
+front_len bytes (suc n) = if nat_lt 127 (get_or bytes (suc n) 0)
+    && nat_lt (get_or bytes (suc n) 0) 192 then front_len bytes n else suc n
 
 -- a string between quotes, of which no more than 40 bytes are shown
 abbrev pub shown_string : List ℕ → List ℕ
-shown_string bytes = if nat_le (length bytes) 40 then quoted bytes else quoted (take (front_len bytes 40) bytes) ++ codes ".."
+shown_string bytes =
+    if nat_le (length bytes) 40 then quoted bytes else quoted (take (front_len bytes 40) bytes)
+    ++ codes ".."
 
 -- a value of a kind
 abbrev pub shown : Kind → List ℕ → List ℕ

@@ -1,7 +1,9 @@
 //! Tables of words, whose columns stand one under another.
 
-ghost use Rattle.std.specs.Prelude.{◌≡◌, ◌<◌, ◌+◌, ◌-◌, ◌++◌, ◌∷◌, ℕ, [], length, get_or, replicate, IfOk, OnOk};
-ghost use Rattle.schema_report.specs.Aligned.{aligned, aligned_cell, begins, glyphs, line_to, widest};
+ghost use Rattle.std.specs.Prelude.{◌≡◌, ◌<◌, ◌+◌, ◌-◌, ◌++◌, ◌∷◌, ℕ, [], length, get_or};
+ghost use Rattle.std.specs.Prelude.{replicate, IfOk, OnOk};
+ghost use Rattle.schema_report.specs.Aligned.{aligned, aligned_cell, begins, glyphs, line_to};
+ghost use Rattle.schema_report.specs.Aligned.{widest};
 
 use diff_tables::table::Table;
 use std::alloc::{AllocError, Global};
@@ -35,7 +37,9 @@ fn widest(table: &Table, column: usize) -> usize
 /// Returns for each column how many characters its longest cell has.
 fn widths_of(alloc: Global, table: &Table) -> Result<Vec<usize>, AllocError>
     ensures many { IfOk result (λ widths. length widths.items ≡ table.now.width) }
-    ensures each { IfOk result (λ widths. (c : ℕ) → c < table.now.width → get_or widths.items c 0 ≡ widest c table.now.rows (length table.now.rows)) }
+    ensures each { IfOk result
+        (λ widths. (c : ℕ) → c < table.now.width → get_or widths.items c 0
+        ≡ widest c table.now.rows (length table.now.rows)) }
 {
     let mut widths = Vec::new(alloc);
     for column in 0..table.width() {
@@ -65,8 +69,12 @@ fn push_cell(
     requires row { i < length table.now.rows }
     requires column { column < table.now.width }
     requires many { length widths.now ≡ table.now.width }
-    requires each { (c : ℕ) → c < table.now.width → get_or widths.now c 0 ≡ widest c table.now.rows (length table.now.rows) }
-    ensures { OnOk result (out.new.items ≡ out.old.items ++ aligned_cell table.now.rows table.now.width column (get_or (get_or table.now.rows i []) column [])) }
+    requires each { (c : ℕ) → c < table.now.width → get_or widths.now c 0
+        ≡ widest c table.now.rows (length table.now.rows) }
+    ensures { OnOk result
+        (out.new.items ≡ out.old.items
+        ++ aligned_cell table.now.rows table.now.width column
+        (get_or (get_or table.now.rows i []) column [])) }
 {
     let cell = table.cell(i, column);
     out.extend_from_slice(cell)?;
@@ -81,8 +89,12 @@ fn push_cell(
 fn push_line(out: &mut Vec<u8>, table: &Table, widths: &[usize], i: usize) -> Result<(), AllocError>
     requires row { i < length table.now.rows }
     requires many { length widths.now ≡ table.now.width }
-    requires each { (c : ℕ) → c < table.now.width → get_or widths.now c 0 ≡ widest c table.now.rows (length table.now.rows) }
-    ensures { OnOk result (out.new.items ≡ out.old.items ++ line_to table.now.rows table.now.width (get_or table.now.rows i []) table.now.width ++ 10 ∷ []) }
+    requires each { (c : ℕ) → c < table.now.width → get_or widths.now c 0
+        ≡ widest c table.now.rows (length table.now.rows) }
+    ensures { OnOk result
+        (out.new.items ≡ out.old.items
+        ++ line_to table.now.rows table.now.width (get_or table.now.rows i []) table.now.width
+        ++ 10 ∷ []) }
 {
     for column in 0..table.width() {
         push_cell(out, table, widths, i, column)?;
@@ -91,14 +103,15 @@ fn push_line(out: &mut Vec<u8>, table: &Table, widths: &[usize], i: usize) -> Re
     Ok(())
 }
 
-/// Appends the rows of a table in a line each, with blanks behind the cells of each column up to its
-/// longest one, and two more before the next column.
+/// Appends the rows of a table in a line each, with blanks behind the cells of each column up to
+/// its longest one, and two more before the next column.
 pub(crate) fn push_aligned(
     alloc: Global,
     out: &mut Vec<u8>,
     table: &Table,
 ) -> Result<(), AllocError>
-    ensures { OnOk result (out.new.items ≡ out.old.items ++ aligned table.now.width table.now.rows) }
+    ensures { OnOk result
+        (out.new.items ≡ out.old.items ++ aligned table.now.width table.now.rows) }
 {
     let widths = widths_of(alloc, table)?;
     for i in 0..table.count() {

@@ -2,7 +2,9 @@
 
 ghost use Rattle.std.specs.List.{count_by};
 ghost use Rattle.std.specs.Prelude.{◌≡◌, ◌++◌, OnOk};
-ghost use Rattle.schema_report.specs.Changes.{alone_line, change_line, changes_text, counts_line, counts_of, is_alone, is_changed, kind_line, kind_named, lone_line};
+ghost use Rattle.schema_report.specs.Changes.{alone_line, change_line, changes_text, counts_line};
+ghost use Rattle.schema_report.specs.Changes.{counts_of, is_alone, is_changed, kind_line};
+ghost use Rattle.schema_report.specs.Changes.{kind_named, lone_line};
 
 use crate::words::push_kind;
 use diff_words::decimals::push_decimal;
@@ -124,7 +126,8 @@ fn push_change(
     right: &[ColumnSchema],
     column: &ColumnSchema,
 ) -> Result<(), AllocError>
-    ensures { OnOk result (out.new.items ≡ out.old.items ++ change_line file.now right.now column.now) }
+    ensures { OnOk result
+        (out.new.items ≡ out.old.items ++ change_line file.now right.now column.now) }
 {
     match kind_named(right, &column.name) {
         None => push_alone(out, file, &column.name),
@@ -144,7 +147,8 @@ fn push_lone(
     left: &[ColumnSchema],
     column: &ColumnSchema,
 ) -> Result<(), AllocError>
-    ensures { OnOk result (out.new.items ≡ out.old.items ++ lone_line file.now left.now column.now) }
+    ensures { OnOk result
+        (out.new.items ≡ out.old.items ++ lone_line file.now left.now column.now) }
 {
     if is_alone(left, column) {
         push_alone(out, file, &column.name)?;
@@ -175,7 +179,9 @@ pub fn push_changes(
     left: &[ColumnSchema],
     right: &[ColumnSchema],
 ) -> Result<(), AllocError>
-    ensures { OnOk result (out.new.items ≡ out.old.items ++ changes_text files.entry.0.now files.entry.1.now left.now right.now) }
+    ensures { OnOk result
+        (out.new.items ≡ out.old.items
+        ++ changes_text files.entry.0.now files.entry.1.now left.now right.now) }
 {
     for column in left {
         push_change(out, files.0, right, column)?;

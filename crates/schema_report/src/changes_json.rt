@@ -2,7 +2,8 @@
 
 ghost use Rattle.std.specs.Fmt.{decimal};
 ghost use Rattle.std.specs.Prelude.{◌≡◌, ◌++◌, OnOk};
-ghost use Rattle.schema_report.specs.Changes.{change_object, changes_json, counts_object, kind_object, lone_object};
+ghost use Rattle.schema_report.specs.Changes.{change_object, changes_json, counts_object};
+ghost use Rattle.schema_report.specs.Changes.{kind_object, lone_object};
 
 use crate::changes::{SchemaCounts, counts_of, is_alone, kind_named};
 use crate::words::push_kind;
@@ -84,8 +85,8 @@ fn push_counts(out: &mut Vec<u8>, counts: SchemaCounts) -> Result<(), AllocError
     Ok(())
 }
 
-/// Appends what the columns of two files differ in, as JSON lines: an object for each difference, and
-/// one for the counts.
+/// Appends what the columns of two files differ in, as JSON lines: an object for each difference,
+/// and one for the counts.
 pub fn push_changes_json(
     out: &mut Vec<u8>,
     left: &[ColumnSchema],

@@ -3,7 +3,8 @@
 ghost use Rattle.std.specs.Prelude.{◌≡◌, ◌++◌, ◌∷◌, [], ℕ, List, map, OnOk, IfOk, MatchResult};
 ghost use Rattle.polars_arrays_bits.specs.Errors.{IsMemory};
 ghost use Rattle.diff_tables.specs.Strings.{AreStrings};
-ghost use Rattle.schema_report.specs.Grid.{count_cells, count_names, end_cells, end_names, head_cells, head_names, header, row_of};
+ghost use Rattle.schema_report.specs.Grid.{count_cells, count_names, end_cells, end_names};
+ghost use Rattle.schema_report.specs.Grid.{head_cells, head_names, header, row_of};
 ghost use Rattle.schema_report.specs.Words.{count_text};
 
 use crate::words::{kind_word, push_count, push_value};
@@ -16,7 +17,9 @@ use std::alloc::{AllocError, Global};
 
 /// Appends the names of a column's name and its kind.
 fn push_head_names(cells: &mut Strings) -> Result<(), AllocError>
-    ensures { OnOk result ((all : List (List ℕ)) → AreStrings cells.old all → AreStrings cells.new (all ++ head_names)) }
+    ensures { OnOk result
+        ((all : List (List ℕ)) → AreStrings cells.old all
+        → AreStrings cells.new (all ++ head_names)) }
 {
     cells.push(b"column")?;
     cells.push(b"kind")?;
@@ -25,7 +28,9 @@ fn push_head_names(cells: &mut Strings) -> Result<(), AllocError>
 
 /// Appends the names of its counts.
 fn push_count_names(cells: &mut Strings) -> Result<(), AllocError>
-    ensures { OnOk result ((all : List (List ℕ)) → AreStrings cells.old all → AreStrings cells.new (all ++ count_names)) }
+    ensures { OnOk result
+        ((all : List (List ℕ)) → AreStrings cells.old all
+        → AreStrings cells.new (all ++ count_names)) }
 {
     cells.push(b"null")?;
     cells.push(b"missing")?;
@@ -35,7 +40,9 @@ fn push_count_names(cells: &mut Strings) -> Result<(), AllocError>
 
 /// Appends the names of its least and its greatest value.
 fn push_end_names(cells: &mut Strings) -> Result<(), AllocError>
-    ensures { OnOk result ((all : List (List ℕ)) → AreStrings cells.old all → AreStrings cells.new (all ++ end_names)) }
+    ensures { OnOk result
+        ((all : List (List ℕ)) → AreStrings cells.old all
+        → AreStrings cells.new (all ++ end_names)) }
 {
     cells.push(b"least")?;
     cells.push(b"greatest")?;
@@ -44,7 +51,8 @@ fn push_end_names(cells: &mut Strings) -> Result<(), AllocError>
 
 /// Appends the names of what is shown.
 fn push_header(cells: &mut Strings) -> Result<(), AllocError>
-    ensures { OnOk result ((all : List (List ℕ)) → AreStrings cells.old all → AreStrings cells.new (all ++ header)) }
+    ensures { OnOk result
+        ((all : List (List ℕ)) → AreStrings cells.old all → AreStrings cells.new (all ++ header)) }
 {
     push_head_names(cells)?;
     push_count_names(cells)?;
@@ -58,7 +66,9 @@ fn push_head(
     room: &mut Vec<u8>,
     column: &ColumnSchema,
 ) -> Result<(), AllocError>
-    ensures { OnOk result ((all : List (List ℕ)) → AreStrings cells.old all → AreStrings cells.new (all ++ head_cells column.now)) }
+    ensures { OnOk result
+        ((all : List (List ℕ)) → AreStrings cells.old all
+        → AreStrings cells.new (all ++ head_cells column.now)) }
 {
     room.clear();
     push_word(room, &column.name)?;
@@ -73,7 +83,9 @@ fn push_one_count(
     room: &mut Vec<u8>,
     count: Option<usize>,
 ) -> Result<(), AllocError>
-    ensures { OnOk result ((all : List (List ℕ)) → AreStrings cells.old all → AreStrings cells.new (all ++ count_text count ∷ [])) }
+    ensures { OnOk result
+        ((all : List (List ℕ)) → AreStrings cells.old all
+        → AreStrings cells.new (all ++ count_text count ∷ [])) }
 {
     room.clear();
     push_count(room, count)?;
@@ -87,7 +99,9 @@ fn push_counts(
     room: &mut Vec<u8>,
     column: &ColumnSchema,
 ) -> Result<(), AllocError>
-    ensures { OnOk result ((all : List (List ℕ)) → AreStrings cells.old all → AreStrings cells.new (all ++ count_cells column.now)) }
+    ensures { OnOk result
+        ((all : List (List ℕ)) → AreStrings cells.old all
+        → AreStrings cells.new (all ++ count_cells column.now)) }
 {
     push_one_count(cells, room, Some(column.nulls))?;
     push_one_count(cells, room, Some(column.missing))?;
@@ -101,7 +115,9 @@ fn push_ends(
     room: &mut Vec<u8>,
     column: &ColumnSchema,
 ) -> Result<(), AllocError>
-    ensures { OnOk result ((all : List (List ℕ)) → AreStrings cells.old all → AreStrings cells.new (all ++ end_cells column.now)) }
+    ensures { OnOk result
+        ((all : List (List ℕ)) → AreStrings cells.old all
+        → AreStrings cells.new (all ++ end_cells column.now)) }
 {
     room.clear();
     push_value(room, column.kind, &column.least)?;
@@ -118,7 +134,9 @@ fn push_row(
     room: &mut Vec<u8>,
     column: &ColumnSchema,
 ) -> Result<(), AllocError>
-    ensures { OnOk result ((all : List (List ℕ)) → AreStrings cells.old all → AreStrings cells.new (all ++ row_of column.now)) }
+    ensures { OnOk result
+        ((all : List (List ℕ)) → AreStrings cells.old all
+        → AreStrings cells.new (all ++ row_of column.now)) }
 {
     push_head(cells, room, column)?;
     push_counts(cells, room, column)?;

@@ -3,7 +3,9 @@
 ghost use Rattle.std.specs.Fmt.{decimal};
 ghost use Rattle.std.specs.Option.{option_map};
 ghost use Rattle.std.specs.Prelude.{◌≡◌, ◌++◌, OnOk};
-ghost use Rattle.schema_report.specs.JsonLines.{column_line, count_member, count_members, end_members, head_members, schema_lines, value_member};
+ghost use Rattle.schema_report.specs.JsonLines.{column_line, count_member, count_members};
+ghost use Rattle.schema_report.specs.JsonLines.{end_members, head_members, schema_lines};
+ghost use Rattle.schema_report.specs.JsonLines.{value_member};
 
 use crate::words::push_kind;
 use diff_json::strings::push_string;
@@ -36,7 +38,9 @@ fn push_count(out: &mut Vec<u8>, before: &[u8], count: Option<usize>) -> Result<
 
 /// Appends the text before a value, and the value as a string, or `null` where there is none.
 fn push_value(out: &mut Vec<u8>, before: &[u8], value: &Option<Vec<u8>>) -> Result<(), AllocError>
-    ensures { OnOk result (out.new.items ≡ out.old.items ++ before.now ++ value_member (option_map (λ v. v.items) value.now)) }
+    ensures { OnOk result
+        (out.new.items ≡ out.old.items ++ before.now
+        ++ value_member (option_map (λ v. v.items) value.now)) }
 {
     out.extend_from_slice(before)?;
     match value {

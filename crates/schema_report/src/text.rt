@@ -35,7 +35,8 @@ pub fn push_schema(
     rows: usize,
     columns: &[ColumnSchema],
 ) -> Result<(), ComputeError>
-    ensures ok { OnOk result (out.new.items ≡ out.old.items ++ schema_text file.now rows columns.now) }
+    ensures ok { OnOk result
+        (out.new.items ≡ out.old.items ++ schema_text file.now rows columns.now) }
     ensures fault { IfErr result IsMemory }
 {
     push_head(out, file, rows, columns.len())?;

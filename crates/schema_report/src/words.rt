@@ -2,7 +2,8 @@
 
 ghost use Rattle.std.specs.Option.{option_map};
 ghost use Rattle.std.specs.Prelude.{◌≡◌, ◌≤◌, ◌++◌, length, OnOk};
-ghost use Rattle.schema_report.specs.Words.{count_text, front_len, kind_word, shown_string, value_text};
+ghost use Rattle.schema_report.specs.Words.{count_text, front_len, kind_word, shown_string};
+ghost use Rattle.schema_report.specs.Words.{value_text};
 
 use diff_words::cells::push_cell;
 use diff_words::decimals::push_decimal;
@@ -81,7 +82,8 @@ pub(crate) fn push_value(
     kind: Kind,
     value: &Option<Vec<u8>>,
 ) -> Result<(), AllocError>
-    ensures { OnOk result (out.new.items ≡ out.old.items ++ value_text kind (option_map (λ v. v.items) value.now)) }
+    ensures { OnOk result
+        (out.new.items ≡ out.old.items ++ value_text kind (option_map (λ v. v.items) value.now)) }
 {
     match (value, kind) {
         (None, _) => {

@@ -14,7 +14,8 @@ form_text form.Text file s = schema_text file s.rows s.columns.items
 form_text form.Json file s = schema_lines s.columns.items
 
 -- this says what the columns of a text are
-pub record SaysSchemaOf (options : CsvOptions) (text : List ℕ) (null : Option (List ℕ)) (f : Form) (file said : List ℕ) : Type 0 where
+pub record SaysSchemaOf (options : CsvOptions) (text : List ℕ) (null : Option (List ℕ)) (f : Form)
+    (file said : List ℕ) : Type 0 where
   pub schema : TableSchema
   pub of_text : IsSchemaOfText options text null schema
   pub is : said ≡ form_text f file schema

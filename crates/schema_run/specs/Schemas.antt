@@ -9,15 +9,20 @@ use Rattle.schema_columns.specs.declared.column.ColumnSchema.{ColumnSchema}
 use Rattle.schema_run.specs.declared.read.TableSchema.{TableSchema}
 
 -- the columns of rows, which have these names
-pub record AreSchemasOf (null : Option (List ℕ)) (names : List (List ℕ)) (rows : List (List (List ℕ))) (columns : List ColumnSchema) : Type 0 where
+pub record AreSchemasOf (null : Option (List ℕ)) (names : List (List ℕ))
+    (rows : List (List (List ℕ))) (columns : List ColumnSchema) : Type 0 where
   pub many : length columns ≡ length names
-  pub each : (c : ℕ) (d : ColumnSchema) → c < length names → IsSchemaOf (get_or names c []) null (cells_of c rows) (get_or columns c d)
+  pub each : (c : ℕ) (d : ColumnSchema) → c < length names
+      → IsSchemaOf (get_or names c []) null (cells_of c rows) (get_or columns c d)
 
 -- the columns of a text whose records have one length, and in which no quote is open at the end
-pub record IsSchemaOfText (options : CsvOptions) (text : List ℕ) (null : Option (List ℕ)) (s : TableSchema) : Type 0 where
+pub record IsSchemaOfText (options : CsvOptions) (text : List ℕ) (null : Option (List ℕ))
+    (s : TableSchema) : Type 0 where
   pub records : List (List (List ℕ))
   pub all : AreRecordsOf options text records
   pub one_length : HaveOneLength records
   pub closed : ends_open options text ≡ false
   pub rows : s.rows ≡ length (data_rows options.has_header records)
-  pub columns : AreSchemasOf null (names_of options.has_header records) (data_rows options.has_header records) s.columns.items
+  pub columns :
+      AreSchemasOf null (names_of options.has_header records) (data_rows options.has_header records)
+      s.columns.items

@@ -45,7 +45,10 @@ fn all_columns(alloc: Global, count: usize) -> Result<Vec<usize>, AllocError>
 
 /// Returns the names of the columns of a text. The one error is `Memory`.
 fn names_in<R: Read + Drop>(alloc: Global, source: &Source<R>) -> Result<BinaryArray<i64>, CsvError>
-    ensures { MatchResult result (λ names. (options : CsvOptions) (text : List ℕ) (records : List (List (List ℕ))) → IsOpen R.remaining options text source.now → AreRecordsOf options text records → offset_strings (λ x. x) names ≡ names_of options.has_header records) IsOutOfMemory }
+    ensures { MatchResult result
+        (λ names. (options : CsvOptions) (text : List ℕ) (records : List (List (List ℕ)))
+        → IsOpen R.remaining options text source.now → AreRecordsOf options text records
+        → offset_strings (λ x. x) names ≡ names_of options.has_header records) IsOutOfMemory }
 {
     match source.names(alloc) {
         Ok(names) => Ok(names),
@@ -62,7 +65,9 @@ fn column_schema(
     null: Option<&[u8]>,
 ) -> Result<ColumnSchema, CsvError>
     requires { column < table.now.width }
-    ensures { MatchResult result (IsSchemaOf name.now (option_copied null.entry) (cells_of column table.now.rows)) IsOutOfMemory }
+    ensures { MatchResult result
+        (IsSchemaOf name.now (option_copied null.entry) (cells_of column table.now.rows))
+        IsOutOfMemory }
 {
     match schema_of(alloc, name, table, column, null) {
         Ok(schema) => Ok(schema),
@@ -78,7 +83,9 @@ fn schemas_of(
     null: Option<&[u8]>,
 ) -> Result<Vec<ColumnSchema>, CsvError>
     requires { table.now.width ≡ length (offset_strings (λ x. x) names.now) }
-    ensures { MatchResult result (λ columns. AreSchemasOf (option_copied null.entry) (offset_strings (λ x. x) names.now) table.now.rows columns.items) IsOutOfMemory }
+    ensures { MatchResult result
+        (λ columns. AreSchemasOf (option_copied null.entry) (offset_strings (λ x. x) names.now)
+        table.now.rows columns.items) IsOutOfMemory }
 {
     let mut columns = Vec::new(alloc);
     for column in 0..names.count() {
@@ -88,8 +95,8 @@ fn schemas_of(
     Ok(columns)
 }
 
-/// Reads a CSV text, and returns what its columns are. A cell that is the word `null` is null. Fails
-/// as `Source` of `diff_csv` does.
+/// Reads a CSV text, and returns what its columns are. A cell that is the word `null` is null.
+/// Fails as `Source` of `diff_csv` does.
 pub fn read_schema<R: Read + Drop>(
     alloc: Global,
     input: R,
@@ -97,8 +104,10 @@ pub fn read_schema<R: Read + Drop>(
     null: Option<&[u8]>,
 ) -> Result<TableSchema, CsvError>
     ensures { MatchResult result
-        (λ schema. (text : List ℕ) → R.remaining input ≡ Some text → IsSchemaOfText options text (option_copied null.entry) schema)
-        (λ error. (text : List ℕ) → R.remaining input ≡ Some text → IsReadFault options text error) }
+        (λ schema. (text : List ℕ) → R.remaining input ≡ Some text
+        → IsSchemaOfText options text (option_copied null.entry) schema)
+        (λ error. (text : List ℕ) → R.remaining input ≡ Some text
+        → IsReadFault options text error) }
 {
     let source = Source::open(alloc, input, options)?;
     let names = names_in(alloc, &source)?;

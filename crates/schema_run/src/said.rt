@@ -58,8 +58,13 @@ pub fn push_schema_of<R: Read + Drop>(
     null: Option<&[u8]>,
     form: Form,
 ) -> Result<(), CsvError>
-    ensures said { OnOk result ((text : List ℕ) → R.remaining input ≡ Some text → (said : List ℕ) × (out.new.items ≡ out.old.items ++ said) × SaysSchemaOf options text (option_copied null.entry) form file.now said) }
-    ensures fault { IfErr result (λ error. (text : List ℕ) → R.remaining input ≡ Some text → IsReadFault options text error) }
+    ensures said { OnOk result
+        ((text : List ℕ) → R.remaining input ≡ Some text → (said : List ℕ)
+        × (out.new.items ≡ out.old.items ++ said)
+        × SaysSchemaOf options text (option_copied null.entry) form file.now said) }
+    ensures fault { IfErr result
+        (λ error. (text : List ℕ) → R.remaining input ≡ Some text
+        → IsReadFault options text error) }
 {
     let schema = read_schema(alloc, input, options, null)?;
     push_form(alloc, out, file, &schema, form)?;

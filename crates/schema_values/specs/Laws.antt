@@ -5,4 +5,5 @@ use Rattle.schema_values.specs.Numbers.{same_number}
 
 -- two texts write one number where their decimals are equal, and only there
 abbrev pub OneNumberWhereEqual : Type 0
-OneNumberWhereEqual = (s t : List ℕ) → (same_number s t ≡ true) ↔ AreEqual (decimal_of s) (decimal_of t)
+OneNumberWhereEqual = (s t : List ℕ) → (same_number s t ≡ true)
+    ↔ AreEqual (decimal_of s) (decimal_of t)

@@ -1,8 +1,10 @@
 -- How many of the numbers that texts write differ, and the least and the greatest.
 --
--- The texts 1.0, -2, 1e0 and 0.5 write three numbers. The least is -2, and of the greatest the first text is 1.0.
+-- The texts 1.0, -2, 1e0 and 0.5 write three numbers. The least is -2, and of the greatest the
+-- first text is 1.0.
 use Rattle.std.specs.List.{All}
-use Rattle.std.specs.Prelude.{◌≡◌, ◌<◌, ◌⊎◌, ℕ, Bool, true, false, not, ◌&&◌, List, [], length, map, get_or, Option, Some, MatchOption, ⊤}
+use Rattle.std.specs.Prelude.{◌≡◌, ◌<◌, ◌⊎◌, ℕ, Bool, true, false, not, ◌&&◌, List, [], length, map}
+use Rattle.std.specs.Prelude.{get_or, Option, Some, MatchOption, ⊤}
 use Rattle.diff_numbers.specs.Cells.{is_number}
 use Rattle.diff_tables.specs.Strings.{AreStrings}
 use Rattle.diff_tables.specs.declared.strings.Strings.{Strings}
@@ -37,13 +39,15 @@ better true s t = number_less t s
 better false s t = number_less s t
 
 -- of the first n texts this is the first that no other one is better than
-pub record IsBestPlace (beats : List ℕ → List ℕ → Bool) (texts : List (List ℕ)) (n place : ℕ) : Type 0 where
+pub record IsBestPlace (beats : List ℕ → List ℕ → Bool) (texts : List (List ℕ)) (n place : ℕ) :
+    Type 0 where
   pub within : place < n
   pub none_better : (k : ℕ) → k < n → beats (get_or texts k []) (get_or texts place []) ≡ false
   pub first : (k : ℕ) → k < place → beats (get_or texts place []) (get_or texts k []) ≡ true
 
 -- the first of all texts that no other one is better than
-pub record IsBestText (beats : List ℕ → List ℕ → Bool) (texts : List (List ℕ)) (text : List ℕ) : Type 0 where
+pub record IsBestText (beats : List ℕ → List ℕ → Bool) (texts : List (List ℕ)) (text : List ℕ) :
+    Type 0 where
   pub place : ℕ
   pub best : IsBestPlace beats texts (length texts) place
   pub is : text ≡ get_or texts place []

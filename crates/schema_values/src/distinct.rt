@@ -14,7 +14,8 @@ use std::collections::HashMap;
 
 /// Returns how many different strings there are. The one error is `Memory`.
 pub fn count_strings(alloc: Global, cells: &BinaryArray<i64>) -> Result<usize, ComputeError>
-    ensures { MatchResult result (λ count. count ≡ distinct_total bytes_eq (offset_strings (λ x. x) cells.now)) IsMemory }
+    ensures { MatchResult result
+        (λ count. count ≡ distinct_total bytes_eq (offset_strings (λ x. x) cells.now)) IsMemory }
 {
     let mut seen = HashMap::new(alloc);
     let mut count: usize = 0;

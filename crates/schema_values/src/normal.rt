@@ -19,7 +19,9 @@ use std::alloc::Global;
 /// Appends the normal text of the number that a cell writes, which is made in `room`.
 fn push_normal(texts: &mut Strings, room: &mut Vec<u8>, cell: &[u8]) -> Result<(), NumberError>
     requires { is_number cell.now ≡ true }
-    ensures ok { OnOk result ((all : List (List ℕ)) → AreStrings texts.old all → AreStrings texts.new (all ++ normal_number cell.now ∷ [])) }
+    ensures ok { OnOk result
+        ((all : List (List ℕ)) → AreStrings texts.old all
+        → AreStrings texts.new (all ++ normal_number cell.now ∷ [])) }
     ensures narrow { OnOk result (¬ HasWideExponent cell.now) }
     ensures wide { result ≡ Err NumberError.WideExponent → HasWideExponent cell.now }
 {
@@ -32,11 +34,12 @@ fn push_normal(texts: &mut Strings, room: &mut Vec<u8>, cell: &[u8]) -> Result<(
     Ok(())
 }
 
-/// Returns the normal texts of the numbers that cells write. Fails where a number has a wide exponent,
-/// and else for want of memory alone.
+/// Returns the normal texts of the numbers that cells write. Fails where a number has a wide
+/// exponent, and else for want of memory alone.
 pub(crate) fn normal_texts(alloc: Global, cells: &BinaryArray<i64>) -> Result<Strings, NumberError>
     requires { All IsNumber (offset_strings (λ x. x) cells.now) }
-    ensures { MatchResult result (AreNormal (offset_strings (λ x. x) cells.now)) (IsNumberFault (offset_strings (λ x. x) cells.now)) }
+    ensures { MatchResult result (AreNormal (offset_strings (λ x. x) cells.now))
+        (IsNumberFault (offset_strings (λ x. x) cells.now)) }
 {
     let mut texts = Strings::new(alloc)?;
     let mut room = Vec::new(alloc);

@@ -5,7 +5,8 @@ ghost use Rattle.std.specs.Option.{option_map};
 ghost use Rattle.std.specs.Prelude.{◌≡◌, ◌<◌, length, IfOk, MatchResult, None};
 ghost use Rattle.polars_arrays_bits.specs.Errors.{IsMemory};
 ghost use Rattle.polars_arrays_bytes.specs.OffsetStrings.{offset_strings};
-ghost use Rattle.schema_values.specs.Numbers.{AreNormal, IsNarrow, IsNumber, TellsBest, TellsDecimals, TellsNumbers, better};
+ghost use Rattle.schema_values.specs.Numbers.{AreNormal, IsNarrow, IsNumber, TellsBest};
+ghost use Rattle.schema_values.specs.Numbers.{TellsDecimals, TellsNumbers, better};
 ghost use Rattle.schema_values.specs.Told.{told_of};
 
 use crate::distinct::count_strings;
@@ -33,7 +34,9 @@ fn best_text(
     greatest: bool,
 ) -> Result<Option<Vec<u8>>, AllocError>
     requires { All IsNarrow (offset_strings (λ x. x) cells.now) }
-    ensures { IfOk result (λ text. TellsBest (better greatest) (offset_strings (λ x. x) cells.now) (option_map (λ t. t.items) text)) }
+    ensures { IfOk result
+        (λ text. TellsBest (better greatest) (offset_strings (λ x. x) cells.now)
+        (option_map (λ t. t.items) text)) }
 {
     if cells.count() == 0 {
         return Ok(None);
@@ -51,7 +54,8 @@ fn exact_values(
 ) -> Result<Values, ComputeError>
     requires normal { AreNormal (offset_strings (λ x. x) cells.now) texts }
     requires narrow { All IsNarrow (offset_strings (λ x. x) cells.now) }
-    ensures { MatchResult result (λ values. TellsDecimals (offset_strings (λ x. x) cells.now) (told_of values)) IsMemory }
+    ensures { MatchResult result
+        (λ values. TellsDecimals (offset_strings (λ x. x) cells.now) (told_of values)) IsMemory }
 {
     let texts = texts.into_array(alloc)?;
     let distinct = Some(count_strings(alloc, &texts)?);
@@ -64,12 +68,13 @@ fn exact_values(
     })
 }
 
-/// Returns what is said of numbers, as JSON writes them: how many differ, and the first texts of the
-/// least and of the greatest. Nothing is said where a number has an exponent of more than 30 digits,
-/// its leading zeros not counted. The one error is `Memory`.
+/// Returns what is said of numbers, as JSON writes them: how many differ, and the first texts of
+/// the least and of the greatest. Nothing is said where a number has an exponent of more than 30
+/// digits, its leading zeros not counted. The one error is `Memory`.
 pub fn number_values(alloc: Global, cells: &BinaryArray<i64>) -> Result<Values, ComputeError>
     requires { All IsNumber (offset_strings (λ x. x) cells.now) }
-    ensures { MatchResult result (λ values. TellsNumbers (offset_strings (λ x. x) cells.now) (told_of values)) IsMemory }
+    ensures { MatchResult result
+        (λ values. TellsNumbers (offset_strings (λ x. x) cells.now) (told_of values)) IsMemory }
 {
     match normal_texts(alloc, cells) {
         Ok(texts) => exact_values(alloc, cells, texts),

@@ -46,7 +46,9 @@ fn better_place(cells: &BinaryArray<i64>, greatest: bool, best: usize, other: us
     requires all { All IsNarrow (offset_strings (λ x. x) cells.now) }
     requires best { best < length (offset_strings (λ x. x) cells.now) }
     requires other { other < length (offset_strings (λ x. x) cells.now) }
-    ensures { result ≡ (if better greatest (get_or (offset_strings (λ x. x) cells.now) other []) (get_or (offset_strings (λ x. x) cells.now) best []) then other else best) }
+    ensures { result
+        ≡ (if better greatest (get_or (offset_strings (λ x. x) cells.now) other [])
+        (get_or (offset_strings (λ x. x) cells.now) best []) then other else best) }
 {
     if is_better(greatest, cells.bytes(other), cells.bytes(best)) {
         other
@@ -59,7 +61,8 @@ fn better_place(cells: &BinaryArray<i64>, greatest: bool, best: usize, other: us
 pub(crate) fn best_place(cells: &BinaryArray<i64>, greatest: bool) -> usize
     requires all { All IsNarrow (offset_strings (λ x. x) cells.now) }
     requires some { 0 < length (offset_strings (λ x. x) cells.now) }
-    ensures { IsBestPlace (better greatest) (offset_strings (λ x. x) cells.now) (length (offset_strings (λ x. x) cells.now)) result }
+    ensures { IsBestPlace (better greatest) (offset_strings (λ x. x) cells.now)
+        (length (offset_strings (λ x. x) cells.now)) result }
 {
     let mut best = 0;
     for i in 1..cells.count() {

@@ -41,7 +41,9 @@ impl BitMask<'_> {
         operator: O,
         left: A,
     ) -> Result<Bitmap, ComputeError>
-        ensures { MatchResult result (λ bits. bits ≡ zip2 O.bit (first_of (A.bit left) (length self.now)) self.now) IsMemory }
+        ensures { MatchResult result
+            (λ bits. bits ≡ zip2 O.bit (first_of (A.bit left) (length self.now)) self.now)
+            IsMemory }
     {
         let words = self.words;
         if self.at == 0 {

@@ -24,7 +24,8 @@ impl BitMask<'_> {
     ) -> Result<Bitmap, ComputeError>
         requires left { length left.now ≡ length self.now }
         requires right { length right.now ≡ length self.now }
-        ensures { MatchResult result (λ bits. bits ≡ zip3 O.bit self.now left.now right.now) IsMemory }
+        ensures { MatchResult result
+            (λ bits. bits ≡ zip3 O.bit self.now left.now right.now) IsMemory }
     {
         let words = self.words;
         if self.at == 0 {
@@ -43,7 +44,9 @@ impl BitMask<'_> {
         third: &BitMask<'_>,
     ) -> Result<Bitmap, ComputeError>
         requires { length third.now ≡ length self.now }
-        ensures { MatchResult result (λ bits. bits ≡ zip3 O.bit (first_of (A.bit first) (length self.now)) self.now third.now) IsMemory }
+        ensures { MatchResult result
+            (λ bits. bits
+            ≡ zip3 O.bit (first_of (A.bit first) (length self.now)) self.now third.now) IsMemory }
     {
         let words = self.words;
         if self.at == 0 {
@@ -61,7 +64,8 @@ impl BitMask<'_> {
         first: A,
         second: B,
     ) -> Result<Bitmap, ComputeError>
-        ensures { MatchResult result (λ bits. bits ≡ zip3 O.bit (first_of (A.bit first) (length self.now))
+        ensures { MatchResult result
+            (λ bits. bits ≡ zip3 O.bit (first_of (A.bit first) (length self.now))
             (first_of (B.bit second) (length self.now)) self.now) IsMemory }
     {
         let words = self.words;
@@ -96,7 +100,9 @@ impl BitMask<'_> {
         third: &BitMask<'_>,
     ) -> Result<Bitmap, ComputeError>
         requires { length third.now ≡ length self.now }
-        ensures { MatchResult result (λ bits. bits ≡ zip3 O.bit (first_of (A.bit first) (length self.now)) self.now third.now) IsMemory }
+        ensures { MatchResult result
+            (λ bits. bits
+            ≡ zip3 O.bit (first_of (A.bit first) (length self.now)) self.now third.now) IsMemory }
     {
         let second = Placed {
             words: self.words,
@@ -158,7 +164,8 @@ impl BitMask<'_> {
     ) -> Result<Bitmap, ComputeError>
         requires left { length l.now ≡ length (V.values q.now) }
         requires right { length r.now ≡ length (V.values q.now) }
-        ensures { MatchResult result (λ bits. bits ≡ zip3 merged_eq (V.values q.now) l.now r.now) IsMemory }
+        ensures { MatchResult result
+            (λ bits. bits ≡ zip3 merged_eq (V.values q.now) l.now r.now) IsMemory }
     {
         l.merge_placed(alloc, MergeEq, Packed { values: q }, r)
     }
@@ -173,7 +180,8 @@ impl BitMask<'_> {
     ) -> Result<Bitmap, ComputeError>
         requires left { length l.now ≡ length (V.values q.now) }
         requires right { length r.now ≡ length (V.values q.now) }
-        ensures { MatchResult result (λ bits. bits ≡ zip3 merged_ne (V.values q.now) l.now r.now) IsMemory }
+        ensures { MatchResult result
+            (λ bits. bits ≡ zip3 merged_ne (V.values q.now) l.now r.now) IsMemory }
     {
         l.merge_placed(alloc, MergeNe, Packed { values: q }, r)
     }

@@ -38,7 +38,8 @@ impl Bitmap {
 
     // Counts the places where both a source and this bitmap are true.
     fn count_both<A: BitSource + Drop>(&self, left: A) -> usize
-        ensures { result ≡ count_by (λ b. b) (zip2 ◌&&◌ (first_of (A.bit left) (length self.now)) self.now) }
+        ensures { result
+            ≡ count_by (λ b. b) (zip2 ◌&&◌ (first_of (A.bit left) (length self.now)) self.now) }
     {
         let words = self.words.as_slice();
         let operator = And;

@@ -25,7 +25,8 @@ pub(crate) fn apply_pairs<T: NativeType, O: NumberOperation<T>>(
     rhs: PrimitiveArray<T>,
 ) -> Result<PrimitiveArray<T>, ComputeError>
     requires { length lhs.values ≡ length rhs.values }
-    ensures answers { MatchResult result (MapsPairs (Gives T.value T.low (bit_len T.width) O.meaning) lhs rhs) IsMemory }
+    ensures answers { MatchResult result (MapsPairs (Gives T.value T.low (bit_len T.width) O.meaning) lhs rhs)
+        IsMemory }
     ensures owned { IfOk result (λ answer. IsTrue answer.owned) }
 {
     prim_binary_in_place(alloc, lhs, rhs, |x, y| O::apply(x, y))
@@ -37,7 +38,8 @@ pub(crate) fn apply_right<T: NativeType, O: NumberOperation<T>>(
     lhs: PrimitiveArray<T>,
     rhs: T,
 ) -> Result<PrimitiveArray<T>, ComputeError>
-    ensures answers { MatchResult result (MapsEach (λ x z. Gives T.value T.low (bit_len T.width) O.meaning x rhs z) lhs) IsMemory }
+    ensures answers { MatchResult result
+        (MapsEach (λ x z. Gives T.value T.low (bit_len T.width) O.meaning x rhs z) lhs) IsMemory }
     ensures owned { IfOk result (λ answer. IsTrue answer.owned) }
     ensures in_place { IsTrue lhs.owned → IsOk result }
 {
@@ -50,7 +52,8 @@ pub(crate) fn apply_left<T: NativeType, O: NumberOperation<T>>(
     lhs: T,
     rhs: PrimitiveArray<T>,
 ) -> Result<PrimitiveArray<T>, ComputeError>
-    ensures answers { MatchResult result (MapsEach (λ y z. Gives T.value T.low (bit_len T.width) O.meaning lhs y z) rhs) IsMemory }
+    ensures answers { MatchResult result
+        (MapsEach (λ y z. Gives T.value T.low (bit_len T.width) O.meaning lhs y z) rhs) IsMemory }
     ensures owned { IfOk result (λ answer. IsTrue answer.owned) }
     ensures in_place { IsTrue rhs.owned → IsOk result }
 {
@@ -65,7 +68,8 @@ pub(crate) fn divide_pairs<T: NativeType + Zero, O: NumberOperation<T>>(
     rhs: PrimitiveArray<T>,
 ) -> Result<PrimitiveArray<T>, ComputeError>
     requires { length lhs.values ≡ length rhs.values }
-    ensures answers { MatchResult result (DividesPairs T.value (Gives T.value T.low (bit_len T.width) O.meaning) lhs rhs) IsMemory }
+    ensures answers { MatchResult result
+        (DividesPairs T.value (Gives T.value T.low (bit_len T.width) O.meaning) lhs rhs) IsMemory }
     ensures owned { IfOk result (λ answer. IsTrue answer.owned) }
 {
     match mask_zeros(alloc, rhs) {
@@ -84,7 +88,9 @@ pub(crate) fn divide_each<T: NativeType + Zero, O: NumberOperation<T>>(
     lhs: T,
     rhs: PrimitiveArray<T>,
 ) -> Result<PrimitiveArray<T>, ComputeError>
-    ensures answers { MatchResult result (DividesEach T.value (λ y z. Gives T.value T.low (bit_len T.width) O.meaning lhs y z) rhs) IsMemory }
+    ensures answers { MatchResult result
+        (DividesEach T.value (λ y z. Gives T.value T.low (bit_len T.width) O.meaning lhs y z) rhs)
+        IsMemory }
     ensures owned { IfOk result (λ answer. IsTrue answer.owned) }
 {
     let rhs = mask_zeros(alloc, rhs)?;
@@ -98,7 +104,8 @@ pub(crate) fn divide_by<T: DivisorNumber + Zero, O: NumberDivision<T>>(
     lhs: PrimitiveArray<T>,
     rhs: T,
 ) -> Result<PrimitiveArray<T>, ComputeError>
-    ensures answers { MatchResult result (IsAnswer T.value T.low (bit_len T.width) (λ a. O.meaning a (T.value rhs)) lhs) IsMemory }
+    ensures answers { MatchResult result
+        (IsAnswer T.value T.low (bit_len T.width) (λ a. O.meaning a (T.value rhs)) lhs) IsMemory }
     ensures owned { IfOk result (λ answer. answer.owned ≡ (lhs.owned || is_nonzero (T.value rhs))) }
 {
     if rhs.is_zero() {

@@ -4,7 +4,10 @@
 ghost use Rattle.std.specs.Prelude.{◌≡◌, ◌||◌, IfOk, IsOk, IsTrue, MatchResult, length};
 ghost use Rattle.num_traits.specs.Laws.{bit_len};
 ghost use Rattle.polars_arrays_bits.specs.Errors.{IsMemory};
-ghost use Rattle.polars_compute_arithmetic.specs.Operations.{difference_of, floor_division, magnitude_of, modulo, negation_of, product_of, sum_of, truncated_division};
+ghost use Rattle.polars_compute_arithmetic.specs.Operations.{difference_of, floor_division};
+ghost use Rattle.polars_compute_arithmetic.specs.Operations.{magnitude_of, modulo, negation_of};
+ghost use Rattle.polars_compute_arithmetic.specs.Operations.{product_of, sum_of};
+ghost use Rattle.polars_compute_arithmetic.specs.Operations.{truncated_division};
 ghost use Rattle.polars_compute_arithmetic.specs.Results.{IsAnswer, IsResult};
 ghost use Rattle.polars_compute_arithmetic.specs.Zeros.{is_nonzero};
 
@@ -30,7 +33,8 @@ pub trait PrimitiveArithmeticKernelImpl: PlNumArithmetic {
         alloc: Global,
         lhs: PrimitiveArray<Self>,
     ) -> Result<PrimitiveArray<Self>, ComputeError>
-        ensures answers { MatchResult result (IsAnswer Self.value Self.low (bit_len Self.width) magnitude_of lhs) IsMemory }
+        ensures answers { MatchResult result
+            (IsAnswer Self.value Self.low (bit_len Self.width) magnitude_of lhs) IsMemory }
         ensures owned { IfOk result (λ answer. IsTrue answer.owned) }
         ensures in_place { IsTrue lhs.owned → IsOk result }
     {
@@ -42,7 +46,8 @@ pub trait PrimitiveArithmeticKernelImpl: PlNumArithmetic {
         alloc: Global,
         lhs: PrimitiveArray<Self>,
     ) -> Result<PrimitiveArray<Self>, ComputeError>
-        ensures answers { MatchResult result (IsAnswer Self.value Self.low (bit_len Self.width) negation_of lhs) IsMemory }
+        ensures answers { MatchResult result (IsAnswer Self.value Self.low (bit_len Self.width) negation_of lhs)
+            IsMemory }
         ensures owned { IfOk result (λ answer. IsTrue answer.owned) }
         ensures in_place { IsTrue lhs.owned → IsOk result }
     {
@@ -56,7 +61,8 @@ pub trait PrimitiveArithmeticKernelImpl: PlNumArithmetic {
         rhs: PrimitiveArray<Self>,
     ) -> Result<PrimitiveArray<Self>, ComputeError>
         requires { length lhs.values ≡ length rhs.values }
-        ensures answers { MatchResult result (IsResult Self.value Self.low (bit_len Self.width) sum_of lhs rhs) IsMemory }
+        ensures answers { MatchResult result (IsResult Self.value Self.low (bit_len Self.width) sum_of lhs rhs)
+            IsMemory }
         ensures owned { IfOk result (λ answer. IsTrue answer.owned) }
     {
         apply_pairs::<Self, Sum>(alloc, lhs, rhs)
@@ -69,7 +75,8 @@ pub trait PrimitiveArithmeticKernelImpl: PlNumArithmetic {
         rhs: PrimitiveArray<Self>,
     ) -> Result<PrimitiveArray<Self>, ComputeError>
         requires { length lhs.values ≡ length rhs.values }
-        ensures answers { MatchResult result (IsResult Self.value Self.low (bit_len Self.width) difference_of lhs rhs) IsMemory }
+        ensures answers { MatchResult result
+            (IsResult Self.value Self.low (bit_len Self.width) difference_of lhs rhs) IsMemory }
         ensures owned { IfOk result (λ answer. IsTrue answer.owned) }
     {
         apply_pairs::<Self, Difference>(alloc, lhs, rhs)
@@ -82,7 +89,8 @@ pub trait PrimitiveArithmeticKernelImpl: PlNumArithmetic {
         rhs: PrimitiveArray<Self>,
     ) -> Result<PrimitiveArray<Self>, ComputeError>
         requires { length lhs.values ≡ length rhs.values }
-        ensures answers { MatchResult result (IsResult Self.value Self.low (bit_len Self.width) product_of lhs rhs) IsMemory }
+        ensures answers { MatchResult result
+            (IsResult Self.value Self.low (bit_len Self.width) product_of lhs rhs) IsMemory }
         ensures owned { IfOk result (λ answer. IsTrue answer.owned) }
     {
         apply_pairs::<Self, Product>(alloc, lhs, rhs)
@@ -95,7 +103,8 @@ pub trait PrimitiveArithmeticKernelImpl: PlNumArithmetic {
         rhs: PrimitiveArray<Self>,
     ) -> Result<PrimitiveArray<Self>, ComputeError>
         requires { length lhs.values ≡ length rhs.values }
-        ensures answers { MatchResult result (IsResult Self.value Self.low (bit_len Self.width) floor_division lhs rhs) IsMemory }
+        ensures answers { MatchResult result
+            (IsResult Self.value Self.low (bit_len Self.width) floor_division lhs rhs) IsMemory }
         ensures owned { IfOk result (λ answer. IsTrue answer.owned) }
     {
         divide_pairs::<Self, FloorQuotient>(alloc, lhs, rhs)
@@ -108,7 +117,9 @@ pub trait PrimitiveArithmeticKernelImpl: PlNumArithmetic {
         rhs: PrimitiveArray<Self>,
     ) -> Result<PrimitiveArray<Self>, ComputeError>
         requires { length lhs.values ≡ length rhs.values }
-        ensures answers { MatchResult result (IsResult Self.value Self.low (bit_len Self.width) truncated_division lhs rhs) IsMemory }
+        ensures answers { MatchResult result
+            (IsResult Self.value Self.low (bit_len Self.width) truncated_division lhs rhs)
+            IsMemory }
         ensures owned { IfOk result (λ answer. IsTrue answer.owned) }
     {
         divide_pairs::<Self, TruncatedQuotient>(alloc, lhs, rhs)
@@ -121,7 +132,8 @@ pub trait PrimitiveArithmeticKernelImpl: PlNumArithmetic {
         rhs: PrimitiveArray<Self>,
     ) -> Result<PrimitiveArray<Self>, ComputeError>
         requires { length lhs.values ≡ length rhs.values }
-        ensures answers { MatchResult result (IsResult Self.value Self.low (bit_len Self.width) modulo lhs rhs) IsMemory }
+        ensures answers { MatchResult result (IsResult Self.value Self.low (bit_len Self.width) modulo lhs rhs)
+            IsMemory }
         ensures owned { IfOk result (λ answer. IsTrue answer.owned) }
     {
         divide_pairs::<Self, Modulus>(alloc, lhs, rhs)
@@ -133,7 +145,9 @@ pub trait PrimitiveArithmeticKernelImpl: PlNumArithmetic {
         lhs: PrimitiveArray<Self>,
         rhs: Self,
     ) -> Result<PrimitiveArray<Self>, ComputeError>
-        ensures answers { MatchResult result (IsAnswer Self.value Self.low (bit_len Self.width) (λ a. sum_of a (Self.value rhs)) lhs) IsMemory }
+        ensures answers { MatchResult result
+            (IsAnswer Self.value Self.low (bit_len Self.width) (λ a. sum_of a (Self.value rhs)) lhs)
+            IsMemory }
         ensures owned { IfOk result (λ answer. IsTrue answer.owned) }
         ensures in_place { IsTrue lhs.owned → IsOk result }
     {
@@ -146,7 +160,9 @@ pub trait PrimitiveArithmeticKernelImpl: PlNumArithmetic {
         lhs: PrimitiveArray<Self>,
         rhs: Self,
     ) -> Result<PrimitiveArray<Self>, ComputeError>
-        ensures answers { MatchResult result (IsAnswer Self.value Self.low (bit_len Self.width) (λ a. difference_of a (Self.value rhs)) lhs) IsMemory }
+        ensures answers { MatchResult result
+            (IsAnswer Self.value Self.low (bit_len Self.width)
+            (λ a. difference_of a (Self.value rhs)) lhs) IsMemory }
         ensures owned { IfOk result (λ answer. IsTrue answer.owned) }
         ensures in_place { IsTrue lhs.owned → IsOk result }
     {
@@ -159,7 +175,9 @@ pub trait PrimitiveArithmeticKernelImpl: PlNumArithmetic {
         lhs: Self,
         rhs: PrimitiveArray<Self>,
     ) -> Result<PrimitiveArray<Self>, ComputeError>
-        ensures answers { MatchResult result (IsAnswer Self.value Self.low (bit_len Self.width) (difference_of (Self.value lhs)) rhs) IsMemory }
+        ensures answers { MatchResult result
+            (IsAnswer Self.value Self.low (bit_len Self.width) (difference_of (Self.value lhs)) rhs)
+            IsMemory }
         ensures owned { IfOk result (λ answer. IsTrue answer.owned) }
         ensures in_place { IsTrue rhs.owned → IsOk result }
     {
@@ -172,7 +190,9 @@ pub trait PrimitiveArithmeticKernelImpl: PlNumArithmetic {
         lhs: PrimitiveArray<Self>,
         rhs: Self,
     ) -> Result<PrimitiveArray<Self>, ComputeError>
-        ensures answers { MatchResult result (IsAnswer Self.value Self.low (bit_len Self.width) (λ a. product_of a (Self.value rhs)) lhs) IsMemory }
+        ensures answers { MatchResult result
+            (IsAnswer Self.value Self.low (bit_len Self.width)
+            (λ a. product_of a (Self.value rhs)) lhs) IsMemory }
         ensures owned { IfOk result (λ answer. IsTrue answer.owned) }
         ensures in_place { IsTrue lhs.owned → IsOk result }
     {
@@ -185,7 +205,9 @@ pub trait PrimitiveArithmeticKernelImpl: PlNumArithmetic {
         lhs: PrimitiveArray<Self>,
         rhs: Self,
     ) -> Result<PrimitiveArray<Self>, ComputeError>
-        ensures answers { MatchResult result (IsAnswer Self.value Self.low (bit_len Self.width) (λ a. floor_division a (Self.value rhs)) lhs) IsMemory }
+        ensures answers { MatchResult result
+            (IsAnswer Self.value Self.low (bit_len Self.width)
+            (λ a. floor_division a (Self.value rhs)) lhs) IsMemory }
         ensures owned { IfOk result (λ answer. answer.owned ≡ (lhs.owned || is_nonzero (Self.value rhs))) }
     {
         divide_by::<Self, FloorQuotient>(alloc, lhs, rhs)
@@ -197,7 +219,9 @@ pub trait PrimitiveArithmeticKernelImpl: PlNumArithmetic {
         lhs: Self,
         rhs: PrimitiveArray<Self>,
     ) -> Result<PrimitiveArray<Self>, ComputeError>
-        ensures answers { MatchResult result (IsAnswer Self.value Self.low (bit_len Self.width) (floor_division (Self.value lhs)) rhs) IsMemory }
+        ensures answers { MatchResult result
+            (IsAnswer Self.value Self.low (bit_len Self.width) (floor_division (Self.value lhs))
+            rhs) IsMemory }
         ensures owned { IfOk result (λ answer. IsTrue answer.owned) }
     {
         divide_each::<Self, FloorQuotient>(alloc, lhs, rhs)
@@ -209,7 +233,9 @@ pub trait PrimitiveArithmeticKernelImpl: PlNumArithmetic {
         lhs: PrimitiveArray<Self>,
         rhs: Self,
     ) -> Result<PrimitiveArray<Self>, ComputeError>
-        ensures answers { MatchResult result (IsAnswer Self.value Self.low (bit_len Self.width) (λ a. truncated_division a (Self.value rhs)) lhs) IsMemory }
+        ensures answers { MatchResult result
+            (IsAnswer Self.value Self.low (bit_len Self.width)
+            (λ a. truncated_division a (Self.value rhs)) lhs) IsMemory }
         ensures owned { IfOk result (λ answer. answer.owned ≡ (lhs.owned || is_nonzero (Self.value rhs))) }
     {
         divide_by::<Self, TruncatedQuotient>(alloc, lhs, rhs)
@@ -221,7 +247,9 @@ pub trait PrimitiveArithmeticKernelImpl: PlNumArithmetic {
         lhs: Self,
         rhs: PrimitiveArray<Self>,
     ) -> Result<PrimitiveArray<Self>, ComputeError>
-        ensures answers { MatchResult result (IsAnswer Self.value Self.low (bit_len Self.width) (truncated_division (Self.value lhs)) rhs) IsMemory }
+        ensures answers { MatchResult result
+            (IsAnswer Self.value Self.low (bit_len Self.width) (truncated_division (Self.value lhs))
+            rhs) IsMemory }
         ensures owned { IfOk result (λ answer. IsTrue answer.owned) }
     {
         divide_each::<Self, TruncatedQuotient>(alloc, lhs, rhs)
@@ -233,7 +261,9 @@ pub trait PrimitiveArithmeticKernelImpl: PlNumArithmetic {
         lhs: PrimitiveArray<Self>,
         rhs: Self,
     ) -> Result<PrimitiveArray<Self>, ComputeError>
-        ensures answers { MatchResult result (IsAnswer Self.value Self.low (bit_len Self.width) (λ a. modulo a (Self.value rhs)) lhs) IsMemory }
+        ensures answers { MatchResult result
+            (IsAnswer Self.value Self.low (bit_len Self.width) (λ a. modulo a (Self.value rhs)) lhs)
+            IsMemory }
         ensures owned { IfOk result (λ answer. answer.owned ≡ (lhs.owned || is_nonzero (Self.value rhs))) }
     {
         divide_by::<Self, Modulus>(alloc, lhs, rhs)
@@ -245,7 +275,9 @@ pub trait PrimitiveArithmeticKernelImpl: PlNumArithmetic {
         lhs: Self,
         rhs: PrimitiveArray<Self>,
     ) -> Result<PrimitiveArray<Self>, ComputeError>
-        ensures answers { MatchResult result (IsAnswer Self.value Self.low (bit_len Self.width) (modulo (Self.value lhs)) rhs) IsMemory }
+        ensures answers { MatchResult result
+            (IsAnswer Self.value Self.low (bit_len Self.width) (modulo (Self.value lhs)) rhs)
+            IsMemory }
         ensures owned { IfOk result (λ answer. IsTrue answer.owned) }
     {
         divide_each::<Self, Modulus>(alloc, lhs, rhs)

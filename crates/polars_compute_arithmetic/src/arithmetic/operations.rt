@@ -2,8 +2,12 @@
 
 ghost use Rattle.std.specs.Prelude.{◌≡◌, ◌≢◌, ◌≤◌, ℤ, pos, refl, unsigned_abs};
 ghost use Rattle.num_traits.specs.Laws.{bit_len};
-ghost use Rattle.polars_compute_arithmetic.specs.Operations.{Operation, difference_of, floor_division, modulo, product_of, sum_of, truncated_division, unless_zero};
-ghost use Rattle.polars_compute_arithmetic.specs.Quotients.{floor_quotient, modulus, truncated_quotient};
+ghost use Rattle.polars_compute_arithmetic.specs.Operations.{Operation, difference_of};
+ghost use Rattle.polars_compute_arithmetic.specs.Operations.{floor_division, modulo, product_of};
+ghost use Rattle.polars_compute_arithmetic.specs.Operations.{sum_of, truncated_division};
+ghost use Rattle.polars_compute_arithmetic.specs.Operations.{unless_zero};
+ghost use Rattle.polars_compute_arithmetic.specs.Quotients.{floor_quotient, modulus};
+ghost use Rattle.polars_compute_arithmetic.specs.Quotients.{truncated_quotient};
 ghost use Rattle.polars_compute_arithmetic.specs.Results.{Gives};
 
 use crate::arithmetic::divisor::DivisorNumber;

@@ -3,7 +3,10 @@
 ghost use Rattle.std.specs.Prelude.{◌≡◌, ◌≢◌, pos, int_rem};
 ghost use Rattle.num_traits.specs.Laws.{bit_len};
 ghost use Rattle.polars_arrays_numbers.specs.Wrapping.{wrapped};
-ghost use Rattle.polars_compute_arithmetic.specs.Operations.{difference_of, floor_division, magnitude_of, modulo, negation_of, or_zero, product_of, sum_of, truncated_division};
+ghost use Rattle.polars_compute_arithmetic.specs.Operations.{difference_of, floor_division};
+ghost use Rattle.polars_compute_arithmetic.specs.Operations.{magnitude_of, modulo, negation_of};
+ghost use Rattle.polars_compute_arithmetic.specs.Operations.{or_zero, product_of, sum_of};
+ghost use Rattle.polars_compute_arithmetic.specs.Operations.{truncated_division};
 ghost use Rattle.polars_compute_arithmetic.specs.Quotients.{across, is_below};
 
 use crate::arithmetic::divisor::DivisorNumber;
@@ -21,16 +24,20 @@ pub trait PlNumArithmetic: DivisorNumber
     + WrappingNeg {
     /// Returns the absolute value. The least number of a signed type stays.
     fn wrapping_abs(self) -> Self
-        ensures { Self.value result ≡ wrapped Self.low (bit_len Self.width) (or_zero (magnitude_of (Self.value self))) };
+        ensures { Self.value result
+            ≡ wrapped Self.low (bit_len Self.width) (or_zero (magnitude_of (Self.value self))) };
 
     /// Returns the quotient, rounded toward 0, or 0 for the divisor 0.
     fn wrapping_trunc_div(self, rhs: Self) -> Self
-        ensures { Self.value result ≡ wrapped Self.low (bit_len Self.width) (or_zero (truncated_division (Self.value self) (Self.value rhs))) };
+        ensures { Self.value result
+            ≡ wrapped Self.low (bit_len Self.width)
+            (or_zero (truncated_division (Self.value self) (Self.value rhs))) };
 
     /// Returns the negated number.
     #[inline(always)]
     final fn wrapping_neg(self) -> Self
-        ensures { Self.value result ≡ wrapped Self.low (bit_len Self.width) (or_zero (negation_of (Self.value self))) }
+        ensures { Self.value result
+            ≡ wrapped Self.low (bit_len Self.width) (or_zero (negation_of (Self.value self))) }
     {
         WrappingNeg::wrapping_neg(&self)
     }
@@ -38,7 +45,9 @@ pub trait PlNumArithmetic: DivisorNumber
     /// Returns the sum.
     #[inline(always)]
     final fn wrapping_add(self, rhs: Self) -> Self
-        ensures { Self.value result ≡ wrapped Self.low (bit_len Self.width) (or_zero (sum_of (Self.value self) (Self.value rhs))) }
+        ensures { Self.value result
+            ≡ wrapped Self.low (bit_len Self.width)
+            (or_zero (sum_of (Self.value self) (Self.value rhs))) }
     {
         WrappingAdd::wrapping_add(&self, &rhs)
     }
@@ -46,7 +55,9 @@ pub trait PlNumArithmetic: DivisorNumber
     /// Returns the difference.
     #[inline(always)]
     final fn wrapping_sub(self, rhs: Self) -> Self
-        ensures { Self.value result ≡ wrapped Self.low (bit_len Self.width) (or_zero (difference_of (Self.value self) (Self.value rhs))) }
+        ensures { Self.value result
+            ≡ wrapped Self.low (bit_len Self.width)
+            (or_zero (difference_of (Self.value self) (Self.value rhs))) }
     {
         WrappingSub::wrapping_sub(&self, &rhs)
     }
@@ -54,7 +65,9 @@ pub trait PlNumArithmetic: DivisorNumber
     /// Returns the product.
     #[inline(always)]
     final fn wrapping_mul(self, rhs: Self) -> Self
-        ensures { Self.value result ≡ wrapped Self.low (bit_len Self.width) (or_zero (product_of (Self.value self) (Self.value rhs))) }
+        ensures { Self.value result
+            ≡ wrapped Self.low (bit_len Self.width)
+            (or_zero (product_of (Self.value self) (Self.value rhs))) }
     {
         WrappingMul::wrapping_mul(&self, &rhs)
     }
@@ -62,7 +75,9 @@ pub trait PlNumArithmetic: DivisorNumber
     /// Returns the quotient, rounded down, or 0 for the divisor 0.
     #[inline(always)]
     final fn wrapping_floor_div(self, rhs: Self) -> Self
-        ensures { Self.value result ≡ wrapped Self.low (bit_len Self.width) (or_zero (floor_division (Self.value self) (Self.value rhs))) }
+        ensures { Self.value result
+            ≡ wrapped Self.low (bit_len Self.width)
+            (or_zero (floor_division (Self.value self) (Self.value rhs))) }
     {
         if rhs.is_zero() {
             return Self::zero();
@@ -78,7 +93,9 @@ pub trait PlNumArithmetic: DivisorNumber
     /// Returns the remainder of the quotient that is rounded down, or 0 for the divisor 0.
     #[inline(always)]
     final fn wrapping_mod(self, rhs: Self) -> Self
-        ensures { Self.value result ≡ wrapped Self.low (bit_len Self.width) (or_zero (modulo (Self.value self) (Self.value rhs))) }
+        ensures { Self.value result
+            ≡ wrapped Self.low (bit_len Self.width)
+            (or_zero (modulo (Self.value self) (Self.value rhs))) }
     {
         if rhs.is_zero() {
             return Self::zero();
@@ -96,7 +113,9 @@ pub trait PlNumArithmetic: DivisorNumber
     /// `wrapping_floor_div`.
     #[inline(always)]
     final fn legacy_div(self, rhs: Self) -> Self
-        ensures { Self.value result ≡ wrapped Self.low (bit_len Self.width) (or_zero (floor_division (Self.value self) (Self.value rhs))) }
+        ensures { Self.value result
+            ≡ wrapped Self.low (bit_len Self.width)
+            (or_zero (floor_division (Self.value self) (Self.value rhs))) }
     {
         self.wrapping_floor_div(rhs)
     }
@@ -106,7 +125,9 @@ pub trait PlNumArithmetic: DivisorNumber
 #[inline(always)]
 fn remainder<T: PlNumArithmetic>(number: T, divisor: T, quotient: T) -> T
     requires some { T.value divisor ≢ pos 0 }
-    requires quotient { T.value quotient ≡ wrapped T.low (bit_len T.width) (or_zero (truncated_division (T.value number) (T.value divisor))) }
+    requires quotient { T.value quotient
+        ≡ wrapped T.low (bit_len T.width)
+        (or_zero (truncated_division (T.value number) (T.value divisor))) }
     ensures rest { T.value result ≡ int_rem (T.value number) (T.value divisor) }
     ensures wraps { T.value result ≡ wrapped T.low (bit_len T.width) (T.value result) }
 {

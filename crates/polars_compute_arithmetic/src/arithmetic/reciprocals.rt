@@ -19,7 +19,9 @@ impl Model for ShortReciprocal {
 
     ghost view = { λ r. r.divisor };
 
-    ghost invariant = { λ r. (2 ≤ r.divisor) × (r.divisor ≤ 2 ^ 31) × (r.shift < 31) × (r.divisor ≤ 2 * 2 ^ r.shift) × (r.factor ≡ reciprocal (2 ^ 32 * 2 ^ r.shift) r.divisor) × (r.factor < 2 ^ 32) };
+    ghost invariant = { λ r. (2 ≤ r.divisor) × (r.divisor ≤ 2 ^ 31) × (r.shift < 31)
+        × (r.divisor ≤ 2 * 2 ^ r.shift) × (r.factor ≡ reciprocal (2 ^ 32 * 2 ^ r.shift) r.divisor)
+        × (r.factor < 2 ^ 32) };
 }
 
 impl ShortReciprocal {
@@ -62,7 +64,9 @@ impl Model for ShortReciprocal64 {
 
     ghost view = { λ r. r.divisor };
 
-    ghost invariant = { λ r. (2 ≤ r.divisor) × (r.divisor ≤ 2 ^ 63) × (r.shift < 63) × (r.divisor ≤ 2 * 2 ^ r.shift) × (r.factor ≡ reciprocal (2 ^ 64 * 2 ^ r.shift) r.divisor) × (r.factor < 2 ^ 64) };
+    ghost invariant = { λ r. (2 ≤ r.divisor) × (r.divisor ≤ 2 ^ 63) × (r.shift < 63)
+        × (r.divisor ≤ 2 * 2 ^ r.shift) × (r.factor ≡ reciprocal (2 ^ 64 * 2 ^ r.shift) r.divisor)
+        × (r.factor < 2 ^ 64) };
 }
 
 impl ShortReciprocal64 {
@@ -106,7 +110,10 @@ impl Model for Reciprocal32 {
 
     ghost view = { λ r. r.divisor };
 
-    ghost invariant = { λ r. (2 ≤ r.divisor) × (r.divisor < 2 ^ 32) × (r.shift < 32) × (r.divisor ≤ 2 * 2 ^ r.shift) × (2 ^ 32 + r.factor ≡ reciprocal (2 ^ 32 * (2 * 2 ^ r.shift)) r.divisor) × (r.factor < 2 ^ 32) };
+    ghost invariant = { λ r. (2 ≤ r.divisor) × (r.divisor < 2 ^ 32) × (r.shift < 32)
+        × (r.divisor ≤ 2 * 2 ^ r.shift)
+        × (2 ^ 32 + r.factor ≡ reciprocal (2 ^ 32 * (2 * 2 ^ r.shift)) r.divisor)
+        × (r.factor < 2 ^ 32) };
 }
 
 impl Reciprocal32 {
@@ -149,7 +156,10 @@ impl Model for Reciprocal64 {
 
     ghost view = { λ r. r.divisor };
 
-    ghost invariant = { λ r. (2 ≤ r.divisor) × (r.divisor < 2 ^ 64) × (r.shift < 64) × (r.divisor ≤ 2 * 2 ^ r.shift) × (2 ^ 64 + r.factor ≡ reciprocal (2 ^ 64 * (2 * 2 ^ r.shift)) r.divisor) × (r.factor < 2 ^ 64) };
+    ghost invariant = { λ r. (2 ≤ r.divisor) × (r.divisor < 2 ^ 64) × (r.shift < 64)
+        × (r.divisor ≤ 2 * 2 ^ r.shift)
+        × (2 ^ 64 + r.factor ≡ reciprocal (2 ^ 64 * (2 * 2 ^ r.shift)) r.divisor)
+        × (r.factor < 2 ^ 64) };
 }
 
 impl Reciprocal64 {

@@ -1,8 +1,10 @@
 //! Prepared signed divisors, by the reciprocals of their magnitudes.
 
-ghost use Rattle.std.specs.Prelude.{◌≡◌, ℤ, pos, ℕ, ◌+◌, ◌*◌, ◌≤◌, ◌<◌, ◌^◌, unsigned_abs, FitsSigned};
+ghost use Rattle.std.specs.Prelude.{◌≡◌, ℤ, pos, ℕ, ◌+◌, ◌*◌, ◌≤◌, ◌<◌, ◌^◌, unsigned_abs};
+ghost use Rattle.std.specs.Prelude.{FitsSigned};
 ghost use Rattle.std.specs.Int.{w16, w32, w64};
-ghost use Rattle.polars_compute_arithmetic.specs.Quotients.{floor_by, floor_quotient, truncated_quotient};
+ghost use Rattle.polars_compute_arithmetic.specs.Quotients.{floor_by, floor_quotient};
+ghost use Rattle.polars_compute_arithmetic.specs.Quotients.{truncated_quotient};
 
 use crate::arithmetic::reciprocals::{ShortReciprocal, ShortReciprocal64};
 use std::marker::Model;
@@ -20,7 +22,9 @@ impl Model for SignedDivisor16 {
 
     ghost view = { λ r. r.divisor };
 
-    ghost invariant = { λ r. (2 ≤ unsigned_abs r.divisor) × FitsSigned w16 r.divisor × (r.offset ≡ pos (2 ^ 15 * unsigned_abs r.divisor)) × (r.magnitude ≡ unsigned_abs r.divisor) };
+    ghost invariant = { λ r. (2 ≤ unsigned_abs r.divisor) × FitsSigned w16 r.divisor
+        × (r.offset ≡ pos (2 ^ 15 * unsigned_abs r.divisor))
+        × (r.magnitude ≡ unsigned_abs r.divisor) };
 }
 
 impl SignedDivisor16 {
@@ -81,7 +85,8 @@ impl Model for SignedDivisor32 {
 
     ghost view = { λ r. r.divisor };
 
-    ghost invariant = { λ r. (2 ≤ unsigned_abs r.divisor) × FitsSigned w32 r.divisor × (r.magnitude ≡ unsigned_abs r.divisor) };
+    ghost invariant = { λ r. (2 ≤ unsigned_abs r.divisor) × FitsSigned w32 r.divisor
+        × (r.magnitude ≡ unsigned_abs r.divisor) };
 }
 
 impl SignedDivisor32 {
@@ -131,7 +136,8 @@ impl Model for SignedDivisor64 {
 
     ghost view = { λ r. r.divisor };
 
-    ghost invariant = { λ r. (2 ≤ unsigned_abs r.divisor) × FitsSigned w64 r.divisor × (r.magnitude ≡ unsigned_abs r.divisor) };
+    ghost invariant = { λ r. (2 ≤ unsigned_abs r.divisor) × FitsSigned w64 r.divisor
+        × (r.magnitude ≡ unsigned_abs r.divisor) };
 }
 
 impl SignedDivisor64 {

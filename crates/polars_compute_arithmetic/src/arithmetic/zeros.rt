@@ -38,7 +38,9 @@ fn nonzero_validity<T: NativeType + Zero>(
     alloc: Global,
     divisors: &mut PrimitiveArray<T>,
 ) -> Result<Option<Bitmap>, ComputeError>
-    ensures masked { MatchResult result (λ validity. MasksZeros T.value divisors.old (record divisors.old { validity = validity })) IsMemory }
+    ensures masked { MatchResult result
+        (λ validity. MasksZeros T.value divisors.old (record divisors.old { validity = validity }))
+        IsMemory }
     ensures left { divisors.new.values ≡ divisors.old.values }
 {
     let nonzero = divisors.tot_ne_kernel_broadcast(alloc, &T::zero())?;
@@ -51,7 +53,9 @@ pub(crate) fn mask_all<T: NativeType>(
     alloc: Global,
     array: PrimitiveArray<T>,
 ) -> Result<PrimitiveArray<T>, ComputeError>
-    ensures masked { MatchResult result (λ masked. masked ≡ record array { validity = Some (replicate (length array.values) false) }) IsMemory }
+    ensures masked { MatchResult result
+        (λ masked. masked
+        ≡ record array { validity = Some (replicate (length array.values) false) }) IsMemory }
     ensures bits { HasBits (length array.values) array.validity }
 {
     match Bitmap::new_zeroed(alloc, array.len()) {
