@@ -165,24 +165,24 @@ impl<'a, T: Number> Arrays<'a, T> {
         }
     }
 
-    /// The numbers that the library makes its rows of, at the type. Each side makes its operands
-    /// anew.
+    /// Returns the numbers that the library makes its rows of, at the type. Each side makes its
+    /// operands anew.
     fn made(&self, column: &[i64]) -> Vec<T> {
         column.iter().map(|wide| T::of(*wide)).collect()
     }
 
-    /// The words of the left or, one later, of the right validity.
+    /// Returns the words of the left or, one later, of the right validity.
     fn words(&self, form: Form, place: usize) -> Option<&[u64]> {
         form.nulls
             .then(|| &self.columns.words[place..][..self.columns.left.len().div_ceil(64)])
     }
 
-    /// The words that cross to the library.
+    /// Returns the words that cross to the library.
     fn lent_words(&self, form: Form) -> Rows<'_, u64> {
         rows(if form.nulls { &self.columns.words } else { &[] })
     }
 
-    /// The rows that the right array leaves present.
+    /// Returns the rows that the right array leaves present.
     fn right_words<O: Operation>(&self, right: &[T], form: Form) -> Option<Vec<u64>> {
         let words = self.words(form, 1);
         if O::DIVIDES {
@@ -194,7 +194,7 @@ impl<'a, T: Number> Arrays<'a, T> {
         }
     }
 
-    /// The peer of an operation on two arrays, into new numbers.
+    /// Runs the peer of an operation on two arrays, into new numbers.
     fn pairs_anew<O: Operation>(&self, form: Form, repeats: usize) -> u64 {
         let (left, right) = (
             self.made(&self.columns.left),
@@ -240,7 +240,7 @@ impl<'a, T: Number> Arrays<'a, T> {
         })
     }
 
-    /// The peer of an operation on one array, or on one and a number.
+    /// Runs the peer of an operation on one array, or on one and a number.
     fn lone<O: Operation>(&self, form: Form, repeats: usize) -> u64 {
         let scalar = T::of(self.scalar);
         let present = self.words(form, 0);
@@ -325,7 +325,7 @@ impl<'a, T: Number> Arrays<'a, T> {
         });
     }
 
-    /// The ratio asked of a division by a number that stays.
+    /// Returns the ratio asked of a division by a number that stays.
     fn asked_of_divisor(&self, operation: LoneOperation, form: Form) -> Asked {
         let narrow = matches!(
             self.number_type,
@@ -374,7 +374,7 @@ impl<'a, T: Number> Arrays<'a, T> {
     }
 }
 
-/// The ratio asked of all operations except divisions by a number that stays.
+/// Returns the ratio asked of all operations except divisions by a number that stays.
 fn asked(divides: bool, form: Form) -> Asked {
     if divides || form.in_place {
         Asked::Ratio([1.0, 1.0])

@@ -260,7 +260,7 @@ impl Logic {
         }
     }
 
-    /// As the library does it: on two windows in turn, in copies of the words.
+    /// Runs the peer as the library runs its kernel: on two windows in turn, in copied words.
     fn plain(&self, words: &[Vec<u64>; 3], shift: usize, len: usize, repeats: usize) -> u64 {
         let copies = black_box(words.clone());
         let windows = |late: usize| {
@@ -274,7 +274,7 @@ impl Logic {
     }
 }
 
-/// The words of three operands of `len` bits, wherever their windows begin.
+/// Returns the words of three operands of `len` bits, wherever their windows begin.
 fn operands(len: usize) -> [Vec<u64>; 3] {
     let mut numbers = Numbers::new(362_436_069_123_456_789);
     [(); 3].map(|()| words(&mut numbers, len.div_ceil(64) + 8))

@@ -68,7 +68,7 @@ struct Parts<'a> {
 }
 
 impl Parts<'_> {
-    /// Those of an array that is made of items alone.
+    /// Returns the parts of an array that is made of items alone.
     fn of_items(items: &[i32]) -> Parts<'_> {
         Parts {
             items,
@@ -204,7 +204,7 @@ fn hand_dictionaries(
     });
 }
 
-/// The parts of an array of texts, with items beside them.
+/// Returns the parts of an array of texts, with items beside them.
 fn of_texts<'a>(texts: &'a Texts, items: &'a [i32]) -> Parts<'a> {
     Parts {
         offsets: &texts.offsets,

@@ -61,7 +61,7 @@ impl Lists {
         self.offsets.len() - 1
     }
 
-    /// Two columns of `count` lists. About three quarters are equal.
+    /// Creates two columns of `count` lists. About three quarters are equal.
     fn pair(numbers: &mut Numbers, count: usize, seventh: Seventh) -> Pair<Lists> {
         let (mut left, mut right) = (Lists::new(), Lists::new());
         for i in 0..count {
@@ -111,7 +111,7 @@ impl Keyed {
         }
     }
 
-    /// Makes the entries null that the test tells.
+    /// Makes each entry null whose index passes the test.
     fn mask(mut self, is_null: impl Fn(usize) -> bool) -> Keyed {
         self.present = vec![u64::MAX; ENTRIES.div_ceil(64)];
         for k in (0..ENTRIES).filter(|k| is_null(*k)) {
@@ -126,7 +126,7 @@ impl Keyed {
         self.present[key as usize / 64] >> (key % 64) & 1 == 1
     }
 
-    /// Columns in which every seventh text is null.
+    /// Creates two columns in which every seventh text is null.
     fn masked_pair(numbers: &mut Numbers, count: usize) -> Pair<Keyed> {
         let Pair { left, right } = Keyed::pair(numbers, count);
         Pair {
@@ -135,8 +135,8 @@ impl Keyed {
         }
     }
 
-    /// Two columns of `count` rows. About half of them have the same text, at other places among
-    /// the entries.
+    /// Creates two columns of `count` rows. About half of them have the same text, at other places
+    /// among the entries.
     fn pair(numbers: &mut Numbers, count: usize) -> Pair<Keyed> {
         let texts = entries(numbers, ENTRIES);
         let mut turned = Texts::new();
@@ -158,7 +158,7 @@ impl Keyed {
     }
 }
 
-/// Columns of `count` rows each, one behind the other. About one row in sixteen differs.
+/// Creates columns of `count` rows each, one behind the other. About one row in sixteen differs.
 pub fn structs(count: usize) -> Pair<Vec<i32>> {
     let numbers = &mut Numbers::new(521_288_629);
     let left: Vec<i32> = (0..COLUMNS * count)
@@ -197,12 +197,12 @@ impl Mixed {
     }
 }
 
-/// The offsets at which lists of `WIDTH` items begin, and last where the last one ends.
+/// Returns the offsets at which lists of `WIDTH` items begin, and last the end of the last list.
 pub fn regular_offsets(items: usize) -> Vec<i32> {
     (0..=items / WIDTH).map(|i| (WIDTH * i) as i32).collect()
 }
 
-/// The arrays of one run. There are as many items of lists as rows of the others.
+/// The arrays of one run. The lists have one item for each row of the other arrays.
 pub struct Nested {
     pub like: Pair<Lists>,
     pub null_without_items: Pair<Lists>,

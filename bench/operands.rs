@@ -1,4 +1,4 @@
-//! What the kernels are run on.
+//! The operands that the kernels are run on.
 
 /// A slice as it crosses to the library: a pointer and a length.
 #[repr(C)]
@@ -36,7 +36,7 @@ pub enum NumberType {
 pub struct Numbers(u64);
 
 impl Numbers {
-    /// The numbers that follow upon `seed`, which is not 0.
+    /// Creates the numbers that follow `seed`, which is not 0.
     pub fn new(seed: u64) -> Numbers {
         Numbers(seed)
     }
@@ -49,7 +49,7 @@ impl Numbers {
     }
 }
 
-/// `count` words that look random.
+/// Returns `count` words that look random.
 pub fn words(numbers: &mut Numbers, count: usize) -> Vec<u64> {
     (0..count).map(|_| numbers.next()).collect()
 }
@@ -97,7 +97,7 @@ impl Data {
         }
     }
 
-    /// The number in the middle of the right rows, or 0 where there is none.
+    /// Returns the number in the middle of the right rows, or 0 if there is none.
     pub fn middle(&self) -> i64 {
         let right = &self.right_i64;
         right.get(right.len() / 2).copied().unwrap_or(0)

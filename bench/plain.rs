@@ -66,8 +66,8 @@ pub fn less_constant<T: Copy + PartialOrd>(left: &[T], right: T) -> Vec<u64> {
     test_each(left, |l| l < right)
 }
 
-/// Returns where rows of two arrays are equal, null to null alone, by the windows of their
-/// validities.
+/// Returns a bit for each row, 1 if the rows of two arrays are equal. A null is equal to a null
+/// alone. The windows are those of the validities.
 pub fn equal_missing<T: Copy + PartialEq>(
     left: &[T],
     right: &[T],
@@ -80,8 +80,8 @@ pub fn equal_missing<T: Copy + PartialEq>(
     merge_eq(raw, left_validity, right_validity)
 }
 
-/// The byte whose bits are eight truth values: the product has each of them once in its highest
-/// byte.
+/// Returns the byte whose bits are eight truth values. The product has each of them once in its
+/// highest byte.
 #[inline]
 fn byte_of(bools: &[bool; 8]) -> u8 {
     let bytes = u64::from_le_bytes(bools.map(u8::from));
@@ -114,8 +114,8 @@ pub struct Window<'a> {
 }
 
 impl<'a> Window<'a> {
-    /// The words in which the bits lie and the one behind them, as far as there is one, and by how
-    /// much the bits are shifted in them.
+    /// Returns the words in which the bits lie, with the word behind them if there is one, and the
+    /// number of bits before the first bit of the window.
     #[inline]
     fn parts(&self) -> (&'a [u64], u32) {
         let words = &self.words[self.at / 64..];
@@ -123,7 +123,7 @@ impl<'a> Window<'a> {
         (&words[..count], (self.at % 64) as u32)
     }
 
-    /// The words of a window that begins where a word does.
+    /// Returns the words of a window that begins where a word does.
     #[inline]
     fn aligned(&self) -> &'a [u64] {
         &self.words[self.at / 64..self.at / 64 + self.len.div_ceil(64)]
@@ -142,20 +142,20 @@ fn whole_of(words: &[u64], count: usize) -> usize {
     words.len().saturating_sub(1).min(count)
 }
 
-/// The first words, and the words behind each of them, two slices of one length.
+/// Returns the first words, and the words behind each of them, as two slices of one length.
 #[inline]
 fn neighbours(words: &[u64], whole: usize) -> (&[u64], &[u64]) {
     (&words[..whole], &words[words.len().min(1)..][..whole])
 }
 
-/// The 64 bits from bit `by` of word `k` on, with zeros behind the words.
+/// Returns the 64 bits from bit `by` of word `k` on, with zeros behind the words.
 #[inline]
 fn outer_word(words: &[u64], k: usize, by: u32) -> u64 {
     let word = |k: usize| words.get(k).copied().unwrap_or(0);
     join(word(k), word(k + 1), by)
 }
 
-/// An operator on the words of two windows of one length, at any places.
+/// Applies an operator to the words of two windows of one length, at any places.
 #[inline]
 fn shifted2(left: Window, right: Window, op: impl Fn(u64, u64) -> u64 + Copy) -> Vec<u64> {
     let ((l, l_by), (r, r_by)) = (left.parts(), right.parts());
@@ -173,7 +173,7 @@ fn shifted2(left: Window, right: Window, op: impl Fn(u64, u64) -> u64 + Copy) ->
     words
 }
 
-/// An operator on the words of three windows of one length, at any places.
+/// Applies an operator to the words of three windows of one length, at any places.
 #[inline]
 fn shifted3(
     told: Window,
@@ -206,7 +206,7 @@ fn shifted3(
     words
 }
 
-/// An operator on the words of two windows that begin where a word does.
+/// Applies an operator to the words of two windows that begin where a word does.
 #[inline]
 fn aligned2(left: Window, right: Window, op: impl Fn(u64, u64) -> u64 + Copy) -> Vec<u64> {
     left.aligned()
@@ -216,7 +216,7 @@ fn aligned2(left: Window, right: Window, op: impl Fn(u64, u64) -> u64 + Copy) ->
         .collect()
 }
 
-/// An operator on the words of three windows that begin where a word does.
+/// Applies an operator to the words of three windows that begin where a word does.
 #[inline]
 fn aligned3(
     told: Window,

@@ -7,10 +7,10 @@ use crate::plain::test_each;
 pub trait Number: Copy + PartialEq {
     const ZERO: Self;
 
-    /// The number of 64 bits cut or widened to the type.
+    /// Returns the number of 64 bits, cut or widened to the type.
     fn of(wide: i64) -> Self;
 
-    /// The number cut or widened to 64 bits.
+    /// Returns the number, cut or widened to 64 bits.
     fn wide(self) -> u64;
 
     fn abs(self) -> Self;
@@ -23,7 +23,7 @@ pub trait Number: Copy + PartialEq {
 
     fn mul(self, other: Self) -> Self;
 
-    /// The quotient by a number that is not 0, rounded toward 0.
+    /// Returns the quotient by a number that is not 0, rounded toward 0.
     fn trunc_div(self, other: Self) -> Self;
 
     /// Returns the remainder of the quotient rounded toward 0.
@@ -32,8 +32,8 @@ pub trait Number: Copy + PartialEq {
     /// Returns whether a remainder and its divisor lie on different sides of 0.
     fn is_across(self, divisor: Self) -> bool;
 
-    /// The quotient by a number that is not 0, rounded down. The rest is what its product leaves:
-    /// not all types get both of one division.
+    /// Returns the quotient by a number that is not 0, rounded down. The remainder is computed from
+    /// the product of the quotient, since not all types get both from one division.
     #[inline(always)]
     fn floor_div(self, other: Self) -> Self {
         let quotient = self.trunc_div(other);
@@ -171,8 +171,8 @@ operations! {
     Mod, true, |x, y| x.modulo(y);
 }
 
-/// Returns the result of the operation. Where it divides by 0 the row is null, and the number of no
-/// account.
+/// Returns the result of the operation. If it divides by 0 the row is null, and the number does not
+/// matter.
 #[inline(always)]
 fn answer<T: Number, O: Operation>(left: T, right: T) -> T {
     if O::DIVIDES && right == T::ZERO {
@@ -197,7 +197,7 @@ pub fn pairs_in_place<T: Number, O: Operation>(left: &mut [T], right: &[T]) {
     }
 }
 
-/// By a number that is not 0, if the operation divides.
+/// Returns the results for each number and `scalar`, or none if they would be divided by 0.
 #[inline(never)]
 pub fn lone<T: Number, O: Operation>(values: &[T], scalar: T) -> Vec<T> {
     if O::DIVIDES && scalar == T::ZERO {
@@ -206,7 +206,7 @@ pub fn lone<T: Number, O: Operation>(values: &[T], scalar: T) -> Vec<T> {
     values.iter().map(|x| O::answer(*x, scalar)).collect()
 }
 
-/// By a number that is not 0, if the operation divides.
+/// Replaces each number by its result with `scalar`, unless it would be divided by 0.
 #[inline(never)]
 pub fn lone_in_place<T: Number, O: Operation>(values: &mut [T], scalar: T) {
     if O::DIVIDES && scalar == T::ZERO {

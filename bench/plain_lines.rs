@@ -34,7 +34,7 @@ type Rows<T> = Vec<Option<T>>;
 trait Value: Copy + Ord + FromStr + Display {
     const BITS: u32;
 
-    /// The bits, and 0 above them.
+    /// Returns the bits, and 0 above them.
     fn bits(self) -> u64;
 
     fn of_bits(bits: u64) -> Self;
@@ -185,7 +185,7 @@ fn mask<T: Value>() -> u64 {
     u64::MAX >> (64 - T::BITS)
 }
 
-/// An operation on rows of every type, or None for another name.
+/// Returns an operation on rows of every type, or `None` for another name.
 fn general<T: Value>(name: &str, lists: &[Rows<T>], out: &mut String) -> Option<Answer> {
     Some(match name {
         "eq" => compare(lists, |a, b| a == b, out),
@@ -251,7 +251,7 @@ fn made<T: Number>(operation: Calculation, a: Option<T>, b: Option<T>) -> Option
     operation(a?.whole(), b?.whole()).map(T::wrapped)
 }
 
-/// An operation on numbers, or None for another name.
+/// Returns an operation on numbers, or `None` for another name.
 fn numeric<T: Number>(name: &str, lists: &[Rows<T>], out: &mut String) -> Option<Answer> {
     if let Some(name) = name.strip_suffix("_scalar_lhs") {
         let operation = calculation(name).filter(|_| name != "add" && name != "mul")?;

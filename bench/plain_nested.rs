@@ -5,8 +5,8 @@ use crate::plain::{compare_pairs, equal};
 use crate::plain_strings::{equal_texts, test_rows};
 use crate::string_rows::Texts;
 
-/// Of lists without nulls that have as many items: all items are compared at once, and those of
-/// each list folded.
+/// Compares lists without nulls, whose numbers of items are the same on both sides. Compares all
+/// items at once, and folds the results of each list.
 #[inline(never)]
 pub fn equal_lists_at_once(left: &Lists, right: &Lists) -> Vec<u64> {
     let items = left.items.iter().zip(&right.items).map(|(l, r)| l == r);
@@ -32,7 +32,7 @@ fn is_present(words: &[u64], i: usize) -> bool {
     words.is_empty() || (words[i / 64] >> (i % 64)) & 1 == 1
 }
 
-/// The items between neighbouring offsets.
+/// Returns the items between neighbouring offsets.
 #[inline]
 fn list_row<'a>((offsets, items, _): Parts<'a>, i: usize) -> &'a [i32] {
     &items[offsets[i] as usize..offsets[i + 1] as usize]
@@ -46,7 +46,7 @@ fn same_items(left: &[i32], right: &[i32]) -> bool {
     left.len() == right.len() && pairs.fold(true, |all, (l, r)| all & (l == r))
 }
 
-/// Of any lists, row by row.
+/// Compares any lists, row by row.
 #[inline(never)]
 pub fn equal_lists(left: &Lists, right: &Lists) -> Vec<u64> {
     let (l, r) = (parts(left), parts(right));
@@ -58,7 +58,7 @@ pub fn equal_lists(left: &Lists, right: &Lists) -> Vec<u64> {
     })
 }
 
-/// Of lists of `WIDTH` items.
+/// Compares lists of `WIDTH` items.
 #[inline(never)]
 pub fn equal_fixed_lists(left: &[i32], right: &[i32]) -> Vec<u64> {
     let (left, _) = left.as_chunks::<WIDTH>();
@@ -66,7 +66,7 @@ pub fn equal_fixed_lists(left: &[i32], right: &[i32]) -> Vec<u64> {
     compare_pairs(left, right, |l, r| l == r)
 }
 
-/// Of structs of columns that stand one behind the other.
+/// Compares structs of columns that stand one behind the other.
 #[inline(never)]
 pub fn equal_structs(left: &[i32], right: &[i32]) -> Vec<u64> {
     let count = left.len() / COLUMNS;
@@ -82,7 +82,7 @@ pub fn equal_structs(left: &[i32], right: &[i32]) -> Vec<u64> {
     told
 }
 
-/// Of lists of `WIDTH` texts, text by text.
+/// Compares lists of `WIDTH` texts, text by text.
 #[inline(never)]
 pub fn equal_text_lists(left: &Texts, right: &Texts) -> Vec<u64> {
     test_rows(left.count() / WIDTH, move |i| {
@@ -91,7 +91,7 @@ pub fn equal_text_lists(left: &Texts, right: &Texts) -> Vec<u64> {
     })
 }
 
-/// Of structs of numbers and a text, column by column.
+/// Compares structs of numbers and a text, column by column.
 #[inline(never)]
 pub fn equal_mixed(mixed: &Mixed) -> Vec<u64> {
     let (numbers, texts) = (&mixed.numbers, &mixed.texts);
@@ -106,13 +106,13 @@ pub fn equal_mixed(mixed: &Mixed) -> Vec<u64> {
     told
 }
 
-/// The text that a key names.
+/// Returns the text that a key names.
 #[inline]
 fn entry(texts: &Texts, key: u32) -> &[u8] {
     texts.row(key as usize)
 }
 
-/// Of rows that keys name among texts: both are looked up.
+/// Compares rows that keys name among texts. Both texts are looked up.
 #[inline(never)]
 pub fn equal_dictionaries(left: &Keyed, right: &Keyed) -> Vec<u64> {
     let (l, r) = (&left.entries, &right.entries);
@@ -121,13 +121,13 @@ pub fn equal_dictionaries(left: &Keyed, right: &Keyed) -> Vec<u64> {
     })
 }
 
-/// The text that a key names, if it is not null.
+/// Returns the text that a key names, if it is not null.
 #[inline]
 fn present_entry(keyed: &Keyed, key: u32) -> Option<&[u8]> {
     keyed.has_entry(key).then(|| entry(&keyed.entries, key))
 }
 
-/// Compares columns in which some texts are null, which are equal to one another alone.
+/// Compares columns in which some texts are null. A null is equal to a null alone.
 #[inline(never)]
 pub fn equal_dictionaries_with_nulls(left: &Keyed, right: &Keyed) -> Vec<u64> {
     compare_pairs(&left.keys, &right.keys, move |a, b| {

@@ -70,13 +70,13 @@ joins! {
     Max, |x, y| x.max(y);
 }
 
-/// All numbers joined, or None without one.
+/// Joins all numbers. Returns `None` if there are none.
 #[inline(never)]
 pub fn reduce<T: Reduced, J: Join>(values: &[T]) -> Option<T> {
     values.iter().copied().reduce(J::join)
 }
 
-/// The numbers joined whose bit is 1, or None without one.
+/// Joins the numbers whose bit is 1. Returns `None` if there are none.
 #[inline(never)]
 pub fn reduce_present<T: Reduced, J: Join>(values: &[T], present: Window) -> Option<T> {
     values
@@ -90,7 +90,7 @@ pub fn reduce_present<T: Reduced, J: Join>(values: &[T], present: Window) -> Opt
         .reduce(J::join)
 }
 
-/// The least and the greatest number.
+/// Returns the least and the greatest number.
 #[inline(never)]
 pub fn ends<T: Reduced>(values: &[T]) -> Option<(T, T)> {
     let first = *values.first()?;
@@ -129,7 +129,7 @@ bit_counts! {
     TrailingZeros, |x| x.trailing_zeros();
 }
 
-/// The count of each number.
+/// Returns the count of each number.
 #[inline(never)]
 pub fn counts<T: Reduced, C: Count>(values: &[T]) -> Vec<u32> {
     values.iter().map(|value| C::count(*value)).collect()

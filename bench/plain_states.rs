@@ -1,5 +1,5 @@
-//! How many distinct values a column has, in plain Rust: a bit for each value of a range in one
-//! number or in words, and what a user would pick instead, a tree or a table of hashes.
+//! Counts of the distinct values of a column in plain Rust: by a bit for each value of a range, in
+//! one number or in words, and by what a user would pick instead, a tree or a table of hashes.
 
 use crate::plain::Window;
 use std::collections::{BTreeSet, HashSet};
@@ -20,7 +20,7 @@ impl Column<'_> {
         })
     }
 
-    /// One more where a row is null.
+    /// Returns 1 if a row is null, and otherwise 0.
     fn null(&self) -> u64 {
         u64::from((0..self.values.len()).any(|i| !self.is_present(i)))
     }
@@ -32,7 +32,7 @@ impl Column<'_> {
     }
 }
 
-/// By the bits of a number of 128.
+/// Counts by the bits of a number of 128 bits.
 #[inline(never)]
 pub fn distinct_in_number(column: Column) -> u64 {
     let set = |seen: u128, value: i32| seen | 1 << (value - column.least);
@@ -43,7 +43,7 @@ pub fn distinct_in_number(column: Column) -> u64 {
     u64::from(seen.count_ones()) + column.null()
 }
 
-/// By the bits of words.
+/// Counts by the bits of words.
 #[inline(never)]
 pub fn distinct_in_words(column: Column, range: usize) -> u64 {
     let mut seen = vec![0u64; range.div_ceil(64)];
@@ -58,19 +58,19 @@ pub fn distinct_in_words(column: Column, range: usize) -> u64 {
     count(&seen) + column.null()
 }
 
-/// By a tree, of rows that are all present.
+/// Counts by a tree. All rows have to be present.
 #[inline(never)]
 pub fn distinct_in_tree(values: &[i32]) -> u64 {
     values.iter().collect::<BTreeSet<_>>().len() as u64
 }
 
-/// By a table of hashes, of rows that are all present.
+/// Counts by a table of hashes. All rows have to be present.
 #[inline(never)]
 pub fn distinct_in_table(values: &[i32]) -> u64 {
     values.iter().collect::<HashSet<_>>().len() as u64
 }
 
-/// The values of two sets of bits, joined in a third.
+/// Returns the number of values in two sets of bits, which are joined in a third one.
 #[inline(never)]
 pub fn joined(left: &[u64], right: &[u64]) -> u64 {
     let mut seen = vec![0u64; left.len()];
@@ -86,7 +86,7 @@ fn count(words: &[u64]) -> u64 {
     words.iter().map(|word| u64::from(word.count_ones())).sum()
 }
 
-/// The set of some numbers as bits.
+/// Returns the set of some numbers as bits.
 pub fn set_of(values: &[i32], range: usize) -> Vec<u64> {
     let mut seen = vec![0u64; range.div_ceil(64)];
     for value in values {

@@ -21,7 +21,7 @@ fn len_of(view: u128) -> usize {
     view as u32 as usize
 }
 
-/// The first four bytes as a number, the first one being the greatest.
+/// Returns the first four bytes as a number, in which the first byte is the highest.
 #[inline]
 fn prefix_of(view: u128) -> u32 {
     ((view >> 32) as u32).swap_bytes()
@@ -36,7 +36,7 @@ fn short_less(l: u128, r: u128) -> bool {
     l.to_le_bytes()[4..4 + len_of(l)] < r.to_le_bytes()[4..4 + len_of(r)]
 }
 
-/// The bytes of a view's string in its buffer.
+/// Returns the bytes of a view's string in its buffer.
 #[inline]
 fn long_row(view: u128, buffers: &[Vec<u8>]) -> &[u8] {
     let at = (view >> 96) as usize;
@@ -87,7 +87,7 @@ fn parts(texts: &Texts) -> Parts<'_> {
     (&texts.offsets, &texts.bytes)
 }
 
-/// The bytes between neighbouring offsets.
+/// Returns the bytes between neighbouring offsets.
 #[inline]
 fn text_row<'a>((offsets, bytes): Parts<'a>, i: usize) -> &'a [u8] {
     &bytes[offsets[i] as usize..offsets[i + 1] as usize]

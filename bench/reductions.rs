@@ -63,19 +63,19 @@ struct Columns<'a, T> {
     asked_of_nulls: [f64; 2],
 }
 
-/// Both numbers in one, if there are some.
+/// Returns both numbers in one, if there are some.
 fn pair_of<T: Reduced>(found: Option<(T, T)>) -> u64 {
     found.map_or(NO_NUMBER, |(least, greatest)| {
         least.wide().wrapping_mul(31).wrapping_add(greatest.wide())
     })
 }
 
-/// A peer that returns one number a run.
+/// Runs a peer that returns one number a run.
 fn plain_number(repeats: usize, answer: impl Fn() -> u64) -> u64 {
     repeat(&[(); 2], repeats, |(), _| black_box(answer()))
 }
 
-/// A peer that makes a count of each row.
+/// Runs a peer that makes a count of each row.
 fn plain_counts(repeats: usize, make: impl Fn() -> Vec<u32>) -> u64 {
     repeat(&[(); 2], repeats, |(), i| {
         black_box(make())

@@ -41,8 +41,8 @@ const MANY: usize = 10_000;
 /// The number of rows of a short chunk.
 const CHUNK: usize = 1_000;
 
-/// A column whose numbers are from 0 to below a bound, which none of them is one less than: so no
-/// state of these values has ever seen all, and each row is read.
+/// A column of numbers from 0 to below a bound, in which the greatest of these does not occur. A
+/// state of these values has never seen all, and so reads each row.
 struct Drawn {
     range: usize,
     values: Vec<i32>,
@@ -162,7 +162,7 @@ impl Drawn {
     }
 }
 
-/// A peer that returns one number a run.
+/// Runs a peer that returns one number a run.
 fn answers(repeats: usize, answer: impl Fn() -> u64) -> u64 {
     repeat(&[(); 2], repeats, |(), _| black_box(answer()))
 }

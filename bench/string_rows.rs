@@ -31,7 +31,7 @@ impl Texts {
         &self.bytes[self.offsets[i] as usize..self.offsets[i + 1] as usize]
     }
 
-    /// The string in the middle, or the empty one where there is none.
+    /// Returns the string in the middle, or the empty one if there is none.
     pub fn middle(&self) -> &[u8] {
         let middle = self.count() / 2;
         if middle < self.count() {
@@ -68,7 +68,7 @@ impl Views {
     }
 }
 
-/// The view of a string, which is put into the only buffer where it is long.
+/// Returns the view of a string. A long string is put into the only buffer.
 fn view_of(row: &[u8], buffer: &mut Vec<u8>) -> u128 {
     let mut bytes = [0; 16];
     bytes[..4].copy_from_slice(&(row.len() as u32).to_le_bytes());
@@ -96,7 +96,7 @@ struct Shape {
 }
 
 impl Shape {
-    /// A string whose letters look random.
+    /// Returns a string whose letters look random.
     fn row(&self, numbers: &mut Numbers) -> Vec<u8> {
         let letters = self.least + numbers.next() % (self.most - self.least + 1);
         let mut row = self.prefix.to_vec();
@@ -104,7 +104,7 @@ impl Shape {
         row
     }
 
-    /// Two columns, which have the same string in about half of the rows.
+    /// Creates two columns, which have the same string in about half of the rows.
     fn pair(&self, numbers: &mut Numbers, count: usize) -> Pair<Texts> {
         let (mut left, mut right) = (Texts::new(), Texts::new());
         for _ in 0..count {
@@ -128,7 +128,7 @@ impl Shape {
     }
 }
 
-/// Two columns of `count` texts of about 6 bytes.
+/// Creates two columns of `count` texts of about 6 bytes.
 pub fn texts(numbers: &mut Numbers, count: usize) -> Pair<Texts> {
     let shape = Shape {
         prefix: b"",

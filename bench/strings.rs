@@ -88,7 +88,7 @@ impl Comparison<'_> {
         });
     }
 
-    /// Hands the kernel on an array and one string to `each`. It is timed beside the one on arrays.
+    /// Hands the kernel on an array and one string to `each`. Its peer is the kernel on arrays.
     fn hand_broadcast(&self, strings: &str, sides: Sides, each: &mut dyn FnMut(&Kernel)) {
         each(&Kernel {
             name: &format!("{}_broadcast {strings}", self.name),
@@ -150,7 +150,7 @@ fn run_sized(kernel: StringKernel, pair: &Pair<Texts>, repeats: usize) -> u64 {
     run_following(kernel, StringType::Sized, pair, repeats)
 }
 
-/// An extreme of the strings of an array, by its length.
+/// Hands an extreme of the strings of an array to `each`, which sees its length.
 fn hand_extreme(
     name: &str,
     ours: Side,

@@ -15,7 +15,7 @@ pub fn rounds() -> usize {
 /// The value that a side returns for a bit past the end.
 pub const NO_BIT: u64 = 2;
 
-/// Bit `i` of the `len` bits that were made.
+/// Returns bit `i` of the `len` bits that were made.
 pub fn bit_of(made: Vec<u64>, len: usize, i: usize) -> u64 {
     let words = black_box(made);
     if i < len {
@@ -74,7 +74,7 @@ pub const SHORT_RUNS: [Run; 2] = [
 ];
 
 impl Run {
-    /// That of a kernel which is timed at numbers of rows of its own.
+    /// Returns the run of a kernel that is timed at numbers of rows of its own.
     pub fn of(count: usize) -> Run {
         Run {
             count,
@@ -97,7 +97,7 @@ pub enum Asked {
 /// A side of a kernel: runs it a number of times, and returns the checksum.
 pub type Side<'a> = &'a dyn Fn(usize) -> u64;
 
-/// A kernel and what it is set beside.
+/// A kernel and its peers.
 pub struct Kernel<'a> {
     pub name: &'a str,
     pub asked: Asked,
@@ -159,7 +159,7 @@ pub struct Bench {
 }
 
 impl Bench {
-    /// Those kernels are run whose names hold one of the words, or all without words.
+    /// Creates a bench of the kernels whose names hold one of the words, or of all without words.
     pub fn new(words: Vec<String>) -> Bench {
         Bench {
             words,

@@ -118,7 +118,7 @@ impl Column {
         Column::new("u", offsets.len() - 1, buffers, vec![])
     }
 
-    /// Views into one buffer.
+    /// Creates a column of views into one buffer.
     pub fn views(views: &[[u8; 16]], bytes: &[u8]) -> Column {
         let lengths = kept(bytes.len() as i64);
         let buffers = vec![

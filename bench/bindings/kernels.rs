@@ -74,7 +74,7 @@ fn widened(values: &[i32]) -> Vec<i64> {
     values.iter().map(|value| i64::from(*value)).collect()
 }
 
-/// The raw comparison, or with a validity the one that sees nulls.
+/// Runs the raw comparison, or with a validity the one that sees nulls.
 pub fn numbers(left: &[i32], right: &[i32], present: Option<&[u64]>, repeats: usize) -> u64 {
     let (left, right) = (widened(left), widened(right));
     let ones = vec![u64::MAX; left.len() / 64 + 2];
@@ -126,7 +126,7 @@ pub fn views(views: [&[[u8; 16]]; 2], bytes: [&[u8]; 2], repeats: usize) -> u64 
     )
 }
 
-/// The comparison of arrays of a nested type, of one offsets on both sides.
+/// Runs the comparison of arrays of a nested type, which have the same offsets on both sides.
 fn nested(
     nested_type: u32,
     size: usize,

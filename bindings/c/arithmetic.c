@@ -54,7 +54,7 @@ static struct slice numbers_of(const struct part *part) {
   return lent[place_of(part->kind)];
 }
 
-/* Says whether results would be written over numbers that are lent. */
+/* Returns whether results would be written over numbers that are lent. */
 static bool overlap(const struct part *part, const struct out *out) {
   uintptr_t lent = (uintptr_t)numbers_of(part).data;
   uintptr_t values = (uintptr_t)out->values;

@@ -15,7 +15,7 @@ struct pair {
   uint64_t *comparisons; /* null, where they are not asked for */
 };
 
-/* Says whether a column has these rows. */
+/* Returns whether a column has these rows. */
 static bool has_rows(const struct ArrowArray *array, int64_t first, int64_t rows) {
   return first >= 0 && rows >= 0 && first <= array->length && rows <= array->length - first;
 }

@@ -50,7 +50,7 @@ enum kind {
   KIND_UTF8_VIEW = 31
 };
 
-/* One array of a tree, but for the arrays inside it. A kind reads some of the slices; the others
+/* One array of a tree, without the arrays inside it. A kind reads some of the slices; the others
  * are empty. */
 struct part {
   uint32_t kind;

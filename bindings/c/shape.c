@@ -26,7 +26,7 @@ static int64_t buffer_count(enum kind kind) {
 
 static bool is_view(enum kind kind) { return kind == KIND_BINARY_VIEW || kind == KIND_UTF8_VIEW; }
 
-/* Says whether an array has as many buffers as its kind asks. */
+/* Returns whether an array has the number of buffers that its kind needs. */
 static bool has_buffers(const struct ArrowArray *array, enum kind kind) {
   int64_t count = buffer_count(kind);
   if (is_view(kind) ? array->n_buffers < count : array->n_buffers != count) {
@@ -35,7 +35,7 @@ static bool has_buffers(const struct ArrowArray *array, enum kind kind) {
   return array->n_buffers == 0 || array->buffers != NULL;
 }
 
-/* Says whether both structs have as many children as a kind asks. */
+/* Returns whether both structs have the number of children that a kind needs. */
 static bool has_children(const struct ArrowSchema *type, const struct ArrowArray *array,
                          enum kind kind) {
   int64_t count = 0;
@@ -50,7 +50,7 @@ static bool has_children(const struct ArrowSchema *type, const struct ArrowArray
   return count == 0 || (type->children != NULL && array->children != NULL);
 }
 
-/* Says whether the places of all rows are numbers of 64 bits. */
+/* Returns whether the places of all rows are numbers of 64 bits. */
 static bool has_places(const struct ArrowArray *array, int64_t width) {
   if (array->length < 0 || array->offset < 0 || array->length > MOST_ROWS - array->offset) {
     return false;
@@ -58,7 +58,7 @@ static bool has_places(const struct ArrowArray *array, int64_t width) {
   return width == 0 || array->offset + array->length <= MOST_ROWS / width;
 }
 
-/* Says whether keys of a dictionary can have this format. */
+/* Returns whether keys of a dictionary can have this format. */
 static bool is_key(const char *format) {
   return strlen(format) == 1 && strchr("cCsSiIlL", *format) != NULL;
 }

@@ -51,8 +51,8 @@ int32_t dunkelva_check_flags(uint32_t flags);
 /* Reads a format. */
 struct layout dunkelva_layout(const char *format, uint32_t flags);
 
-/* Says whether two columns of these types can be compared: one tree of formats, to the letter. Both
- * have passed `dunkelva_measure`. */
+/* Returns whether two columns of these types can be compared: they have the same tree of formats,
+ * letter for letter. Both have passed `dunkelva_measure`. */
 bool dunkelva_same_formats(const struct ArrowSchema *left, const struct ArrowSchema *right);
 
 /* What it takes to hand a column over. */
@@ -97,7 +97,7 @@ void dunkelva_close(struct column *column);
 /* Describes rows of a column as parts, those from row `first` on. They last until the next call. */
 int32_t dunkelva_describe(struct column *column, int64_t first, int64_t rows);
 
-/* Says whether a column, which is described, has numbers of 8 to 64 bits. */
+/* Returns whether a column, which is described, has numbers of 8 to 64 bits. */
 bool dunkelva_is_numbers(const struct column *column);
 
 /* Returns how many rows of a column are handed over at a time, a multiple of 64. */

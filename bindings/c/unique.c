@@ -2,12 +2,12 @@
  * there. */
 #include "shim.h"
 
-/* Says whether a range has a first and a last number. */
+/* Returns whether a range has a first and a last number. */
 static bool has_ends(const struct dunkelva_number *least, const struct dunkelva_number *greatest) {
   return least != NULL && greatest != NULL && least->exists != 0 && greatest->exists != 0;
 }
 
-/* Says whether a state can be read. */
+/* Returns whether a state can be read. */
 static bool is_state(const struct dunkelva_unique *state) {
   return state != NULL && state->bits != NULL && has_ends(&state->least, &state->greatest);
 }

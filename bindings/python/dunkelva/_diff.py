@@ -39,19 +39,19 @@ class Diff:
 
     #: The columns of the key; there are none where rows are compared by their places.
     key: Tuple[str, ...]
-    #: How many rows are the same, changed, only left (removed) and only right (added).
+    #: The numbers of rows that are the same, changed, only left (removed) and only right (added).
     same: int = 0
     changed: int = 0
     removed: int = 0
     added: int = 0
-    #: For each column that differs, in how many rows.
+    #: For each column that differs, the number of rows in which it does.
     by_column: Dict[str, int] = dataclasses.field(default_factory=dict)
     #: Columns that one side alone has.
     left_columns: Tuple[str, ...] = ()
     right_columns: Tuple[str, ...] = ()
     #: For each column with another type on each side, the two types. Its rows are not compared.
     types: Dict[str, Tuple[str, str]] = dataclasses.field(default_factory=dict)
-    #: The first differences, at most as many as were asked for.
+    #: The first differences, at most the number that was asked for.
     differences: List[Difference] = dataclasses.field(default_factory=list)
 
     @property
@@ -206,7 +206,7 @@ def _fill(found: Diff, pairs: Dict[str, Tuple[Column, Column]], matched: Matched
 def _keep(found: Diff, pairs: Dict[str, Tuple[Column, Column]], matched: Matched, changed: _Places,
           by_column: Dict[str, npt.NDArray[np.bool_]], limit: Optional[int]) -> None:
     """Keeps the first differences. `changed` has the places of rows that differ."""
-    # the rows of left in their order, changed or removed, and then those that right alone has
+    # the changed or removed rows of left in their order, and then those that right alone has
     order = np.concatenate([matched.left[changed], matched.only_left])
     keys = {name: pairs[name] for name in found.key}
     for place in np.argsort(order, kind="stable"):

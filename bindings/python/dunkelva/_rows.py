@@ -33,7 +33,7 @@ def is_missing(value: object) -> bool:
     return isinstance(value, (np.datetime64, np.timedelta64)) and bool(np.isnat(value))
 
 
-# Classes of which no value is missing, or the one that is None already.
+# Classes whose values are never missing, and that of None itself.
 _PLAIN = frozenset({type(None), bool, int, str, bytes, bytearray, list, tuple, dict,
                     decimal.Decimal, datetime.date, datetime.datetime, datetime.time,
                     datetime.timedelta})
@@ -48,7 +48,7 @@ def with_none(values: Sequence[object],
     return [None if type(value) in others and is_gap(value) else value for value in values]
 
 
-# Classes of values, the narrower ones first, and what they are called.
+# Classes of values, the narrower ones first, and their names.
 _CLASSES: Tuple[Tuple[str, Tuple[type, ...]], ...] = (
     ("bool", (bool, np.bool_)), ("int", (int, np.integer)), ("float", (float, np.floating)),
     ("str", (str,)), ("bytes", (bytes, bytearray)),

@@ -43,7 +43,7 @@ impl<T: Key> Numbers<T> {
         Ok(numbers)
     }
 
-    /// Writes 0 for each null, for which a call writes what means nothing.
+    /// Writes 0 for each null. The number that a call writes there means nothing.
     fn clear_nulls(&mut self) {
         if !self.present.all() {
             for (value, is_present) in self.values.iter_mut().zip(self.present.iter()) {

@@ -78,8 +78,8 @@ impl<'a> Array<'a> {
 
     /// Lends texts: those of row `i` are the bytes from `offsets[i]` to `offsets[i + 1]`.
     ///
-    /// Texts are compared as bytes. Whether they are UTF-8 is looked at with
-    /// [`Options::check_texts`](crate::Options::check_texts) alone. No offset makes no row.
+    /// Texts are compared as bytes. They are checked to be UTF-8 only with
+    /// [`Options::check_texts`](crate::Options::check_texts). Without offsets there is no row.
     ///
     /// # Errors
     ///
@@ -112,7 +112,7 @@ impl<'a> Array<'a> {
     ///
     /// # Errors
     ///
-    /// [`Error::Length`], if there are less bytes than rows of this width.
+    /// [`Error::Length`], if there are fewer bytes than rows of this width.
     pub fn fixed_size_binary(rows: usize, width: usize, bytes: &'a [u8]) -> Result<Self, Error> {
         has_at_least("bytes", bytes.len(), rows.saturating_mul(width))?;
         Ok(Array::flat(
@@ -170,8 +170,8 @@ impl<'a> Array<'a> {
 ///
 /// Besides what each says, they return [`Error::BadStructs`] for more than 64 levels or 2^20 types.
 impl<'a> Array<'a> {
-    /// Lends lists: that of row `i` has the items from `offsets[i]` to `offsets[i + 1]`. No offset
-    /// makes no row.
+    /// Lends lists: that of row `i` has the items from `offsets[i]` to `offsets[i + 1]`. Without
+    /// offsets there is no row.
     ///
     /// # Errors
     ///
@@ -187,7 +187,7 @@ impl<'a> Array<'a> {
     ///
     /// # Errors
     ///
-    /// [`Error::Length`], if there are less items than rows of this width.
+    /// [`Error::Length`], if there are fewer items than rows of this width.
     pub fn fixed_size_list(rows: usize, width: usize, items: Array<'a>) -> Result<Self, Error> {
         has_at_least("items", items.rows, rows.saturating_mul(width))?;
         let format = format!("+w:{width}\0").into_bytes();
@@ -198,8 +198,8 @@ impl<'a> Array<'a> {
     ///
     /// # Errors
     ///
-    /// [`Error::Length`], if a column has other rows, and [`Error::BadArgument`], if a name has a
-    /// byte 0.
+    /// [`Error::Length`], if a column has another number of rows, and [`Error::BadArgument`], if a
+    /// name has a byte 0.
     pub fn structs<N: Into<Vec<u8>>>(
         rows: usize,
         fields: impl IntoIterator<Item = (N, Array<'a>)>,
@@ -225,7 +225,7 @@ impl<'a> Array<'a> {
     ///
     /// # Errors
     ///
-    /// None but those of all arrays of arrays.
+    /// Only those of all arrays of arrays.
     pub fn dictionary<K: Key>(keys: &'a [K], entries: Array<'a>) -> Result<Self, Error> {
         let buffers: Vec<Buffer<'a>> = vec![Arc::new(keys)];
         Array::nested(
@@ -274,7 +274,7 @@ impl<'a> Array<'a> {
     ///
     /// # Errors
     ///
-    /// [`Error::Length`], if the bits are not as many as the rows; [`Error::BadArgument`] for
+    /// [`Error::Length`], if there is not one bit for each row; [`Error::BadArgument`] for
     /// [`nulls`](Array::nulls) and for columns of other crates, which have their own validity;
     /// [`Error::NoMemory`].
     pub fn with_validity(mut self, present: Bitmap<'a>) -> Result<Self, Error> {

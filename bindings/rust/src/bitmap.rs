@@ -28,7 +28,7 @@ impl<'a> Bitmap<'a> {
     ///
     /// # Errors
     ///
-    /// [`Error::Length`], if the slice has less bits.
+    /// [`Error::Length`], if the slice has fewer bits.
     pub fn new(bytes: &'a [u8], first: usize, rows: usize) -> Result<Self, Error> {
         let has = bytes.len().saturating_mul(8);
         let needs = first.saturating_add(rows);

@@ -7,7 +7,7 @@ use crate::sys::{self, Wide};
 use crate::{Array, Error, Mask};
 use std::os::raw::c_uint;
 
-/// How rows are compared by [`equal_with`].
+/// The way in which [`equal_with`] compares rows.
 #[derive(Clone, Copy, Debug, Default, PartialEq, Eq)]
 pub struct Options {
     /// Serves floats too, and compares their bits: a NaN is equal to a NaN of the same bits, and

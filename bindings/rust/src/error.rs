@@ -1,18 +1,18 @@
-//! Why a call returned nothing.
+//! Errors of calls.
 #![forbid(unsafe_code)]
 
 use std::fmt;
 
-/// Why there is no array or no result.
+/// The reason why there is no array or no result.
 #[derive(Clone, Copy, Debug, PartialEq, Eq, Hash)]
 #[non_exhaustive]
 pub enum Error {
     /// The buffers make no array: offsets that go back, a key that names no entry, texts that are
     /// not UTF-8.
     BadArray,
-    /// The arrays differ in type or length, or a number is none of the array's type.
+    /// The arrays differ in type or length, or a number is not of the array's type.
     TypesDiffer,
-    /// The result has no room. Calls of this crate make room, so that it does not come from them.
+    /// The result has no room. Calls of this crate make room, and so never return this error.
     NoRoom,
     /// An allocation failed.
     NoMemory,
@@ -28,7 +28,7 @@ pub enum Error {
     OutOfRange,
     /// A buffer or an array inside another has another length than the array asks for.
     Length {
-        /// What has the wrong length.
+        /// The name of the part that has the wrong length.
         what: &'static str,
         /// Its length.
         has: usize,

@@ -1,4 +1,4 @@
-//! What an array lends.
+//! The memory that an array lends.
 #![forbid(unsafe_code)]
 
 use crate::sys::Foreign;
@@ -33,7 +33,7 @@ pub(crate) enum Content<'a> {
     Foreign(Foreign<'a>),
 }
 
-/// What the structs of an array point to.
+/// The memory that the structs of an array point to.
 #[derive(Clone)]
 pub(crate) struct Lent<'a> {
     /// The format, with a byte 0 behind it.

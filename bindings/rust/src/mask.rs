@@ -51,7 +51,7 @@ impl Mask {
             .sum()
     }
 
-    /// Returns `true` if all rows are true, as they are where there is none.
+    /// Returns `true` if all rows are true, or if there is no row.
     pub fn all(&self) -> bool {
         self.count() == self.rows
     }
@@ -88,7 +88,7 @@ impl Mask {
 impl Not for Mask {
     type Output = Mask;
 
-    /// Turns each truth value round.
+    /// Negates each truth value.
     fn not(mut self) -> Mask {
         for byte in &mut self.bytes {
             *byte = !*byte;

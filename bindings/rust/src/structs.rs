@@ -157,7 +157,7 @@ impl<'x, T> Typed<'x, T> {
     }
 }
 
-/// Returns a length. One that is no `i64` is refused by the library, as the greatest `i64` is.
+/// Returns a length, or the greatest `i64` if it is greater. The library refuses that one.
 fn to_i64(length: usize) -> i64 {
     i64::try_from(length).unwrap_or(i64::MAX)
 }

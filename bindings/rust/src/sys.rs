@@ -116,7 +116,7 @@ pub(crate) fn equal(l: &Structs<'_>, r: &Structs<'_>, flags: u32, out: &mut [u8]
     unsafe { dunkelva_equal(&l.schema, &l.array, &r.schema, &r.array, flags, at, len) }
 }
 
-/// Compares all rows of the left array with as many of the right one.
+/// Compares all rows of the left array with the same number of rows of the right one.
 pub(crate) fn equal_rows(
     l: &Structs<'_>,
     r: &Structs<'_>,

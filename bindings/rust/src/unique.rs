@@ -41,7 +41,7 @@ impl Unique {
     /// # Errors
     ///
     /// [`Error::BadArgument`], if the ends are not in order, or if there are 2^64 - 1 numbers or
-    /// more between them; [`Error::NoMemory`], if there is none for a bit for each.
+    /// more between them; [`Error::NoMemory`], if there is no memory for a bit for each.
     pub fn new<N: Into<i128>>(range: RangeInclusive<N>) -> Result<Self, Error> {
         let (least, greatest) = range.into_inner();
         let (least, greatest) = (least.into(), greatest.into());

@@ -24,7 +24,7 @@ const TESTS: [Test; 6] = [
     Test::GreaterOrEqual,
 ];
 
-/// Runs a test for as many cases as are asked for.
+/// Runs a test for `cases` cases, or for the number in the environment variable `CASES`.
 fn each_case(cases: u64, test: impl Fn(&mut Chance, u64)) {
     let seed = number_from("SEED", 1);
     for case in 0..number_from("CASES", cases) {

@@ -34,7 +34,7 @@ rights_of Add = Each
 rights_of Subtract = Each
 rights_of Multiply = Each
 
--- the left numbers for which there is a result, if the right number is 0 or is not
+-- the left numbers for which there is a result; the flag says whether the right number is 0
 abbrev pub lefts_of : Bool → Arithmetic → Answered
 lefts_of false _ = Each
 lefts_of true FloorDivide = Nothing
@@ -44,7 +44,7 @@ lefts_of true Add = Each
 lefts_of true Subtract = Each
 lefts_of true Multiply = Each
 
--- the numbers for which there is a result beside one on a side, which is 0 or is not
+-- the numbers for which there is a result with another one on a side; `zero` says whether it is 0
 abbrev pub beside_of : Side → Bool → Arithmetic → Answered
 beside_of Left _ op = rights_of op
 beside_of Right zero op = lefts_of zero op

@@ -105,7 +105,8 @@ fn answered_rights(arithmetic: Arithmetic) -> Answered
     }
 }
 
-// Returns the left numbers for which an operation has a result, if the right number is 0 or is not.
+// Returns the left numbers for which an operation has a result. `zero` says whether the right
+// number is 0.
 fn answered_lefts(arithmetic: Arithmetic, zero: bool) -> Answered
     ensures { result ≡ lefts_of zero arithmetic }
 {
@@ -123,7 +124,7 @@ fn answered_lefts(arithmetic: Arithmetic, zero: bool) -> Answered
 }
 
 // Returns the rows for which an operation with a number has a result. The number stands on a side,
-// and is 0 or is not.
+// and `zero` says whether it is 0.
 fn answered_beside(arithmetic: Arithmetic, side: Side, zero: bool) -> Answered
     ensures { result ≡ beside_of side zero arithmetic }
 {

@@ -53,7 +53,7 @@ pub record SameColumn (c d : Column) : Type 0 where
 abbrev pub Fits : Shape → (List Column → Column) → Type 0
 Fits s f = (cs : List Column) → SameColumn (shape_column s cs) (f cs)
 
--- the keys are those of a part of a kind: as many as rows
+-- the keys are those of a part of a kind, one for each row
 pub record AreKeysOf (kind : PartKind) (p : Part) (keys : DictKeys) : Type 0 where
   pub count : key_count keys ≡ p.rows
   pub mask : key_validity keys ≡ present_in p

@@ -10,7 +10,7 @@ use Rattle.arrow_arrays.specs.declared.shapes.Shape.{Shape}
 use Rattle.arrow_parts.specs.declared.part.Part.{Part}
 use Rattle.arrow_parts.specs.declared.part.PartKind.{PartKind}
 
--- a good array has the rows of a column, and as many
+-- a good array has the rows of a column, and the same number of them
 pub record Stands (a : AnyArray) (c : Column) : Type 0 where
   pub good : IsGood a
   pub len : len_of a ≡ c.len
@@ -30,6 +30,6 @@ StandsFor kind p a = (cs : List Column) → Stands a (column_with p (stored_in k
 abbrev pub Fills : Shape → List AnyArray → AnyArray → Type 0
 Fills s inside a = (cs : List Column) → AllStand inside cs → Stands a (shape_column s cs)
 
--- the same of the one array inside
+-- an array has the rows of a shape over the column that the one array inside it has
 abbrev pub FillsOne : Shape → AnyArray → AnyArray → Type 0
 FillsOne s items a = (c : Column) → Stands items c → Stands a (shape_column s (c ∷ []))

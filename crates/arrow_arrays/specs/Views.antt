@@ -14,7 +14,7 @@ use Rattle.arrow_parts.specs.declared.part.Part.{Part}
 abbrev pub view_in : Part → ℕ → List ℕ
 view_in p i = sized_string 16 p.u8s.now i
 
--- whether row i is present
+-- row i is present
 abbrev pub has_row : Part → ℕ → Bool
 has_row p i = is_present (present_in p) i
 
@@ -34,7 +34,7 @@ pub record LeadsToRow (buffers : List (List ℕ)) (v : List ℕ) : Type 0 where
   pub good : GoodView buffers v
   pub long : 12 < view_len v → NotNegative v
 
--- of the first n rows the view of each present one leads to it; the others are arbitrary
+-- for each present one of the first n rows, its view leads to a row; the other views are arbitrary
 abbrev pub AllLead : Part → ℕ → Type 0
 AllLead p n = (i : ℕ) → i < n → has_row p i ≡ true → LeadsToRow (buffers_in p) (view_in p i)
 

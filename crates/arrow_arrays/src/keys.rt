@@ -74,8 +74,8 @@ fn uint64_keys(alloc: Global, part: &Part<'_>) -> Result<DictKeys, Refused>
     Ok(DictKeys::UInt64(keys))
 }
 
-/// Returns the keys of a dictionary. The error is `Parts` if the kind is none or there is not one
-/// for each row, and `Memory` if an allocation fails.
+/// Returns the keys of a dictionary. The error is `Parts` if the kind is not one of dictionaries or
+/// if there is not one key for each row, and `Memory` if an allocation fails.
 pub fn keys(alloc: Global, kind: PartKind, part: &Part<'_>) -> Result<DictKeys, Refused>
     ensures { IfOk result (AreKeysOf kind part.now) }
 {

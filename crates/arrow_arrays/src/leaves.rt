@@ -158,8 +158,8 @@ fn utf8_view(alloc: Global, part: &Part<'_>) -> Result<AnyArray, Refused>
     Ok(AnyArray::LargeUtf8(array))
 }
 
-/// Returns a part of one level as an array. The error is `Parts` if it is none or makes none, and
-/// `Memory` if an allocation fails.
+/// Returns a part of one level as an array. The error is `Parts` if the part has several levels or
+/// makes no array, and `Memory` if an allocation fails.
 pub fn leaf(alloc: Global, kind: PartKind, part: &Part<'_>) -> Result<AnyArray, Refused>
     ensures { IfOk result (StandsFor kind part.now) }
 {

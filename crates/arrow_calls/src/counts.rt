@@ -15,7 +15,7 @@ use polars_compute_bits::bit_number::BitNumber;
 use std::alloc::Global;
 
 /// Writes a count of the bits of each row of a part's numbers, under the validity of the part. The
-/// error is `Parts`, `Room` if there are not as many counts as rows, or `Memory`; nothing is then
+/// error is `Parts`, `Room` if there is not one count for each row, or `Memory`; nothing is then
 /// written.
 pub fn count_numbers<T: BitNumber>(
     alloc: Global,

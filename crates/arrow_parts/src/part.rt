@@ -54,7 +54,7 @@ pub struct Part<'a> {
     pub buffers: &'a [Bytes<'a>],
 }
 
-/// What the rows of a part are, with its number in C.
+/// The kind of the rows of a part, with its number in C.
 #[derive(Clone, Copy, PartialEq, Eq, Debug)]
 pub enum PartKind {
     /// Number 1.

@@ -1,8 +1,9 @@
 -- A report in aligned columns, no wider than the terminal.
 --
 -- In 40 columns the one line
--- {"kind":"counts","changed":0,"removed":0,"added":0,"same":4,"not_shown":0} is 0 changed, 0
--- removed, 0 added, 4 the same.
+-- {"kind":"counts","changed":0,"removed":0,"added":0,"same":4,"not_shown":0} is
+-- 0 changed, 0 removed, 0 added,
+-- 4 the same.
 use Rattle.std.specs.List.{flat_map}
 use Rattle.std.specs.Prelude.{ℕ, ◌-◌, List, [], ◌∷◌, ◌++◌, Option, Some, None, map}
 use Rattle.std.specs.Str.Lines.{lines}
@@ -26,7 +27,7 @@ rows_by t Removed j = lone_row marks.Removed t.left.now j ∷ []
 rows_by t Added j = lone_row marks.Added t.right.now j ∷ []
 rows_by t Counts j = []
 
--- what a line gives before the rows
+-- the texts that a line adds before the rows
 abbrev pub head_by : Sheet → Kind → Json → List (List ℕ)
 head_by t Column j = column_lines t.width t.left.now t.right.now j
 head_by t Changed j = []
@@ -34,7 +35,7 @@ head_by t Removed j = []
 head_by t Added j = []
 head_by t Counts j = []
 
--- what a line gives behind the rows
+-- the texts that a line adds behind the rows
 abbrev pub tail_by : Sheet → Kind → Json → List (List ℕ)
 tail_by t Column j = []
 tail_by t Changed j = []
@@ -42,12 +43,12 @@ tail_by t Removed j = []
 tail_by t Added j = []
 tail_by t Counts j = counts_lines t.width j
 
--- what is given of a line that is read
+-- the texts and rows that a line adds once it is read
 abbrev pub given : {A : Type 0} → (Kind → Json → List A) → Option (Kind × Json) → List A
 given f None = []
 given f (Some p) = f p.0 p.1
 
--- what is given of lines
+-- the texts and rows that lines add
 abbrev pub given_by : {A : Type 0} → (Kind → Json → List A) → List (List ℕ) → List A
 given_by f = flat_map (λ l. given f (line_of l))
 

@@ -17,7 +17,7 @@ abbrev pub RowsHaveRoom : Type 0
 RowsHaveRoom = (n : ℕ) (rows : List Cells) → least_width ≤ n
     → All (λ line. width (line_text line) ≤ n) (row_lines n rows)
 
--- nor is a line of words
+-- no line of words is wider than the terminal
 abbrev pub ParagraphsHaveRoom : Type 0
 ParagraphsHaveRoom = (n : ℕ) (words : List (List ℕ))
     → All (λ line. width line ≤ n) (paragraph n words)

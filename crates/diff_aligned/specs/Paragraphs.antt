@@ -6,14 +6,14 @@ use Rattle.std.specs.Prelude.{ℕ, ◌-◌, nat_lt, if◌then◌else◌, List, [
 use Rattle.std.specs.Prelude.{encode_utf8_all}
 use Rattle.diff_widths.specs.Cut.{cut, width}
 
--- the lines of words behind those that stand in a line
+-- words as lines, where earlier words stand in the first line already
 abbrev pub filled : ℕ → List ℕ → List (List ℕ) → List (List ℕ)
 filled n line [] = line ∷ []
 filled n line (w ∷ ws) =
     if nat_lt (width (cut n w)) (n - width line) then filled n (line ++ 32 ∷ cut n w) ws else line ∷
     filled n (cut n w) ws
 
--- the lines of words, of which the first stands at the beginning of a line
+-- words as lines: the first word stands at the beginning of a line
 abbrev pub paragraph : ℕ → List (List ℕ) → List (List ℕ)
 paragraph n [] = []
 paragraph n (w ∷ ws) = filled n (cut n w) ws

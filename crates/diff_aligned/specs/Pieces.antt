@@ -37,7 +37,7 @@ line_bytes colored pieces = flat_map (piece_bytes colored) pieces ++ codes "\n"
 abbrev pub lines_bytes : Bool → List (List Piece) → List ℕ
 lines_bytes colored = flat_map (line_bytes colored)
 
--- what stands behind the key of a row that changed: its part and the two sides
+-- the pieces behind the key of a row that changed: its part and the two sides
 unfoldable pub change_pieces : Rooms → Cells → List Piece
 change_pieces s r =
     plain (filler s.key (cut s.key r.key) ++ codes "  " ++ padded s.part r.part ++ codes "  ") ∷
@@ -45,7 +45,7 @@ change_pieces s r =
     ∷ plain (filler s.left (cut s.left r.left) ++ codes " -> ") ∷ paint Green (cut s.right r.right)
     ∷ []
 
--- the line of a row that one file has alone, in one colour
+-- the line of a row that only one file has, in one colour
 unfoldable pub lone_pieces : Color → List ℕ → Rooms → Cells → List Piece
 lone_pieces color mark s r =
     paint color (mark ++ padded s.key r.key ++ codes "  " ++ cut s.note r.note) ∷ []

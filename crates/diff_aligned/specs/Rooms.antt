@@ -1,8 +1,8 @@
--- How many columns of the terminal the parts of rows get.
+-- The number of columns of the terminal that each part of the rows gets.
 --
--- Between and before the four columns of a changed row stand 10 columns of marks and gaps. Each
--- gets what it needs where there is room, and else no less than its even share of what is left, as
--- far as it needs that.
+-- Between and before the four columns of a changed row stand 10 columns of marks and gaps. Each of
+-- the four gets what it needs if there is room. Otherwise it gets at least its even share of what
+-- is left, as far as it needs that.
 use Rattle.std.specs.Prelude.{ℕ, ◌+◌, ◌-◌, ◌/◌, List, [], ◌∷◌, max, min}
 use Rattle.diff_widths.specs.Cut.{width}
 use Rattle.diff_aligned.specs.Rows.{Cells}
@@ -12,7 +12,7 @@ use Rattle.diff_aligned.specs.declared.rooms.Rooms.{Rooms}
 abbrev pub no_rooms : Rooms
 no_rooms = record { key = 0; part = 0; left = 0; right = 0; note = 0 }
 
--- what is needed, with one row more
+-- the columns that some rows need together with one row more
 abbrev pub with_row : Rooms → Cells → Rooms
 with_row s r =
     record {
@@ -25,17 +25,17 @@ with_row s r =
           max s.note (width r.note);
     }
 
--- what some rows need
+-- the columns that each part of some rows needs
 abbrev pub needed : Rooms → List Cells → Rooms
 needed s [] = s
 needed s (r ∷ rs) = needed (with_row s r) rs
 
--- of so many free columns those for one of n parts, which needs so many, where the others leave so
--- many
+-- the number of columns for one of n parts: it needs `need`, `free` columns are free, and the other
+-- parts leave `left` of them
 abbrev pub share : ℕ → ℕ → ℕ → ℕ → ℕ
 share n free need left = min need (max (free / n) left)
 
--- the columns of each part of rows that need so many, where so many are free
+-- the columns that each part of the rows gets, if they need s and `free` columns are free
 unfoldable pub rooms_in : ℕ → Rooms → Rooms
 rooms_in free s =
     let key = share 4 free s.key (min (free - s.part - s.left - s.right) (free - s.note)) in
@@ -50,6 +50,6 @@ rooms_in free s =
           free + 6 - key;
     }
 
--- what marks and gaps take
+-- the number of columns that marks and gaps take
 abbrev pub gaps : ℕ
 gaps = 10

@@ -13,7 +13,7 @@ use Rattle.diff_aligned.specs.declared.rows.Mark.TheVariants.{Changed, Again}
 use Rattle.diff_aligned.specs.Texts.{name_text, number_text, pairs_text, row_name, side_text}
 use Rattle.diff_lines.specs.Parts.{string_at}
 
--- what stands in a row: a note alone behind the key, or a part and its two sides
+-- the content of a row: behind the key either a note, or a part and its two sides
 pub record Cells : Type 0 where
   pub mark : Mark
   pub key : List ℕ
@@ -65,7 +65,7 @@ changed_rows j =
     rows_in_object (row_name j) (option_and_then as_object (get (codes "changes") j))
     ++ rows_in_array (row_name j) (option_and_then as_array (get (codes "changes") j))
 
--- the row of one that this file has alone, with the line at which it begins
+-- the row for a row that only this file has, with the line at which that begins
 unfoldable pub lone_row : Mark → List ℕ → Json → Cells
 lone_row mark file j =
     record {

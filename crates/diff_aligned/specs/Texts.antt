@@ -22,11 +22,11 @@ abbrev pub is_word_byte : ℕ → Bool
 is_word_byte b = nat_lt 32 b && not (b == 34) && not (b == 44) && not (b == 61) && not (b == 92)
     && not (b == 127) && not (b == 194)
 
--- some bytes, each of which may stand in a word
+-- bytes that may all stand in a word
 abbrev pub is_word : List ℕ → Bool
 is_word bytes = not (length bytes == 0) && list_all is_word_byte bytes
 
--- a name as it is where it is a word, and else as a string of JSON
+-- a name unchanged if it is a word, and otherwise as a JSON string
 unfoldable pub name_text : List ℕ → List ℕ
 name_text name = if is_word name then text_of name else value_text (string name)
 
@@ -62,6 +62,6 @@ abbrev pub key_or_lines : List ℕ → Json → List ℕ
 key_or_lines key j = if length key == 0 then codes "lines " ++ number_text (codes "left_line") j
     ++ codes " and " ++ number_text (codes "right_line") j else key
 
--- what a changed row is named by
+-- the name of a changed row
 unfoldable pub row_name : Json → List ℕ
 row_name j = key_or_lines (pairs_text (get (codes "key") j)) j

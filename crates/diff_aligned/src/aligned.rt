@@ -22,15 +22,15 @@ use std::str::from_utf8;
 /// The terminal, and the names of the two files.
 #[derive(Clone, Copy, Debug)]
 pub struct Sheet<'a> {
-    /// The columns of the terminal. With 40 and more no line is wider.
+    /// The number of columns of the terminal. With 40 or more, no line is wider than it.
     pub width: usize,
-    /// Whether there are colours.
+    /// `true` if the report has colours.
     pub colored: bool,
     pub left: &'a str,
     pub right: &'a str,
 }
 
-/// Appends what lines give: texts before the rows, rows, and texts behind them.
+/// Appends what lines add to the report: texts before the rows, rows, and texts behind them.
 fn push_lines(
     alloc: Global,
     head: &mut Vec<u8>,
@@ -56,7 +56,7 @@ fn push_lines(
     Ok(())
 }
 
-/// Appends what the lines of a text give.
+/// Appends what the lines of a text add to the report.
 fn push_text(
     alloc: Global,
     head: &mut Vec<u8>,

@@ -1,4 +1,4 @@
-//! What the last lines of a report say, and those of columns that one file has alone.
+//! The last lines of a report, and the lines of columns that only one file has.
 
 ghost use Rattle.std.specs.Prelude.{◌≡◌, ◌∷◌, [], ◌++◌, codes, map, OnOk, Some, option_and_then};
 ghost use Rattle.json.specs.Find.{as_object, get};
@@ -43,7 +43,7 @@ fn push_name_word(alloc: Global, words: &mut Vec<Vec<char>>, name: &str) -> Resu
     Ok(())
 }
 
-/// Appends a number with what it counts, as a word.
+/// Appends a count and the text behind it, as one word.
 fn push_count(
     alloc: Global,
     words: &mut Vec<Vec<char>>,
@@ -61,7 +61,7 @@ fn push_count(
     Ok(())
 }
 
-/// Appends the words that say how many differences the report leaves out, if it does.
+/// Appends the words that say how many differences the report leaves out, if it leaves out any.
 fn push_hidden_words(
     alloc: Global,
     words: &mut Vec<Vec<char>>,
@@ -182,7 +182,8 @@ fn push_skipped_counts(
     Ok(())
 }
 
-/// Appends the same where the report says so.
+/// Appends the words that say how many lines of each file are passed over, if the report has these
+/// counts.
 #[tactic(auto, unfolding(crate::specs::Counts::skipped_words))]
 fn push_skipped_words(
     alloc: Global,
@@ -225,14 +226,14 @@ pub(crate) fn push_counts(
     Ok(())
 }
 
-/// Returns the file that has a column alone.
+/// Returns the name of the only file that has a column.
 fn file_with<'a>(left: &'a str, right: &'a str, only_in: &str) -> &'a str
     ensures { result.now ≡ file_with left.now right.now only_in.now }
 {
     if only_in == "left" { left } else { right }
 }
 
-/// Appends the lines of a column that one file has alone.
+/// Appends the lines of a column that only one file has.
 #[tactic(auto, unfolding(crate::specs::Counts::column_lines))]
 pub(crate) fn push_column(
     alloc: Global,

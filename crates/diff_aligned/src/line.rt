@@ -1,4 +1,4 @@
-//! What the lines of a report give.
+//! The texts and rows that the lines of a report become.
 
 ghost use Rattle.std.specs.Prelude.{◌≡◌, ◌++◌, Err, IsSome, None, OnOk};
 ghost use Rattle.json.specs.Tree.{HasNumbers};
@@ -16,7 +16,8 @@ use diff_lines::line::{Kind, read_line};
 use json::{Scratch, Value};
 use std::alloc::{AllocError, Global};
 
-/// Appends what a line of a kind gives: texts before the rows, rows, or texts behind them.
+/// Appends what a line of a kind adds to the report: texts before the rows, rows, or texts behind
+/// them.
 fn push_by_kind(
     alloc: Global,
     head: &mut Vec<u8>,
@@ -43,7 +44,7 @@ fn push_by_kind(
     }
 }
 
-/// Appends what a line gives. `scratch` is kept from line to line.
+/// Appends what a line adds to the report. `scratch` is kept from line to line.
 ///
 /// A failure may leave some of it written.
 pub(crate) fn push_line(

@@ -16,7 +16,7 @@ fn push_text_line(out: &mut Vec<u8>, line: &[char]) -> Result<(), AllocError>
     Ok(())
 }
 
-/// Appends the lines of words behind those that stand in a line.
+/// Appends words as lines, where earlier words stand in the first line already.
 fn push_filled(
     alloc: Global,
     out: &mut Vec<u8>,
@@ -42,7 +42,7 @@ fn push_filled(
     Ok(())
 }
 
-/// Appends the lines of words, of which the first stands at the beginning of a line.
+/// Appends words as lines. The first word stands at the beginning of a line.
 pub(crate) fn push_paragraph(
     alloc: Global,
     out: &mut Vec<u8>,

@@ -24,7 +24,7 @@ pub(crate) fn push_chars(out: &mut Vec<u8>, text: &[char]) -> Result<(), AllocEr
     Ok(())
 }
 
-/// Appends characters in a colour, where there are colours.
+/// Appends characters, in a colour if the report has colours.
 #[tactic(auto, unfolding(diff_words::specs::Colors::painted))]
 fn push_painted(
     out: &mut Vec<u8>,
@@ -41,7 +41,7 @@ fn push_painted(
     Ok(())
 }
 
-/// Returns a text as it is where it has room, and else cut in the middle.
+/// Returns a text unchanged if it fits into its room, and otherwise cut in the middle.
 pub(crate) fn cut_of(alloc: Global, text: &[char], room: usize) -> Result<Vec<char>, AllocError>
     ensures { IfOk result (λ v. v.items ≡ cut room text.now) }
 {
@@ -91,7 +91,7 @@ fn arrow_of(alloc: Global, left: &[char], room: usize) -> Result<Vec<char>, Allo
     Ok(text)
 }
 
-/// Appends what stands behind the key of a row that changed: its part and the two sides.
+/// Appends the pieces behind the key of a row that changed: its part and the two sides.
 #[tactic(auto, unfolding(crate::specs::Pieces::change_pieces))]
 fn push_change(
     alloc: Global,
@@ -125,7 +125,7 @@ fn marked_key(alloc: Global, mark: &[u8], rooms: &Rooms, row: &Row) -> Result<Ve
     Ok(text)
 }
 
-/// Appends the line of a row that one file has alone, in one colour.
+/// Appends the line of a row that only one file has, in one colour.
 #[tactic(auto, unfolding(crate::specs::Pieces::lone_pieces))]
 fn push_lone(
     alloc: Global,

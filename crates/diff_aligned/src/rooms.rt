@@ -1,4 +1,4 @@
-//! How many columns of the terminal the parts of rows get.
+//! The number of columns of the terminal that each part of the rows gets.
 
 ghost use Rattle.std.specs.Prelude.{◌≡◌, ◌<◌, ◌+◌, ◌^◌};
 ghost use Rattle.diff_aligned.specs.Aligned.{rooms_for};
@@ -8,10 +8,10 @@ ghost use Rattle.diff_aligned.specs.Rows.{row_view, rows_view};
 use crate::rows::Row;
 use diff_widths::cut::width_of;
 
-/// What the marks of rows and the gaps in them take.
+/// The number of columns that the marks of rows and the gaps in them take.
 const GAPS: usize = 10;
 
-/// How many columns each part of a row gets, or needs.
+/// The number of columns that each part of a row gets, or needs.
 #[derive(Clone, Copy)]
 pub(crate) struct Rooms {
     pub(crate) key: usize,
@@ -21,7 +21,8 @@ pub(crate) struct Rooms {
     pub(crate) note: usize,
 }
 
-/// Returns what is needed, with one row more.
+/// Returns the columns that some rows need together with one row more. Without it they need
+/// `rooms`.
 fn with_row(rooms: Rooms, row: &Row) -> Rooms
     ensures { result ≡ with_row rooms (row_view row.now) }
 {
@@ -34,7 +35,7 @@ fn with_row(rooms: Rooms, row: &Row) -> Rooms
     }
 }
 
-/// Returns what some rows need.
+/// Returns the columns that each part of some rows needs.
 fn needed(rows: &[Row]) -> Rooms
     ensures { result ≡ needed no_rooms (rows_view rows.now) }
 {
@@ -51,8 +52,8 @@ fn needed(rows: &[Row]) -> Rooms
     rooms
 }
 
-/// Returns the columns for one of `n` parts, which needs `need` of the free ones, where the others
-/// leave `left`.
+/// Returns the number of columns for one of `n` parts. The part needs `need` columns, `free`
+/// columns are free, and the other parts leave `left` of them.
 fn share(n: usize, free: usize, need: usize, left: usize) -> usize
     requires { 0 < n }
     ensures { result ≡ share n free need left }
@@ -60,7 +61,8 @@ fn share(n: usize, free: usize, need: usize, left: usize) -> usize
     need.min((free / n).max(left))
 }
 
-/// Returns the columns of each part of rows that need so many, where so many are free.
+/// Returns the columns that each part of the rows gets, if they need `need` and `free` columns are
+/// free.
 #[tactic(auto, unfolding(crate::specs::Rooms::rooms_in))]
 fn rooms_in(free: usize, need: Rooms) -> Rooms
     requires { free + 10 < 2 ^ 64 }
@@ -90,7 +92,7 @@ fn rooms_in(free: usize, need: Rooms) -> Rooms
     }
 }
 
-/// Returns the columns of each part of some rows on a terminal of this width.
+/// Returns the columns that each part of some rows gets on a terminal of this width.
 pub(crate) fn rooms_for(width: usize, rows: &[Row]) -> Rooms
     ensures { result ≡ rooms_for width (rows_view rows.now) }
 {

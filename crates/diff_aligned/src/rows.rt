@@ -15,20 +15,20 @@ use json::Value;
 use std::alloc::{AllocError, Global};
 use std::mem;
 
-/// What a row begins with.
+/// The mark that a row begins with.
 #[derive(Clone, Copy)]
 pub(crate) enum Mark {
     /// The first part of a row that changed.
     Changed,
     /// A further part of the same row.
     Again,
-    /// A row that the left file has alone.
+    /// A row that only the left file has.
     Removed,
-    /// A row that the right file has alone.
+    /// A row that only the right file has.
     Added,
 }
 
-/// A row of a report: behind its key a note alone, or a part and its two sides.
+/// A row of a report. Behind its key stands either a note, or a part and its two sides.
 #[derive(Drop)]
 pub(crate) struct Row {
     pub(crate) mark: Mark,
@@ -156,7 +156,7 @@ fn push_rows_in_array(
     Ok(())
 }
 
-/// Appends the rows of a row that changed.
+/// Appends the rows for a row that changed: one for each part that differs.
 #[tactic(auto, unfolding(crate::specs::Rows::changed_rows))]
 pub(crate) fn push_changed(
     alloc: Global,
@@ -172,7 +172,7 @@ pub(crate) fn push_changed(
     Ok(())
 }
 
-/// Appends the row of one that this file has alone, with the line at which it begins.
+/// Appends the row for a row that only this file has, with the line at which that begins.
 #[tactic(auto, unfolding(crate::specs::Rows::lone_row))]
 pub(crate) fn push_lone(
     alloc: Global,

@@ -9,7 +9,7 @@ ghost use Rattle.diff_aligned.specs.Shown.{unit_escape};
 use bstr::ByteSlice;
 use std::alloc::AllocError;
 
-/// Returns whether a character stands as an escape: a control character, or one that takes no
+/// Returns `true` if a character is shown as an escape: a control character, or one that takes no
 /// column and says how others are shown.
 #[tactic(auto, unfolding(crate::specs::Shown::is_hidden))]
 fn is_hidden(c: char) -> bool

@@ -25,8 +25,8 @@ fn push_value(alloc: Global, out: &mut Vec<char>, value: &Value<'_>) -> Result<(
     Ok(())
 }
 
-/// Returns whether a byte may stand in a word. With 194 begin the characters from U+0080 to U+00BF,
-/// of which some are control characters.
+/// Returns whether a byte may stand in a word. The byte 194 may not: the characters from U+0080 to
+/// U+00BF begin with it, and some of these are control characters.
 fn is_word_byte(byte: u8) -> bool
     ensures { result ≡ is_word_byte byte }
 {
@@ -53,7 +53,7 @@ fn is_word(bytes: &[u8]) -> bool
     !bytes.is_empty() && are_word_bytes(bytes)
 }
 
-/// Appends a name as it is where it is a word, and else as a string of JSON.
+/// Appends a name unchanged if it is a word, and otherwise as a JSON string.
 #[tactic(auto, unfolding(crate::specs::Texts::name_text))]
 pub(crate) fn push_name(alloc: Global, out: &mut Vec<char>, name: &str) -> Result<(), AllocError>
     ensures { OnOk result (out.new.items ≡ out.old.items ++ name_text name.now) }
@@ -151,7 +151,7 @@ pub(crate) fn push_number(
     push_text(out, number_at(value, name).as_bytes())
 }
 
-/// Appends what a changed row is named by: its key, or its lines where it has none.
+/// Appends the name of a changed row: its key, or its lines if it has no key.
 #[tactic(auto, unfolding(crate::specs::Texts::row_name))]
 pub(crate) fn push_row_name(
     alloc: Global,

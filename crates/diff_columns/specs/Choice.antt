@@ -1,4 +1,4 @@
--- Which columns are chosen.
+-- The columns that are chosen.
 --
 -- With the key "id", and "id", "note" ignored, "id" and "city" are chosen, and "note" is not. Where
 -- only "note" is to be compared, "id" alone is chosen.

@@ -37,7 +37,7 @@ pub record AreKeyPlaces (names : Names) (columns : List ℕ) (keys : Names) (pla
       → IsPlace names columns (name_at keys k) (slice_index places k)
 
 -- the chosen columns: those of a name that both tables have, with the places of the keys, and those
--- that one alone has
+-- that only one table has
 pub record IsLayout (left right : Names) (choice : Choice) (layout : Layout) : Type 0 where
   pub compared : ListsRising (IsCompared choice left right) (length left) layout.left.items
   pub same_names : HaveSameNames left right layout.left.items layout.right.items

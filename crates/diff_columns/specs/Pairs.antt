@@ -10,7 +10,7 @@ use Rattle.diff_columns.specs.declared.choice.Choice.{Choice}
 abbrev pub IsPair : Choice → Names → Names → ℕ → ℕ → Type 0
 IsPair choice left right i j = IsChosen choice (name_at left i) × IsNamed right (name_at left i) j
 
--- of the first n left columns those that are compared are listed, each with the right one of its
+-- those of the first n left columns that are compared are listed, each with the right column of its
 -- name
 pub record ArePairs (choice : Choice) (left right : Names) (n : ℕ)
     (left_columns right_columns : List ℕ) : Type 0 where

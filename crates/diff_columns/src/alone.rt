@@ -1,4 +1,4 @@
-//! Columns that one table alone has.
+//! Columns that only one table has.
 
 ghost use Rattle.std.specs.Prelude.{◌<◌, ◌↔◌, length, IfOk, IsTrue};
 ghost use Rattle.diff_keys.specs.Rising.{ListsRising};

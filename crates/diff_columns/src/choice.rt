@@ -1,4 +1,4 @@
-//! Which columns are compared.
+//! The choice of the columns that are compared.
 
 ghost use Rattle.std.specs.Prelude.{◌↔◌, Contains, IsTrue};
 ghost use Rattle.diff_columns.specs.Choice.{IsChosen};
@@ -9,7 +9,7 @@ ghost use Rattle.diff_columns.specs.Names.{names_of};
 pub struct Choice<'a> {
     /// The columns that name a row. They are always compared.
     pub keys: &'a [&'a [u8]],
-    /// The columns to compare, or all.
+    /// The columns to compare, or `None` for all.
     pub only: Option<&'a [&'a [u8]]>,
     /// The columns not to compare.
     pub ignored: &'a [&'a [u8]],

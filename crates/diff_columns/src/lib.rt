@@ -1,5 +1,6 @@
-//! Matches the columns of two tables by their names, and says which of them are compared. A key
-//! always is; another column is where the caller wants it and does not ignore it.
+//! Matches the columns of two tables by their names, and says which of them are compared. Key
+//! columns always are. Another column is compared if it is among those that the caller chooses,
+//! which are all by default, and the caller does not ignore it.
 #![tactic(auto)]
 
 mod alone;

@@ -9,7 +9,7 @@ use Rattle.diff_csv.specs.declared.error.CsvError.TheVariants as error
 abbrev pub IsOutOfMemory : CsvError → Type 0
 IsOutOfMemory e = e ≡ error.Memory
 
--- what an error of the reader of records says: a read failed, or an allocation
+-- an error of the reader of records: a read failed, or an allocation
 abbrev pub fault_of_kind : ErrorKind → CsvError
 fault_of_kind (kind.Io cause) = error.Read cause
 fault_of_kind (kind.UnequalLengths pos expected found) = error.Memory

@@ -12,8 +12,8 @@ use Rattle.diff_csv.specs.declared.row_reader.Ahead.{Ahead}
 use Rattle.diff_csv.specs.declared.row_reader.Ahead.TheVariants.{First, Later, End}
 use Rattle.diff_csv.specs.declared.row_reader.RowReader.{RowReader}
 
--- these are all rows of the text: its records, or all but the header; all have one length, and no
--- quote is open at the end
+-- these are all rows of the text: its records, or all records except the header. All records have
+-- one length, and no quote is open at the end.
 pub record AreRowsOf (options : CsvOptions) (text : List ℕ) (rows : List (List (List ℕ))) :
     Type 0 where
   pub records : List (List (List ℕ))
@@ -40,19 +40,19 @@ pub record IsBehind {R : Type 0} (remaining : R → Option (List ℕ)) (options 
   pub width : reader.width ≡ length first
   pub reading : IsReading remaining options text reader.records (first ∷ more)
 
--- the same by the record that is given next
+-- these rows of the text are given, by the kind of the record that is given next
 abbrev pub IsAt : {R : Type 0} → (R → Option (List ℕ)) → CsvOptions → List ℕ → RowReader R
     → List (List (List ℕ)) → Ahead → Type 0
 IsAt remaining options text reader rows First = IsAtFirst remaining options text reader rows
 IsAt remaining options text reader rows Later = IsBehind remaining options text reader rows
 IsAt remaining options text reader rows End = AreRowsOf options text rows
 
--- these rows of the text are given, the first ones
+-- these rows are the first ones of the text, and are given
 abbrev pub HasGiven : {R : Type 0} → (R → Option (List ℕ)) → CsvOptions → List ℕ → RowReader R
     → List (List (List ℕ)) → Type 0
 HasGiven remaining options text reader rows = IsAt remaining options text reader rows reader.ahead
 
--- what a read shows: one row more, or that these are all
+-- a read gives one row more, or these are all rows
 abbrev pub GivesOne : {R : Type 0} → (R → Option (List ℕ)) → CsvOptions → List ℕ → RowReader R
     → List (List (List ℕ)) → List (List ℕ) → Option ℕ → Type 0
 GivesOne remaining options text reader rows row (Some line) =

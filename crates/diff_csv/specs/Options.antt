@@ -1,4 +1,4 @@
--- How a CSV text is read.
+-- The options by which a CSV text is read.
 --
 -- A comma or a tab may stand between fields, and a quote may not.
 use Rattle.std.specs.Prelude.{◌==◌, ◌||◌, not, ℕ, Bool}
@@ -6,7 +6,8 @@ use Rattle.csv.specs.Reading.{default_config}
 use Rattle.csv.specs.declared.parser.Config.{Config}
 use Rattle.diff_csv.specs.declared.options.CsvOptions.{CsvOptions}
 
--- how records are read: as the `csv` crate does by default, but with this byte between fields
+-- the configuration of the reader: that of the `csv` crate by default, but with this byte between
+-- fields
 abbrev pub config_of : CsvOptions → Config
 config_of options = record default_config { delimiter = options.delimiter }
 

@@ -17,7 +17,7 @@ unfoldable pub state_after : Config → State → List ℕ → State
 state_after cfg s [] = s
 state_after cfg s (c ∷ rest) = state_after cfg (step cfg s c).0 rest
 
--- whether a state is within quotes; there are no escapes
+-- `true` if a state is within quotes. There are no escapes.
 abbrev pub is_quoted : State → Bool
 is_quoted st.StartRecord = false
 is_quoted st.StartField = false
@@ -28,14 +28,14 @@ is_quoted st.InEscape = false
 is_quoted st.InComment = false
 is_quoted st.AfterCr = false
 
--- whether the text ends within quotes
+-- `true` if the text ends within quotes
 abbrev pub ends_open : CsvOptions → List ℕ → Bool
 ends_open options text = is_quoted (state_after (config_of options) st.StartRecord (strip_bom text))
 
--- what is read behind a text: a line feed and a quote
+-- the mark that is read behind a text: a line feed and a quote
 abbrev pub mark : List ℕ
 mark = 10 ∷ 34 ∷ []
 
--- the record that the mark is, unless the text ends within quotes: one empty field
+-- the record that the mark makes, unless the text ends within quotes: one empty field
 abbrev pub mark_fields : List (List ℕ)
 mark_fields = [] ∷ []

@@ -28,7 +28,7 @@ pub record HasRead {R : Type 0} (remaining : R → Option (List ℕ)) (options :
   pub source : source_of remaining reader ≡ Some unread
   pub reached : Reached (config_of options) st.StartRecord (strip_bom text) rows reader.state unread
 
--- what a read shows: one record more, or that there is none
+-- a read gives one record more, or there is none
 abbrev pub HasReadOne : {R : Type 0} → (R → Option (List ℕ)) → CsvOptions → List ℕ → Reader R
     → List (List (List ℕ)) → List (List ℕ) → Bool → Type 0
 HasReadOne remaining options text reader rows fields true =
@@ -48,7 +48,7 @@ pub record IsReading {R : Type 0} (remaining : R → Option (List ℕ)) (options
   pub read : HasRead (marked_remaining remaining) options (text ++ mark) records.reader
       (rows ++ fields_of records.ahead.value ∷ [])
 
--- what a read shows: one record more, or that there is none and no quote is open
+-- a read gives one record more, or there is none and no quote is open
 abbrev pub ReadsOne : {R : Type 0} → (R → Option (List ℕ)) → CsvOptions → List ℕ → Records R
     → List (List (List ℕ)) → List (List ℕ) → Option ℕ → Type 0
 ReadsOne remaining options text records rows fields (Some line) =

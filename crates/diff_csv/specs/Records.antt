@@ -1,4 +1,4 @@
--- The records of a CSV text, and what a table takes of them.
+-- The records of a CSV text, and the rows and names that a table takes from them.
 --
 -- The text "id,n", "7,1", "8,2" of three lines has the records "id" "n", and "7" "1", and "8" "2".
 -- With a header its columns are named id and n, and its rows are the last two records; with none
@@ -27,12 +27,12 @@ abbrev pub Begin : CsvOptions → List ℕ → List (List (List ℕ)) → Type 0
 Begin options text records = (s : State) × (rest : List ℕ)
     × Reached (config_of options) st.StartRecord (strip_bom text) records s rest
 
--- each record has as many fields as the first
+-- each record has the same number of fields as the first
 abbrev pub HaveOneLength : List (List (List ℕ)) → Type 0
 HaveOneLength [] = ⊤
 HaveOneLength (first ∷ more) = All (λ (r : List (List ℕ)). length r ≡ length first) more
 
--- the records that are rows: all, or all but the header
+-- the records that are rows: all, or all except the header
 abbrev pub data_rows : Bool → List (List (List ℕ)) → List (List (List ℕ))
 data_rows has_header [] = []
 data_rows has_header (first ∷ more) = if has_header then more else first ∷ more
@@ -43,8 +43,7 @@ names_of has_header [] = []
 names_of has_header (first ∷ more) =
     if has_header then first else map decimal (range_with_len 1 (length first))
 
--- the text has a record with another number of fields than the first one, behind records that have
--- the same
+-- the text has a record whose number of fields differs from that of all records before it
 pub record HasOtherLength (options : CsvOptions) (text : List ℕ) (expected found : ℕ) : Type 0 where
   pub first : List (List ℕ)
   pub more : List (List (List ℕ))

@@ -13,7 +13,7 @@ use Rattle.diff_csv.specs.declared.options.CsvOptions.{CsvOptions}
 use Rattle.diff_csv.specs.declared.row_reader.RowReader.{RowReader}
 use Rattle.diff_csv.specs.declared.rows.Rows.{Rows}
 
--- whether a row is read: where it is in the part, if there is one
+-- whether a row is read: it is in the part, or there is no part
 abbrev pub is_read : Option PartNumber → List ℕ → List (List ℕ) → Bool
 is_read None keys row = true
 is_read (Some part) keys row = has_row part keys row
@@ -24,8 +24,8 @@ abbrev pub records_read : List ℕ → List ℕ → Option PartNumber → List (
 records_read columns keys part records = filter
     (λ r. is_read part keys (cells_at columns r)) records
 
--- these records are kept, or those whose rows are in a part, each as its cells in the columns, and
--- a line for each; of the rows of a part their numbers are kept too
+-- these records are kept, or those whose rows are in a part, each as its cells in the columns, with
+-- a line. If only the rows of a part are read, their numbers are kept too.
 pub record HoldsRows (columns keys : List ℕ) (part : Option PartNumber) (r : Rows)
     (records : List (List (List ℕ))) : Type 0 where
   pub cells : AreStrings r.cells

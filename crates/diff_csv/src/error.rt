@@ -61,7 +61,8 @@ pub(crate) fn fault_of(error: csv::Error) -> CsvError
 {
     match error.into_kind() {
         ErrorKind::Io(cause) => CsvError::Read { cause },
-        // Bytes in records of any length are read with no other error than a refused growth.
+        // The records are read as bytes and may have any length, so the only other error is a
+        // failed allocation.
         _ => CsvError::Memory,
     }
 }

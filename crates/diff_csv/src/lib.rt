@@ -1,6 +1,6 @@
-//! Reads CSV texts to tables: the rows of a text are the records that the `csv` crate reads, each
-//! with its cells in chosen columns, or those of them that are in a part. All records have the
-//! length of the first one.
+//! Reads CSV texts into tables. The rows of a text are the records that the `csv` crate reads, or
+//! those of a part, each with its cells in chosen columns. All records have the length of the first
+//! one.
 #![tactic(auto)]
 
 pub mod error;

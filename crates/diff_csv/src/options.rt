@@ -1,14 +1,14 @@
-//! How a CSV text is read.
+//! Options for reading a CSV text.
 
 ghost use Rattle.std.specs.Prelude.{◌≡◌};
 ghost use Rattle.diff_csv.specs.Options.{is_delimiter};
 
-/// How a CSV text is read.
+/// The options by which a CSV text is read.
 #[derive(Clone, Copy)]
 pub struct CsvOptions {
     /// The byte between fields: any but a quote, a line feed and a carriage return.
     pub delimiter: u8,
-    /// Whether the first record names the columns.
+    /// `true` if the first record names the columns.
     pub has_header: bool,
 }
 

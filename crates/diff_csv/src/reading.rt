@@ -1,9 +1,9 @@
 //! The records of a CSV text, one after another.
 //!
-//! The reader of the `csv` crate takes a text that ends within quotes as if they ended there. So it
-//! reads a mark behind the text, a line feed and a quote. Where the text ends outside quotes, this
-//! makes one record more, of one empty field. Where it ends within quotes, the line feed joins the
-//! field that is open, so that the last record is another.
+//! The reader of the `csv` crate reads a text that ends within quotes as if the quotes ended there.
+//! To notice such a text, the reader is given a mark behind it: a line feed and a quote. If the
+//! text ends outside quotes, the mark makes one record more, of one empty field. If it ends within
+//! quotes, the line feed becomes a part of the open field, and the last record is a different one.
 
 ghost use Rattle.std.specs.Prelude.{◌≡◌, ◌↔◌, ◌++◌, ◌∷◌, [], true, ℕ, List, Some, IfErr, IfOk};
 ghost use Rattle.std.specs.Prelude.{MatchResult};
@@ -24,10 +24,10 @@ use std::alloc::Global;
 use std::io::{Chain, Read};
 use std::mem;
 
-/// What is read behind a text.
+/// The mark that is read behind a text.
 const MARK: &[u8] = b"\n\"";
 
-/// Returns whether a record is what the mark alone makes: one empty field.
+/// Returns whether a record is the one that the mark alone makes: one empty field.
 fn is_mark(row: &ByteRecord) -> bool
     ensures { (result ≡ true) ↔ (fields_of row.now ≡ mark_fields) }
 {
@@ -71,11 +71,11 @@ fn read_record<R: Read>(reader: &mut Reader<R>, row: &mut ByteRecord) -> Result<
 /// Records of a text that are given one after another.
 pub(crate) struct Records<R> {
     reader: Reader<Chain<R, &'static [u8]>>,
-    // The record behind those that were given: the mark's, where the text has no more.
+    // The record behind those that were given. It is the mark's if the text has no more records.
     ahead: Box<ByteRecord>,
     // The line at which it begins.
     line: u64,
-    // How far the reader's lines of later records are behind.
+    // The number of lines by which the reader's lines of later records lag.
     lag: u64,
 }
 

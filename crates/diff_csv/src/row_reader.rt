@@ -33,9 +33,9 @@ pub(crate) enum Ahead {
 #[derive(Drop)]
 pub struct RowReader<R> {
     records: Records<R>,
-    // The first record, until it is given where it is a row.
+    // The first record. If it is a row, it stands here until it is given.
     first: Box<ByteRecord>,
-    // How many fields the first record has.
+    // The number of fields of the first record.
     width: usize,
     ahead: Ahead,
 }
@@ -69,8 +69,8 @@ fn check_length(row: &ByteRecord, width: usize, line: u64) -> Result<(), CsvErro
 }
 
 impl<R: Read + Drop> RowReader<R> {
-    /// Begins a text of which the first record is read, unless there is none. It is a row itself
-    /// where there is no header. The one error is `Memory`.
+    /// Begins a text. Its first record, if it has one, is read already, and is a row if there is no
+    /// header. The one error is `Memory`.
     pub(crate) fn new(
         alloc: Global,
         records: Records<R>,

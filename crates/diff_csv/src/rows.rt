@@ -20,7 +20,7 @@ use std::alloc::{AllocError, Global};
 pub(crate) struct Rows {
     pub(crate) cells: Strings,
     pub(crate) lines: Vec<u64>,
-    // Of the rows of a part the numbers that they have in the text, from 1 on.
+    // The number of each row in the text, from 1 on, if only the rows of a part are read.
     pub(crate) numbers: Vec<u64>,
 }
 
@@ -54,7 +54,7 @@ impl<'a> StringList for Cells<'a> {
     }
 }
 
-/// Returns whether a row of these cells is read: where it is in the part, if there is one.
+/// Returns whether a row of these cells is read: it is in the part, or there is no part.
 #[inline(always)]
 fn is_read(cells: &Cells<'_>, keys: &[usize], part: Option<Part>) -> bool
     ensures { result
@@ -78,7 +78,7 @@ fn push_cells(strings: &mut Strings, cells: &Cells<'_>) -> Result<(), AllocError
     Ok(())
 }
 
-/// Appends the number of a row, where those of a part are read.
+/// Appends the number of a row, if only the rows of a part are read.
 #[inline(always)]
 fn push_number(numbers: &mut Vec<u64>, part: Option<Part>, number: u64) -> Result<(), AllocError>
     ensures { OnOk result
@@ -107,8 +107,8 @@ impl Rows {
         })
     }
 
-    /// Appends the row of a record, where it is wanted: its cells, and the line at which it begins.
-    /// Its number is that of the record among those that are rows, from 1 on.
+    /// Appends the row of a record if it is asked for: its cells, and the line at which it begins.
+    /// `number` is the number of the record among those that are rows, from 1 on.
     pub(crate) fn push(
         &mut self,
         row: &ByteRecord,

@@ -31,19 +31,19 @@ use std::io::Read;
 /// A table, and the line of the text at which each of its rows begins.
 #[derive(Drop)]
 pub struct CsvTable {
-    /// The rows that were wanted, each with its cells in the columns that were.
+    /// The rows that were asked for, each with its cells in the columns that were asked for.
     pub table: Table,
-    /// For each row the line at which it begins, from 1 on: right where all records end by LF, or
-    /// all by CR LF. Line feeds in quoted fields count. A row behind empty lines has the line of
-    /// the first of them, and empty lines before the first record may put the later lines of a
-    /// CR LF text one too low.
+    /// The line at which each row begins, from 1 on. It is right if all records end in LF, or all
+    /// in CR LF. Line feeds in quoted fields count. A row behind empty lines has the line of the
+    /// first of these. Empty lines before the first record may make the later lines of a CR LF text
+    /// one too low.
     pub lines: Vec<u64>,
-    /// Where the rows of a part were read, the number of each among all rows of the text, from 1
-    /// on.
+    /// The number of each row among all rows of the text, from 1 on, if only the rows of a part
+    /// were read.
     pub numbers: Option<Vec<u64>>,
 }
 
-/// Returns the numbers of rows, where those of a part were read.
+/// Returns the numbers of rows, if only the rows of a part were read.
 fn numbers_of(numbers: Vec<u64>, part: Option<Part>) -> Option<Vec<u64>>
     ensures { result ≡ option_map (λ _. numbers) part }
 {
@@ -53,7 +53,7 @@ fn numbers_of(numbers: Vec<u64>, part: Option<Part>) -> Option<Vec<u64>>
     }
 }
 
-/// Returns the table of rows, with as many cells each as there are columns.
+/// Returns the table of rows, each with one cell for each column.
 fn table_of(alloc: Global, rows: Rows, wanted: &Wanted<'_>) -> Result<CsvTable, CsvError>
     requires { (held : List (List (List ℕ)))
         × HoldsRows wanted.now.columns.now wanted.now.keys.now wanted.now.part rows held }
@@ -79,7 +79,7 @@ fn table_of(alloc: Global, rows: Rows, wanted: &Wanted<'_>) -> Result<CsvTable, 
     }
 }
 
-/// Reads the rows that are wanted, from the first one on.
+/// Reads the rows that are asked for, from the first one on.
 fn read_rows<R: Read + Drop>(
     alloc: Global,
     mut reader: RowReader<R>,
@@ -98,7 +98,7 @@ fn read_rows<R: Read + Drop>(
         };
         rows.push(&row, wanted, line, number)?;
     }
-    // No memory holds so many rows.
+    // No memory holds this many rows.
     Err(CsvError::Memory)
 }
 
@@ -195,9 +195,9 @@ impl<R: Read + Drop> Source<R> {
         Ok(reader)
     }
 
-    /// Reads the rows, or those of a part, each with its cells in some columns: an empty one where
-    /// a record has no such column. Fails with `Length` only at a record of another length than the
-    /// first one's, whether or not its row is wanted, with `OpenQuote` only where the text ends
+    /// Reads the rows, or those of a part, each with its cells in some columns. A cell is empty if
+    /// the record has no such column. Fails with `Length` only at a record of another length than
+    /// the first one's, whether or not its row is wanted, with `OpenQuote` only where the text ends
     /// within quotes, and never with `Delimiter`.
     pub fn read(self, alloc: Global, wanted: &Wanted<'_>) -> Result<CsvTable, CsvError>
         ensures shape { IfOk result (HasShape wanted.now.columns.now) }

@@ -1,8 +1,8 @@
-//! What is read of a text.
+//! The rows and cells to read of a text.
 
 use diff_parts::part::Part;
 
-/// What is read of a text: of which rows, and which of their cells.
+/// The rows to read of a text, and the cells to read of each row.
 #[derive(Clone, Copy)]
 pub struct Wanted<'a> {
     /// The columns whose cells are read.

@@ -1,4 +1,4 @@
--- What it is that tables with no key in common are compared each by itself.
+-- Laws of comparing tables by ranges: the first tables share no key with the second ones.
 --
 -- The left keys "a", "a" and the right key "a" share no key with the left key "b" and the right
 -- keys "c", "b" behind them. Of the first ones rows 0 and 0 are partners, and of the second ones
@@ -18,12 +18,12 @@ abbrev pub ShareNoKey : (left right later_left later_right : Keys) → Type 0
 ShareNoKey left right later_left later_right = (key : List ℕ) → Contains (left ++ right) key
     → ¬ (Contains (later_left ++ later_right) key)
 
--- row numbers, and behind them others of rows that lie n further on
+-- row numbers, and behind them the numbers of rows that lie n further on
 abbrev pub with_later : ℕ → List ℕ → List ℕ → List ℕ
 with_later n numbers later = numbers ++ map (λ k. n + k) later
 
--- two rows of the second tables are partners, and these numbers are theirs in the whole, behind n
--- and m rows
+-- i and j are the numbers in the whole of two rows that are partners in the second tables, which
+-- lie behind n and m rows
 pub record ArePartnersBehind (n m : ℕ) (left right : Keys) (i j : ℕ) : Type 0 where
   pub left_row : ℕ
   pub right_row : ℕ
@@ -39,8 +39,8 @@ JoinsPartners = (left right later_left later_right : Keys)
     ↔ (ArePartners left right i j
     ⊎ ArePartnersBehind (length left) (length right) later_left later_right i j)
 
--- one matching is another and behind it a third one, of rows that lie n further on on the left, and
--- m on the right
+-- the matching `whole` is `first` followed by `second`, whose rows lie n further on on the left,
+-- and m on the right
 pub record IsJoined (n m : ℕ) (first second whole : Matching) : Type 0 where
   pub left_rows : whole.left_rows.items ≡ with_later n first.left_rows.items second.left_rows.items
   pub right_rows : whole.right_rows.items
@@ -56,7 +56,8 @@ JoinsMatchings = (left right later_left later_right : Keys) (first second whole 
     → IsMatching (left ++ later_left) (right ++ later_right) whole
     ↔ IsJoined (length left) (length right) first second whole
 
--- the same of comparisons
+-- the comparison `whole` is `first` followed by `second`, whose rows lie n further on on the left,
+-- and m on the right
 pub record IsJoinedComparison (n m : ℕ) (first second whole : Comparison) : Type 0 where
   pub matching : IsJoined n m first.matching second.matching whole.matching
   pub changed : whole.changed.items

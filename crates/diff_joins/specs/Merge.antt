@@ -1,4 +1,4 @@
--- What it is that sorted tables are merged: row by row, the lesser key first.
+-- The merge of sorted tables: row by row, the lesser key first.
 --
 -- The left keys "a", "c" and the right keys "b", "c" rise. "a" comes first and is removed, then
 -- "b", which is added, and then "c" of both, a pair.
@@ -19,16 +19,16 @@ abbrev pub ComesBefore : (List ℕ → List ℕ → Bool) → List ℕ → Optio
 ComesBefore less key None = ⊤
 ComesBefore less key (Some next) = less key next ≡ true
 
--- what comes behind the next key of a table: no less key, or no more row
+-- the key that comes behind the next key of a table is no less, or there is no more row
 abbrev pub ComesBehind : (List ℕ → List ℕ → Bool) → Option (List ℕ) → Option (List ℕ) → Type 0
 ComesBehind less None None = ⊤
 ComesBehind less None (Some later) = ⊥
 ComesBehind less (Some next) None = ⊤
 ComesBehind less (Some next) (Some later) = (next ≡ later) ⊎ (less next later ≡ true)
 
--- the rows that were taken of two tables are matched, and none that has no partner gets one from
--- the rows to come, whose next keys are these: of a key that one table has more often the other one
--- has no more rows
+-- the rows that were taken of two tables are matched, and none without a partner gets one from the
+-- rows to come, whose next keys are these: if one table has a key more often, the other one has no
+-- more rows of that key
 pub record IsMerged (less : List ℕ → List ℕ → Bool) (left right : Keys)
     (next_left next_right : Option (List ℕ)) (m : Matching) : Type 0 where
   pub matching : IsMatching left right m
@@ -37,12 +37,12 @@ pub record IsMerged (less : List ℕ → List ℕ → Bool) (left right : Keys)
   pub right_alone : (key : List ℕ) → count_of key left < count_of key right
       → ComesBefore less key next_left
 
--- two tables of which no row is taken are merged
+-- two tables are merged while no row of them is taken
 abbrev pub MergesNone : Type 0
 MergesNone = (less : List ℕ → List ℕ → Bool) (next_left next_right : Option (List ℕ)) (m : Matching)
     → IsMatching [] [] m → IsMerged less [] [] next_left next_right m
 
--- they stay so where the tables go on, with keys that do not fall
+-- merged tables stay merged if the tables go on with keys that do not fall
 abbrev pub MergesOn : Type 0
 MergesOn = (less : List ℕ → List ℕ → Bool) (left right : Keys)
     (next_left next_right later_left later_right : Option (List ℕ)) (m : Matching) → IsOrder less

@@ -1,4 +1,4 @@
--- What it is that two tables are matched row by row, as those whose keys rise are merged.
+-- The matching of two tables row by row, as tables whose keys rise are merged.
 --
 -- Of the left key "a" and the right key "a" rows 0 and 0 are partners. Once a row "b" lies behind
 -- both, rows 1 and 1 are partners too. Where it lies behind the left one alone, left row 1 is
@@ -29,7 +29,8 @@ pub record HasAdded (j : ℕ) (before after : Matching) : Type 0 where
   pub removed : after.removed.items ≡ before.removed.items
   pub added : after.added.items ≡ before.added.items ++ j ∷ []
 
--- where two tables have as many rows of a key, one more row of it behind each is one more pair
+-- where two tables have the same number of rows of a key, one more row of it behind each is one
+-- more pair
 abbrev pub MatchesPair : Type 0
 MatchesPair = (left right : Keys) (key : List ℕ) (before after : Matching) → count_of key left
     ≡ count_of key right → IsMatching left right before

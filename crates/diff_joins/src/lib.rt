@@ -1,5 +1,7 @@
-//! Tables that have no key in common are compared each by itself: the comparison of two tables that
-//! lie one behind another, as ranges of keys do in sorted tables, is made of their comparisons.
+//! Laws of comparing tables by ranges of keys. Two left tables lie one behind another, and two
+//! right tables do too. If no key of the first tables is a key of the second ones, the comparison
+//! of the whole is made of the comparison of the first tables and that of the second ones. Ranges
+//! of keys in sorted tables are such tables.
 #![tactic(auto)]
 
 pub mod laws;

@@ -10,12 +10,13 @@ use Rattle.diff_report.specs.Naming.{Naming}
 use Rattle.diff_report.specs.Summary.{columns_counted}
 use Rattle.diff_json.specs.Strings.{json_string}
 
--- how many differences there are
+-- the number of differences
 abbrev pub difference_count : Comparison → ℕ
 difference_count c =
     length c.changed.items + length c.matching.removed.items + length c.matching.added.items
 
--- how many rows are changed, removed, added and the same, and how many differences have no line
+-- the numbers of rows that are changed, removed, added and the same, and of differences without a
+-- line
 unfoldable pub totals_members : ℕ → ℕ → ℕ → ℕ → ℕ → List ℕ
 totals_members changed removed added same not_shown = codes "\"changed\":" ++ decimal changed
     ++ codes ",\"removed\":" ++ decimal removed ++ codes ",\"added\":" ++ decimal added

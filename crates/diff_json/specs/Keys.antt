@@ -1,7 +1,7 @@
 -- The key columns of rows. A cell of a key is a string, also where it is the one that stands for no
 -- value.
 --
--- With the columns id, day and city, of which the first two are keys, the row 4411, mon, Oslo has
+-- With the columns id, day and city and the keys id and day, the row 4411, mon, Oslo has
 -- "id":"4411","day":"mon".
 use Rattle.std.specs.Prelude.{ℕ, List, [], ◌∷◌, ◌++◌, map, get_or, codes}
 use Rattle.diff_words.specs.Lists.{listed}

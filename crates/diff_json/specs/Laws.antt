@@ -1,4 +1,4 @@
--- What a reader of JSON makes of strings and lines. U+FFFD stands for what is no UTF-8.
+-- Strings and lines, as a reader of JSON reads them. U+FFFD stands for bytes that are not UTF-8.
 --
 -- The line {"kind":"column","column":"note","only_in":"left"} is read as an object of three
 -- strings.

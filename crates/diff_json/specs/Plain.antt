@@ -6,6 +6,6 @@ use Rattle.diff_words.specs.Quoted.{is_control}
 abbrev pub IsPlain : List ℕ → Type 0
 IsPlain text = All (λ b. is_control b ≡ false) text
 
--- the one is a line feed, and comes last
+-- the one control character of ASCII is a line feed, and comes last
 abbrev pub IsLine : List ℕ → Type 0
 IsLine line = (text : List ℕ) × (line ≡ text ++ 10 ∷ []) × IsPlain text

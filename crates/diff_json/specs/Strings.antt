@@ -23,6 +23,6 @@ text_by None c = if is_control c then escape_text c else encode_utf8 c
 unfoldable pub char_text : ℕ → List ℕ
 char_text c = text_by (letter_of c) c
 
--- the string of some bytes, in which U+FFFD stands for what is no UTF-8
+-- the string of some bytes, in which U+FFFD stands for bytes that are not UTF-8
 unfoldable pub json_string : List ℕ → List ℕ
 json_string bytes = 34 ∷ flat_map char_text (lossy_chars bytes) ++ 34 ∷ []

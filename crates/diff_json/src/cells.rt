@@ -8,7 +8,7 @@ use crate::strings::push_string;
 use diff_words::cells::is_null;
 use std::alloc::AllocError;
 
-/// Appends a cell as a string, or `null` where it is the one that stands for no value.
+/// Appends a cell as a string, or `null` if it is the cell that stands for no value.
 #[tactic(auto, unfolding(crate::specs::Cells::json_cell))]
 pub(crate) fn push_cell(
     out: &mut Vec<u8>,

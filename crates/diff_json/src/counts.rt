@@ -44,7 +44,7 @@ fn push_if_counted(
     Ok(written + 1)
 }
 
-/// Appends the columns that differ, and how often.
+/// Appends the columns that differ, each with its count.
 fn push_by_column(out: &mut Vec<u8>, sides: &Sides, counts: &[usize]) -> Result<(), AllocError>
     requires { length counts.now ≡ length (naming_of sides.now).names }
     ensures { OnOk result

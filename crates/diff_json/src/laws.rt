@@ -1,5 +1,5 @@
-//! Laws: a reader of JSON reads each line back, and a line has no line feed but the one at its end.
-//! These functions do nothing; their contracts are the laws.
+//! Laws: a reader of JSON reads each line back, and a line has no line feed except the one at its
+//! end. These functions do nothing; their contracts are the laws.
 
 ghost use Rattle.std.specs.Prelude.{◌≡◌, ◌<◌, ◌^◌, ℕ, List, Some, codes, length, slice_index};
 ghost use Rattle.json.specs.Json.{document};

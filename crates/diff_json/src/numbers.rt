@@ -1,4 +1,4 @@
-//! Numbers behind what names them.
+//! Numbers, each behind the text that names it.
 
 ghost use Rattle.std.specs.Prelude.{◌≡◌, ◌++◌, OnOk};
 

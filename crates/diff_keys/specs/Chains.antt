@@ -1,9 +1,9 @@
 -- Right rows that wait for a partner, in chains: those whose keys are in one class, in rising
 -- order.
 --
--- Of the right keys "a", "b", "a", of which "a" and "b" are in one class, rows 1 and 2 wait once a
--- left row of the key "a" has found its partner. The head of the class is then row 1, and the next
--- one is row 2.
+-- Let the right keys be "a", "b", "a", with "a" and "b" in one class. Rows 1 and 2 wait once a left
+-- row of the key "a" has found its partner. The head of the class is then row 1, and the next one
+-- is row 2.
 use Rattle.std.specs.Prelude.{◌≡◌, ◌<◌, ◌≤◌, ◌%◌, ℕ, suc, List, Option, Some, None, get_or, length}
 use Rattle.std.specs.Prelude.{take}
 use Rattle.diff_keys.specs.Hashes.{key_hash}
@@ -15,8 +15,8 @@ use Rattle.diff_keys.specs.declared.waiting.Waiting.{Waiting}
 abbrev pub class_of : ℕ → List ℕ → ℕ
 class_of count key = key_hash key % count
 
--- right row x waits once the first i left rows have found their partners: as many rows of its key
--- come before it
+-- right row x waits once the first i left rows have found their partners: its key is that of no
+-- more of these left rows than of right rows before it
 abbrev pub Waits : Keys → Keys → ℕ → ℕ → Type 0
 Waits left right i x = count_of (key_at right x) (take i left) ≤ number_of right x
 

@@ -11,7 +11,7 @@ HasNone found i = get_or found i None ≡ None
 abbrev pub IsOther : List ℕ → ℕ → Type 0
 IsOther rows j = ¬ (Contains rows j)
 
--- of the first n rows those that found a partner are listed in rising order, each with it
+-- those of the first n rows that found a partner are listed in rising order, each with its partner
 pub record ListsFound (found : List (Option ℕ)) (n : ℕ) (left_rows right_rows : List ℕ) :
     Type 0 where
   pub one_length : length left_rows ≡ length right_rows

@@ -9,14 +9,14 @@ use Rattle.diff_keys.specs.Partners.{Keys, ArePartners, IsPartner, count_of, key
 use Rattle.diff_keys.specs.Partners.{one_more}
 use Rattle.diff_keys.specs.Waiting.{next_from, nth, this_or_later}
 
--- a key that is found is the same bytes
+-- keys that compare as equal are the same bytes
 pub same_bytes : (xs ys : List ℕ) → bytes_eq xs ys ≡ true → xs ≡ ys
 same_bytes xs ys h = (bytes_eq-Decides xs ys).0 h
 
 pub bytes_eq-refl : (xs : List ℕ) → bytes_eq xs xs ≡ true
 bytes_eq-refl xs = (bytes_eq-Decides xs xs).1 refl
 
--- a place that is one further
+-- a place in a list is one further once an element stands before the list
 pub shifted : (t : Bool) (j : ℕ) (a c : Option ℕ) → a ≡ (if t then Some j else c) → option_map suc a
     ≡ (if t then Some (suc j) else option_map suc c)
 shifted true j a c e = ap (option_map suc) e
@@ -55,7 +55,7 @@ pub record IsNth (q : List ℕ) (n : ℕ) (keys : Keys) (j : ℕ) : Type 0 where
   pub key : key_at keys j ≡ q
   pub number : count_of q (take j keys) ≡ n
 
--- the same of one row more, before it
+-- row j + 1 is that of the key q once one row more stands before the rows
 pub later_nth : (q : List ℕ) (b : Bool) (m : ℕ) (x : List ℕ) (xs : Keys) (i : ℕ) → bytes_eq x q ≡ b
     → IsNth q m xs i → IsNth q (one_more b m) (x ∷ xs) (suc i)
 unfolding count_of
@@ -91,7 +91,7 @@ pub found_by_number : (keys : Keys) (j : ℕ) → j < length keys
 found_by_number keys j h =
     rw (bytes_eq-refl (key_at keys j)) at (next_from_step (key_at keys j) j keys h)
 
--- what was found are the partners
+-- the row found for left row i is its partner, and where none is found it has none
 pub found_partners : (left right : Keys) (i : ℕ) (found : Option ℕ) → i < length left → found
     ≡ nth (key_at left i) (number_of left i) right → IsPartner left right i found
 found_partners left right i None h e = λ j pair.

@@ -55,7 +55,7 @@ cut_at {R} key k (y ∷ ys) x rest e = at (bytes_eq (key y) k) (cut_at key k ys 
           },
         )
 
--- a row is among the rows with its key
+-- a row comes first among the rows with its key, if it comes first among all
 pub with_own : {R : Type 0} (key : R → List ℕ) (x : R) (xs : List R)
     → rows_with key (key x) (x ∷ xs) ≡ x ∷ rows_with key (key x) xs
 with_own key x xs = rw (bytes_eq-refl (key x)) refl
@@ -101,7 +101,7 @@ permuted_from_same key (x ∷ xs) right h =
     (IsPermutation-sym _ _ (IsPermutation-middle front x back)) in
     subst (IsPermutation (x ∷ xs)) (sym cut.whole) moved
 
--- where no key comes twice at most one row has it
+-- if no key comes twice, at most one row has a key
 pub one_with : {R : Type 0} (key : R → List ℕ) (k : List ℕ) (rows : List R)
     → AllDiffer (map key rows) → length (rows_with key k rows) ≤ 1
 one_with {R} key k rows differ = at (rows_with key k rows) refl
@@ -141,7 +141,7 @@ one_with {R} key k rows differ = at (rows_with key k rows) refl
         let (j, ej) = place 1 y (nth k 1 (map key rows)) refl next in
         absurd (two i j ei ej)
 
--- how many rows have a key, as a sum
+-- the number of rows that have a key, as a sum
 pub length_with : {R : Type 0} (key : R → List ℕ) (k : List ℕ) (rows : List R)
     → length (rows_with key k rows) ≡ sum_by (λ r. cond (bytes_eq (key r) k) 1 0) rows
 length_with key k [] = refl
@@ -171,12 +171,12 @@ among_with {R} key k (y ∷ ys) x (suc i, inside, is) e =
     at true there = Contains-append_right (y ∷ []) (rows_with key k ys) x there
     at false there = there
 
--- the one element of a list
+-- an element of a list of one is that one
 pub alone : {R : Type 0} (x y : R) → Contains (y ∷ []) x → y ≡ x
 alone x y (zero, inside, is) = is
 alone x y (suc i, inside, is) = absurd (omega (arith, inside))
 
--- where no key comes twice, the same rows up to order are the same key by key
+-- if no key comes twice, rows that are the same up to order are the same key by key
 pub same_from_permuted : {R : Type 0} (key : R → List ℕ) (left right : List R)
     → AllDiffer (map key left) → IsPermutation left right → AreSameByKey key left right
 same_from_permuted {R} key left right differ moved k =

@@ -1,4 +1,4 @@
--- What a comparison comes to.
+-- The outcome of a comparison.
 --
 -- Where no row is changed or removed, and one is added, the inputs differ.
 use Rattle.std.specs.Prelude.{◌==◌, ◌&&◌, ℕ, Bool, if◌then◌else◌, List, length}

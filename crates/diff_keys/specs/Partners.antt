@@ -1,5 +1,5 @@
--- Which rows of two tables are partners. A table is here the list of its rows' keys, each a list of
--- bytes.
+-- The rows of two tables that are partners. A table is here the list of its rows' keys, each a list
+-- of bytes.
 --
 -- Of the left keys "a", "b", "a" and the right keys "a", "a", "a", row 0 of the left is the partner
 -- of row 0 of the right and row 2 of row 1. Row 1 of the left and row 2 of the right have none.
@@ -15,17 +15,17 @@ Keys = List (List ℕ)
 abbrev pub key_at : Keys → ℕ → List ℕ
 key_at keys i = get_or keys i []
 
--- n, and one more where the truth value is true
+-- n, or n + 1 if the truth value is true
 abbrev pub one_more : Bool → ℕ → ℕ
 one_more true n = suc n
 one_more false n = n
 
--- how many rows have the key k
+-- the number of rows that have the key k
 unfoldable pub count_of : List ℕ → Keys → ℕ
 count_of k [] = 0
 count_of k (x ∷ xs) = one_more (bytes_eq x k) (count_of k xs)
 
--- how many rows before row i have its key
+-- the number of rows before row i that have its key
 abbrev pub number_of : Keys → ℕ → ℕ
 number_of keys i = count_of (key_at keys i) (take i keys)
 
@@ -40,7 +40,7 @@ pub record ArePartners (left right : Keys) (i j : ℕ) : Type 0 where
   pub one_key : key_at left i ≡ key_at right j
   pub one_number : number_of left i ≡ number_of right j
 
--- the right row that is the partner of left row i, or that there is none
+-- j is the partner of left row i, or there is none
 abbrev pub IsPartner : Keys → Keys → ℕ → Option ℕ → Type 0
 IsPartner left right i None = (j : ℕ) → ¬ (ArePartners left right i j)
 IsPartner left right i (Some j) = ArePartners left right i j

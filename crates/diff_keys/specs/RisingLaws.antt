@@ -10,7 +10,7 @@ use Rattle.std.specs.List.{Contains}
 use Rattle.std.specs.Prelude.{slice_index}
 use Rattle.diff_keys.specs.Rising.{ListsRising}
 
--- a number behind rising ones that are less
+-- rising numbers still rise once a greater number stands behind them
 pub rising_push : (rows : List ℕ) (n : ℕ) → ((k : ℕ) → k < length rows → slice_index rows k < n)
     → ((k : ℕ) → suc k < length rows → slice_index rows k < slice_index rows (suc k))
     → (k : ℕ) → suc k < length (rows ++ n ∷ [])
@@ -85,7 +85,7 @@ one_passed P n m rows h fails e = record {
     back i (inr apart) is =
         (h.all i).1 (let low : i < m = is.0 in omega (arith, low, apart, e), is.1)
 
--- the same numbers by another word
+-- the numbers for which P holds are listed as those for which Q holds, if P and Q agree
 pub listed_as : (P Q : ℕ → Type 0) (n : ℕ) (rows : List ℕ) → ((i : ℕ) → i < n → P i ↔ Q i)
     → ListsRising P n rows → ListsRising Q n rows
 listed_as P Q n rows same h = record {

@@ -22,7 +22,7 @@ row_within [] i within e = absurd (omega arith)
 row_within (x ∷ xs) zero within e = none-some x (sym e)
 row_within (x ∷ xs) (suc i) within e = row_within xs i (omega arith) e
 
--- a list that has nothing is empty
+-- a list that contains no number is empty
 pub nothing_listed : (xs : List ℕ) → ((x : ℕ) → ¬ (Contains xs x)) → xs ≡ []
 nothing_listed [] h = refl
 nothing_listed (x ∷ xs) h = absurd (h x (0, omega arith, refl))
@@ -42,7 +42,7 @@ same_gets (x ∷ xs) (y ∷ ys) h =
     let head : x ≡ y = same_Some x y (h 0) in
     ap (λ z. z ∷ xs) head ∙ ap (λ zs. y ∷ zs) (same_gets xs ys (λ n. h (suc n)))
 
--- of the rows with a key, the one with a number
+-- the row with a number among the rows with a key is the one that is found by both
 pub row_with_number : {R : Type 0} (key : R → List ℕ) (k : List ℕ) (n : ℕ) (rows : List R)
     → slice_get (rows_with key k rows) n ≡ row_of (nth k n (map key rows)) rows
 unfolding nth
@@ -73,7 +73,7 @@ partners_back left right i j h =
           sym h.one_number;
     }
 
--- the partner of the row with a key and a number has them too
+-- the partner of a row with a key and a number has the same key and number
 pub partner_nth : (left right : Keys) (k : List ℕ) (n i j : ℕ) → nth k n left ≡ Some i
     → ArePartners left right i j → nth k n right ≡ Some j
 partner_nth left right k n i j e h =

@@ -13,14 +13,14 @@ NoneTwice keys n = (i j : ℕ) → i < j → j < n → ¬ (key_at keys i ≡ key
 abbrev pub AllDiffer : Keys → Type 0
 AllDiffer keys = NoneTwice keys (length keys)
 
--- two rows have one key, and of the rows before the later one no two have
+-- two rows have one key, and no two rows before the later one do
 pub record IsFirstTwice (keys : Keys) (t : Twice) : Type 0 where
   pub in_order : t.first < t.again
   pub within : t.again < length keys
   pub one_key : key_at keys t.first ≡ key_at keys t.again
   pub none_before : NoneTwice keys t.again
 
--- the first two rows that have one key, or that there are none
+-- these are the first two rows that have one key, or there are none
 abbrev pub TellsFirstTwice : Keys → Option Twice → Type 0
 TellsFirstTwice keys None = AllDiffer keys
 TellsFirstTwice keys (Some t) = IsFirstTwice keys t

@@ -4,13 +4,13 @@ use Rattle.std.specs.Prelude.{take, option_map}
 use Rattle.std.specs.Str.{bytes_eq}
 use Rattle.diff_keys.specs.Partners.{Keys, count_of}
 
--- this row where it has the key and the number is 0, else a later one
+-- this row if it has the key and the number is 0, and otherwise a later one
 abbrev pub this_or_later : Bool → ℕ → (ℕ → Option ℕ) → Option ℕ
 this_or_later true zero later = Some 0
 this_or_later true (suc n) later = option_map suc (later n)
 this_or_later false n later = option_map suc (later n)
 
--- the row of the key k that n rows of this key come before
+-- the row of the key k with n rows of this key before it
 unfoldable pub nth : List ℕ → ℕ → Keys → Option ℕ
 nth k n [] = None
 nth k n (x ∷ xs) = this_or_later (bytes_eq x k) n (λ m. nth k m xs)

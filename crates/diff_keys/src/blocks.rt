@@ -2,11 +2,11 @@
 
 ghost use Rattle.std.specs.Prelude.{◌≡◌, ◌<◌, ◌+◌, min};
 
-/// How many rows a block has. All of them are looked up before any is worked on, so that few reads
-/// of memory wait for others.
+/// The number of rows of a block. All of them are looked up before any is worked on, so that few
+/// reads of memory wait for others.
 const BLOCK: usize = 256;
 
-/// Returns where the block ends that begins at row `start` of `count` rows.
+/// Returns the end of the block that begins at row `start` of `count` rows.
 pub fn block_end(start: usize, count: usize) -> usize
     requires { start < count }
     ensures { result ≡ min count (start + 256) }

@@ -6,7 +6,7 @@ ghost use Rattle.diff_keys.specs.Hashes.{key_hash};
 /// The hash of the empty key.
 const EMPTY: u64 = 0xcbf2_9ce4_8422_2325;
 
-/// What a hash is multiplied by after each byte.
+/// The factor by which a hash is multiplied after each byte.
 const PRIME: u64 = 0x100_0000_01b3;
 
 /// Returns the hash of a key: FNV-1a of 64 bits.

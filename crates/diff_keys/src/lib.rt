@@ -1,6 +1,6 @@
-//! Matches the rows of two tables by their keys. Partners have one key, and as many rows of that
-//! key come before the one in its table as before the other in its own: so the first row of a key
-//! is matched with the first, the second with the second.
+//! Matches the rows of two tables by their keys. Partners have the same key, and the same number of
+//! rows of that key come before each of them in its table. The first row of a key is thus matched
+//! with the first, and the second with the second.
 #![tactic(auto)]
 
 pub mod blocks;

@@ -49,7 +49,7 @@ pub(crate) fn rows_alone(alloc: Global, found: &[Option<u32>]) -> Result<Vec<u32
     Ok(alone)
 }
 
-/// Returns a flag for each number below a count: whether it is among these.
+/// Returns a flag for each number below a count. It is set if the number is among `rows`.
 fn flags_of(alloc: Global, count: usize, rows: &[u32]) -> Result<Vec<bool>, AllocError>
     requires { All (λ j. j < count) rows.now }
     ensures { IfOk result (λ flags. AreFlags rows.now count flags.items) }

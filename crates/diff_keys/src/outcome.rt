@@ -1,11 +1,11 @@
-//! What a comparison comes to.
+//! The outcome of a comparison.
 
 ghost use Rattle.std.specs.Prelude.{◌≡◌};
 ghost use Rattle.diff_keys.specs.Outcome.{outcome_of};
 
 use crate::matching::Matching;
 
-/// What a comparison of two inputs comes to.
+/// The outcome of a comparison of two inputs.
 #[derive(Clone, Copy)]
 pub enum Outcome {
     /// The inputs are the same.

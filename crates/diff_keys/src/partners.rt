@@ -62,7 +62,8 @@ fn row_of_key<R: ByteRows>(keys: &R, row: Option<u32>, key: &[u8]) -> Option<u32
     None
 }
 
-/// Returns for each left row from `start` up to `end` the row at its place, if that has its key.
+/// Returns for each left row from `start` up to `end` the right row that `rows` has for it, if that
+/// row has its key.
 fn guesses_for<L: ByteRows, R: ByteRows>(
     alloc: Global,
     left: &L,
@@ -111,7 +112,7 @@ fn push_partners<L: ByteRows, R: ByteRows>(
     Ok(())
 }
 
-/// Appends the partners of a block of left rows. The right rows that the keys lead to are all read
+/// Appends the partners of a block of left rows. All right rows that the keys lead to are read
 /// before any is taken, so that few reads wait for others.
 fn push_block<L: ByteRows, R: ByteRows>(
     alloc: Global,

@@ -19,7 +19,7 @@ pub(crate) struct Waiting {
     pub(crate) next: Vec<Option<u32>>,
 }
 
-/// How many classes there are for each row, so that few rows share one.
+/// The number of classes for each row of a table, so that few rows share a class.
 const CLASSES: usize = 4;
 
 /// Returns the class of a key, of `count` classes.
@@ -31,7 +31,7 @@ pub(crate) fn class_of(key: &[u8], count: usize) -> usize
     (key_hash(key) % count as u64) as usize
 }
 
-/// Returns all rows of a table as waiting.
+/// Returns all rows of a table, which all wait.
 pub(crate) fn all_waiting<R: ByteRows>(alloc: Global, keys: &R) -> Result<Waiting, AllocError>
     requires { length (R.strings keys.now) ≤ 2 ^ 32 }
     ensures { IfOk result

@@ -21,13 +21,13 @@ pub line_known : (line : List ℕ) (j : Json) (k : Kind) → line_value line ≡
 unfolding line_of
 line_known line j k d e = ap (option_and_then known) d ∙ ap (option_map (λ k. (k, j))) e
 
--- a line that is a value with none
+-- a line that is a value without a kind
 pub line_unknown : (line : List ℕ) (j : Json) → line_value line ≡ Some j
     → kind_named (string_at (codes "kind") j) ≡ None → line_of line ≡ None
 unfolding line_of
 line_unknown line j d e = ap (option_and_then known) d ∙ ap (option_map (λ k. (k, j))) e
 
--- a line that is no value
+-- a line that is not a value
 pub line_broken : (line : List ℕ) → line_value line ≡ None → line_of line ≡ None
 unfolding line_of
 line_broken line d = ap (option_and_then known) d
@@ -42,7 +42,7 @@ texts_more : (ls : List (Bor (List ℕ))) (i : ℕ) (d : Bor (List ℕ)) → i <
     → texts (take (i + 1) ls) ≡ texts (take i ls) ++ (get_or ls i d).now ∷ []
 texts_more ls i d within = map_more (λ l. l.now) ls i d within
 
--- what holds of each line, one line more
+-- a property of the first i lines holds of one line more, if it holds of the next line
 pub each_more : (P : List ℕ → Type 0) (ls : List (Bor (List ℕ))) (i : ℕ) (d : Bor (List ℕ))
     → i < length ls → All P (texts (take i ls)) → P (get_or ls i d).now
     → All P (texts (take (i + 1) ls))
@@ -51,7 +51,7 @@ each_more P ls i d within h p =
     (All-append P (texts (take i ls)) ((get_or ls i d).now ∷ []) h
     (All-cons P (get_or ls i d).now [] p (All-nil P)))
 
--- what is written for lines, one line more
+-- the text written for the first i lines, with one line more
 pub written_more :
     (f : List ℕ → List ℕ) (old before after : List ℕ) (ls : List (Bor (List ℕ))) (i : ℕ)
     (d : Bor (List ℕ)) → i < length ls
@@ -61,13 +61,13 @@ written_more f old before after ls i d within b a =
     a ∙ ap (λ l. l ++ f (get_or ls i d).now) b ∙ flat_map_more f old (texts (take i ls))
     (get_or ls i d).now ∙ ap (λ l. old ++ flat_map f l) (sym (texts_more ls i d within))
 
--- what holds of each line holds of the one at a place
+-- a property of all lines holds of the line at a place
 pub holds_of_one : (P : List ℕ → Type 0) (ls : List (Bor (List ℕ))) (i : ℕ) (d : Bor (List ℕ))
     → i < length ls → All P (texts ls) → P (get_or ls i d).now
 holds_of_one P ls i d within all =
     subst P (get_or-map (λ l. l.now) ls i d d.now within)
     (all i d.now (omega (arith, within, length-map ls (λ (l : Bor (List ℕ)). l.now))))
 
--- no line is one of a report and none
+-- no line is both a line of a report and not one
 pub none_is : (line : List ℕ) → line_of line ≡ None → IsSome (line_of line) → ⊥
 none_is line e h = let no : false ≡ true = subst IsSome e h in absurd (cc)

@@ -21,11 +21,12 @@ kind_named word =
     else (if bytes_eq word (codes "added") then Some Added
     else (if bytes_eq word (codes "counts") then Some Counts else None))))
 
--- how deep a line may nest: some levels deeper than a document, which may be a part of it
+-- the greatest depth to which a line may nest: some levels more than for a document, since a
+-- document may be a part of a line
 abbrev pub most_depth : ℕ
 most_depth = 256
 
--- the value that a line is
+-- the JSON value of a line
 abbrev pub line_value : List ℕ → Option Json
 line_value line = option_and_then (λ p. if_last p.0 p.1) (value most_depth (tokens line))
 

@@ -22,7 +22,7 @@ pub part_numbers : {A : Type 0} (o : Option (Bor (Value A))) (name : List ℕ) (
 part_numbers None name j h e = tt
 part_numbers (Some v) name j h e = HasNumbers-get name j (value_view v.now) h e
 
--- and those of a member, and of an item
+-- the numbers of a member, and of an item, are numbers
 pub member_numbers : {A : Type 0} (ms : List (Pair A)) (i : ℕ) (d : Pair A) → i < length ms
     → MembersHaveNumbers (members_view ms) → HasNumbers (value_view (get_or ms i d).1)
 member_numbers [] i d within h = absurd (omega (arith, within))
@@ -35,7 +35,7 @@ item_numbers [] i d within h = absurd (omega (arith, within))
 item_numbers (j ∷ js) zero d within h = h.0
 item_numbers (j ∷ js) (suc i) d within h = item_numbers js i d (omega (arith, within)) h.1
 
--- what stands at a place is the first of the rest
+-- the element at a place is the first of the rest of the list from there
 pub first_of_rest : {X : Type 0} (xs : List X) (i : ℕ) (x : X) → i < length xs → x ≡ get_or xs i x
     → drop i xs ≡ x ∷ drop (i + 1) xs
 first_of_rest xs i x within is = drop_more xs i x within ∙ ap (λ y. y ∷ drop (i + 1) xs) (sym is)

@@ -10,19 +10,20 @@ use crate::parts::string_at;
 use json::{Error, Reader, Scratch, Value};
 use std::alloc::Global;
 
-/// How deep a line may nest: some levels deeper than a document, which may be a part of it.
+/// The greatest depth to which a line may nest. It is some levels more than for a document, since a
+/// document may be a part of a line.
 const MOST_DEPTH: usize = 256;
 
-/// What a line of a report tells.
+/// The kind of a line of a report.
 #[derive(Clone, Copy)]
 pub enum Kind {
-    /// A column that one file has alone.
+    /// A column that only one file has.
     Column,
     /// A row that changed.
     Changed,
-    /// A row that the left file has alone.
+    /// A row that only the left file has.
     Removed,
-    /// A row that the right file has alone.
+    /// A row that only the right file has.
     Added,
     /// The counts.
     Counts,
@@ -51,7 +52,7 @@ fn kind_named(word: &str) -> Option<Kind>
     None
 }
 
-/// Returns the value that a line is.
+/// Returns the JSON value of a line.
 fn value_of<'a>(
     alloc: Global,
     line: &'a str,
@@ -75,7 +76,8 @@ fn value_of<'a>(
     Ok(value)
 }
 
-/// Reads a line of a report: what it tells, and its value. `scratch` is kept from line to line.
+/// Reads a line of a report, and returns its kind and its value. `scratch` is kept from line to
+/// line.
 ///
 /// Fails where the line is no JSON, nests deeper than 256 or has no kind.
 #[tactic(auto, using(crate::specs::LineLaws::line_known, crate::specs::LineLaws::line_unknown, crate::specs::LineLaws::line_broken))]

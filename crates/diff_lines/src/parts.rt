@@ -8,7 +8,7 @@ ghost use Rattle.diff_lines.specs.Parts.{number_at, string_at};
 
 use json::Value;
 
-/// Returns the last member of a name, if there is one.
+/// Returns the value of the last member with this name, if there is one.
 pub fn part_of<'v, 'a>(value: &'v Value<'a>, name: &str) -> Option<&'v Value<'a>>
     requires { HasNumbers (value_view value.now) }
     ensures found { option_map (λ v. value_view v.now) result ≡ get name.now (value_view value.now) }
@@ -47,7 +47,7 @@ pub fn items_at<'v, 'a>(value: &'v Value<'a>, name: &str) -> Option<&'v Vec<Valu
     }
 }
 
-/// Returns the text of the number that a part is, or nothing.
+/// Returns the text of a part that is a number, or an empty text.
 #[tactic(auto, unfolding(crate::specs::Parts::number_at))]
 pub fn number_at<'a>(value: &Value<'a>, name: &str) -> &'a str
     ensures { result.now ≡ number_at name.now (value_view value.now) }
@@ -61,7 +61,7 @@ pub fn number_at<'a>(value: &Value<'a>, name: &str) -> &'a str
     }
 }
 
-/// Returns the string that a part is, or nothing.
+/// Returns the text of a part that is a string, or an empty text.
 #[tactic(auto, unfolding(crate::specs::Parts::string_at))]
 pub fn string_at<'a>(value: &Value<'a>, name: &str) -> &'a str
     ensures { result.now ≡ string_at name.now (value_view value.now) }

@@ -1,5 +1,5 @@
--- What stands in the cells of a table: JSON within code spans, so that nothing of it is a mention,
--- a link, an emoji or HTML.
+-- The texts in the cells of a table: JSON within code spans, so that nothing of it is a mention, a
+-- link, an emoji or HTML.
 --
 -- The string Oslo is `"Oslo"`, the member id with 7 is `id=7`, and the member "a b" with null is
 -- `"a b"=null`.
@@ -23,11 +23,11 @@ is_word_byte b =
     nat_lt 32 b && not (b == 34) && not (b == 44) && not (b == 61) && not (b == 92) && not (b == 96)
     && not (b == 124) && not (b == 127) && not (b == 194)
 
--- some bytes, each of which may stand in a word
+-- bytes that may all stand in a word
 abbrev pub is_word : List ℕ → Bool
 is_word bytes = not (length bytes == 0) && list_all is_word_byte bytes
 
--- a name as it is where it is a word, and else as a string of JSON
+-- a name unchanged if it is a word, and otherwise as a JSON string
 unfoldable pub name_text : List ℕ → List ℕ
 name_text name = if is_word name then safe name else value_text (string name)
 

@@ -1,4 +1,4 @@
--- What the head of a report says.
+-- The counts in the head of a report.
 --
 -- {"kind":"counts","changed":1,"removed":2,"added":0,"same":5,"not_shown":0,"columns":{"city":1}}
 -- is : 1 changed, 2 removed, 0 added, 5 the same. By column: `city=1`.
@@ -11,7 +11,7 @@ use Rattle.diff_markdown.specs.Cells.{pairs_cell}
 use Rattle.diff_markdown.specs.Escapes.{safe}
 use Rattle.diff_markdown.specs.Rows.{number_cell}
 
--- how many rows are of each kind
+-- the number of rows of each kind
 unfoldable pub kinds_text : Json → List ℕ
 kinds_text j =
     codes ": " ++ number_cell (codes "changed") j ++ codes " changed, "
@@ -19,18 +19,18 @@ kinds_text j =
     ++ codes " added, "
     ++ number_cell (codes "same") j ++ codes " the same."
 
--- how many cells differ in each column, if any does
+-- the number of cells that differ in each column, if any does
 abbrev pub columns_note : List ℕ → List ℕ
 columns_note pairs = if length pairs == 0 then [] else codes " By column: " ++ pairs ++ codes "."
 
--- how many lines of each file are passed over, where the report says so
+-- the number of lines of each file that are passed over, if the report has these counts
 unfoldable pub skipped_note : Json → List ℕ
 skipped_note j =
     if length (number_at (codes "left_skipped") j) == 0 then []
     else codes " Skipped lines: " ++ number_cell (codes "left_skipped") j ++ codes " left, "
     ++ number_cell (codes "right_skipped") j ++ codes " right."
 
--- how many differences the report leaves out, if it does
+-- the number of differences that the report leaves out, if it leaves out any
 abbrev pub hidden_note : List ℕ → List ℕ
 hidden_note count = if bytes_eq count (codes "0") then [] else codes " Not shown: " ++ safe count
     ++ codes " more."

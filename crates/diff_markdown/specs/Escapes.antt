@@ -11,8 +11,8 @@ use Rattle.std.specs.Prelude.{List, [], ◌∷◌, ◌++◌, get_or, codes}
 abbrev pub is_high_control : ℕ → ℕ → Bool
 is_high_control first second = first == 194 && nat_lt 127 second && nat_lt second 160
 
--- a byte that is a backquote, a bar or U+007F, or the last one of U+0080 to U+009F, of which it has
--- the number
+-- a byte that is a backquote, a bar or U+007F, or the last byte of a character from U+0080 to
+-- U+009F, which has the number of that character
 abbrev pub is_escaped : ℕ → ℕ → Bool
 is_escaped before b = b == 96 || b == 124 || b == 127 || is_high_control before b
 
@@ -20,7 +20,8 @@ is_escaped before b = b == 96 || b == 124 || b == 127 || is_high_control before 
 abbrev pub unicode_escape : ℕ → List ℕ
 unicode_escape c = codes "\\u00" ++ digit_glyph false (c / 16) ∷ digit_glyph false (c % 16) ∷ []
 
--- what stands for a byte between two others: nothing for the first one of U+0080 to U+009F
+-- the text that stands for a byte between two others: none for the first byte of a character from
+-- U+0080 to U+009F
 unfoldable pub safe_byte : ℕ → ℕ → ℕ → List ℕ
 safe_byte before b after =
     if is_high_control b after then [] else

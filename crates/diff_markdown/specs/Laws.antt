@@ -10,10 +10,10 @@ pub record IsInside (b : ℕ) : Type 0 where
   pub no_backquote : (b == 96) ≡ false
   pub no_bar : (b == 124) ≡ false
 
--- what is written of a value, a name or a number stays within its code span and its cell
+-- the text written for a value, a name or a number stays within its code span and its cell
 abbrev pub TextsStayInside : Type 0
 TextsStayInside = (text : List ℕ) → All IsInside (safe text)
 
--- what is written of a value is JSON of the same value
+-- the text written for a value is JSON of the same value
 abbrev pub ValuesAreKept : Type 0
 ValuesAreKept = (j : Json) → HasNumbers j → depth j ≤ max_depth → document (value_text j) ≡ Some j

@@ -14,7 +14,7 @@ use Rattle.diff_markdown.specs.Cells.{name_cell}
 use Rattle.diff_markdown.specs.Counts.{counts_text}
 use Rattle.diff_markdown.specs.Rows.{added_row, changed_rows, column_row, removed_row}
 
--- what a line gives to the table
+-- the rows that a line adds to the table
 abbrev pub rows_by : Kind → Json → List ℕ
 rows_by Column j = column_row j
 rows_by Changed j = changed_rows j
@@ -22,7 +22,7 @@ rows_by Removed j = removed_row j
 rows_by Added j = added_row j
 rows_by Counts j = []
 
--- what a line gives to the head
+-- the text that a line adds to the head
 abbrev pub counts_by : Kind → Json → List ℕ
 counts_by Column j = []
 counts_by Changed j = []

@@ -20,7 +20,7 @@ abbrev pub key_or_lines : List ℕ → Json → List ℕ
 key_or_lines key j = if length key == 0 then codes "lines " ++ number_cell (codes "left_line") j
     ++ codes " and " ++ number_cell (codes "right_line") j else key
 
--- what a changed row is named by
+-- the name of a changed row
 unfoldable pub row_name : Json → List ℕ
 row_name j = key_or_lines (pairs_cell (get (codes "key") j)) j
 
@@ -63,25 +63,25 @@ change_rows name part = rows_in_object name (option_and_then as_object part)
 abbrev pub changed_rows : Json → List ℕ
 changed_rows j = change_rows (row_name j) (get (codes "changes") j)
 
--- the row of a row that one file has alone, with its key and the line at which it begins
+-- the row for a row that only one file has, with its key and the line at which it begins
 unfoldable pub lone_row : List ℕ → List ℕ → List ℕ → Json → List ℕ
 lone_row before between behind j = before ++ pairs_cell (get (codes "key") j) ++ between
     ++ number_cell (codes "line") j ++ behind
 
--- the row of one that the left file has alone
+-- the row for a row that only the left file has
 abbrev pub removed_row : Json → List ℕ
 removed_row = lone_row (codes "| removed | ") (codes " | | line ") (codes " | |\n")
 
--- the row of one that the right file has alone
+-- the row for a row that only the right file has
 abbrev pub added_row : Json → List ℕ
 added_row = lone_row (codes "| added | ") (codes " | | | line ") (codes " |\n")
 
--- which side lacks a column
+-- the cells that say which side lacks a column
 abbrev pub lacking : List ℕ → List ℕ
 lacking only_in =
     if bytes_eq only_in (codes "left") then codes " | | missing |\n" else codes " | missing | |\n"
 
--- the row of a column that one file has alone
+-- the row for a column that only one file has
 unfoldable pub column_row : Json → List ℕ
 column_row j = codes "| column | | " ++ name_cell (string_at (codes "column") j)
     ++ lacking (string_at (codes "only_in") j)

@@ -1,4 +1,4 @@
-//! What stands in the cells of a table.
+//! The texts in the cells of a table.
 
 ghost use Rattle.std.specs.List.{list_all};
 ghost use Rattle.std.specs.Prelude.{◌≡◌, ◌++◌, [], OnOk};
@@ -25,8 +25,8 @@ fn push_value(alloc: Global, out: &mut Vec<u8>, value: &Value<'_>) -> Result<(),
     Ok(())
 }
 
-/// Returns whether a byte may stand in a word. With 194 begin the characters from U+0080 to U+00BF,
-/// of which some are control characters.
+/// Returns whether a byte may stand in a word. The byte 194 may not: the characters from U+0080 to
+/// U+00BF begin with it, and some of these are control characters.
 fn is_word_byte(byte: u8) -> bool
     ensures { result ≡ is_word_byte byte }
 {
@@ -55,7 +55,7 @@ fn is_word(bytes: &[u8]) -> bool
     !bytes.is_empty() && are_word_bytes(bytes)
 }
 
-/// Appends a name as it is where it is a word, and else as a string of JSON.
+/// Appends a name unchanged if it is a word, and otherwise as a JSON string.
 #[tactic(auto, unfolding(crate::specs::Cells::name_text))]
 fn push_name(alloc: Global, out: &mut Vec<u8>, name: &str) -> Result<(), AllocError>
     ensures { OnOk result (out.new.items ≡ out.old.items ++ name_text name.now) }

@@ -1,4 +1,4 @@
-//! What the head of a report says.
+//! The counts in the head of a report.
 
 ghost use Rattle.std.specs.Prelude.{◌≡◌, ◌++◌, OnOk};
 ghost use Rattle.json.specs.Tree.{HasNumbers};
@@ -12,7 +12,7 @@ use diff_lines::parts::number_at;
 use json::Value;
 use std::alloc::{AllocError, Global};
 
-/// Appends how many rows are of each kind.
+/// Appends the number of rows of each kind.
 #[tactic(auto, unfolding(crate::specs::Counts::kinds_text))]
 fn push_kinds(out: &mut Vec<u8>, counts: &Value<'_>) -> Result<(), AllocError>
     ensures { OnOk result (out.new.items ≡ out.old.items ++ kinds_text (value_view counts.now)) }
@@ -29,7 +29,7 @@ fn push_kinds(out: &mut Vec<u8>, counts: &Value<'_>) -> Result<(), AllocError>
     Ok(())
 }
 
-/// Appends how many cells differ in each column, if any does.
+/// Appends the number of cells that differ in each column, if any does.
 fn push_columns(out: &mut Vec<u8>, pairs: &[u8]) -> Result<(), AllocError>
     ensures { OnOk result (out.new.items ≡ out.old.items ++ columns_note pairs.now) }
 {
@@ -42,7 +42,7 @@ fn push_columns(out: &mut Vec<u8>, pairs: &[u8]) -> Result<(), AllocError>
     Ok(())
 }
 
-/// Appends how many lines of each file are passed over, where the report says so.
+/// Appends the number of lines of each file that are passed over, if the report has these counts.
 #[tactic(auto, unfolding(crate::specs::Counts::skipped_note))]
 fn push_skipped(out: &mut Vec<u8>, counts: &Value<'_>) -> Result<(), AllocError>
     ensures { OnOk result (out.new.items ≡ out.old.items ++ skipped_note (value_view counts.now)) }
@@ -58,7 +58,7 @@ fn push_skipped(out: &mut Vec<u8>, counts: &Value<'_>) -> Result<(), AllocError>
     Ok(())
 }
 
-/// Appends how many differences the report leaves out, if it does.
+/// Appends the number of differences that the report leaves out, if it leaves out any.
 fn push_hidden(out: &mut Vec<u8>, count: &str) -> Result<(), AllocError>
     ensures { OnOk result (out.new.items ≡ out.old.items ++ hidden_note count.now) }
 {

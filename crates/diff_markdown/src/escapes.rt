@@ -39,7 +39,7 @@ fn push_escape(out: &mut Vec<u8>, code: u8) -> Result<(), AllocError>
     Ok(())
 }
 
-/// Appends what stands for a byte between two others.
+/// Appends the text that stands for a byte between two others.
 #[tactic(auto, unfolding(crate::specs::Escapes::safe_byte))]
 fn push_byte(out: &mut Vec<u8>, before: u8, byte: u8, after: u8) -> Result<(), AllocError>
     ensures { OnOk result (out.new.items ≡ out.old.items ++ safe_byte before byte after) }

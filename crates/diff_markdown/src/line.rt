@@ -13,7 +13,7 @@ use diff_lines::line::{Kind, read_line};
 use json::{Scratch, Value};
 use std::alloc::{AllocError, Global};
 
-/// Appends what a line of a kind gives to the head and to the table.
+/// Appends what a line of a kind adds to the head and to the table.
 fn push_by_kind(
     alloc: Global,
     head: &mut Vec<u8>,
@@ -36,7 +36,7 @@ fn push_by_kind(
     }
 }
 
-/// Appends what a line gives to the head and to the table. `scratch` is kept from line to line.
+/// Appends what a line adds to the head and to the table. `scratch` is kept from line to line.
 ///
 /// A failure may leave some of it written.
 pub(crate) fn push_line(

@@ -13,7 +13,7 @@ use json::Scratch;
 use std::alloc::{AllocError, Global};
 use std::str::from_utf8;
 
-/// Appends what lines give to the head and to the table.
+/// Appends what lines add to the head and to the table.
 fn push_lines(
     alloc: Global,
     head: &mut Vec<u8>,
@@ -35,7 +35,7 @@ fn push_lines(
     Ok(())
 }
 
-/// Appends what the lines of a text give to the head and to the table.
+/// Appends what the lines of a text add to the head and to the table.
 fn push_text(
     alloc: Global,
     head: &mut Vec<u8>,

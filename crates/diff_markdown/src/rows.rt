@@ -13,7 +13,7 @@ use diff_lines::parts::{items_at, members_at, string_at};
 use json::Value;
 use std::alloc::{AllocError, Global};
 
-/// Appends what a changed row is named by: its key, or its lines where it has none.
+/// Appends the name of a changed row: its key, or its lines if it has no key.
 #[tactic(auto, unfolding(crate::specs::Rows::row_name))]
 fn push_row_name(alloc: Global, out: &mut Vec<u8>, line: &Value<'_>) -> Result<(), AllocError>
     requires { HasNumbers (value_view line.now) }
@@ -91,7 +91,7 @@ fn push_item_rows(
     Ok(())
 }
 
-/// Appends the rows of a row that changed.
+/// Appends the rows for a row that changed: one for each part that differs.
 #[tactic(auto, unfolding(crate::specs::Rows::change_rows))]
 pub(crate) fn push_changed(
     alloc: Global,
@@ -142,7 +142,7 @@ fn push_changes_in_array(
     }
 }
 
-/// Appends the row of a row that one file has alone, with its key and the line at which it begins.
+/// Appends the row for a row that only one file has, with its key and the line at which it begins.
 #[tactic(auto, unfolding(crate::specs::Rows::lone_row))]
 fn push_lone(
     alloc: Global,
@@ -164,7 +164,7 @@ fn push_lone(
     Ok(())
 }
 
-/// Appends the row of one that the left file has alone.
+/// Appends the row for a row that only the left file has.
 pub(crate) fn push_removed(
     alloc: Global,
     out: &mut Vec<u8>,
@@ -176,7 +176,7 @@ pub(crate) fn push_removed(
     push_lone(alloc, out, b"| removed | ", b" | | line ", b" | |\n", line)
 }
 
-/// Appends the row of one that the right file has alone.
+/// Appends the row for a row that only the right file has.
 pub(crate) fn push_added(
     alloc: Global,
     out: &mut Vec<u8>,
@@ -199,7 +199,7 @@ fn lacking(only_in: &str) -> &'static [u8]
     }
 }
 
-/// Appends the row of a column that one file has alone.
+/// Appends the row for a column that only one file has.
 #[tactic(auto, unfolding(crate::specs::Rows::column_row))]
 pub(crate) fn push_column(
     alloc: Global,

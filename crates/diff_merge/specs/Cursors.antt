@@ -1,4 +1,4 @@
--- Texts whose rows are gone over one by one.
+-- Texts that are read row by row.
 --
 -- Behind the row "7" "1" of the text "id,n", "7,1", "8,2" the row "8" "2" is next, and behind this
 -- there is none.

@@ -1,7 +1,7 @@
 -- Two texts that are merged.
 --
--- The rows "7", "8" and "7", "9" with the keys 7, 8 and 7, 9 are told of as a pair, a removed row,
--- and an added one.
+-- With the rows "7", "8" and "7", "9" and the keys 7, 8 and 7, 9 a sink receives a pair, a removed
+-- row, and an added one.
 use Rattle.std.specs.Prelude.{◌≡◌, ◌≤◌, ◌<◌, ◌^◌, ℕ, suc, Bool, true, false, List, [], ◌∷◌, Option}
 use Rattle.std.specs.Prelude.{Some, None, length, map, ⊤}
 use Rattle.diff_columns.specs.declared.error.Side.{Side}
@@ -24,7 +24,7 @@ use Rattle.diff_merge.specs.declared.merge.Step.{Step}
 use Rattle.diff_merge.specs.declared.merge.Step.TheVariants as step
 use Rattle.diff_tables.specs.Keys.{cells_at}
 
--- what comes next: rows of both texts that have one key, or a row whose key is less than the other
+-- the next step: rows of both texts that have one key, or a row whose key is less than the other
 -- text's next one
 abbrev pub IsStep : Option (List ℕ) → Option (List ℕ) → Step → Type 0
 IsStep left right step.End = (left ≡ None) × (right ≡ None)
@@ -46,7 +46,7 @@ pub record HasFew (n : ℕ) (m : Matching) : Type 0 where
   pub removed : length m.removed.items ≤ n
   pub added : length m.added.items ≤ n
 
--- after n steps these rows of both texts are behind, and a sink was told of them
+-- after n steps these rows of both texts are behind, and a sink has received them
 pub record IsMergeAt {L R S : Type 0} (left_remaining : L → Option (List ℕ))
     (right_remaining : R → Option (List ℕ)) (holds : S → List Seen → List Seen → Matching → Type 0)
     (options : CsvOptions) (left_text right_text : List ℕ) (n : ℕ) (left : Cursor L)
@@ -70,7 +70,7 @@ pub record AreAll (options : CsvOptions) (text : List ℕ) (columns keys : List 
   pub cells : all_cells rows ≡ map (cells_at columns) records
   pub unique_keys : unique ≡ true → AllDiffer (keys_of keys rows)
 
--- a sink was told of all rows of two texts, as they are matched by key
+-- a sink has received all rows of two texts, matched by key
 pub record IsMergeOf {L R S : Type 0} (holds : S → List Seen → List Seen → Matching → Type 0)
     (options : CsvOptions) (left_text right_text : List ℕ) (left : Cursor L) (right : Cursor R)
     (sink : S) : Type 0 where

@@ -1,4 +1,4 @@
--- Rows that a merge comes to.
+-- Rows that a merge reads.
 --
 -- The row "8" "2" at line 3 of the text "id,n", "7,1", "8,2" is the second one.
 use Rattle.std.specs.Prelude.{◌≡◌, ℕ, suc, List, length, map}
@@ -15,7 +15,7 @@ pub record Seen : Type 0 where
 abbrev pub cells_of : Row → List (List ℕ)
 cells_of r = cells_at r.columns.now (fields_of r.record.now)
 
--- what a row shows
+-- the row as a merge compares it: its cells and its line
 abbrev pub seen_of : Row → Seen
 seen_of r = record { cells = cells_of r; line = r.line }
 

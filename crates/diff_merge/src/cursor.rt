@@ -1,4 +1,4 @@
-//! Sorted texts whose rows are gone over one by one.
+//! Sorted texts that are read row by row.
 
 ghost use Rattle.std.specs.Prelude.{◌≡◌, [], ◌∷◌, ◌++◌, ℕ, suc, List, IfErr, IfOk, IsSome};
 ghost use Rattle.std.specs.Prelude.{MatchResult, OnOk, unwrap_or};
@@ -24,20 +24,20 @@ use std::cmp::Ordering;
 use std::io::Read;
 use std::mem;
 
-/// What of a text is gone over.
+/// The columns of a text to read, the demand on its keys, and its side.
 #[derive(Clone, Copy)]
 pub struct Wanted<'a> {
     /// The columns whose cells are read.
     pub columns: &'a [usize],
     /// The key columns, by their places among these.
     pub keys: &'a [usize],
-    /// Whether a key that comes twice is an error.
+    /// `true` if a key that comes twice is an error.
     pub unique: bool,
-    /// Which of two texts it is.
+    /// The side of the text: the left or the right one.
     pub side: Side,
 }
 
-/// A text whose rows do not fall by key, and the next one of them.
+/// A text whose keys never fall from row to row, with its next row at hand.
 #[derive(Drop)]
 pub struct Cursor<'a, R> {
     reader: RowReader<R>,
@@ -45,7 +45,7 @@ pub struct Cursor<'a, R> {
     keys: &'a [usize],
     unique: bool,
     side: Side,
-    // The row that was read last: the next one, unless there is none.
+    // The row that was read last. It is the next one, unless there is no next one.
     row: Box<ByteRecord>,
     // The line at which the next row begins, where there is one.
     pub(crate) line: Option<u64>,
@@ -76,7 +76,7 @@ fn read_row<R: Read + Drop>(
     }
 }
 
-/// Tests that a key comes behind the one before it. `lines` are those at which their rows begin.
+/// Tests that a key may follow the one before it. `lines` are the lines at which their rows begin.
 fn test_order(
     before: &[u8],
     key: &[u8],

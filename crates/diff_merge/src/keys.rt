@@ -7,7 +7,7 @@ ghost use Rattle.diff_tables.specs.Keys.{escaped, marked, row_key};
 use crate::row::Row;
 use std::alloc::AllocError;
 
-/// Appends a byte, and a 1 behind a zero.
+/// Appends a byte, and after a zero also a 1.
 #[inline(always)]
 fn push_byte(out: &mut Vec<u8>, byte: u8) -> Result<(), AllocError>
     ensures { OnOk result (out.new.items ≡ out.old.items ++ marked byte) }
@@ -33,7 +33,7 @@ fn push_escaped(out: &mut Vec<u8>, string: &[u8]) -> Result<(), AllocError>
     Ok(())
 }
 
-/// Makes `key` the key of a row: its cells in the key columns, each with its end.
+/// Sets `key` to the key of a row: its cells in the key columns, each with its end.
 pub(crate) fn write_key(
     key: &mut Vec<u8>,
     row: &Row<'_>,

@@ -1,4 +1,5 @@
-//! Merges two CSV texts whose rows are sorted by key, row by row, in memory for a few rows.
+//! Merges two CSV texts whose rows are sorted by key. It goes row by row and keeps only a few rows
+//! in memory.
 #![tactic(auto)]
 
 pub mod cursor;

@@ -19,10 +19,10 @@ use std::io::Read;
 /// The most steps that are taken.
 const MOST_STEPS: usize = 1 << 62;
 
-/// What comes next of two texts.
+/// The rows that come next in two texts.
 #[derive(Clone, Copy)]
 pub(crate) enum Step {
-    /// A row of each, which have one key.
+    /// A row of each text. Both rows have one key.
     Pair,
     /// A left row, which has no partner.
     Removed,
@@ -32,8 +32,8 @@ pub(crate) enum Step {
     End,
 }
 
-/// Returns what comes next: the row of the lesser of the two next keys, or both rows where these
-/// are the same.
+/// Returns the kind of the next step: the row of the lesser of the two next keys is taken, or both
+/// rows if the keys are the same.
 fn next_step<L: Read + Drop, R: Read + Drop>(left: &Cursor<'_, L>, right: &Cursor<'_, R>) -> Step
     ensures { IsStep (next_key left.now) (next_key right.now) result }
 {
@@ -49,7 +49,7 @@ fn next_step<L: Read + Drop, R: Read + Drop>(left: &Cursor<'_, L>, right: &Curso
     }
 }
 
-/// Tells of the next rows of both texts, which have one key.
+/// Passes the next rows of both texts, which have one key, to the sink.
 fn take_pair<L: Read + Drop, R: Read + Drop, S: Sink>(
     left: &mut Cursor<'_, L>,
     right: &mut Cursor<'_, R>,
@@ -79,7 +79,7 @@ fn take_pair<L: Read + Drop, R: Read + Drop, S: Sink>(
     Ok(())
 }
 
-/// Tells of the next left row, which has no partner.
+/// Passes the next left row, which has no partner, to the sink.
 fn take_removed<L: Read + Drop, R: Read + Drop, S: Sink>(
     left: &mut Cursor<'_, L>,
     right: &Cursor<'_, R>,
@@ -106,7 +106,7 @@ fn take_removed<L: Read + Drop, R: Read + Drop, S: Sink>(
     Ok(())
 }
 
-/// Tells of the next right row, which has no partner.
+/// Passes the next right row, which has no partner, to the sink.
 fn take_added<L: Read + Drop, R: Read + Drop, S: Sink>(
     left: &Cursor<'_, L>,
     right: &mut Cursor<'_, R>,
@@ -133,7 +133,7 @@ fn take_added<L: Read + Drop, R: Read + Drop, S: Sink>(
     Ok(())
 }
 
-/// Tells of what comes next. Returns whether there was a row.
+/// Passes the next row or the next partners to the sink. Returns whether there was a row.
 fn take_step<L: Read + Drop, R: Read + Drop, S: Sink>(
     left: &mut Cursor<'_, L>,
     right: &mut Cursor<'_, R>,
@@ -173,7 +173,7 @@ fn take_step<L: Read + Drop, R: Read + Drop, S: Sink>(
     }
 }
 
-/// Merges two texts from where they are to their ends, and tells a sink of their rows. Fails with
+/// Merges two texts from where they are to their ends, and passes their rows to a sink. Fails with
 /// `Falls` where a key is less than the one before it, and with `KeyTwice` where it is the same and
 /// keys have to be unique.
 pub fn merge<L: Read + Drop, R: Read + Drop, S: Sink>(
@@ -200,6 +200,6 @@ pub fn merge<L: Read + Drop, R: Read + Drop, S: Sink>(
             return Ok(());
         }
     }
-    // No machine takes so many steps.
+    // No machine takes this many steps.
     Err(MergeError::Memory)
 }

@@ -1,4 +1,4 @@
-//! Rows that a merge comes to.
+//! Rows that a merge reads.
 
 ghost use Rattle.std.specs.Prelude.{◌≡◌, [], get_or};
 ghost use Rattle.csv.specs.Records.{fields_of};

@@ -1,4 +1,4 @@
-//! What is told of the rows of two texts.
+//! Sinks, which receive the rows of two texts.
 
 ghost use Rattle.std.specs.Prelude.{[], ◌∷◌, ◌++◌, List, length, OnOk};
 ghost use Rattle.diff_joins.specs.More.{HasAdded, HasPair, HasRemoved};
@@ -8,13 +8,13 @@ ghost use Rattle.diff_merge.specs.Rows.{IsNext, Seen, seen_of};
 use crate::row::Row;
 use std::alloc::AllocError;
 
-/// Something that is told of each row of two texts, or of each two partners, in the order of their
-/// keys.
+/// A receiver of the rows of two texts. It receives partners together, and rows without a partner
+/// one by one, in the order of their keys.
 pub trait Sink {
-    // It was told of these rows of both texts, which are matched so.
+    // It has received these rows of both texts, matched in this way.
     ghost holds: { Self → List Seen → List Seen → Matching → Type 0 };
 
-    /// Is told of the next rows of both texts, which are partners.
+    /// Receives the next rows of both texts, which are partners.
     fn pair(&mut self, left: &Row<'_>, right: &Row<'_>) -> Result<(), AllocError>
         ensures { OnOk result
             ((left_rows right_rows : List Seen) (before after : Matching)
@@ -24,7 +24,7 @@ pub trait Sink {
             → holds self.new (left_rows ++ seen_of left.now ∷ [])
             (right_rows ++ seen_of right.now ∷ []) after) };
 
-    /// Is told of the next left row, which has no partner.
+    /// Receives the next left row, which has no partner.
     fn removed(&mut self, row: &Row<'_>) -> Result<(), AllocError>
         ensures { OnOk result
             ((left_rows right_rows : List Seen) (before after : Matching) → IsNext left_rows row.now
@@ -32,7 +32,7 @@ pub trait Sink {
             → HasRemoved (length left_rows) before after
             → holds self.new (left_rows ++ seen_of row.now ∷ []) right_rows after) };
 
-    /// Is told of the next right row, which has no partner.
+    /// Receives the next right row, which has no partner.
     fn added(&mut self, row: &Row<'_>) -> Result<(), AllocError>
         ensures { OnOk result
             ((left_rows right_rows : List Seen) (before after : Matching)

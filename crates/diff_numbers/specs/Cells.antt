@@ -1,4 +1,4 @@
--- What cells are compared by.
+-- The texts that cells are compared by.
 --
 -- The cells 12, 12.00 and 1.2e1 are numbers, and where numbers count all are compared by 12. The
 -- cell 007 is no number, and is compared by 007.
@@ -17,8 +17,8 @@ is_end (Some (b ∷ rest)) = false
 abbrev pub is_number : List ℕ → Bool
 is_number cell = is_end (after_number cell)
 
--- what a cell is compared by: a number by its normal text, where numbers count, and else the cell
--- by itself
+-- the text that a cell is compared by: the normal text of a number, where numbers count, and
+-- otherwise the cell
 abbrev pub comparable : Bool → List ℕ → List ℕ
 comparable numeric cell = if numeric && is_number cell then normal_number cell else cell
 

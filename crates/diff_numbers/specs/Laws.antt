@@ -1,4 +1,4 @@
--- Laws of what cells are compared by.
+-- Laws of the texts that cells are compared by.
 use Rattle.std.specs.Prelude.{◌≡◌, ◌↔◌, ◌⊎◌, ℕ, List, true}
 use Rattle.json.specs.Print.{IsNumber}
 use Rattle.json_decimals.specs.Decimals.{AreEqual, decimal_of}
@@ -14,7 +14,7 @@ abbrev pub CellsTell : Type 0
 CellsTell = (s t : List ℕ) → (comparable true s ≡ comparable true t)
     ↔ ((s ≡ t) ⊎ AreEqualNumbers s t)
 
--- so two numbers are compared as the same where they are worth the same, and only there
+-- two numbers are compared as the same where they are worth the same, and only there
 abbrev pub NumbersTell : Type 0
 NumbersTell = (s t : List ℕ) → IsNumber s → IsNumber t → (comparable true s ≡ comparable true t)
     ↔ AreEqual (decimal_of s) (decimal_of t)

@@ -1,4 +1,4 @@
-//! Cells, and what they are compared by.
+//! Cells, and the texts that they are compared by.
 
 ghost use Rattle.std.specs.Prelude.{◌≡◌, ◌++◌, ◌∷◌, [], ℕ, List, true, false, Err, MatchOption};
 ghost use Rattle.std.specs.Prelude.{OnOk};
@@ -11,7 +11,7 @@ use json::is_number;
 use json_decimals::error::NumberError;
 use json_decimals::numbers::push_normal_number;
 
-/// Returns the text of a cell that is a number.
+/// Returns the text of a cell if it is a number.
 pub fn number_in(cell: &[u8]) -> Option<&str>
     ensures { MatchOption result (is_number cell.now ≡ false)
         (λ text. IsNumeral cell.now text.now) }
@@ -36,8 +36,8 @@ fn push_number(cells: &mut Strings, room: &mut Vec<u8>, text: &str) -> Result<()
     Ok(())
 }
 
-/// Appends what a cell is compared by. Fails where it is a number with a wide exponent, and numbers
-/// count.
+/// Appends the text that a cell is compared by. Fails where it is a number with a wide exponent,
+/// and numbers count.
 pub(crate) fn push_comparable(
     cells: &mut Strings,
     room: &mut Vec<u8>,

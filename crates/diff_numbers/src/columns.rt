@@ -16,8 +16,8 @@ fn is_named(names: &[&[u8]], name: &[u8]) -> bool
     names.contains(&name)
 }
 
-/// Returns for each column whether its numbers are compared by what they are worth: all but the
-/// columns that are compared as texts.
+/// Returns for each column whether its numbers are compared by their values. This holds for all
+/// columns except those that are compared as texts.
 pub fn number_columns(
     alloc: Global,
     names: &BinaryArray<i64>,

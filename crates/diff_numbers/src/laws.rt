@@ -1,4 +1,4 @@
-//! Laws of what cells are compared by.
+//! Laws of the texts that cells are compared by.
 
 ghost use Rattle.diff_numbers.specs.Laws.{CellsTell, NumbersTell};
 

@@ -1,4 +1,4 @@
-//! What the cells of a table are compared by, where numbers are compared by what they are worth.
+//! The texts that the cells of a table are compared by, where numbers are compared by their values.
 #![tactic(auto)]
 
 pub mod cells;

@@ -1,4 +1,4 @@
-//! Rows of what cells are compared by.
+//! Rows of the texts that cells are compared by.
 
 ghost use Rattle.std.specs.Prelude.{◌≡◌, ◌<◌, ◌++◌, ◌∷◌, [], ℕ, List, length, get_or, MatchResult};
 ghost use Rattle.diff_numbers.specs.Errors.{IsCellFault};
@@ -11,7 +11,7 @@ use diff_tables::strings::Strings;
 use diff_tables::table::Table;
 use json_decimals::error::NumberError;
 
-/// Appends what the cell at a row and a column is compared by.
+/// Appends the text that the cell at a row and a column is compared by.
 fn push_cell(
     cells: &mut Strings,
     room: &mut Vec<u8>,
@@ -36,7 +36,7 @@ fn push_cell(
     }
 }
 
-/// Appends what the cells of a row are compared by.
+/// Appends the texts that the cells of a row are compared by.
 pub(crate) fn push_row(
     cells: &mut Strings,
     room: &mut Vec<u8>,

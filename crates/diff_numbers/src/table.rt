@@ -1,4 +1,4 @@
-//! Tables of what cells are compared by.
+//! Tables of the texts that cells are compared by.
 
 ghost use Rattle.std.specs.List.{flat_map};
 ghost use Rattle.std.specs.Prelude.{◌≡◌, length, MatchResult};
@@ -12,7 +12,7 @@ use diff_tables::strings::Strings;
 use diff_tables::table::Table;
 use std::alloc::Global;
 
-/// Returns what all cells of a table are compared by, one row's cells after another's.
+/// Returns the texts that all cells of a table are compared by, one row after another.
 fn comparable_cells(
     alloc: Global,
     table: &Table,
@@ -31,11 +31,11 @@ fn comparable_cells(
     Ok(cells)
 }
 
-/// Returns the table that a table is compared by: of each row what its cells are compared by, where
-/// `numeric` says for each column whether numbers count.
+/// Returns the table that a table is compared by. It has for each cell the text that the cell is
+/// compared by. `numeric` says for each column whether numbers count.
 ///
-/// Fails where a number that counts has an exponent of more than 30 digits, and else for want of
-/// memory alone.
+/// Fails where a number that counts has an exponent of more than 30 digits, and otherwise only
+/// where an allocation fails.
 pub fn comparable_table(
     alloc: Global,
     table: &Table,

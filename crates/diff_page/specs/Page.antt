@@ -26,11 +26,11 @@ abbrev pub files_object : List ℕ → List ℕ → List ℕ
 files_object left right = codes "{\"kind\":\"files\",\"left\":" ++ json_string left
     ++ codes ",\"right\":" ++ json_string right ++ codes "}\n"
 
--- what stands before the report in a page
+-- the part of a page before the report
 unfoldable pub opening : List ℕ
 opening = HEAD.now ++ STYLE.now ++ BODY.now
 
--- what stands behind it
+-- the part of a page behind the report
 unfoldable pub closing : List ℕ
 closing = MIDDLE.now ++ SCRIPT.now ++ END.now
 

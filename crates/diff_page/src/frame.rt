@@ -1,6 +1,6 @@
 //! The frame of a page.
 
-/// What stands before the styles.
+/// The text before the styles.
 pub(crate) const HEAD: &str = r##"<!DOCTYPE html>
 <html lang="en">
 <head>
@@ -12,7 +12,7 @@ pub(crate) const HEAD: &str = r##"<!DOCTYPE html>
 <style>
 "##;
 
-/// What stands between the styles and the report.
+/// The text between the styles and the report.
 pub(crate) const BODY: &str = r##"</style>
 </head>
 <body>
@@ -52,12 +52,12 @@ lines.</p></noscript>
 <script type="application/x-ndjson" id="report">
 "##;
 
-/// What stands between the report and the script.
+/// The text between the report and the script.
 pub(crate) const MIDDLE: &str = r##"</script>
 <script>
 "##;
 
-/// What stands behind the script.
+/// The text behind the script.
 pub(crate) const END: &str = r##"</script>
 </body>
 </html>

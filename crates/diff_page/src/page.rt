@@ -44,7 +44,7 @@ fn push_files(out: &mut Vec<u8>, left: &[u8], right: &[u8]) -> Result<(), AllocE
     Ok(())
 }
 
-/// Appends what stands before the report in a page.
+/// Appends the part of a page before the report.
 fn push_opening(out: &mut Vec<u8>) -> Result<(), AllocError>
     ensures { OnOk result (out.new.items ≡ out.old.items ++ opening) }
 {
@@ -54,7 +54,7 @@ fn push_opening(out: &mut Vec<u8>) -> Result<(), AllocError>
     Ok(())
 }
 
-/// Appends what stands behind the report in a page.
+/// Appends the part of a page behind the report.
 fn push_closing(out: &mut Vec<u8>) -> Result<(), AllocError>
     ensures { OnOk result (out.new.items ≡ out.old.items ++ closing) }
 {
@@ -65,8 +65,8 @@ fn push_closing(out: &mut Vec<u8>) -> Result<(), AllocError>
 }
 
 /// Appends the page of a report. `report` is the report as JSON lines, and the two names are those
-/// of the inputs. In the page the report stands as JSON lines too, with the names before it, and no
-/// tag begins in it.
+/// of the inputs. The page has the report as JSON lines too, with the names before it. No tag
+/// begins in them.
 pub fn push_page(
     out: &mut Vec<u8>,
     left: &[u8],

@@ -15,13 +15,13 @@ use std::alloc::{AllocError, Global};
 /// Byte strings that are lent.
 #[derive(Clone, Copy)]
 pub enum LentCells<'a> {
-    /// With ends of 32 bits, and beside the array its bytes, which it shares.
+    /// An array with ends of 32 bits, and its bytes, which it shares.
     Near(&'a BinaryArray<i32>, &'a Buffer<u8>),
-    /// With ends of 64 bits.
+    /// An array with ends of 64 bits.
     Far(&'a BinaryArray<i64>),
 }
 
-/// Returns ends of 32 bits, and those behind them, as ends of 64 bits.
+/// Returns the ends of 32 bits, followed by those of 64 bits, all as ends of 64 bits.
 pub fn all_ends(alloc: Global, near: &[i32], far: &[i64]) -> Result<Vec<i64>, AllocError>
     ensures { IfOk result (λ ends. ends.items ≡ near.now ++ far.now) }
 {
@@ -80,8 +80,8 @@ pub(crate) fn are_far(cells: LentCells<'_>) -> bool
     }
 }
 
-/// Returns an array of the strings, between ends of 64 bits where that is asked for. No string is
-/// copied. The one error is `Memory`.
+/// Returns an array of the strings, with ends of 64 bits if `wide`. No string is copied. The one
+/// error is `Memory`.
 pub(crate) fn cell_array(
     alloc: Global,
     cells: LentCells<'_>,

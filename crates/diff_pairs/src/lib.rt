@@ -1,5 +1,6 @@
-//! The pairs of rows that differ, of any two arrays. No row is copied: the rows of the pairs are
-//! the keys of two dictionaries over the arrays, and the kernel of missing equality compares these.
+//! Finds the pairs of rows of any two arrays that differ. No row is copied. The row numbers of the
+//! pairs are the keys of two dictionaries over the arrays, and the kernel of missing equality
+//! compares the dictionaries.
 #![tactic(auto)]
 
 pub mod cells;

@@ -1,4 +1,4 @@
-//! Rows of an array that numbers name.
+//! The rows of an array that some numbers name.
 
 ghost use Rattle.std.specs.Prelude.{MatchResult};
 ghost use Rattle.polars_arrays_bits.specs.Errors.{IsMemory};

@@ -19,9 +19,9 @@ use std::alloc::Global;
 /// Rows of cells that are lent.
 #[derive(Clone, Copy)]
 pub struct LentRows<'a> {
-    /// How many cells each row has.
+    /// The number of cells of each row.
     pub width: usize,
-    /// How many rows there are.
+    /// The number of rows.
     pub count: usize,
     /// The cells of all rows, the first row's first.
     pub cells: LentCells<'a>,
@@ -48,8 +48,8 @@ fn lists_of(
     }
 }
 
-/// Returns the array whose rows are the lists of each row's cells, between ends of 64 bits where
-/// that is asked for. No cell is copied. The one error is `Memory`.
+/// Returns the array whose rows are lists of the cells of each row, with ends of 64 bits if `wide`.
+/// No cell is copied. The one error is `Memory`.
 fn list_array(
     alloc: Global,
     rows: LentRows<'_>,
@@ -104,9 +104,9 @@ fn changed_lists(
     }
 }
 
-/// Lists the pairs whose two rows have other cells, in rising order. Pair `p` is row `left_rows[p]`
-/// of the left rows and row `right_rows[p]` of the right ones. No cell is copied. The one error is
-/// `Memory`.
+/// Lists the pairs whose two rows have different cells, in rising order. Pair `p` is row
+/// `left_rows[p]` of the left rows and row `right_rows[p]` of the right ones. No cell is copied.
+/// The one error is `Memory`.
 pub fn changed_rows(
     alloc: Global,
     left: LentRows<'_>,

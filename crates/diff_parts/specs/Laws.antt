@@ -1,5 +1,5 @@
--- What it is that the parts of two tables make the tables. A table is here the list of its rows'
--- keys, and a test of keys says which rows are kept.
+-- Laws: the parts of two tables make the tables. A table is here the list of its rows' keys, and a
+-- test of keys says which rows are kept.
 --
 -- Of the keys "a", "b", "a" a test that has "a" alone keeps "a", "a", from the places 0 and 2.
 use Rattle.std.specs.List.{filter}
@@ -51,7 +51,7 @@ KeepsRemoved = (keeps : List ℕ → Bool) (left right : Keys) (i : ℕ) → i <
     → IsRemoved (filter keeps left) (filter keeps right) i
     ↔ IsRemoved left right (place_of keeps left i)
 
--- the same of right rows
+-- a right row that is kept has no partner exactly where it has none in the whole tables
 abbrev pub KeepsAdded : Type 0
 KeepsAdded = (keeps : List ℕ → Bool) (left right : Keys) (j : ℕ) → j < length (filter keeps right)
     → IsAdded (filter keeps left) (filter keeps right) j

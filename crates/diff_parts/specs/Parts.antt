@@ -5,7 +5,7 @@
 use Rattle.std.specs.Prelude.{◌≤◌, ◌%◌, ◌==◌, ℕ, suc, Bool, true, false, List, [], ◌∷◌}
 use Rattle.diff_keys.specs.Hashes.{key_hash}
 
--- the number of a part, the first being 1, and how many parts there are
+-- the number of a part, from 1 on, and the number of parts
 pub record PartNumber : Type 0 where
   pub index : ℕ
   pub count : ℕ
@@ -23,7 +23,7 @@ has_hash part hash = hash % part.count == part.index % part.count
 abbrev pub in_part : PartNumber → List ℕ → Bool
 in_part part key = has_hash part (key_hash key)
 
--- a number before others where it is kept
+-- a number before others, if it is kept
 abbrev pub number_if : Bool → ℕ → List ℕ → List ℕ
 number_if true n numbers = n ∷ numbers
 number_if false n numbers = numbers

@@ -9,9 +9,9 @@ pub fn law_one_part()
     ensures { EachKeyHasAPart }
 {}
 
-/// Law: where of two tables the rows of some keys are kept, and all rows of these keys, each row
-/// that is kept has the same partner as before, or none as before; and these are all rows of these
-/// keys, in their order.
+/// Law: let exactly the rows of some keys be kept in two tables. Each row that is kept has the same
+/// partner as before, or none as before. The rows that are kept are all rows of these keys, in
+/// their order.
 pub fn law_kept_rows()
     ensures places { KeepsPlaces }
     ensures rows { KeepsRows }

@@ -1,4 +1,4 @@
-//! Parts of tables: rows are in one part or another by their keys, and so a comparison of two
+//! Parts of tables. The key of a row decides which part it is in, and so the comparison of two
 //! tables is made of the comparisons of their parts.
 #![tactic(auto)]
 

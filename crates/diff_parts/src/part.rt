@@ -7,7 +7,7 @@ ghost use Rattle.diff_parts.specs.Parts.{IsPart, has_hash, in_part};
 use diff_keys::hash::key_hash;
 use std::marker::Model;
 
-/// One of so many parts of a table. Parts count from 1.
+/// One of `count` parts of a table. The first part has `index` 1.
 #[derive(Clone, Copy, Debug)]
 pub struct Part {
     index: u64,
@@ -27,7 +27,7 @@ impl Model for Part {
 }
 
 impl Part {
-    /// Returns part `index` of `count`, where there is one.
+    /// Returns part `index` of `count`, or `None` if there is no such part.
     pub fn new(index: u64, count: u64) -> Option<Part>
         ensures { SomeIff result (IsPart (record { index = index; count = count }))
             (record { index = index; count = count }) }

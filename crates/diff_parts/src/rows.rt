@@ -12,7 +12,7 @@ use diff_tables::string_list::StringList;
 /// The hash of the empty key.
 const EMPTY: u64 = 0xcbf2_9ce4_8422_2325;
 
-/// What a hash is multiplied by after each byte.
+/// The factor by which a hash is multiplied after each byte.
 const PRIME: u64 = 0x100_0000_01b3;
 
 /// Returns a hash after one byte more of a key.
@@ -47,7 +47,7 @@ fn after_cell(hash: u64, cell: &[u8]) -> u64
     after_byte(after_byte(after, 0), 0)
 }
 
-/// Returns the cell in a column, or an empty one where there are not as many.
+/// Returns the cell in a column, or an empty one if the row has no such column.
 #[inline(always)]
 fn cell_at<S: StringList>(cells: &S, column: usize) -> &[u8]
     ensures { result.now ≡ get_or (S.strings cells.now) column [] }

@@ -1,7 +1,9 @@
 -- The lines of differences.
 --
--- ~ id=4411  city "Oslo" -> "Bergen" - id=77  old.csv line 78 In colours ~ id=4411 is yellow, the
--- left cell and the line of id=77 are red, and the right cell is green.
+-- ~ id=4411  city "Oslo" -> "Bergen"
+-- - id=77  old.csv line 78
+-- In colours ~ id=4411 is yellow, the left cell and the line of id=77 are red, and the right cell
+-- is green.
 use Rattle.std.specs.Fmt.{decimal}
 use Rattle.std.specs.Prelude.{ℕ, ◌==◌, if◌then◌else◌, List, [], ◌∷◌, ◌++◌, map, slice_index, codes}
 use Rattle.diff_keys.specs.declared.matching.Matching.{Matching}

@@ -1,4 +1,4 @@
--- What rows and cells are named by, and whether in colours.
+-- The names and colours for the rows and cells of a report.
 use Rattle.std.specs.Prelude.{ℕ, Bool, List, Option}
 
 -- the names of the columns, the key columns, the cell that stands for no value, where there is one,

@@ -12,7 +12,7 @@ use Rattle.diff_report.specs.declared.sides.Comparables.{Comparables}
 use Rattle.diff_report.specs.declared.sides.Side.{Side}
 use Rattle.diff_report.specs.declared.sides.Sides.{Sides}
 
--- what the rows and cells of two tables are named by
+-- the naming of the rows and cells of two tables
 abbrev pub naming_of : Sides → Naming
 naming_of s =
     record {
@@ -27,8 +27,8 @@ naming_of s =
 abbrev pub row_of : Side → ℕ → List (List ℕ)
 row_of side i = get_or side.table.rows i []
 
--- the number of row i among all rows of a file, from 1 on: where some rows are left out the others'
--- numbers are listed
+-- the number of row i among all rows of a file, from 1 on. If some rows are left out, the numbers
+-- of the others are listed.
 abbrev pub number_in : Option (List ℕ) → ℕ → ℕ
 number_in None i = i + 1
 number_in (Some numbers) i = slice_index numbers i
@@ -36,7 +36,7 @@ number_in (Some numbers) i = slice_index numbers i
 abbrev pub number_of : Side → ℕ → ℕ
 number_of side i = number_in (option_map (λ v. v.items) side.numbers) i
 
--- the rows of a table, or of one that it is compared by, where there is one
+-- the rows of a table, or those of the table that it is compared by, if there is one
 abbrev pub left_rows_by : List (List (List ℕ)) → Option Comparables → List (List (List ℕ))
 left_rows_by rows None = rows
 left_rows_by rows (Some by) = by.left.rows
@@ -45,7 +45,7 @@ abbrev pub right_rows_by : List (List (List ℕ)) → Option Comparables → Lis
 right_rows_by rows None = rows
 right_rows_by rows (Some by) = by.right.rows
 
--- the rows that the left rows are compared by: themselves, where there are no others
+-- the rows that the left rows are compared by: the left rows, if there are no others
 abbrev pub compared_left : Sides → List (List (List ℕ))
 compared_left s = left_rows_by s.left.table.rows s.comparables
 
@@ -57,7 +57,7 @@ compared_right s = right_rows_by s.right.table.rows s.comparables
 abbrev pub left_at : Sides → Matching → ℕ → List (List ℕ)
 left_at s m k = row_of s.left (slice_index m.left_rows.items k)
 
--- its partner
+-- the right row at place k of the matched rows, its partner
 abbrev pub right_at : Sides → Matching → ℕ → List (List ℕ)
 right_at s m k = row_of s.right (slice_index m.right_rows.items k)
 
@@ -67,7 +67,7 @@ pub record IsSide (n : Naming) (side : Side) : Type 0 where
   pub lines : length side.lines.items ≡ length side.table.rows
   pub numbers : IfSome side.numbers (λ v. length v.items ≡ length side.table.rows)
 
--- a table can stand for another: it has as many columns and rows
+-- a table can stand for another: it has the same number of columns and of rows
 pub record IsAsLarge (table by : TableRows) : Type 0 where
   pub width : by.width ≡ table.width
   pub count : length by.rows ≡ length table.rows
@@ -77,7 +77,7 @@ pub record AreAsLarge (left_table right_table : TableRows) (by : Comparables) : 
   pub left : IsAsLarge left_table by.left
   pub right : IsAsLarge right_table by.right
 
--- both tables have the named columns, of which the keys are some
+-- both tables have the named columns, and the keys are among these
 pub record AreSides (s : Sides) : Type 0 where
   pub left : IsSide (naming_of s) s.left
   pub right : IsSide (naming_of s) s.right

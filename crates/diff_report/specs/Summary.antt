@@ -11,16 +11,16 @@ use Rattle.diff_words.specs.Lists.{listed}
 use Rattle.diff_words.specs.Words.{word_text}
 use Rattle.diff_report.specs.Naming.{Naming}
 
--- how many differences there are, where so many of the matched rows are changed
+-- the number of differences, if this many of the matched rows are changed
 abbrev pub difference_count : Matching → ℕ → ℕ
 difference_count m changed = changed + length m.removed.items + length m.added.items
 
--- how many of some differences have no line, where some have one and others none
+-- the text that says how many differences have no line, if some have a line and others do not
 unfoldable pub rest_text : ℕ → ℕ → List ℕ
 rest_text limit count = if nat_lt 0 limit && nat_lt limit count then codes ".. and "
     ++ decimal (count - limit) ++ codes " more\n" else []
 
--- how many rows are changed, removed, added, and the same
+-- the numbers of rows that are changed, removed, added, and the same
 unfoldable pub totals_text : Comparison → List ℕ
 totals_text c = decimal (length c.changed.items) ++ codes " changed, "
     ++ decimal (length c.matching.removed.items) ++ codes " removed, "

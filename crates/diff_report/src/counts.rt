@@ -1,4 +1,4 @@
-//! How often each column differs.
+//! The number of pairs that differ in each column.
 
 ghost use Rattle.std.specs.Prelude.{◌≡◌, ◌<◌, ◌-◌, ◌^◌, All, length, IfOk};
 ghost use Rattle.diff_tables.specs.Comparison.{IsComparison};

@@ -14,8 +14,8 @@ use diff_words::words::push_word;
 use polars_arrays_flat::byte_rows::ByteRows;
 use std::alloc::AllocError;
 
-/// Returns whether left row `i` and right row `j` differ in a column, by what their cells are
-/// compared by.
+/// Returns whether left row `i` and right row `j` differ in a column, by the texts that their cells
+/// are compared by.
 pub(crate) fn differ_at(sides: &Sides, i: usize, j: usize, column: usize) -> bool
     requires sides { AreSides sides.now }
     requires left { i < length sides.now.left.table.rows }

@@ -50,7 +50,8 @@ fn push_keys(out: &mut Vec<u8>, sides: &Sides, side: &Side, i: usize) -> Result<
     Ok(())
 }
 
-/// Appends what a row is named by: its cells in the key columns, or its number without any.
+/// Appends the name of a row: its cells in the key columns, or its number if there are no key
+/// columns.
 #[tactic(auto, unfolding(crate::specs::Rows::row_text))]
 pub(crate) fn push_row(
     out: &mut Vec<u8>,

@@ -17,7 +17,8 @@ pub struct Side {
     pub table: Table,
     /// The line of the file at which each row begins.
     pub lines: Vec<u64>,
-    /// Where these are not all rows of the file, the number of each among all, from 1 on.
+    /// The number of each row among all rows of the file, from 1 on, if the table does not have all
+    /// of them.
     pub numbers: Option<Vec<u64>>,
 }
 
@@ -35,7 +36,7 @@ impl Side {
     }
 }
 
-/// Two tables of cells that stand for those of two others, place by place, where rows are compared.
+/// Two tables that are compared in place of two others. Each cell stands for the one at its place.
 #[derive(Drop)]
 pub struct Comparables {
     pub left: Table,
@@ -47,15 +48,15 @@ pub struct Comparables {
 pub struct Sides {
     pub left: Side,
     pub right: Side,
-    /// What the cells are compared by, where they are not compared by themselves.
+    /// The tables that the cells are compared by, if they are not compared as they are.
     pub comparables: Option<Comparables>,
     /// The names of the columns.
     pub names: BinaryArray<i64>,
-    /// The columns that name a row. Without one a row is named by its number.
+    /// The columns that name a row. If there are none, a row is named by its number.
     pub keys: Vec<usize>,
     /// The cell that stands for no value, where there is one.
     pub null: Option<Vec<u8>>,
-    /// Whether the report has colours for a terminal.
+    /// `true` if the report has colours for a terminal.
     pub colored: bool,
 }
 

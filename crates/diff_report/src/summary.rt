@@ -24,7 +24,7 @@ pub fn difference_count(matching: &Matching, changed: usize) -> u128
     changed as u128 + matching.removed.len() as u128 + matching.added.len() as u128
 }
 
-/// Appends how many of `count` differences have no line, where some have one and others none.
+/// Appends how many of `count` differences have no line, if some have a line and others do not.
 #[tactic(auto, unfolding(crate::specs::Summary::rest_text))]
 pub fn push_rest(out: &mut Vec<u8>, count: u128, limit: usize) -> Result<(), AllocError>
     ensures { OnOk result (out.new.items ≡ out.old.items ++ rest_text limit count) }
@@ -38,7 +38,7 @@ pub fn push_rest(out: &mut Vec<u8>, count: u128, limit: usize) -> Result<(), All
     Ok(())
 }
 
-/// Appends a number, and what is counted by it.
+/// Appends a number, and the name of what it counts.
 fn push_count(out: &mut Vec<u8>, count: usize, what: &[u8]) -> Result<(), AllocError>
     ensures { OnOk result (out.new.items ≡ out.old.items ++ decimal count ++ what.now) }
 {
@@ -90,7 +90,7 @@ fn push_if_counted(
     Ok(written + 1)
 }
 
-/// Appends the columns that differ, and how often.
+/// Appends the columns that differ, each with its count.
 fn push_by_column(out: &mut Vec<u8>, sides: &Sides, counts: &[usize]) -> Result<(), AllocError>
     requires { length counts.now ≡ length (naming_of sides.now).names }
     ensures { OnOk result

@@ -1,7 +1,7 @@
--- What the rows of two inputs are compared by.
+-- The tables that the rows of two inputs are compared by.
 --
 -- With the columns "id", "n", where numbers count in all but "id", the row "7.0" "1.50" is compared
--- by "7.0" "15e-1". Where they do not count, it is compared by itself.
+-- by "7.0" "15e-1". Where they do not count, it is compared as it is.
 use Rattle.std.specs.Borrow.{Bor}
 use Rattle.std.specs.Prelude.{◌≡◌, ℕ, Bool, List, [], Option, None, Some, IfSome, length, get_or, ⊤}
 use Rattle.diff_columns.specs.Names.{Names, names_of}
@@ -18,8 +18,8 @@ use Rattle.diff_run.specs.declared.error.RunError.TheVariants as error
 use Rattle.diff_run.specs.declared.inputs.Both.{Both}
 use Rattle.diff_run.specs.declared.options.Options.{Options}
 
--- what rows with these columns are compared by: themselves, or where numbers count in all columns
--- but some, by their comparable rows
+-- the rows that rows with these columns are compared by: the same rows, or their comparable rows,
+-- if numbers count in all columns except some
 abbrev pub rows_by : Option (Bor (List (Bor (List ℕ)))) → Names → List (List (List ℕ))
     → List (List (List ℕ))
 rows_by None names rows = rows
@@ -30,12 +30,12 @@ pub record HasNamedColumns (names : Names) (input : CsvTable) : Type 0 where
   pub width : input.table.width ≡ length names
   pub lines : length input.lines.items ≡ length input.table.rows
 
--- both tables are what the inputs' are compared by
+-- both tables are those that the inputs' tables are compared by
 pub record AreBothBy (numeric : List Bool) (both : Both) (by : Comparables) : Type 0 where
   pub left : IsComparableTable numeric both.left.table by.left
   pub right : IsComparableTable numeric both.right.table by.right
 
--- the inputs are compared by the tables, or by themselves where there are none, as the options say
+-- the inputs are compared by these tables, or as they are if there are none, as the options say
 pub record AreComparables (options : Options) (names : Names) (both : Both)
     (by : Option Comparables) : Type 0 where
   pub left : left_rows_by both.left.table.rows by
@@ -79,7 +79,8 @@ abbrev pub table_on : Side → Both → CsvTable
 table_on Left both = both.left
 table_on Right both = both.right
 
--- the same of one of both sides
+-- a number on the side that the error names counts, and its exponent is wide; or an allocation
+-- failed
 abbrev pub IsNumberFault : List Bool → Names → Both → RunError → Type 0
 IsNumberFault numeric names both error.Memory = ⊤
 IsNumberFault numeric names both (error.WideExponent side line name) =
@@ -90,7 +91,7 @@ IsNumberFault numeric names both (error.Csv side cause) = ⊥
 IsNumberFault numeric names both (error.Columns cause) = ⊥
 IsNumberFault numeric names both (error.Write cause) = ⊥
 
--- the same where numbers count, in all columns but some
+-- numbers count in all columns except some, and one has a wide exponent or an allocation failed
 pub record IsComparedFault (options : Options) (names : Names) (both : Both) (e : RunError) :
     Type 0 where
   pub texts : Bor (List (Bor (List ℕ)))

@@ -88,7 +88,7 @@ pub record HasTooManyRows (options : Options) (left_text right_text : List ℕ) 
   pub sides_are : AreSidesOf options left_text right_text left_name right_name layout sides
   pub many : ¬ (HaveFewRows sides)
 
--- of the table of one of two texts two rows have one key, and keys have to be unique
+-- two rows of the table of one text have one key, and keys have to be unique
 pub record IsKeyFault (options : Options) (left_text right_text : List ℕ) (side : Side) :
     Type 0 where
   pub left_name : List ℕ

@@ -36,7 +36,7 @@ all_lines format s c = map (pair_at format s c.matching) c.changed.items
     ++ map (row_alone format Removed (naming_of s) s.left) c.matching.removed.items
     ++ map (row_alone format Added (naming_of s) s.right) c.matching.added.items
 
--- what stands behind them: how many more there are, and the counts
+-- the end of a report: how many more differences there are, and the counts
 abbrev pub end_text : Format → Sides → Comparison → List ℕ → ℕ → List ℕ
 end_text Text s c counts limit =
     rest_text limit (difference_count c.matching (length c.changed.items))

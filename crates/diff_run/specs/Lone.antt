@@ -1,4 +1,4 @@
--- Columns that one of two inputs has alone.
+-- Columns that only one of two inputs has.
 --
 -- ! column note only in old.csv
 use Rattle.std.specs.List.{flat_map}

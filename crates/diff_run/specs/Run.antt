@@ -1,8 +1,10 @@
 -- The report of two CSV texts.
 --
 -- With the key "id" the texts "id,n", "7,1", "8,2" and "n,id", "3,8" of three and two lines have
--- the report ~ id=8  n "2" -> "3" - id=7  old.csv line 2 1 changed, 1 removed, 0 added, 0 the same.
--- By column: n 1.
+-- the report
+-- ~ id=8  n "2" -> "3"
+-- - id=7  old.csv line 2
+-- 1 changed, 1 removed, 0 added, 0 the same.  By column: n 1.
 use Rattle.std.specs.Prelude.{◌≡◌, ◌==◌, ◌&&◌, ◌||◌, ℕ, Bool, true, false, if◌then◌else◌, List, []}
 use Rattle.std.specs.Prelude.{◌++◌, length, option_map}
 use Rattle.polars_arrays_bytes.specs.OffsetStrings.{offset_strings}
@@ -31,16 +33,16 @@ use Rattle.diff_tables.specs.Comparison.{IsComparison}
 use Rattle.diff_tables.specs.Keys.{cells_at, row_keys}
 use Rattle.diff_tables.specs.declared.compare.Comparison.{Comparison}
 
--- neither input has a column alone
+-- neither input has a column that the other does not have
 abbrev pub no_columns : Layout → Bool
 no_columns layout = (length layout.left_alone.items == 0) && (length layout.right_alone.items == 0)
 
--- the tables are the same where no row and no column makes a difference
+-- the outcome: the tables are the same if no row and no column makes a difference
 abbrev pub outcome_of : Options → Layout → Comparison → Outcome
 outcome_of options layout c =
     outcome.outcome_of c.matching c.changed.items (options.common || no_columns layout)
 
--- the lines of the columns that one input has alone
+-- the lines of the columns that only one input has
 abbrev pub columns_text : Options → List ℕ → List ℕ → Names → Names → Layout → List ℕ
 columns_text options left right left_names right_names layout =
     if options.common then [] else alone_lines options.format Left left left_names
@@ -89,7 +91,7 @@ pub record AreSidesOf (options : Options) (left_text right_text left_name right_
   pub null : option_map (λ v. v.items) sides.null ≡ option_map (λ v. v.now) options.null
   pub colored : sides.colored ≡ options.colored
 
--- the report of two texts, and what it comes to
+-- the report of two texts, and its outcome
 pub record IsReportOf (options : Options)
     (left_text right_text left_name right_name written : List ℕ) (outcome : Outcome) : Type 0 where
   pub layout : Layout

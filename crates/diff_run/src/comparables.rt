@@ -1,4 +1,4 @@
-//! What the rows of two inputs are compared by.
+//! The tables that the rows of two inputs are compared by.
 
 ghost use Rattle.std.specs.Prelude.{◌≡◌, ◌<◌, length, MatchResult};
 ghost use Rattle.diff_columns.specs.Names.{names_of};
@@ -63,8 +63,8 @@ fn table_by(
     }
 }
 
-/// Returns the tables that the rows of both inputs are compared by, where numbers count in all
-/// columns but those that are compared as texts.
+/// Returns the tables that the rows of both inputs are compared by. Numbers count in all columns
+/// except those that are compared as texts.
 fn tables_by(
     alloc: Global,
     names: &BinaryArray<i64>,
@@ -85,7 +85,8 @@ fn tables_by(
     Ok(Comparables { left, right })
 }
 
-/// Returns what the rows of both inputs are compared by, where they are not compared by themselves.
+/// Returns the tables that the rows of both inputs are compared by, if they are not compared as
+/// they are.
 pub(crate) fn compared_by(
     alloc: Global,
     names: &BinaryArray<i64>,

@@ -132,8 +132,8 @@ pub(crate) fn push_lines(
     Ok(())
 }
 
-/// Appends what stands behind the lines: in text how many more there are and the summary, in JSON
-/// the counts. `counts` says how often each column differs.
+/// Appends the end of a report. In text it is the number of differences without a line, and the
+/// summary. In JSON it is the line with the counts. `counts` says how often each column differs.
 pub(crate) fn push_end(
     out: &mut Vec<u8>,
     format: Format,

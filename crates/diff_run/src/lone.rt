@@ -1,4 +1,4 @@
-//! Columns that one of two inputs has alone.
+//! Columns that only one of two inputs has.
 
 ghost use Rattle.std.specs.Prelude.{◌≡◌, ◌<◌, ◌++◌, All, length, OnOk};
 ghost use Rattle.polars_arrays_bytes.specs.OffsetStrings.{offset_strings};

@@ -28,14 +28,14 @@ use diff_report::sides::Sides;
 use diff_tables::compare::{Comparison, compare_tables};
 use std::alloc::{AllocError, Global};
 
-/// The report of two inputs, and what it comes to.
+/// The report of two inputs, and its outcome.
 #[derive(Drop)]
 pub(crate) struct Report {
     pub(crate) text: Vec<u8>,
     pub(crate) outcome: Outcome,
 }
 
-/// Returns the lines of the columns that one input has alone.
+/// Returns the lines of the columns that only one input has.
 fn columns_text(
     alloc: Global,
     heads: &Heads,
@@ -113,7 +113,7 @@ fn push_all(
     Ok(())
 }
 
-/// Returns whether the tables are the same.
+/// Returns the outcome: whether the tables are the same.
 fn outcome_of(options: &Options<'_>, layout: &Layout, comparison: &Comparison) -> Outcome
     ensures { result ≡ outcome_of options.now layout.now comparison.now }
 {

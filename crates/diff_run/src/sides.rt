@@ -1,4 +1,4 @@
-//! Two inputs as a report takes them.
+//! The two sides of a report, made from two inputs.
 
 ghost use Rattle.std.specs.Option.{option_map};
 ghost use Rattle.std.specs.Prelude.{◌≡◌, ℕ, List, IfOk, MatchResult};
@@ -29,8 +29,8 @@ pub(crate) struct Files<'a> {
     pub(crate) right: &'a [u8],
 }
 
-/// What the report has beside the rows: the names of the inputs and of the columns, the places of
-/// the keys among these, and the cell that stands for no value, where there is one.
+/// The things that a report has beside the rows: the names of the inputs and of the columns, the
+/// places of the keys among these, and the cell that stands for no value, where there is one.
 #[derive(Drop)]
 pub(crate) struct Frame {
     pub(crate) left: Vec<u8>,
@@ -51,7 +51,7 @@ fn copied(alloc: Global, text: Option<&[u8]>) -> Result<Option<Vec<u8>>, AllocEr
     }
 }
 
-/// Returns what the report has beside the rows. The one error is `Memory`.
+/// Returns the things that a report has beside the rows. The one error is `Memory`.
 fn frame_of(
     alloc: Global,
     heads: &Heads,

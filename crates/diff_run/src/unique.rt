@@ -41,8 +41,8 @@ fn test_side(
     }
 }
 
-/// Tests that no two rows of a side have one key, by what they are compared by, where keys have to
-/// be unique.
+/// Tests that no two rows of a side have one key, if keys have to be unique. The keys are those of
+/// the rows as they are compared.
 pub(crate) fn test_keys(alloc: Global, sides: &Sides, options: &Options<'_>) -> Result<(), RunError>
     requires { AreSides sides.now }
     ensures { MatchResult result

@@ -1,4 +1,4 @@
--- What the differences of two tables share.
+-- The frame that the differences of two tables share.
 --
 -- The frame of the columns id and city with the key id names a row 77, Oslo by id=77.
 use Rattle.std.specs.Option.{option_map}
@@ -9,7 +9,7 @@ use Rattle.diff_report.specs.Sides.{naming_of}
 use Rattle.diff_report.specs.declared.sides.Sides.{Sides}
 use Rattle.diff_single.specs.declared.frame.Frame.{Frame}
 
--- what a frame names rows and cells by
+-- the names by which a frame names rows and cells
 abbrev pub naming_by : Frame → Naming
 naming_by f =
     record {

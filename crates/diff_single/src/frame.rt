@@ -1,9 +1,9 @@
-//! What the differences of two tables share.
+//! The frame that the differences of two tables share.
 
 use diff_words::formats::Format;
 use polars_arrays_bytes::binary::BinaryArray;
 
-/// What the lines of all differences of two tables share.
+/// The properties that the lines of all differences of two tables share.
 #[derive(Clone, Copy)]
 pub struct Frame<'a> {
     /// The names of the columns that are compared.
@@ -12,7 +12,7 @@ pub struct Frame<'a> {
     pub keys: &'a [usize],
     /// The cell that stands for no value, where there is one.
     pub null: Option<&'a [u8]>,
-    /// Whether the lines have colours for a terminal.
+    /// `true` if the lines have colours for a terminal.
     pub colored: bool,
     /// The form of the lines.
     pub format: Format,

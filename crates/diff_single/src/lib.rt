@@ -1,4 +1,5 @@
-//! The lines of single differences, each made of its rows alone: no table need be whole in memory.
+//! The lines of single differences. Each is made of its rows alone, so that no table has to be in
+//! memory as a whole.
 #![tactic(auto)]
 
 pub mod changes;

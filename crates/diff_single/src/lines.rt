@@ -17,8 +17,8 @@ use diff_report::lines::Alone;
 use diff_tables::string_list::StringList;
 use std::alloc::{AllocError, Global};
 
-/// Appends the line of two rows of one key that differ, as it stands in the report of any two
-/// tables that have these rows.
+/// Appends the line of two rows of one key that differ. The line is the same in the report of any
+/// two tables that have these rows.
 pub fn push_changed<L: StringList, R: StringList>(
     alloc: Global,
     out: &mut Vec<u8>,
@@ -41,8 +41,8 @@ pub fn push_changed<L: StringList, R: StringList>(
     Ok(())
 }
 
-/// Appends the line of a left row that has no partner, as it stands in the report of any two tables
-/// of which the left one has this row.
+/// Appends the line of a left row that has no partner. The line is the same in the report of any
+/// two tables whose left one has this row.
 pub fn push_removed<L: StringList>(
     alloc: Global,
     out: &mut Vec<u8>,
@@ -56,14 +56,14 @@ pub fn push_removed<L: StringList>(
         → out.new.items ≡ out.old.items
         ++ row_alone frame.now.format Removed (naming_of s) s.left i) }
 {
-    // Of these sides one alone is printed.
+    // Only one of these sides is printed.
     let sides = sides_of(alloc, frame, row, row)?;
     push_row(out, frame.format, Alone::Removed, &sides, &sides.left, 0)?;
     Ok(())
 }
 
-/// Appends the line of a right row that has no partner, as it stands in the report of any two
-/// tables of which the right one has this row.
+/// Appends the line of a right row that has no partner. The line is the same in the report of any
+/// two tables whose right one has this row.
 pub fn push_added<L: StringList>(
     alloc: Global,
     out: &mut Vec<u8>,
@@ -77,7 +77,7 @@ pub fn push_added<L: StringList>(
         → out.new.items ≡ out.old.items
         ++ row_alone frame.now.format Added (naming_of s) s.right i) }
 {
-    // Of these sides one alone is printed.
+    // Only one of these sides is printed.
     let sides = sides_of(alloc, frame, row, row)?;
     push_row(out, frame.format, Alone::Added, &sides, &sides.right, 0)?;
     Ok(())

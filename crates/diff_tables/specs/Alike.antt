@@ -1,4 +1,4 @@
--- Strings that are stored alike: as long, and with the same bytes one behind another.
+-- Strings that are stored alike: with the same lengths, and with the same bytes one behind another.
 --
 -- The strings "ab", "c" and the strings "a", "bc" have the same bytes, but not the same lengths.
 use Rattle.std.specs.List.{Contains, flat_map}
@@ -19,14 +19,14 @@ abbrev pub AreSameCells : ℕ → List (List ℕ) → List (List ℕ) → List �
 AreSameCells w left right left_rows right_rows p = window (w * slice_index left_rows p) w left
     ≡ window (w * slice_index right_rows p) w right
 
--- n strings from string `at` on are as long as n others from string `from` on, each as the one at
--- its place
+-- n strings from string `at` on have the same lengths as n others from string `from` on, place by
+-- place
 abbrev pub AreAsLong : ℕ → ℕ → List (List ℕ) → ℕ → List (List ℕ) → Type 0
 AreAsLong n at left from right = (c : ℕ) → c < n → length (get_or left (at + c) [])
     ≡ length (get_or right (from + c) [])
 
 -- for each pair from `start` up to `end` there is a flag, and where it is set the strings of the
--- two rows are as long
+-- two rows have the same lengths
 pub record TellLengths (w : ℕ) (left right : List (List ℕ)) (left_rows right_rows : List ℕ)
     (start end : ℕ) (flags : List Bool) : Type 0 where
   pub one_each : length flags ≡ end - start

@@ -21,8 +21,8 @@ pub record ArePairs (left right : List (List (List ℕ))) (left_rows right_rows 
   pub left_within : (k : ℕ) → k < length left_rows → slice_index left_rows k < length left
   pub right_within : (k : ℕ) → k < length right_rows → slice_index right_rows k < length right
 
--- rows with the same cells in the key columns are matched, the first with the first; of the
--- partners those that differ are listed
+-- rows with the same cells in the key columns are matched, the first with the first; the partners
+-- that differ are listed
 pub record IsComparison (columns : List ℕ) (left right : List (List (List ℕ))) (c : Comparison) :
     Type 0 where
   pub matching : IsMatching (row_keys columns left) (row_keys columns right) c.matching

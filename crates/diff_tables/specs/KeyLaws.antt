@@ -2,7 +2,7 @@
 use Rattle.std.proofs.Common.{◌≡◌, ◌↔◌, ℕ, zero, suc, List, [], ◌∷◌, ◌++◌, get_or, ap, ◌∙◌, refl}
 use Rattle.diff_tables.specs.Keys.{escaped, row_key, cells_at}
 
--- the ends show: what follows a string can't be taken for a part of it
+-- the end of a string shows: the bytes that follow it can't be taken for a part of it
 pub escaped_splits : (xs ys r s : List ℕ) → escaped xs ++ r ≡ escaped ys ++ s → (xs ≡ ys) × (r ≡ s)
 unfolding escaped
 escaped_splits [] [] r s e = (refl, cc)

@@ -1,6 +1,6 @@
--- Laws: what it says of two tables that their comparison has no difference. For each key they have
--- the same rows of that key, in the same order (`same_by_key`). So they have the same rows, up to
--- order (`same_rows`), and where no key of one of them comes twice that is all
+-- Laws of two tables whose comparison has no difference. For each key they have the same rows of
+-- that key, in the same order (`same_by_key`). They thus have the same rows, up to order
+-- (`same_rows`). If no key of one of them comes twice, this is all that it says
 -- (`same_where_keys_differ`). Without key columns they are the same (`same_by_position`).
 use Rattle.std.proofs.Common.{◌≡◌, ◌<◌, ◌↔◌, ℕ, Bool, true, false, List, [], ◌∷◌, Some, length}
 use Rattle.std.proofs.Common.{get_or, arith, ap, sym, ◌∙◌, refl, subst, ◌⊎◌, inl, inr, ◌≢◌}
@@ -58,7 +58,7 @@ none_changed left right left_rows right_rows changed h = (
       is.1 (same k is.0)),
 )
 
--- at places within two tables the same row
+-- within two tables, the rows at two places are the same exactly where both ways to read them agree
 pub same_places : (left right : List (List (List ℕ))) (i j : ℕ) → i < length left → j < length right
     → (slice_get left i ≡ slice_get right j) ↔ (get_or left i [] ≡ get_or right j [])
 same_places left right i j l r = (

@@ -24,8 +24,8 @@ fn bytes_from<O: Offset>(array: &BinaryArray<O>, at: usize, n: usize) -> &[u8]
     &array.values()[from..to]
 }
 
-/// Returns whether `n` strings from string `at` on are as long as `n` others from string `from` on,
-/// each as the one at its place.
+/// Returns whether `n` strings from string `at` on have the same lengths as `n` others from string
+/// `from` on, place by place.
 fn are_as_long<L: ByteRows, R: ByteRows>(
     left: &L,
     at: usize,
@@ -48,7 +48,8 @@ fn are_as_long<L: ByteRows, R: ByteRows>(
 }
 
 /// Returns whether `n` strings from string `at` on are stored like `n` others from string `from`
-/// on: as long, as `as_long` says, and with the same bytes. They are then the same.
+/// on: with the same lengths, which `as_long` says, and with the same bytes. They are then the
+/// same.
 fn are_alike<L: Offset, R: Offset>(
     left: &BinaryArray<L>,
     at: usize,
@@ -70,8 +71,8 @@ fn are_alike<L: Offset, R: Offset>(
     bytes_from(left, at, n) == bytes_from(right, from, n)
 }
 
-/// Returns for each pair from `start` up to `end` whether its rows' strings are as long, each as
-/// the one at its place.
+/// Returns for each pair from `start` up to `end` whether the strings of its two rows have the same
+/// lengths, place by place.
 fn lengths_agree<L: Offset, R: Offset>(
     alloc: Global,
     left: &BinaryArray<L>,
@@ -103,8 +104,8 @@ fn lengths_agree<L: Offset, R: Offset>(
     Ok(flags)
 }
 
-/// Appends the pairs from `start` up to `end` that are not stored alike. `as_long` has for each of
-/// them whether its rows' strings are as long.
+/// Appends the pairs from `start` up to `end` that are not stored alike. `as_long` says for each
+/// pair whether the strings of its two rows have the same lengths.
 fn push_unlike<L: Offset, R: Offset>(
     places: &mut Vec<usize>,
     left: &BinaryArray<L>,

@@ -16,13 +16,13 @@ use std::marker::Model;
 /// The array that cells are stored in.
 #[derive(Drop)]
 enum Stored {
-    // With ends of 32 bits, and beside it its bytes, which it shares.
+    // An array with ends of 32 bits, and its bytes, which it shares.
     Near(BinaryArray<i32>, Buffer<u8>),
-    // With ends of 64 bits.
+    // An array with ends of 64 bits.
     Far(BinaryArray<i64>),
 }
 
-/// Byte strings, between ends of 32 bits where all are below 2^31.
+/// Byte strings. Their ends have 32 bits if all of them are below 2^31.
 pub(crate) struct Cells {
     stored: Stored,
 }

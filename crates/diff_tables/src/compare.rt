@@ -49,7 +49,7 @@ fn changed_rows(
     rows::changed_rows(alloc, left.lent(), left_rows, right.lent(), right_rows)
 }
 
-/// Returns the numbers at some places.
+/// Returns the elements of `numbers` at some places.
 fn numbers_at(alloc: Global, numbers: &[u32], places: &[usize]) -> Result<Vec<u32>, AllocError>
     requires { ArePlaces (length numbers.now) places.now }
     ensures { IfOk result (λ picked. picked.items ≡ map (slice_index numbers.now) places.now) }
@@ -61,7 +61,7 @@ fn numbers_at(alloc: Global, numbers: &[u32], places: &[usize]) -> Result<Vec<u3
     Ok(picked)
 }
 
-/// Returns the places that stand at some places among these.
+/// Returns the elements of `all` at some places.
 fn places_at(alloc: Global, all: &[usize], places: &[usize]) -> Result<Vec<usize>, AllocError>
     requires { ArePlaces (length all.now) places.now }
     ensures { IfOk result (λ picked. picked.items ≡ map (slice_index all.now) places.now) }
@@ -89,7 +89,7 @@ fn changed_places(
         matching.now.right_rows.items) (length matching.now.left_rows.items) changed.items)
         IsMemory }
 {
-    // Most rows are stored alike, and so the same. Of the others the kernel says which differ.
+    // Most rows are stored alike, and so the same. The kernel says which of the others differ.
     let places = left.unlike_pairs(alloc, &matching.left_rows, right, &matching.right_rows)?;
     let left_rows = numbers_at(alloc, &matching.left_rows, &places)?;
     let right_rows = numbers_at(alloc, &matching.right_rows, &places)?;
@@ -98,7 +98,7 @@ fn changed_places(
     Ok(changed)
 }
 
-/// Matches rows that have these keys with the rows of a table that have them in the key columns.
+/// Matches left rows, which have the keys `left_keys`, with the rows of a table by its key columns.
 fn matched_with(
     alloc: Global,
     left_keys: &BinaryArray<i64>,

@@ -5,7 +5,7 @@ ghost use Rattle.diff_tables.specs.Keys.{escaped, marked};
 
 use std::alloc::AllocError;
 
-/// Appends a byte, and a 1 behind a zero.
+/// Appends a byte, and after a zero also a 1.
 fn push_byte(out: &mut Vec<u8>, byte: u8) -> Result<(), AllocError>
     ensures { OnOk result (out.new.items ≡ out.old.items ++ marked byte) }
 {

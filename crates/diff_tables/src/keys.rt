@@ -12,7 +12,7 @@ use polars_arrays_bits::error::ComputeError;
 use polars_arrays_bytes::binary::BinaryArray;
 use std::alloc::{AllocError, Global};
 
-/// Makes `key` the key of row `i`.
+/// Sets `key` to the key of row `i`.
 fn write_key(
     key: &mut Vec<u8>,
     table: &Table,

@@ -2,7 +2,7 @@
 
 ghost use Rattle.std.specs.Prelude.{◌≡◌, ◌<◌, ℕ, List, [], length, get_or};
 
-/// A list of byte strings, which are asked for by their places.
+/// A list of byte strings, each found by its place.
 pub trait StringList {
     // The strings, the first one first.
     ghost strings: { Self → List (List ℕ) };

@@ -19,9 +19,9 @@ use std::alloc::{AllocError, Global};
 /// bytes below 2^31, and 8 from there on.
 #[derive(Drop)]
 pub struct Strings {
-    // A 0, and behind it the end of each string: of the ends the first ones, which have 32 bits.
+    // A 0, and behind it the ends of the first strings, as long as they fit 32 bits.
     ends: Vec<i32>,
-    // The ends behind them.
+    // The ends of the later strings.
     far_ends: Vec<i64>,
     bytes: Vec<u8>,
 }

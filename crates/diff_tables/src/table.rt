@@ -56,14 +56,14 @@ impl Table {
         })
     }
 
-    /// Returns how many cells each row has.
+    /// Returns the number of cells of each row.
     pub fn width(&self) -> usize
         ensures { result ≡ self.now.width }
     {
         self.width
     }
 
-    /// Returns how many rows there are.
+    /// Returns the number of rows.
     pub fn count(&self) -> usize
         ensures { result ≡ length self.now.rows }
     {
@@ -81,8 +81,8 @@ impl Table {
         self.cells.value(self.width * i + c)
     }
 
-    /// Lists the pairs of rows that are not stored alike: with cells as long, and of the same
-    /// bytes. The rows of all other pairs are the same.
+    /// Lists the pairs of rows that are not stored alike. Rows are stored alike if their cells have
+    /// the same lengths and the same bytes. The rows of all other pairs are the same.
     pub(crate) fn unlike_pairs(
         &self,
         alloc: Global,

@@ -1,4 +1,4 @@
-//! How many columns of a terminal a text takes, and texts that are cut in the middle.
+//! The number of columns of a terminal that a text takes, and texts that are cut in the middle.
 
 ghost use Rattle.std.specs.Prelude.{◌≡◌, ◌≤◌, ◌++◌, ◌-◌, OnOk};
 ghost use Rattle.diff_widths.specs.Cut.{beginning, char_columns, cut, ending, filler, shortened};
@@ -7,7 +7,7 @@ ghost use Rattle.diff_widths.specs.Cut.{spaces, width};
 use std::alloc::AllocError;
 use unicode_width::UnicodeWidthChar;
 
-/// Returns the columns that a character takes by itself.
+/// Returns the number of columns that a single character takes.
 #[tactic(auto, unfolding(crate::specs::Cut::char_columns))]
 fn char_columns(c: char) -> usize
     ensures value { result ≡ char_columns c }
@@ -19,7 +19,7 @@ fn char_columns(c: char) -> usize
     }
 }
 
-/// Returns the columns that a text takes, character by character.
+/// Returns the number of columns that a text takes: the sum of those of its characters.
 pub fn width_of(text: &[char]) -> usize
     ensures { result ≡ width text.now }
 {
@@ -30,7 +30,7 @@ pub fn width_of(text: &[char]) -> usize
     total
 }
 
-/// Appends the longest beginning of a text that has room.
+/// Appends the longest beginning of a text that fits into the room.
 fn push_beginning(out: &mut Vec<char>, text: &[char], room: usize) -> Result<(), AllocError>
     ensures { OnOk result (out.new.items ≡ out.old.items ++ beginning room text.now) }
 {
@@ -46,8 +46,8 @@ fn push_beginning(out: &mut Vec<char>, text: &[char], room: usize) -> Result<(),
     Ok(())
 }
 
-/// Appends the longest end of a text that has room, without combining marks whose letter is not in
-/// it.
+/// Appends the longest end of a text that fits into the room, without combining marks whose letter
+/// is not in it.
 fn push_ending(out: &mut Vec<char>, text: &[char], room: usize) -> Result<(), AllocError>
     ensures { OnOk result (out.new.items ≡ out.old.items ++ ending room text.now) }
 {
@@ -63,7 +63,7 @@ fn push_ending(out: &mut Vec<char>, text: &[char], room: usize) -> Result<(), Al
     Ok(())
 }
 
-/// Appends a text that has no room: its beginning, `…` and its end.
+/// Appends a text that does not fit into the room: its beginning, `…` and its end.
 fn push_shortened(out: &mut Vec<char>, text: &[char], room: usize) -> Result<(), AllocError>
     ensures { OnOk result (out.new.items ≡ out.old.items ++ shortened room text.now) }
 {
@@ -77,7 +77,7 @@ fn push_shortened(out: &mut Vec<char>, text: &[char], room: usize) -> Result<(),
     Ok(())
 }
 
-/// Appends a text as it is where it has room, and else cut in the middle.
+/// Appends a text unchanged if it fits into the room, and otherwise cut in the middle.
 #[tactic(auto, unfolding(crate::specs::Cut::cut))]
 pub fn push_cut(out: &mut Vec<char>, text: &[char], room: usize) -> Result<(), AllocError>
     ensures { OnOk result (out.new.items ≡ out.old.items ++ cut room text.now) }
@@ -90,7 +90,7 @@ pub fn push_cut(out: &mut Vec<char>, text: &[char], room: usize) -> Result<(), A
     Ok(())
 }
 
-/// Appends spaces.
+/// Appends `n` spaces.
 fn push_spaces(out: &mut Vec<char>, n: usize) -> Result<(), AllocError>
     ensures { OnOk result (out.new.items ≡ out.old.items ++ spaces n) }
 {

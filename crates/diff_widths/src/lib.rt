@@ -1,4 +1,4 @@
-//! How many columns of a terminal texts take.
+//! The number of columns of a terminal that a text takes.
 #![tactic(auto)]
 
 pub mod cut;

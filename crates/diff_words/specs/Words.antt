@@ -11,10 +11,10 @@ abbrev pub is_word_byte : ℕ → Bool
 is_word_byte b = nat_lt 32 b && not (b == 34) && not (b == 44) && not (b == 61) && not (b == 92)
     && not (b == 127) && not (b == 194)
 
--- some bytes, each of which may stand in a word
+-- bytes that may all stand in a word
 abbrev pub is_word : List ℕ → Bool
 is_word bytes = not (length bytes == 0) && list_all is_word_byte bytes
 
--- a word as it is, and other byte strings between quotes
+-- a byte string: a word unchanged, and any other between quotes
 unfoldable pub word_text : List ℕ → List ℕ
 word_text bytes = if is_word bytes then bytes else quoted bytes

@@ -19,7 +19,7 @@ pub fn is_null(null: &Option<Vec<u8>>, cell: &[u8]) -> bool
     }
 }
 
-/// Appends a cell between quotes, or `null` where it is the one that stands for no value.
+/// Appends a cell between quotes, or `null` if it is the cell that stands for no value.
 #[tactic(auto, unfolding(crate::specs::Cells::cell_text))]
 pub fn push_cell(out: &mut Vec<u8>, null: &Option<Vec<u8>>, cell: &[u8]) -> Result<(), AllocError>
     ensures { OnOk result
@@ -33,7 +33,7 @@ pub fn push_cell(out: &mut Vec<u8>, null: &Option<Vec<u8>>, cell: &[u8]) -> Resu
     Ok(())
 }
 
-/// Appends a cell in a colour, where there are colours.
+/// Appends a cell, in a colour if the report has colours.
 #[tactic(auto, unfolding(crate::specs::Colors::painted))]
 pub fn push_painted_cell(
     out: &mut Vec<u8>,

@@ -15,7 +15,7 @@ pub enum Color {
     Yellow,
 }
 
-/// Returns what turns a terminal to a colour.
+/// Returns the bytes that switch a terminal to a colour.
 fn code_of(color: Color) -> &'static [u8]
     ensures { result.now ≡ color_code color }
 {
@@ -27,7 +27,7 @@ fn code_of(color: Color) -> &'static [u8]
     }
 }
 
-/// Appends what turns a terminal to a colour, where there are colours.
+/// Appends the bytes that switch a terminal to a colour, if the report has colours.
 #[tactic(auto, unfolding(crate::specs::Colors::color_text))]
 pub fn push_color(out: &mut Vec<u8>, colored: bool, color: Color) -> Result<(), AllocError>
     ensures { OnOk result (out.new.items ≡ out.old.items ++ color_text colored color) }

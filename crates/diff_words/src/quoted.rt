@@ -53,7 +53,7 @@ fn push_hex(out: &mut Vec<u8>, byte: u8) -> Result<(), AllocError>
     Ok(())
 }
 
-/// Appends a byte of a quoted text, which stands between two others.
+/// Appends the text for a byte of a quoted text, which stands between two other bytes.
 #[tactic(auto, unfolding(crate::specs::Quoted::byte_text))]
 fn push_byte(out: &mut Vec<u8>, before: u8, byte: u8, after: u8) -> Result<(), AllocError>
     ensures { OnOk result (out.new.items ≡ out.old.items ++ byte_text before byte after) }

@@ -7,8 +7,8 @@ ghost use Rattle.diff_words.specs.Words.{is_word, is_word_byte, word_text};
 use crate::quoted::push_quoted;
 use std::alloc::AllocError;
 
-/// Returns whether a byte may stand in a word. With 194 begin the characters from U+0080 to U+00BF,
-/// of which some are control characters.
+/// Returns whether a byte may stand in a word. The byte 194 may not: the characters from U+0080 to
+/// U+00BF begin with it, and some of these are control characters.
 fn is_word_byte(byte: u8) -> bool
     ensures { result ≡ is_word_byte byte }
 {
@@ -35,7 +35,7 @@ fn is_word(bytes: &[u8]) -> bool
     !bytes.is_empty() && are_word_bytes(bytes)
 }
 
-/// Appends a byte string as it is where it is a word, and else between quotes.
+/// Appends a byte string unchanged if it is a word, and otherwise between quotes.
 #[tactic(auto, unfolding(crate::specs::Words::word_text))]
 pub fn push_word(out: &mut Vec<u8>, bytes: &[u8]) -> Result<(), AllocError>
     ensures { OnOk result (out.new.items ≡ out.old.items ++ word_text bytes.now) }

@@ -1,4 +1,4 @@
-//! Why a line is no document.
+//! Errors of reading a line as a document.
 
 use thiserror::Error;
 
@@ -17,8 +17,8 @@ pub enum LineFault {
     /// The line is JSON, but no object.
     #[error("no JSON object")]
     NoObject,
-    /// The document has no part where a key's path leads. `key` is the key's place, the first
-    /// being 0.
+    /// The document has no part where the path of a key leads. `key` is the place of the key, the
+    /// first being 0.
     #[error("no part at key {key}")]
     NoPart { key: usize },
 }

@@ -1,4 +1,4 @@
-//! Why a line is no JSON document, and the column at which it is none.
+//! Errors of reading a line as a JSON document, and the column of each.
 #![tactic(auto)]
 
 pub mod fault;

@@ -1,4 +1,4 @@
-//! Whether the exponents of a value's numbers are narrow.
+//! Checks that the exponents of a value's numbers are narrow.
 
 ghost use Rattle.json.specs.Value.{items_view, members_view, value_view};
 ghost use Rattle.json_decimals.specs.Texts.{HasWideExponent};
@@ -9,11 +9,11 @@ use json::Value;
 use json_decimals::error::NumberError;
 use json_decimals::numbers::push_normal_number;
 
-/// The most digits of an exponent that is narrow, its leading zeros not counted.
+/// The greatest number of digits in a narrow exponent, leading zeros not counted.
 const MOST_DIGITS: usize = 30;
 
-/// Checks that a number's exponent is narrow. `room` holds its normal text on the way, unless all
-/// its digits are few.
+/// Checks that a number's exponent is narrow. `room` holds its normal text, unless the number has
+/// few digits.
 pub(crate) fn check_number(room: &mut Vec<u8>, text: &str) -> Result<(), NumberError>
     ensures { TellsNarrow result (¬ HasWideExponent text.now) }
 {

@@ -1,5 +1,6 @@
-//! The place in a line at which it is no document, for a message. No clause says which it is: the
-//! `json` crate names no place, and of the places of its tokens it has no clause.
+//! The place in a line at which it is no document, for a message. No clause states which place this
+//! is: the `json` crate reports no place of an error, and has no clause about the places of its
+//! tokens.
 
 use crate::fault::LineFault;
 use crate::narrow::check_number;
@@ -9,7 +10,7 @@ use std::alloc::{AllocError, Global};
 use std::collections::BTreeSet;
 use std::str::from_utf8;
 
-/// The most arrays and objects that may be open.
+/// The greatest number of arrays and objects that may be open.
 const DEEPEST: usize = 128;
 
 /// Arrays and objects that are open, and whether a name stands before the next token.
@@ -81,8 +82,8 @@ fn past_blanks(text: &[u8], from: usize) -> usize {
     text.len()
 }
 
-/// Returns the place of the first token that no object of JSON has there. A string that has to be a
-/// name is one token with its colon, and a comma goes with the token before it.
+/// Returns the place of the first token that may not stand there in a JSON object. A string that
+/// has to be a name is one token with its colon, and a comma belongs to the token before it.
 fn no_json_place(alloc: Global, text: &str, scratch: &mut Scratch) -> Result<usize, AllocError> {
     let mut reader = Reader::new(text, scratch)?;
     let mut open = Open {
@@ -104,7 +105,7 @@ fn no_json_place(alloc: Global, text: &str, scratch: &mut Scratch) -> Result<usi
     Ok(text.len())
 }
 
-/// Returns the place of the first name that its object had before.
+/// Returns the place of the first name that its object has already.
 fn second_name_place(
     alloc: Global,
     text: &str,
@@ -151,7 +152,7 @@ fn wide_place(text: &str, scratch: &mut Scratch, room: &mut Vec<u8>) -> Result<u
     Ok(0)
 }
 
-/// Returns the column of a place, which is how many characters stand before it, and 1.
+/// Returns the column of a place: the number of characters before it, plus 1.
 fn column_at(line: &[u8], place: usize) -> u64 {
     let before = line
         .iter()
@@ -161,7 +162,7 @@ fn column_at(line: &[u8], place: usize) -> u64 {
     (before as u64).saturating_add(1)
 }
 
-/// Returns the place of a fault, where it has one.
+/// Returns the place of a fault, if it has one.
 fn place_of(
     alloc: Global,
     text: &str,
@@ -179,8 +180,8 @@ fn place_of(
     Ok(Some(place))
 }
 
-/// Returns the column at which a line is no document, the first being 1, where its fault has a
-/// place. Columns are counted in characters.
+/// Returns the column at which a line is no document, if its fault has a place. Columns are counted
+/// in characters, the first being 1.
 pub fn column_of(
     alloc: Global,
     line: &[u8],

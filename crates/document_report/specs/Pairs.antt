@@ -24,17 +24,17 @@ abbrev pub change_in : Format → Bool → Told → List ℕ
 change_in Text colored t = change_text colored t.path t.left t.right
 change_in Json colored t = change_object t.path t.left t.right
 
--- what stands between two of them
+-- the text between two of them
 abbrev pub separator_in : Format → List ℕ
 separator_in Text = codes ", "
 separator_in Json = codes ","
 
--- what differs, part by part
+-- the parts that differ, one after another
 abbrev pub changes_in : Format → Bool → List Told → List ℕ
 changes_in format colored changes =
     listed (separator_in format) (map (change_in format colored) changes)
 
--- a document of this name, and what differs
+-- a document of this name, and the parts that differ
 unfoldable pub pair_text : Bool → List ℕ → List Told → List ℕ
 pair_text colored name changes = painted colored Yellow (codes "~ " ++ name) ++ codes "  "
     ++ changes_in Text colored changes ++ 10 ∷ []
@@ -44,7 +44,7 @@ unfoldable pub pair_line : DocumentSides → ℕ → ℕ → List ℕ
 pair_line s i j =
     pair_text s.colored (document_name (names_of s) i (row_of s.left i)) (changes_at s i j)
 
--- two documents with these keys and line numbers, and what differs, in JSON
+-- two documents with these keys and line numbers, and the parts that differ, in JSON
 unfoldable pub pair_json : List ℕ → ℕ → ℕ → List Told → List ℕ
 pair_json keys left_line right_line changes = codes "{\"kind\":\"changed\",\"key\":{" ++ keys
     ++ codes "},\"left_line\":" ++ decimal left_line ++ codes ",\"right_line\":"
@@ -62,7 +62,7 @@ unfoldable pub changed_line : DocumentSides → Matching → ℕ → List ℕ
 changed_line s m k =
     pair_line s (slice_index m.left_rows.items k) (slice_index m.right_rows.items k)
 
--- the same in JSON
+-- the line of the pair at place k of the matched rows, in JSON
 unfoldable pub changed_object : DocumentSides → Matching → ℕ → List ℕ
 changed_object s m k =
     pair_object s (slice_index m.left_rows.items k) (slice_index m.right_rows.items k)

@@ -20,7 +20,8 @@ abbrev pub difference_lines : DocumentSides → Matching → List ℕ → List (
 difference_lines s m changed = map (changed_line s m) changed
     ++ map (alone_line 45 s s.left) m.removed.items ++ map (alone_line 43 s s.right) m.added.items
 
--- the first lines, how many more there are, the summary, and how many lines are passed over
+-- the first lines, the number of the other ones, the summary, and the number of lines that are
+-- passed over
 unfoldable pub document_report_text : DocumentSides → Matching → List ℕ → ℕ → List ℕ
 document_report_text s m changed limit = concat (take limit (difference_lines s m changed))
     ++ rest_text limit (length (difference_lines s m changed)) ++ summary_text m (length changed)

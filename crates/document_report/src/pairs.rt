@@ -21,7 +21,7 @@ use document_words::sides::DocumentSides;
 use json_changes::changes::Change;
 use std::alloc::{AllocError, Global};
 
-/// Returns what stands between two parts that differ.
+/// Returns the text between two parts that differ.
 fn separator_in(format: Format) -> &'static [u8]
     ensures { result.now ≡ separator_in format }
 {
@@ -48,7 +48,7 @@ fn push_change_in(
     }
 }
 
-/// Appends what differs, part by part.
+/// Appends the parts that differ, one after another.
 fn push_changes(
     out: &mut Vec<u8>,
     format: Format,
@@ -65,7 +65,7 @@ fn push_changes(
     Ok(())
 }
 
-/// Appends what differs between left row `i` and right row `j`, part by part.
+/// Appends the parts that differ between left row `i` and right row `j`, one after another.
 fn push_differences(
     alloc: Global,
     out: &mut Vec<u8>,

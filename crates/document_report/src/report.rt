@@ -45,9 +45,9 @@ fn push_lines(
     Ok(())
 }
 
-/// Appends what stands behind the lines, where `changed` of the matched documents differ: in text
-/// how many more differences there are, the summary, and how many lines are passed over, in JSON
-/// the counts.
+/// Appends the text behind the lines, where `changed` of the matched documents differ. In text this
+/// is the number of further differences, the summary, and the number of lines that are passed over.
+/// In JSON it is the counts.
 fn push_end(
     out: &mut Vec<u8>,
     format: Format,
@@ -72,8 +72,8 @@ fn push_end(
 }
 
 /// Appends the report of a comparison of documents: the lines of the first `limit` differences, and
-/// the counts behind them. `changed` has the places of the matched documents that differ. The one
-/// error is that memory is short.
+/// then the counts. `changed` has the places of the matched documents that differ. The only error
+/// is that an allocation failed.
 pub fn push_document_report(
     alloc: Global,
     out: &mut Vec<u8>,

@@ -13,7 +13,7 @@ use Rattle.json_normal.specs.Normal.{normal_text}
 use Rattle.json_paths.specs.Paths.{Path, part_at}
 use Rattle.document_rows.specs.declared.reading.Reading.{Reading}
 
--- the value of a line, and null where it is no JSON
+-- the value of a line, or null if the line is no JSON
 abbrev pub tree_of : List ℕ → Json
 tree_of line = unwrap_or (document line) null
 
@@ -21,12 +21,12 @@ tree_of line = unwrap_or (document line) null
 abbrev pub HasParts : List Path → Json → Type 0
 HasParts keys j = All (λ path. IsSome (part_at path j)) keys
 
--- each key leads to a part, where a key may not be null
+-- each key leads to a part, unless keys may be null
 abbrev pub HasKeys : Reading → List Path → Json → Type 0
 HasKeys reading keys j = reading.null_keys ≡ false → HasParts keys j
 
--- a line is UTF-8 and a JSON object; no object in it has a name twice, no number a wide exponent,
--- and it has the keys
+-- a line is UTF-8 and a JSON object; no object in it has a name twice, no number has a wide
+-- exponent, and each key leads to a part, unless keys may be null
 pub record IsDocument (reading : Reading) (keys : List Path) (line : List ℕ) : Type 0 where
   pub utf8 : IsUtf8 line
   pub members : Members
@@ -35,15 +35,15 @@ pub record IsDocument (reading : Reading) (keys : List Path) (line : List ℕ) :
   pub narrow : HasNarrowNumbers (object members)
   pub keys_there : HasKeys reading keys (object members)
 
--- the normal text of a part, and that of null where there is none
+-- the normal text of a part, or that of null if there is none
 abbrev pub cell_of : Option Json → List ℕ
 cell_of None = normal_text null
 cell_of (Some part) = normal_text part
 
--- the normal text of a value's part at each key, and that of null where there is none
+-- the normal text of a value's part at each key, or that of null if there is none
 abbrev pub key_cells : List Path → Json → List (List ℕ)
 key_cells keys j = map (λ path. cell_of (part_at path j)) keys
 
--- the row of a document: the cells of the keys, and last the line
+-- the row of a document: the cells of the keys, and then the line
 abbrev pub document_row : List Path → List ℕ → List (List ℕ)
 document_row keys line = key_cells keys (tree_of line) ++ line ∷ []

@@ -1,4 +1,4 @@
--- Why an input is not read.
+-- The errors of reading an input.
 --
 -- Of the lines {"id": 1}, [2], {} with the key id the second one is no object. Without it the last
 -- one has no part at the key, which is the first of the keys; where keys may be null nothing is
@@ -22,8 +22,8 @@ use Rattle.document_rows.specs.declared.reading.Reading.{Reading}
 abbrev pub IsObject : Json → Type 0
 IsObject j = (members : Members) × (j ≡ object members)
 
--- what is wrong with a line: it is no UTF-8 or no JSON; an object has a name twice; an exponent is
--- wide; it is no object; or the key at this place leads nowhere, and may not be null
+-- the fault of a line: it is no UTF-8 or no JSON; an object has a name twice; an exponent is wide;
+-- it is no object; or the key at this place leads nowhere, and may not be null
 abbrev pub IsLineFault : Reading → List Path → List ℕ → LineFault → Type 0
 IsLineFault reading keys line fault.Invalid = ¬ (IsUtf8 line) ⊎ (document line ≡ None)
 IsLineFault reading keys line fault.RepeatedName = IsSomeAnd (document line)
@@ -34,8 +34,8 @@ IsLineFault reading keys line fault.NoObject = IsSomeAnd (document line) (λ j. 
 IsLineFault reading keys line (fault.NoPart key) = (reading.null_keys ≡ false) × (key < length keys)
     × IsSomeAnd (document line) (λ j. part_at (get_or keys key []) j ≡ None)
 
--- a line of the text is no document, and is not to be passed over; those before it are documents,
--- and they are as many as its number says, which is from 1 on
+-- the line with this number is no document, and is not passed over; the lines before it are
+-- documents, and the first line has the number 1
 pub record HasFaultyLine (text : List ℕ) (reading : Reading) (keys : List Path) (number : ℕ)
     (what : LineFault) : Type 0 where
   pub before : List (List ℕ)
@@ -51,13 +51,13 @@ pub record HasFaultyLine (text : List ℕ) (reading : Reading) (keys : List Path
 abbrev pub IsMemory : ReadError → Type 0
 IsMemory e = e ≡ error.Memory
 
--- an allocation failed, or a read
+-- an allocation or a read failed
 abbrev pub IsStop : ReadError → Type 0
 IsStop error.Memory = ⊤
 IsStop (error.Read cause) = ⊤
 IsStop (error.Line number column what) = ⊥
 
--- why a text is not read: an allocation failed, or a read; or a line is no document
+-- the errors of reading a text: an allocation or a read failed, or a line is no document
 abbrev pub IsReadFault : List ℕ → Reading → List Path → ReadError → Type 0
 IsReadFault text reading keys error.Memory = ⊤
 IsReadFault text reading keys (error.Read cause) = ⊤

@@ -13,7 +13,7 @@ use Rattle.document_rows.specs.declared.reading.Reading.{Reading}
 abbrev pub HoldsDocumentsOf : Reading → List Path → TableRows → Type 0
 HoldsDocumentsOf reading keys t = (lines : List (List ℕ)) × AreRowsOf reading keys lines t
 
--- the lines that are known are those of a table of documents
+-- the known lines are those of a table of documents
 abbrev pub KnowsLines : Reading → List Path → Known → Type 0
 KnowsLines reading keys k = (t : TableRows) → option_copied k.table ≡ Some t
     → HoldsDocumentsOf reading keys t

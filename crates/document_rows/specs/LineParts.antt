@@ -10,7 +10,7 @@ use Rattle.document_rows.specs.declared.lines.Part.TheVariants as part
 abbrev pub HasNoLineFeed : List ℕ → Type 0
 HasNoLineFeed text = All (λ b. b ≢ 10) text
 
--- a read appends the part of a line that is at hand, and leaves what is behind it
+-- a read appends the part of a line that the reader has at hand, and leaves the rest
 abbrev pub TakesPart : {R : Type 0} → (R → Option (List ℕ)) → List ℕ → List ℕ → List ℕ → R → Part
     → Type 0
 TakesPart remaining rest before after reader part.Open = (text left : List ℕ)

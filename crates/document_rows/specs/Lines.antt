@@ -3,12 +3,12 @@
 -- The bytes "ab", 10, 10, "c" are the lines "ab", the empty one, and "c".
 use Rattle.std.specs.Prelude.{ℕ, ◌==◌, if◌then◌else◌, List, [], ◌∷◌}
 
--- a byte before the first line, or a line of its own where there is none
+-- lines with one more byte before the first line, or the byte as the only line if there is none
 abbrev pub before_first : ℕ → List (List ℕ) → List (List ℕ)
 before_first b [] = (b ∷ []) ∷ []
 before_first b (line ∷ lines) = (b ∷ line) ∷ lines
 
--- the lines of a text, each without its line feed; what is behind the last line feed is a line if
+-- the lines of a text, each without its line feed; the text behind the last line feed is a line if
 -- it is not empty
 unfoldable pub lines_of : List ℕ → List (List ℕ)
 lines_of [] = []

@@ -13,15 +13,15 @@ use Rattle.document_rows.specs.Parts.{IsWanted}
 use Rattle.document_rows.specs.declared.cells.Rows.{Rows}
 use Rattle.document_rows.specs.declared.reading.Reading.{Reading}
 
--- of these lines the documents that are wanted are kept, each with its cells and its number, and
--- the numbers of those that are no documents
+-- the documents of these lines are kept, each with its cells and its number, and so are the numbers
+-- of the lines that are no documents; if there is a part, only its documents are kept
 pub record HoldsRows (reading : Reading) (keys : List Path) (all : List (List ℕ)) (r : Rows) :
     Type 0 where
   pub numbered : AreNumbered reading keys all r.lines.items r.skipped.items
   pub documents : All (IsWanted reading keys) (numbered_lines all r.lines.items)
   pub cells : AreStrings r.cells (flat_map (document_row keys) (numbered_lines all r.lines.items))
 
--- lines are read to the end, and kept; where the reader's bytes are known they are all its lines
+-- lines are read to the end, and kept; if the reader's bytes are known, these are all their lines
 pub record ReadsAll {R : Type 0} (remaining : R → Option (List ℕ)) (reading : Reading)
     (keys : List Path) (reader : R) (r : Rows) : Type 0 where
   pub lines : List (List ℕ)

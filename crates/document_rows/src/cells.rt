@@ -27,15 +27,15 @@ use json::{Scratch, Value};
 use json_paths::path::Path;
 use std::alloc::{AllocError, Global};
 
-/// Room for a document, kept from line to line.
+/// Buffers for a document, which are used for one line after another.
 #[derive(Drop)]
 pub(crate) struct Rooms {
     scratch: Box<Scratch>,
     room: Room,
 }
 
-/// Rows of documents, one document's cells after another's, the number of each one's line, and the
-/// numbers of the lines that are passed over.
+/// Rows of documents, one document's cells after another's. With them are the numbers of their
+/// lines, and the numbers of the lines that are passed over.
 #[derive(Drop)]
 pub(crate) struct Rows {
     pub(crate) cells: Strings,
@@ -43,7 +43,7 @@ pub(crate) struct Rows {
     pub(crate) skipped: Vec<u64>,
 }
 
-/// Appends the normal text of a document's part at a key, and that of null where there is none.
+/// Appends the normal text of a document's part at a key, or that of null if there is none.
 fn push_part(
     alloc: Global,
     cells: &mut Strings,
@@ -84,7 +84,7 @@ fn push_parts(
 }
 
 impl Rooms {
-    /// Returns room that is empty.
+    /// Returns empty buffers.
     pub(crate) fn new(alloc: Global) -> Result<Rooms, AllocError> {
         let scratch = Box::new(alloc, Scratch::new(alloc))?;
         let number = Vec::new(alloc);
@@ -93,7 +93,7 @@ impl Rooms {
         Ok(Rooms { scratch, room })
     }
 
-    /// Returns the column of a fault in a line, where it has one.
+    /// Returns the column of a fault in a line, if it has one.
     pub(crate) fn column_of(
         &mut self,
         alloc: Global,
@@ -135,7 +135,7 @@ impl Rows {
         })
     }
 
-    /// Appends a row that is one of a table, for the line of a number.
+    /// Appends a row of a table, for the line with this number.
     pub(crate) fn push_copy(
         &mut self,
         table: &Table,
@@ -155,8 +155,8 @@ impl Rows {
         Ok(())
     }
 
-    /// Appends the row of a document, which is the line of a number: the cells of the keys, and the
-    /// line. Appends nothing where the line is no document, or one of another part.
+    /// Appends the row of a document, which is the line with this number: the cells of the keys,
+    /// and the line. Appends nothing if the line is no document, or is one of another part.
     pub(crate) fn push(
         &mut self,
         alloc: Global,
@@ -184,7 +184,7 @@ impl Rows {
         Ok(())
     }
 
-    /// Passes over the line of a number, which is no document.
+    /// Passes over the line with this number, which is no document.
     pub(crate) fn skip(&mut self, number: u64) -> Result<(), AllocError>
         ensures { OnOk result
             ((reading : Reading) (keys : List paths.Path) (lines : List (List ℕ)) (line : List ℕ)

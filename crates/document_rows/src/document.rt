@@ -22,7 +22,7 @@ pub fn line_of(table: &Table, row: usize) -> &[u8]
     table.cell(row, table.width() - 1)
 }
 
-/// Returns the document of a row. `scratch` is kept from document to document.
+/// Returns the document of a row. `scratch` may be used for one document after another.
 pub fn document_of<'a>(
     alloc: Global,
     table: &'a Table,

@@ -1,4 +1,4 @@
-//! Why an input of documents is not read.
+//! Errors of reading an input of documents.
 
 ghost use Rattle.document_rows.specs.Errors.{IsMemory};
 
@@ -18,8 +18,8 @@ pub enum ReadError {
     Read {
         cause: io::Error,
     },
-    /// A line is no document. `line` is its number, from 1 on, and `column` where in it the fault
-    /// is, if it is at a place: how many characters stand before that, and 1.
+    /// A line is no document. `line` is its number, the first being 1. `column` is the place of the
+    /// fault in it, if it has one: the number of characters before this place, plus 1.
     #[error("line {line}: {fault}")]
     Line {
         line: u64,

@@ -1,5 +1,5 @@
-//! Rows that the next lines may have been read from. A guess may be wrong, so that no clause speaks
-//! of it.
+//! Rows that may have been read from lines equal to the next ones. A guess may be wrong, so no
+//! clause speaks of it.
 
 ghost use Rattle.document_rows.specs.Tables.{HoldsDocuments};
 
@@ -8,15 +8,16 @@ use diff_tables::table::Table;
 use memchr::memchr;
 use std::alloc::{AllocError, Global};
 
-/// How many lines a block has at most. All of them are looked up before any is worked on, so that
-/// few reads of memory wait for others.
+/// The greatest number of lines in a block. All of them are looked up before any is worked on, so
+/// that few reads of memory wait for others.
 const BLOCK: usize = 256;
 
-/// A row for each of the lines that come next. One that is no row of the table stands for none.
+/// A guess for each of the next lines: a row that may have been read from an equal line. A number
+/// that is no row of the table is no guess.
 #[derive(Drop)]
 pub(crate) struct Guesses {
     rows: Vec<usize>,
-    // How many of them are taken.
+    // The number of guesses that are taken.
     next: usize,
 }
 
@@ -48,13 +49,13 @@ impl Guesses {
     }
 }
 
-/// Splits the first line off some bytes, if it ends in them.
+/// Splits the first line off some bytes, if they contain its end.
 fn split_line<'a>(bytes: &'a [u8]) -> Option<(&'a [u8], &'a [u8])> {
     let end = memchr(b'\n', bytes)?;
     Some((&bytes[..end], &bytes[end + 1..]))
 }
 
-/// Returns the lines that end in some bytes, up to a block of them.
+/// Returns the complete lines of some bytes, at most a block of them.
 pub(crate) fn lines_in<'a>(alloc: Global, bytes: &'a [u8]) -> Result<Vec<&'a [u8]>, AllocError> {
     let mut lines = Vec::with_capacity(alloc, BLOCK)?;
     let mut rest = bytes;
@@ -68,7 +69,7 @@ pub(crate) fn lines_in<'a>(alloc: Global, bytes: &'a [u8]) -> Result<Vec<&'a [u8
     Ok(lines)
 }
 
-/// Returns the line of each of these rows, and an empty one in place of a row that is none.
+/// Returns the line of each of these rows, and an empty line for a number that is no row.
 fn lines_of<'a>(
     alloc: Global,
     table: &'a Table,
@@ -87,10 +88,11 @@ fn lines_of<'a>(
     Ok(lines)
 }
 
-/// How many bytes are read from memory at once.
+/// The number of bytes that are read from memory at once.
 const PART: usize = 64;
 
-/// Returns whether two lines are as long, and alike at a byte of each part and at the last one.
+/// Returns whether two lines have the same length, and are equal at a byte of each part and at the
+/// last byte.
 #[inline(always)]
 fn are_similar(line: &[u8], other: &[u8]) -> bool {
     if line.len() != other.len() {
@@ -103,8 +105,9 @@ fn are_similar(line: &[u8], other: &[u8]) -> bool {
     similar
 }
 
-/// Returns each of these rows whose line is similar to the one at its place, and a row that is none
-/// in place of the others. So the lines of the rows are at hand when they are compared.
+/// Returns each of these rows whose line is similar to the line at its place, and a number that is
+/// no row instead of each other row. This also loads the lines of the rows from memory before they
+/// are compared.
 pub(crate) fn likely_rows(
     alloc: Global,
     table: &Table,

@@ -17,15 +17,15 @@ use std::alloc::{AllocError, Global};
 /// An odd number whose bits look random: the golden ratio in 64 bits.
 const SPREAD: u64 = 0x9e37_79b9_7f4a_7c15;
 
-/// How many slots there are for each row, so that few lines share one.
+/// The number of slots for each row, so that few lines share a slot.
 const SLOTS: usize = 8;
 
 /// Lines that rows of a table were read from. A document and its cells are a function of its line,
-/// so that another line of the same bytes has the same row.
+/// so another line of the same bytes has the same row.
 #[derive(Drop)]
 pub(crate) struct Known<'a> {
     table: Option<&'a Table>,
-    // In the slot of each line a row that was read from it, unless another line took the slot.
+    // For each slot, a row whose line has this slot. Of several such rows only one is kept.
     slots: Vec<u32>,
 }
 
@@ -46,13 +46,13 @@ fn word_at(line: &[u8], at: usize) -> u64
     ])
 }
 
-/// Returns a number into which another one is mixed.
+/// Mixes a number into another one.
 #[inline(always)]
 fn mixed(number: u64, other: u64) -> u64 {
     (number ^ other).wrapping_mul(SPREAD).rotate_left(29)
 }
 
-/// Returns a number that spreads lines of less than 32 bytes. `start` is mixed into it.
+/// Returns a hash of a line of less than 32 bytes. `start` is mixed into it.
 #[inline(always)]
 fn spread_short(line: &[u8], start: u64) -> u64 {
     let mut number = start;
@@ -66,8 +66,8 @@ fn spread_short(line: &[u8], start: u64) -> u64 {
     number ^ (number >> 32)
 }
 
-/// Returns a number that spreads lines. It is made of four, each of which takes every fourth eight
-/// bytes, so that few products wait for others.
+/// Returns a hash of a line. It is made of four numbers. Each of these takes every fourth group of
+/// eight bytes, so that few products wait for others.
 fn spread(line: &[u8]) -> u64 {
     let parts = line.len() / 32;
     let (mut a, mut b, mut c, mut d) = (0, 1, 2, 3);
@@ -142,8 +142,8 @@ impl<'a> Known<'a> {
         Ok(rows)
     }
 
-    /// Returns for each line that ends in some bytes, up to a block of them, a row that it may have
-    /// been read from. What is read of one line waits for no other one.
+    /// Returns a row for each complete line of some bytes, at most a block of them. The row may
+    /// have been read from an equal line. The reads for one line don't wait for those of another.
     pub(crate) fn guesses_for(&self, alloc: Global, bytes: &[u8]) -> Result<Guesses, AllocError>
         requires { (reading : Reading) × (keys : List Path) × KnowsLines reading keys self.now }
     {
@@ -157,7 +157,7 @@ impl<'a> Known<'a> {
         Ok(Guesses::of(rows))
     }
 
-    /// Returns a row that may have been read from a line.
+    /// Returns a row that may have been read from an equal line.
     fn row_for(&self, line: &[u8]) -> usize {
         if self.slots.is_empty() {
             return 0;
@@ -165,8 +165,8 @@ impl<'a> Known<'a> {
         self.slots[slot_of(line, self.slots.len())] as usize
     }
 
-    /// Appends the row of a line, if it is known. Returns whether it is. `number` is the line's,
-    /// and `guess` a row that it may have.
+    /// Appends the row of a line, if the line is known. Returns whether it is. `number` is the
+    /// number of the line, and `guess` is a row that it may have.
     pub(crate) fn push_row(
         &self,
         rows: &mut Rows,

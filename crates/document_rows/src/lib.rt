@@ -1,4 +1,5 @@
-//! Reads inputs of JSON documents, one a line, to tables, and tells which matched documents differ.
+//! Reads inputs of JSON documents, one a line, to tables, and finds the matched documents that
+//! differ.
 #![tactic(auto)]
 
 mod cells;

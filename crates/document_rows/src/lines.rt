@@ -7,18 +7,18 @@ ghost use Rattle.document_rows.specs.Reading.{TakesLine};
 use memchr::memchr;
 use std::io::{BufRead, ErrorKind, Result};
 
-/// How far a line is read.
+/// The state of a line after a read.
 #[derive(Clone, Copy, Drop)]
 enum Part {
-    /// It may go on.
+    /// The line may go on.
     Open,
-    /// Its line feed was met.
+    /// The line feed was read.
     Ended,
     /// The input has ended.
     Nothing,
 }
 
-/// Appends what a reader has at hand of a line, without its line feed.
+/// Appends the part of a line that a reader has at hand, without the line feed.
 fn append_part<B: BufRead>(reader: &mut B, line: &mut Vec<u8>) -> Result<Part>
     ensures { IfOk result
         (λ part. (rest : List ℕ) → B.remaining reader.old ≡ Some rest
@@ -27,7 +27,7 @@ fn append_part<B: BufRead>(reader: &mut B, line: &mut Vec<u8>) -> Result<Part>
     let at_hand = match reader.fill_buf() {
         Ok(at_hand) => at_hand,
         Err(cause) => {
-            // The call was cut short and is made again.
+            // The call was interrupted, and is made again.
             if cause.kind() == ErrorKind::Interrupted {
                 return Ok(Part::Open);
             }
@@ -66,6 +66,6 @@ pub(crate) fn read_line<B: BufRead>(reader: &mut B, line: &mut Vec<u8>) -> Resul
             Part::Nothing => return Ok(!line.is_empty()),
         }
     }
-    // No memory holds so many parts.
+    // No memory holds this many parts.
     Err(ErrorKind::OutOfMemory.into())
 }

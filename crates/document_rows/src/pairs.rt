@@ -1,4 +1,4 @@
-//! Pairs of documents between which rules tell a difference.
+//! Pairs of documents with differences that are reported under rules.
 
 ghost use Rattle.std.specs.Prelude.{◌≡◌, ◌<◌, ◌↔◌, ℕ, IsTrue, List, [], length, IfOk};
 ghost use Rattle.diff_keys.specs.Rising.{ListsRising};
@@ -17,7 +17,7 @@ use json_changes::changes::{Rules, are_same_under};
 use json_decimals::error::NumberError;
 use std::alloc::{AllocError, Global};
 
-/// Room for two documents, kept from pair to pair.
+/// Buffers for two documents, which are used for one pair after another.
 #[derive(Drop)]
 struct Scratches {
     left: Scratch,
@@ -25,7 +25,7 @@ struct Scratches {
 }
 
 impl Scratches {
-    /// Returns room that is empty.
+    /// Returns empty buffers.
     fn new(alloc: Global) -> Result<Box<Scratches>, AllocError> {
         let left = Scratch::new(alloc);
         let right = Scratch::new(alloc);
@@ -34,7 +34,7 @@ impl Scratches {
     }
 }
 
-/// Returns whether no difference between the documents of two rows is told.
+/// Returns whether no difference between the documents of two rows is reported.
 fn are_same_documents(
     alloc: Global,
     left: &Table,
@@ -60,8 +60,8 @@ fn are_same_documents(
     }
 }
 
-/// Returns whether a difference is told between the documents of the two rows at a place among
-/// matched rows.
+/// Returns whether a difference is reported between the documents of the two rows at `place` among
+/// the matched rows.
 fn is_other_pair(
     alloc: Global,
     left: &Table,
@@ -85,8 +85,8 @@ fn is_other_pair(
     Ok(!same)
 }
 
-/// Lists the places among the partners of a comparison where rules tell a difference between the
-/// two documents, in rising order.
+/// Lists the places among the partners of a comparison where a difference between the two documents
+/// is reported under rules, in rising order.
 pub fn differing_pairs(
     alloc: Global,
     left: &Table,

@@ -1,5 +1,5 @@
-//! The texts of a document's parts at the keys, and the part of all documents that it is in by
-//! them.
+//! The texts of a document's parts at the keys, and the part of all documents that these texts put
+//! it in.
 
 ghost use Rattle.std.specs.List.{range_with_len};
 ghost use Rattle.std.specs.Prelude.{◌≡◌, map, IfOk, OnOk};
@@ -21,14 +21,14 @@ use json_paths::path::Path;
 use std::alloc::{AllocError, Global};
 use std::mem;
 
-/// Room for the numbers and the normal texts of parts.
+/// Buffers for the numbers and the normal texts of parts.
 #[derive(Drop)]
 pub(crate) struct Room {
     pub(crate) number: Vec<u8>,
     pub(crate) text: Vec<u8>,
 }
 
-/// Writes the normal text of a value as the text of a room.
+/// Replaces the text of `room` with the normal text of a value.
 fn write_text(alloc: Global, room: &mut Room, value: &Value<'_>) -> Result<(), AllocError>
     requires unique { HasUniqueKeys (value_view value.now) }
     requires narrow { HasNarrowNumbers (value_view value.now) }
@@ -46,8 +46,8 @@ fn write_text(alloc: Global, room: &mut Room, value: &Value<'_>) -> Result<(), A
     Ok(())
 }
 
-/// Writes the normal text of a document's part at a key as the text of a room, and that of null
-/// where there is none.
+/// Replaces the text of `room` with the normal text of a document's part at a key, or that of null
+/// if there is none.
 pub(crate) fn write_part(
     alloc: Global,
     room: &mut Room,
@@ -72,7 +72,8 @@ pub(crate) fn write_part(
     }
 }
 
-/// Lists the normal texts of a document's parts at the keys, and that of null where there is none.
+/// Lists the normal texts of a document's parts at the keys. The text for a part that is missing is
+/// that of null.
 fn key_texts(
     alloc: Global,
     room: &mut Room,
@@ -93,7 +94,7 @@ fn key_texts(
     Ok(texts)
 }
 
-/// Lists the columns of so many keys, which stand before that of the line.
+/// Lists the columns of `count` keys, which stand before the column of the line.
 pub fn key_columns(alloc: Global, count: usize) -> Result<Vec<usize>, AllocError>
     ensures { IfOk result (λ columns. columns.items ≡ range_with_len 0 count) }
 {
@@ -119,7 +120,8 @@ impl<'a> StringList for Texts<'a> {
     }
 }
 
-/// Returns whether a document is in a part, if there is one, by its parts at the keys.
+/// Returns whether a document is in `part`, by its parts at the keys. Without a part, returns
+/// `true`.
 pub(crate) fn is_in(
     alloc: Global,
     room: &mut Room,

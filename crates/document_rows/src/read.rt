@@ -28,15 +28,15 @@ use std::io::{BufRead, BufReader, ErrorKind, Read};
 /// Documents of an input, one a line.
 #[derive(Drop)]
 pub struct Documents {
-    /// A row for each document: the normal text of the part at each key, and last the line.
+    /// A row for each document: the normal text of the part at each key, and then the line.
     pub table: Table,
-    /// For each row its line's number, from 1 on.
+    /// The number of the line of each row, the first line being 1.
     pub lines: Vec<u64>,
     /// The numbers of the lines that are passed over, since they are no documents.
     pub skipped: Vec<u64>,
 }
 
-/// Returns what a failure of the reader says.
+/// Returns the error for a failure of the reader.
 fn fault_of(cause: io::Error) -> ReadError
     ensures { IsStop result }
 {
@@ -59,7 +59,7 @@ fn next_line<B: BufRead>(reader: &mut B, line: &mut Vec<u8>) -> Result<bool, Rea
     }
 }
 
-/// Returns what is said of a line that is no document. `number` is the line's, from 1 on.
+/// Returns the error for a line that is no document. `number` is the number of the line, from 1 on.
 fn fault_in(
     alloc: Global,
     line: &[u8],
@@ -79,8 +79,8 @@ fn fault_in(
     }
 }
 
-/// Keeps the document of a line, which is read unless the line is known, or passes over a line that
-/// is none, or one of another part. `number` is the line's, from 1 on.
+/// Keeps the document of a line, which is read unless the line is known. Passes over a line that is
+/// no document, or one of another part. `number` is the number of the line, from 1 on.
 fn keep_line(
     alloc: Global,
     rows: &mut Rows,
@@ -116,7 +116,7 @@ fn keep_line(
     }
 }
 
-/// Appends the rows of all lines to no rows. A `line`, `guesses` and `rooms` are used for them.
+/// Appends the rows of all lines to no rows. `line`, `guesses` and `rooms` are used on the way.
 fn read_lines<R: Read + Drop>(
     alloc: Global,
     reader: &mut BufReader<R>,
@@ -156,7 +156,7 @@ fn read_lines<R: Read + Drop>(
             rooms,
         )?;
     }
-    // No memory holds so many rows.
+    // No memory holds this many rows.
     Err(ReadError::Memory)
 }
 
@@ -194,7 +194,7 @@ fn read_rows<R: Read + Drop>(
     }
 }
 
-/// Returns the table of rows, which have a cell for each key and one for the line.
+/// Returns the table of rows that have a cell for each key and one for the line.
 fn table_of(alloc: Global, rows: Rows, keys: &[Path]) -> Result<Documents, ReadError>
     requires { (reading : Reading) × (lines : List (List ℕ))
         × HoldsRows reading (paths_view keys.now) lines rows }
@@ -219,10 +219,10 @@ fn table_of(alloc: Global, rows: Rows, keys: &[Path]) -> Result<Documents, ReadE
     }
 }
 
-/// How many bytes are read at once.
+/// The number of bytes that are read at once.
 const BUFFER: usize = 1 << 18;
 
-/// Returns a reader with a buffer, of which nothing is read.
+/// Returns a reader with a buffer. Nothing is read yet.
 fn buffered<R: Read + Drop>(alloc: Global, reader: R) -> Result<BufReader<R>, ReadError>
     ensures { MatchResult result (λ b. reader_remaining R.remaining b ≡ R.remaining reader) IsStop }
 {
@@ -232,7 +232,7 @@ fn buffered<R: Read + Drop>(alloc: Global, reader: R) -> Result<BufReader<R>, Re
     }
 }
 
-/// Reads the documents of an input, but for those of lines that are known.
+/// Reads the documents of an input. Lines that are known are not parsed again.
 fn read_unknown<R: Read + Drop>(
     alloc: Global,
     reader: R,
@@ -255,11 +255,14 @@ fn read_unknown<R: Read + Drop>(
     Ok(documents)
 }
 
-/// Reads the documents of an input, each of which has a part at each key, or null where there is
-/// none if `reading` says so. A line that is no such document is passed over if `reading` says so.
-/// Of a part, if `reading` names one, the documents are kept alone.
-/// Fails with `Line` only where it does not and a line is none, with `Read` where the reader fails,
-/// and else with `Memory`.
+/// Reads the documents of an input.
+///
+/// A document has a part at each key, or null if there is none and `reading` allows it. A line that
+/// is no such document is passed over if `reading` says so. If `reading` names a part, only its
+/// documents are kept.
+///
+/// Fails with `Line` only if a line is no document and is not passed over, with `Read` if the
+/// reader fails, and otherwise with `Memory`.
 pub fn read_documents<R: Read + Drop>(
     alloc: Global,
     reader: R,
@@ -279,8 +282,8 @@ pub fn read_documents<R: Read + Drop>(
     Ok(documents)
 }
 
-/// Reads documents as `read_documents` does, and beside a table of documents, which have parts at
-/// the same keys: a line that one of its rows was read from is not parsed again.
+/// Reads documents as `read_documents` does, but does not parse a line again that a row of `table`
+/// was read from. `table` has documents with parts at the same keys.
 pub fn read_documents_beside<R: Read + Drop>(
     alloc: Global,
     reader: R,

@@ -1,4 +1,4 @@
-//! The values of lines, and what may be wrong with a line.
+//! The values of lines, and the faults that a line may have.
 
 ghost use Rattle.std.specs.Prelude.{◌≡◌, List, None, Some, IfErr, IfOk, IfSome, MatchResult};
 ghost use Rattle.std.specs.Str.{IsUtf8};
@@ -66,7 +66,8 @@ fn parsed<'a>(alloc: Global, line: &'a [u8], scratch: &'a mut Scratch) -> Result
     }
 }
 
-/// Reads the object of a line, whose numbers are narrow. `room` is used for them.
+/// Reads the object of a line, and checks that its numbers are narrow. `room` is used for the
+/// numbers.
 pub(crate) fn object_of<'a>(
     alloc: Global,
     line: &'a [u8],

@@ -1,4 +1,4 @@
--- Why two inputs of documents are not compared.
+-- The errors of comparing two inputs of documents.
 --
 -- With the key id the texts {"id": 7} and {"day": 7} are not compared, since line 1 of the right
 -- one has no id. Where keys have to be unique, a text of the lines {"id": 7} and {"id": 7.0} is not
@@ -24,31 +24,32 @@ use Rattle.document_words.specs.declared.sides.DocumentSides.{DocumentSides}
 abbrev pub IsMemory : DocumentError → Type 0
 IsMemory e = e ≡ error.Memory
 
--- these documents are too many: of one text there are more than 2^32
+-- one of two texts has more than 2^32 documents
 abbrev pub AreTooMany : List ℕ → List ℕ → Type 0
 AreTooMany left right = ¬ ((length left ≤ 2 ^ 32) × (length right ≤ 2 ^ 32))
 
--- the documents of two texts, each by the number of its line, are too many
+-- one of two texts has more than 2^32 documents, where each document is found by the number of its
+-- line
 abbrev pub HaveTooMany : DocumentOptions → List ℕ → List ℕ → Type 0
 HaveTooMany options left_text right_text = (left : List ℕ) × (right : List ℕ)
     × AreDocumentNumbers left_text options.reading (paths_of options) left
     × AreDocumentNumbers right_text options.reading (paths_of options) right
     × AreTooMany left right
 
--- the documents on these two of some lines have one key, and of the documents before the later one
--- no two have
+-- the documents on these two of some lines have the same key, and no two documents before the later
+-- one do
 abbrev pub AreFirstTwice : List (List ℕ) → List ℕ → ℕ → ℕ → Type 0
 AreFirstTwice keys numbers first again = (t : Twice) × IsFirstTwice keys t
     × (first ≡ slice_index numbers t.first) × (again ≡ slice_index numbers t.again)
 
--- so do these two of the documents of a text
+-- these two documents of a text have the same key, and no two documents before the later one do
 abbrev pub HasTwice : DocumentOptions → List ℕ → ℕ → ℕ → Type 0
 HasTwice options text first again = (numbers : List ℕ)
     × AreDocumentNumbers text options.reading (paths_of options) numbers
     × AreFirstTwice (document_keys options (documents_at text numbers)) numbers first again
 
--- why two texts are not compared: a line of one of them is no document, there are too many
--- documents, keys have to be unique and two documents of a text have one, or an allocation, a read
+-- the errors of comparing two texts: a line of one is no document; there are too many documents;
+-- keys have to be unique, and two documents of a text have the same one; or an allocation, a read
 -- or a write failed
 abbrev pub IsDocumentFault : DocumentOptions → List ℕ → List ℕ → DocumentError → Type 0
 IsDocumentFault options left_text right_text error.Memory = ⊤
@@ -68,12 +69,12 @@ IsWrite (error.Read side cause) = ⊥
 IsWrite (error.KeyTwice side first again) = ⊥
 IsWrite (error.Write cause) = ⊤
 
--- two documents of a side have one key; these are their lines
+-- two documents of a side have the same key; these are their lines
 abbrev pub HasKeyTwice : Table → List ℕ → ℕ → ℕ → Type 0
 HasKeyTwice side columns first again =
     AreFirstTwice (row_keys columns side.table.rows) side.lines.items first again
 
--- two documents of this side have one key, or an allocation failed
+-- two documents of this side have the same key, or an allocation failed
 abbrev pub IsSideFault : Table → List ℕ → Side → DocumentError → Type 0
 IsSideFault table columns side error.Memory = ⊤
 IsSideFault table columns side error.TooManyRows = ⊥
@@ -87,8 +88,8 @@ abbrev pub side_on : Side → DocumentSides → Table
 side_on Left s = s.left
 side_on Right s = s.right
 
--- the documents of the two sides are too many, two of one side have one key where keys have to be
--- unique, or an allocation failed
+-- a side has too many documents; keys have to be unique, and two documents of a side have the same
+-- one; or an allocation failed
 abbrev pub IsRowsFault : DocumentOptions → DocumentSides → DocumentError → Type 0
 IsRowsFault options s error.Memory = ⊤
 IsRowsFault options s error.TooManyRows =

@@ -1,8 +1,10 @@
 -- Laws of reports of documents.
 --
 -- With no rules the report of {"id": 8, "n": 2} and {"n": 3, "id": 8.0} has a changed document, and
--- that of {"id": 8, "n": 2} and {"n": 2.0, "id": 8.0} has none. Of the text of the lines {"id": 7},
--- [8] and {"id": 9} a part may have the last one alone, on line 3, and passes over line 2 as the
+-- that of {"id": 8, "n": 2} and
+-- {"n": 2.0, "id": 8.0} has none.
+-- Of the text of the lines {"id": 7}, [8] and {"id": 9} a part may have the last one alone, on line
+-- 3, and passes over line 2 as the
 -- whole does.
 use Rattle.std.specs.List.{filter, range_with_len}
 use Rattle.std.specs.Prelude.{◌≡◌, ℕ, List, None, Some, length, slice_index}
@@ -31,7 +33,7 @@ AreNotSame left right m k =
     ¬ AreSame (tree_at left (slice_index m.left_rows.items k))
     (tree_at right (slice_index m.right_rows.items k))
 
--- with no rules the partners that a report has as changed are those whose documents are not the
+-- with no rules, the partners that are changed in a report are those whose documents are not the
 -- same
 abbrev pub ChangedAreNotSame : Type 0
 ChangedAreNotSame =
@@ -42,8 +44,8 @@ ChangedAreNotSame =
     (AreNotSame (left_documents left_text r.sides) (right_documents right_text r.sides)
     r.matching) (length r.matching.left_rows.items) r.changed
 
--- of a text the documents of a part are those of the whole whose rows are in it, in their order and
--- with their numbers; the same lines are passed over
+-- the documents of a part of a text are those of the whole text whose rows are in the part, in
+-- their order and with their numbers; the same lines are passed over
 abbrev pub KeepsDocuments : Type 0
 KeepsDocuments =
     (text : List ℕ) (whole some : Reading) (part : PartNumber) (keys : List Path) (t u : TableRows)

@@ -1,10 +1,15 @@
 -- The report of two texts of documents.
 --
 -- With the key id the texts {"id": 7}, {"id": 8, "n": 2} and {"n": 3, "id": 8.0} of two lines and
--- of one have the report ~ id=8  n 2 -> 3 - id=7  old.ndjson line 1 1 changed, 1 removed, 0 added,
--- 0 the same. Where n is ignored nothing is told of 8, and the last line is 0 changed, 1 removed, 0
--- added, 1 the same. A line [] before the first one, where such lines are passed over, makes 7
--- stand on line 2, and a last line more: Skipped 1 line of old.ndjson (line 1).
+-- of one have the report
+-- ~ id=8  n 2 -> 3
+-- - id=7  old.ndjson line 1
+-- 1 changed, 1 removed, 0 added, 0 the same.
+-- Where n is ignored nothing is reported of 8, and the last line is 0 changed, 1 removed, 0 added,
+-- 1 the same.
+-- A line [] before the first one, where such lines are passed over, makes 7 stand on line 2, and a
+-- last line more:
+-- Skipped 1 line of old.ndjson (line 1).
 use Rattle.std.specs.List.{range_with_len}
 use Rattle.std.specs.Prelude.{◌≡◌, ◌≢◌, ◌==◌, ◌&&◌, ℕ, Bool, true, if◌then◌else◌, List, [], get_or}
 use Rattle.std.specs.Prelude.{length, map, slice_index}
@@ -35,11 +40,11 @@ use Rattle.json_paths.specs.Views.{paths_view}
 abbrev pub paths_of : DocumentOptions → List Path
 paths_of options = paths_view options.keys.now
 
--- the columns of the keys, which stand before that of the line
+-- the columns of the keys, which stand before the column of the line
 abbrev pub key_columns : DocumentOptions → List ℕ
 key_columns options = range_with_len 0 (length options.keys.now)
 
--- the lines of a text that have these numbers
+-- the lines of a text with these numbers
 abbrev pub documents_at : List ℕ → List ℕ → List (List ℕ)
 documents_at text numbers = numbered_lines (lines_of text) numbers
 
@@ -60,11 +65,12 @@ document_keys options documents =
 abbrev pub tree_at : List (List ℕ) → ℕ → Json
 tree_at documents i = tree_of (get_or documents i [])
 
--- the rules that say which differences are told
+-- the rules that say which differences are reported
 abbrev pub rules_of : DocumentOptions → Rules
 rules_of options = rules_view options.rules.now
 
--- rules tell a difference between the documents at place k of two lists of places among documents
+-- a difference is reported under rules between the documents at place k of two lists of places
+-- among documents
 abbrev pub HasOthers : Rules → List (List ℕ) → List (List ℕ) → Matching → ℕ → Type 0
 HasOthers rules left right m k =
     differences_told rules (tree_at left (slice_index m.left_rows.items k))
@@ -89,17 +95,17 @@ pub record AreSidesOf (options : DocumentOptions)
   pub colored : sides.colored ≡ options.colored
   pub rules : sides.rules.now ≡ options.rules.now
 
--- what a comparison comes to
+-- the outcome of a comparison
 abbrev pub outcome_of : Matching → List ℕ → Outcome
 outcome_of m changed = outcome.outcome_of m changed true
 
--- no key comes twice among either documents
+-- no key comes twice among the left documents, or among the right ones
 abbrev pub HaveUniqueKeys : DocumentOptions → List (List ℕ) → List (List ℕ) → Type 0
 HaveUniqueKeys options left right = AllDiffer (document_keys options left)
     × AllDiffer (document_keys options right)
 
--- the report of two texts, and what it comes to: documents of one key are partners, the first with
--- the first; of the partners those are changed between which a difference is told
+-- the report of two texts, and its outcome; documents with the same key are partners, the first
+-- with the first, and the partners between which a difference is reported are changed
 pub record IsDocumentReportOf (options : DocumentOptions)
     (left_text right_text left_name right_name written : List ℕ) (outcome : Outcome) : Type 0 where
   pub sides : DocumentSides

@@ -1,4 +1,4 @@
--- Two sides that are compared, and what is found on them.
+-- Two sides that are compared, and the result of comparing them.
 use Rattle.std.specs.Prelude.{◌≡◌, ◌<◌, ℕ, List, true, All, length}
 use Rattle.diff_keys.specs.Matching.{IsMatching}
 use Rattle.diff_keys.specs.Rising.{ListsRising}
@@ -34,7 +34,8 @@ abbrev pub HaveUniqueRows : List ℕ → DocumentSides → Type 0
 HaveUniqueRows columns s = AllDiffer (row_keys columns s.left.table.rows)
     × AllDiffer (row_keys columns s.right.table.rows)
 
--- partners have one key, and of them those are changed between whose documents a difference is told
+-- partners have the same key, and those between whose documents a difference is reported are
+-- changed
 pub record IsFoundOn (options : DocumentOptions) (s : DocumentSides) (f : Found) : Type 0 where
   pub matched :
       IsMatching (row_keys (key_columns options) s.left.table.rows)
@@ -45,7 +46,7 @@ pub record IsFoundOn (options : DocumentOptions) (s : DocumentSides) (f : Found)
       f.matching.right_rows.items) (length f.matching.left_rows.items) f.changed.items
   pub unique : options.unique ≡ true → HaveUniqueRows (key_columns options) s
 
--- the report of two sides, and what it comes to
+-- the report of two sides, and its outcome
 pub record IsReportOn (options : DocumentOptions) (s : DocumentSides) (written : List ℕ)
     (outcome : Outcome) : Type 0 where
   pub found : Found

@@ -1,4 +1,4 @@
-//! Why two inputs of documents are not compared.
+//! Errors of comparing two inputs of documents.
 
 ghost use Rattle.document_run.specs.Faults.{IsMemory};
 
@@ -8,8 +8,8 @@ use std::alloc::AllocError;
 use std::io;
 use thiserror::Error;
 
-/// The reason why two inputs of documents are not compared. Nothing was written, unless it is
-/// `Write`.
+/// The reason why two inputs of documents are not compared. Nothing was written, unless the reason
+/// is `Write`.
 #[derive(Debug, Drop, Error)]
 pub enum DocumentError {
     /// An allocation failed.
@@ -21,11 +21,11 @@ pub enum DocumentError {
     /// An input can't be read, or a line of it is no document.
     #[error("{cause}")]
     Read { side: Side, cause: ReadError },
-    /// Two documents of an input have one key, where keys have to be unique. `first` and `again`
-    /// are their lines, from 1 on.
+    /// Two documents of an input have the same key, where keys have to be unique. `first` and
+    /// `again` are the numbers of their lines, from 1 on.
     #[error("the rows at lines {first} and {again} have one key")]
     KeyTwice { side: Side, first: u64, again: u64 },
-    /// A write failed. A beginning of the report may have been written.
+    /// A write failed. The beginning of the report may have been written.
     #[error("{cause}")]
     Write { cause: io::Error },
 }

@@ -1,4 +1,4 @@
-//! What differs between two sides.
+//! The differences between two sides.
 
 ghost use Rattle.std.specs.Prelude.{◌≡◌, true, MatchResult};
 ghost use Rattle.diff_tables.specs.Comparison.{IsComparison};
@@ -17,11 +17,11 @@ use document_rows::parts::key_columns;
 use document_words::sides::DocumentSides;
 use std::alloc::{AllocError, Global};
 
-/// The documents of two sides that are partners, and those that have none.
+/// The documents of two sides that have partners, and those that have none.
 #[derive(Drop)]
 pub(crate) struct Found {
     pub(crate) matching: Matching,
-    /// The places among the partners where a difference between the two documents is told.
+    /// The places among the partners where a difference between the two documents is reported.
     pub(crate) changed: Vec<usize>,
 }
 
@@ -47,7 +47,7 @@ fn compared(
     }
 }
 
-/// Finds what differs between two sides.
+/// Finds the documents of two sides that differ, or that only one side has.
 pub(crate) fn found_on(
     alloc: Global,
     sides: &DocumentSides<'_>,

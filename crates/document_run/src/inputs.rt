@@ -58,7 +58,7 @@ pub(crate) fn read_side<R: Read + Drop>(
     }
 }
 
-/// Reads the documents of the right input, beside those of the left one.
+/// Reads the documents of the right input. Lines that the left input has too are not parsed again.
 pub(crate) fn read_right<R: Read + Drop>(
     alloc: Global,
     input: Input<'_, R>,

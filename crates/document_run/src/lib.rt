@@ -1,4 +1,4 @@
-//! Compares two inputs of JSON documents by key, and writes what differs.
+//! Compares two inputs of JSON documents by key, and writes the differences.
 #![tactic(auto)]
 
 pub mod error;

@@ -13,7 +13,7 @@ use document_report::report::push_document_report;
 use document_words::sides::DocumentSides;
 use std::alloc::{AllocError, Global};
 
-/// The report of two sides, and what it comes to.
+/// The report of two sides, and its outcome.
 #[derive(Drop)]
 pub(crate) struct Report {
     pub(crate) text: Vec<u8>,

@@ -35,9 +35,9 @@ fn report_on<L: Read + Drop, R: Read + Drop>(
     Ok(report)
 }
 
-/// Compares two inputs of documents, and writes the report. Nothing is written where an input can't
-/// be read, a line is no document and is not to be passed over, an input has too many of them, or
-/// an allocation fails.
+/// Compares two inputs of documents, and writes the report. Nothing is written if an input can't be
+/// read, a line is no document and is not passed over, an input has too many documents, or an
+/// allocation fails.
 pub fn run_documents<L: Read + Drop, R: Read + Drop, W: Write>(
     alloc: Global,
     left: Input<'_, L>,

@@ -1,4 +1,4 @@
-//! Two inputs as a report takes them.
+//! Two inputs, in the form in which a report takes them.
 
 ghost use Rattle.std.specs.Prelude.{◌≡◌, ℕ, List, Some, map, IfOk, MatchResult};
 ghost use Rattle.diff_columns.specs.Names.{names_of};

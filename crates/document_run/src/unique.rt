@@ -16,7 +16,7 @@ use diff_tables::compare::key_twice;
 use document_words::sides::DocumentSides;
 use std::alloc::Global;
 
-/// Tests that no two documents of a table have one key.
+/// Tests that no two documents of a table have the same key.
 fn test_side(
     alloc: Global,
     table: &Table,
@@ -39,7 +39,7 @@ fn test_side(
     }
 }
 
-/// Tests that no two documents of a side have one key, where keys have to be unique.
+/// Tests that no two documents of a side have the same key, if keys have to be unique.
 pub(crate) fn test_keys(
     alloc: Global,
     sides: &DocumentSides<'_>,

@@ -1,4 +1,4 @@
--- What a document is named by.
+-- The names of documents.
 --
 -- With the keys order.id and day the document {"order":{"id":"A-7"},"day":3} is named by
 -- order.id="A-7",day=3, and in JSON by "order.id":"A-7","day":3. Without keys the second document
@@ -16,8 +16,7 @@ use Rattle.json_plain.specs.Plain.{plain_json}
 abbrev pub key_text : List (List ℕ) → List (List ℕ) → ℕ → List ℕ
 key_text names cells k = word_text (get_or names k []) ++ 61 ∷ plain_json (get_or cells k [])
 
--- the keys and their values in a row, or where there are no keys the number of the row, the first
--- being 1
+-- the keys and their values in a row; without keys, the number of the row, the first being 1
 unfoldable pub document_name : List (List ℕ) → ℕ → List (List ℕ) → List ℕ
 document_name names i cells = if length names == 0 then codes "row "
     ++ decimal (i + 1) else listed (codes ",")

@@ -18,7 +18,7 @@ use Rattle.document_words.specs.Keys.{document_name, key_members}
 use Rattle.document_words.specs.Sides.{names_of}
 use Rattle.document_words.specs.declared.sides.DocumentSides.{DocumentSides}
 
--- a document of this name, with its file and its line number
+-- a document with this name, with its file and its line number
 unfoldable pub alone_text : ℕ → List ℕ → List ℕ → ℕ → List ℕ
 alone_text mark name file line = mark ∷ 32 ∷ [] ++ name ++ codes "  " ++ word_text file
     ++ codes " line " ++ decimal line

@@ -12,7 +12,8 @@ use Rattle.document_words.specs.declared.sides.DocumentSides.{DocumentSides}
 abbrev pub names_of : DocumentSides → List (List ℕ)
 names_of s = map (λ v. v.items) s.keys.items
 
--- a table has a cell for each of so many keys and one for the line, and a line number for each row
+-- a table has a cell for each of this number of keys and one for the line, and a line number for
+-- each row
 pub record IsDocumentSide (keys : ℕ) (side : Side) : Type 0 where
   pub width : side.table.width ≡ suc keys
   pub lines : length side.lines.items ≡ length side.table.rows
@@ -22,7 +23,7 @@ pub record AreDocumentSides (s : DocumentSides) : Type 0 where
   pub left : IsDocumentSide (length s.keys.items) s.left
   pub right : IsDocumentSide (length s.keys.items) s.right
 
--- row numbers that are matched, and places among them, name rows of the tables
+-- matched row numbers name rows of the tables, and these places are places among them
 pub record NamesDocuments (s : DocumentSides) (m : Matching) (places : List ℕ) : Type 0 where
   pub pairs : ArePairs s.left.table.rows s.right.table.rows m.left_rows.items m.right_rows.items
   pub changed : All (λ k. k < length m.left_rows.items) places

@@ -1,4 +1,4 @@
-//! What differs between two documents.
+//! The differences between two documents.
 
 ghost use Rattle.std.specs.Option.{option_map};
 ghost use Rattle.std.specs.Prelude.{◌≡◌, ◌++◌, OnOk};
@@ -10,7 +10,7 @@ use diff_words::colors::{Color, push_color};
 use json_plain::plain::push_plain_json;
 use std::alloc::AllocError;
 
-/// Appends a part, or the word `missing` where there is none.
+/// Appends a part, or the word `missing` if there is none.
 #[tactic(auto, unfolding(crate::specs::Changes::part_text))]
 fn push_part(out: &mut Vec<u8>, part: &Option<Vec<u8>>) -> Result<(), AllocError>
     ensures { OnOk result
@@ -23,7 +23,7 @@ fn push_part(out: &mut Vec<u8>, part: &Option<Vec<u8>>) -> Result<(), AllocError
     Ok(())
 }
 
-/// Appends a part in a colour, where there are colours.
+/// Appends a part, in a colour if there are colours.
 #[tactic(auto, unfolding(diff_words::specs::Colors::painted))]
 fn push_painted_part(
     out: &mut Vec<u8>,
@@ -63,7 +63,7 @@ pub fn push_change(
     Ok(())
 }
 
-/// Appends a part as a further member of an object, where there is one.
+/// Appends a part as a further member of an object, or nothing if there is no part.
 #[tactic(auto, unfolding(crate::specs::Changes::part_member))]
 fn push_part_member(
     out: &mut Vec<u8>,

@@ -58,7 +58,7 @@ fn push_keys(
     Ok(())
 }
 
-/// Appends what a document is named by: its keys, or its number without any.
+/// Appends the name of a document: its keys, or its number if there are no keys.
 #[tactic(auto, unfolding(crate::specs::Keys::document_name))]
 pub fn push_document_name(
     out: &mut Vec<u8>,

@@ -1,6 +1,6 @@
-//! Texts of JSON documents that are compared: of their keys, of what differs in them, of documents
-//! that only one file has, of how many there are, and of lines that are passed over. None has a
-//! control character of a terminal but its colours and line feeds.
+//! Texts for a comparison of JSON documents: of their keys, of the parts that differ, of documents
+//! that only one file has, of the counts, and of lines that are passed over. Except for colours and
+//! line feeds, none contains a control character of a terminal.
 #![tactic(auto)]
 
 pub mod changes;

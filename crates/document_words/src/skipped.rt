@@ -9,7 +9,7 @@ use diff_words::decimals::push_decimal;
 use diff_words::words::push_word;
 use std::alloc::AllocError;
 
-/// Returns what is counted, where there are so many lines.
+/// Returns the words behind the number of lines.
 fn lines_word(count: usize) -> &'static [u8]
     ensures { result.now ≡ lines_word count }
 {
@@ -20,7 +20,7 @@ fn lines_word(count: usize) -> &'static [u8]
     }
 }
 
-/// Returns what stands before the number of the first of so many lines.
+/// Returns the words before the number of the first line, where `count` lines are passed over.
 fn first_word(count: usize) -> &'static [u8]
     ensures { result.now ≡ first_word count }
 {
@@ -31,7 +31,8 @@ fn first_word(count: usize) -> &'static [u8]
     }
 }
 
-/// Appends how many lines of a file are passed over, and which is the first, where any is.
+/// Appends the number of lines of a file that are passed over, and the number of the first one.
+/// Appends nothing if there are none.
 #[tactic(auto, unfolding(crate::specs::Skipped::skipped_text))]
 fn push_skipped(out: &mut Vec<u8>, name: &[u8], numbers: &[u64]) -> Result<(), AllocError>
     ensures { OnOk result (out.new.items ≡ out.old.items ++ skipped_text name.now numbers.now) }
@@ -49,7 +50,8 @@ fn push_skipped(out: &mut Vec<u8>, name: &[u8], numbers: &[u64]) -> Result<(), A
     Ok(())
 }
 
-/// Appends how many lines of each file are passed over, and which is the first, where any is.
+/// Appends the number of lines of each file that are passed over, and the number of the first one.
+/// Appends nothing for a file without such lines.
 pub fn push_skipped_lines(out: &mut Vec<u8>, sides: &DocumentSides<'_>) -> Result<(), AllocError>
     ensures { OnOk result (out.new.items ≡ out.old.items ++ skipped_lines sides.now) }
 {
@@ -58,8 +60,8 @@ pub fn push_skipped_lines(out: &mut Vec<u8>, sides: &DocumentSides<'_>) -> Resul
     Ok(())
 }
 
-/// Appends how many lines of each file are passed over as members of an object in JSON, where lines
-/// may be.
+/// Appends the number of lines of each file that are passed over, as members of an object in JSON.
+/// Appends nothing if lines may not be passed over.
 #[tactic(auto, unfolding(crate::specs::Skipped::skipped_members))]
 pub(crate) fn push_skipped_members(
     out: &mut Vec<u8>,

@@ -8,7 +8,7 @@ use std::alloc::{AllocError, Global};
 /// The version of the program. `CHANGELOG.md` says what each version brought.
 const VERSION: &str = "0.1.0";
 
-/// What `dunkelva diff --help` has behind the options.
+/// The text behind the options in `dunkelva diff --help`.
 const NOTES: &str = "\
 Files whose names end in .ndjson or .jsonl have a JSON object in each line, and
 others are CSV. For JSON, --key takes paths such as order.id or items[0].sku.
@@ -106,7 +106,7 @@ fn diff<'a>(alloc: Global) -> Result<Command<'a>, AllocError> {
     with_options(alloc, command, options())
 }
 
-/// Adds the command that says what the columns of a file are.
+/// Adds the command that prints the schemas of the columns of a file.
 fn with_schema<'a>(alloc: Global, command: Command<'a>) -> Result<Command<'a>, AllocError> {
     command.subcommand(schema_command(alloc)?)
 }

@@ -1,7 +1,7 @@
 //! Options that a file sets.
 //!
-//! The file is TOML. It has each option by its name, and the two files as `left` and `right`. What
-//! the command line gives takes the place of what the file sets.
+//! The file is TOML. It has each option by its name, and the two files as `left` and `right`.
+//! Options of the command line take the place of those that the file sets.
 
 use crate::options::{CliOption, Takes, options};
 use anyhow::{Error, Result, anyhow};
@@ -9,7 +9,7 @@ use std::alloc::{AllocError, Global};
 use std::fs;
 use toml::{Table, Value};
 
-/// What a file sets.
+/// The settings of a file.
 #[derive(Drop)]
 pub(crate) struct Config {
     /// Its options, as words of a command line.
@@ -18,7 +18,7 @@ pub(crate) struct Config {
     pub(crate) right: Option<String>,
 }
 
-/// Returns what is said of a value that its option does not take.
+/// Returns the error for a value that its option does not take.
 fn misfit(name: &str, takes: &str, value: &Value) -> Error {
     anyhow!("{name} takes {takes}, and not this {}", value.type_str())
 }
@@ -116,7 +116,7 @@ fn push_option(
 /// The option that names the file.
 const CONFIG: &str = "config";
 
-/// Returns whether a file may set what has this name.
+/// Returns whether a file may have a setting of this name.
 fn is_known(name: &str) -> bool {
     for option in options() {
         if option.id == name {
@@ -126,7 +126,7 @@ fn is_known(name: &str) -> bool {
     name == "left" || name == "right"
 }
 
-/// Refuses names that no option has.
+/// Refuses settings whose names are unknown.
 fn refuse_unknown(table: &Table) -> Result<()> {
     for (name, _) in table {
         if !is_known(name) {
@@ -136,8 +136,8 @@ fn refuse_unknown(table: &Table) -> Result<()> {
     Ok(())
 }
 
-/// Returns what stands behind the hyphens of a word, up to an equals sign, and what stands behind
-/// that.
+/// Returns the name of the option in a word, without its hyphens, and the value behind an equals
+/// sign, if there is one.
 fn split_word(word: &str) -> Option<(&str, Option<&str>)> {
     let option = word.strip_prefix("--")?;
     match option.split_once('=') {
@@ -179,7 +179,7 @@ fn member_text(alloc: Global, table: &Table, name: &str) -> Result<Option<String
     }
 }
 
-/// Returns what a table sets beside the words of the command line.
+/// Returns the settings of a table, without the options that the command line gives.
 fn config_of(alloc: Global, table: &Table, given: &[String]) -> Result<Config> {
     refuse_unknown(table)?;
     let mut words = Vec::new(alloc);
@@ -204,7 +204,7 @@ fn line_at(text: &str, place: usize) -> usize {
         .saturating_add(1)
 }
 
-/// Returns what is said of a text that is no TOML.
+/// Returns the error for a text that is not TOML.
 fn no_table(text: &str, error: &toml::de::Error) -> Error {
     match error.span() {
         Some(span) => anyhow!("line {}: {}", line_at(text, span.start), error.message()),
@@ -212,7 +212,7 @@ fn no_table(text: &str, error: &toml::de::Error) -> Error {
     }
 }
 
-/// Reads what a file sets beside the words of the command line.
+/// Reads the settings of a file, without the options that the command line gives.
 fn read_config(rt: &HostRuntime, path: &str, given: &[String]) -> Result<Config> {
     let text = fs::read_to_string(rt, path)?;
     match toml::table_from_str(rt.alloc(), &text) {
@@ -221,7 +221,8 @@ fn read_config(rt: &HostRuntime, path: &str, given: &[String]) -> Result<Config>
     }
 }
 
-/// Returns what is set beside the words of the command line: nothing, unless they name a file.
+/// Returns the settings of the file that the command line names, without the options that it
+/// gives. There are none if it names no file.
 pub(crate) fn config_for(rt: &HostRuntime, words: &[String]) -> Result<Config> {
     let Some(path) = file_given(words) else {
         return Ok(Config {
@@ -236,7 +237,7 @@ pub(crate) fn config_for(rt: &HostRuntime, words: &[String]) -> Result<Config> {
     }
 }
 
-/// Returns the words of a command line with those that a file sets, which stand behind the command.
+/// Returns the words of a command line, with those that a file sets behind the command.
 pub(crate) fn joined<'a>(
     alloc: Global,
     words: &'a [String],

@@ -6,7 +6,7 @@ use std::io::{Read, StdinLock};
 use std::os::fd::AsRawFd;
 use std::{fs, io};
 
-/// What an input is read from.
+/// The source of an input.
 #[derive(Drop)]
 pub(crate) enum Source {
     File(fs::File),
@@ -14,7 +14,7 @@ pub(crate) enum Source {
 }
 
 impl Source {
-    /// Returns how many bytes the source has, where it is no pipe or the like.
+    /// Returns the number of bytes of the source, or `None` if it is not an ordinary file.
     fn size(&self) -> Option<u64> {
         let Source::File(file) = self else {
             return None;
@@ -37,8 +37,8 @@ impl Read for Source {
     }
 }
 
-/// Opens a file, beside standard input or not. Fails beside standard input where that is closed,
-/// since the file is then opened in its place.
+/// Opens a file. `is_beside` says that the other input is standard input. If that is closed, the
+/// file is opened in its place, which is an error.
 fn open_file(rt: &HostRuntime, name: &str, is_beside: bool) -> Result<fs::File> {
     match fs::open(rt, name) {
         Ok(file) => {
@@ -51,7 +51,7 @@ fn open_file(rt: &HostRuntime, name: &str, is_beside: bool) -> Result<fs::File> 
     }
 }
 
-/// Opens an input that is named, beside standard input or not.
+/// Opens the input of a name. `is_beside` says that one of the inputs is standard input.
 pub(crate) fn open<'a>(
     rt: &HostRuntime,
     name: &'a str,
@@ -68,7 +68,7 @@ pub(crate) fn open<'a>(
     })
 }
 
-/// Returns how many bytes two sources have.
+/// Returns the number of bytes of two sources, if both are known.
 pub(crate) fn total_of(left: &Source, right: &Source) -> Option<u64> {
     left.size()?.checked_add(right.size()?)
 }

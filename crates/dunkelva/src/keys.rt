@@ -18,7 +18,7 @@ pub(crate) struct Keys<'a> {
     ghost paired: { length names.items ≡ length paths.items },
 }
 
-/// Returns the path that a word is.
+/// Returns the path that a word writes.
 fn path_of(alloc: Global, word: &str) -> Result<Path> {
     match parse_path(alloc, word) {
         Ok(path) => Ok(path),

@@ -1,4 +1,4 @@
-//! What the files hold, as their names and the words of the command line say.
+//! The kind of the files, by their names and the words of the command line.
 
 use crate::options::{GoesWith, Takes, options};
 use anyhow::{Result, anyhow};
@@ -9,8 +9,8 @@ pub(crate) fn names_documents(name: &str) -> bool {
     name.ends_with(".ndjson") || name.ends_with(".jsonl")
 }
 
-/// Returns whether the two files hold documents, and not tables. Standard input holds what the
-/// other file does.
+/// Returns whether the two files hold documents, and not tables. Standard input has the kind of the
+/// other file.
 pub(crate) fn hold_documents(matches: &ArgMatches<'_>, left: &str, right: &str) -> Result<bool> {
     if let Some(input) = matches.get_str("input") {
         return Ok(input == "ndjson");
@@ -55,8 +55,8 @@ pub(crate) fn refuse_document_options(matches: &ArgMatches<'_>) -> Result<()> {
     }
 }
 
-/// Returns the byte that stands between fields where no word says it: a tab in files whose names
-/// end in `.tsv`, and else a comma. Standard input has what the other file has.
+/// Returns the byte between fields if no word gives one: a tab in files whose names end in `.tsv`,
+/// and otherwise a comma. Standard input has the byte of the other file.
 pub(crate) fn usual_delimiter(left: &str, right: &str) -> Result<u8> {
     let (in_left, in_right) = (left.ends_with(".tsv"), right.ends_with(".tsv"));
     if in_left != in_right && left != "-" && right != "-" {

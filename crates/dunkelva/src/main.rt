@@ -1,5 +1,6 @@
-//! Compares files: `dunkelva diff LEFT RIGHT` prints what differs between two CSV files, or between
-//! two files of JSON documents. `dunkelva schema FILE` prints what the columns of a CSV file are.
+//! Compares files. `dunkelva diff LEFT RIGHT` prints the differences between two CSV files, or
+//! between two files of JSON documents. `dunkelva schema FILE` prints the schemas of the columns of
+//! a CSV file.
 #![tactic(auto)]
 
 mod command;
@@ -114,7 +115,7 @@ fn diff(rt: &HostRuntime, matches: &ArgMatches<'_>, config: &Config) -> Result<u
     diff_tables(rt, matches, left, right, target)
 }
 
-/// Does what the command line asks for, and returns the status.
+/// Runs the command that parsed words name, and returns the status.
 fn run_matches(rt: &HostRuntime, matches: &ArgMatches<'_>, config: &Config) -> Result<u8> {
     match matches.subcommand() {
         Some(("diff", matches)) => diff(rt, matches, config),
@@ -123,13 +124,13 @@ fn run_matches(rt: &HostRuntime, matches: &ArgMatches<'_>, config: &Config) -> R
     }
 }
 
-/// Prints what is said of words that are refused, or help, and returns the status.
+/// Prints the error for words that are refused, or the help, and returns the status.
 fn print_refusal(rt: &HostRuntime, error: &clap::Error) -> Result<u8> {
     error.print(rt)?;
     Ok(error.exit_code() as u8)
 }
 
-/// Does what the words of a command line ask for, and returns the status.
+/// Runs the command that these words of a command line name, and returns the status.
 fn run_command(rt: &HostRuntime, words: &[&str], config: &Config) -> Result<u8> {
     let command = command(rt.alloc())?;
     match command.try_get_matches_from(words) {
@@ -138,7 +139,7 @@ fn run_command(rt: &HostRuntime, words: &[&str], config: &Config) -> Result<u8> 
     }
 }
 
-/// Does what the words of the command line ask for, and returns the status.
+/// Runs the command that the program's command line names, and returns the status.
 fn run_words(rt: &HostRuntime) -> Result<u8> {
     let alloc = rt.alloc();
     let words: Vec<String> = env::args(rt)?.collect(alloc)?;

@@ -1,6 +1,6 @@
-//! The options of `dunkelva diff`, in the order in which help has them.
+//! The options of `dunkelva diff`, in the order of the help text.
 
-/// What stands behind an option.
+/// The kind of value that stands behind an option.
 #[derive(Clone, Copy)]
 pub(crate) enum Takes {
     /// Nothing.
@@ -31,9 +31,9 @@ pub(crate) struct CliOption {
     /// Its name, which stands behind two hyphens.
     pub(crate) id: &'static str,
     pub(crate) takes: Takes,
-    /// What help calls that which it takes.
+    /// The name of its value in the help text.
     pub(crate) value: &'static str,
-    /// The word that it has where it is not given.
+    /// The value that it has where it is not given.
     pub(crate) default: Option<&'static str>,
     /// The option that is given with it.
     pub(crate) needs: Option<&'static str>,

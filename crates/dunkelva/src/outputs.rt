@@ -1,12 +1,12 @@
-//! Outputs that are inputs too, which a report would be written over.
+//! Refusals of outputs that are inputs too, since a report would be written over them.
 
 use crate::tasks::Target;
 use anyhow::{Result, anyhow};
 use std::fs;
 use std::os::unix::fs::MetadataExt;
 
-/// Returns the numbers of the device and of the file that a path leads to, through links too. There
-/// is none where nothing stands at the path, or a terminal, a pipe or the like.
+/// Returns the numbers of the device and of the file that a path leads to, through links too.
+/// Returns `None` if there is nothing at the path, or a terminal, a pipe or the like.
 fn stored_at(rt: &HostRuntime, path: &str) -> Option<(u64, u64)> {
     let data = fs::metadata(rt, path).ok()?;
     data.is_file().then_some((data.dev(), data.ino()))

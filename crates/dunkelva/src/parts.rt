@@ -14,8 +14,8 @@ fn named_part(text: &str) -> Option<Part> {
     }
 }
 
-/// Refuses keys that are compared by what they are worth, since rows are in parts by the texts of
-/// their keys.
+/// Refuses keys that are compared as numbers, since the part of a row depends on the text of its
+/// keys.
 fn refuse_numbers(matches: &ArgMatches<'_>, names: &Names<'_>) -> Result<()> {
     if !matches.get_flag("numbers") {
         return Ok(());

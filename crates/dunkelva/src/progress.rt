@@ -1,4 +1,4 @@
-//! What a long comparison says while it reads.
+//! The progress of a long comparison, on standard error.
 
 ghost use Rattle.std.specs.Prelude.{ℕ, List, Option};
 
@@ -8,37 +8,37 @@ use std::io;
 use std::io::{IsTerminal, Read, Write};
 use std::time::Instant;
 
-/// How long nothing is said, in milliseconds.
+/// The time before the first line, in milliseconds.
 const SILENCE: u128 = 1000;
 
 /// The least time between two lines, in milliseconds.
 const PAUSE: u128 = 100;
 
-/// How much is read, and what was said of it.
+/// The bytes that are read so far, and the state of the line that reports them.
 #[derive(Clone, Copy)]
 struct Reading {
-    /// The bytes that are read.
+    /// The number of bytes that are read.
     bytes: u64,
-    /// When the next line is said, in milliseconds from the start.
+    /// The time of the next line, in milliseconds from the start.
     next: u128,
-    /// Whether a line stands on the terminal.
+    /// `true` if a line stands on the terminal.
     is_shown: bool,
 }
 
-/// A line on standard error that says how many bytes are read, where that is a terminal and the run
-/// takes more than a second.
+/// A line on standard error that says how many bytes are read. It is shown only on a terminal, and
+/// if the run takes more than a second.
 #[derive(Drop)]
 pub(crate) struct Progress<'a> {
     rt: &'a HostRuntime,
-    // None where nothing is to be said.
+    // `None` if no line is to be shown.
     start: Option<Instant>,
-    // The bytes of all inputs, where they are known.
+    // The number of bytes of all inputs, if it is known.
     total: Option<u64>,
     reading: Cell<Reading>,
 }
 
 impl<'a> Progress<'a> {
-    /// Begins to count, of so many bytes where they are known.
+    /// Begins to count. `total` is the number of bytes of all inputs, if it is known.
     pub(crate) fn new(rt: &'a HostRuntime, total: Option<u64>) -> Progress<'a> {
         let start = if rt.stderr().is_terminal() {
             Instant::now(rt).ok()
@@ -58,7 +58,7 @@ impl<'a> Progress<'a> {
         }
     }
 
-    /// Counts bytes that were read, and says how many they are where it is time.
+    /// Counts bytes that were read, and shows the line again when it is time.
     fn add(&self, bytes: usize) {
         let Some(start) = self.start else {
             return;
@@ -77,7 +77,7 @@ impl<'a> Progress<'a> {
         self.reading.set(reading);
     }
 
-    /// Says how many bytes are read, in place of what was said before.
+    /// Shows how many bytes are read, in place of the line before.
     fn say(&self, bytes: u64) {
         let _ = match self.total {
             Some(total) => eprint!(self.rt; "\r{bytes} of {total} bytes read"),
@@ -111,7 +111,7 @@ impl Read for Counted<'_> {
     }
 }
 
-/// A writer for which the line is erased.
+/// A writer that erases the line before it writes.
 #[derive(Drop)]
 pub(crate) struct Cleared<'a, W> {
     pub(crate) writer: W,

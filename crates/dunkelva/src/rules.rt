@@ -17,7 +17,7 @@ const ABSOLUTE: &str = "tolerance";
 /// The option whose bounds are parts of the larger number.
 const RELATIVE: &str = "relative-tolerance";
 
-/// Returns what is said of a word that is no path. The option takes paths such as the example.
+/// Returns the error for a word that is not a path. The example is a path that the option takes.
 pub(crate) fn no_path(error: PathError, option: &str, example: &str, word: &str) -> Error {
     match error {
         PathError::Memory => anyhow!("out of memory"),
@@ -27,7 +27,7 @@ pub(crate) fn no_path(error: PathError, option: &str, example: &str, word: &str)
     }
 }
 
-/// Returns the pattern that a word of an option is.
+/// Returns the pattern that a word of an option writes.
 fn pattern_of(alloc: Global, option: &str, word: &str) -> Result<Pattern> {
     match parse_pattern(alloc, word) {
         Ok(pattern) => Ok(pattern),
@@ -49,7 +49,7 @@ fn push_patterns(
     Ok(())
 }
 
-/// Returns the margin that a word of an option is.
+/// Returns the margin that a word of an option writes.
 fn margin_of(option: &str, word: &str) -> Result<Margin> {
     match Bound::read(word) {
         Ok(bound) if option == RELATIVE => Ok(Margin::Relative(bound)),
@@ -58,7 +58,7 @@ fn margin_of(option: &str, word: &str) -> Result<Margin> {
     }
 }
 
-/// Returns the tolerance that a word of an option is: a path, and behind the last equals sign a
+/// Returns the tolerance that a word of an option writes: a path, and behind the last equals sign a
 /// bound.
 fn tolerance_of(alloc: Global, option: &str, word: &str) -> Result<Tolerance> {
     let Some((path, number)) = word.rsplit_once('=') else {
@@ -71,7 +71,7 @@ fn tolerance_of(alloc: Global, option: &str, word: &str) -> Result<Tolerance> {
     Ok(Tolerance { pattern, margin })
 }
 
-/// Appends the tolerances that the words of an option are.
+/// Appends the tolerances that the words of an option write.
 fn push_tolerances(
     tolerances: &mut Vec<Tolerance>,
     alloc: Global,

@@ -1,5 +1,5 @@
-//! What the columns of files are: `dunkelva schema FILE`, and `dunkelva diff --schema-only LEFT
-//! RIGHT`.
+//! The schemas of the columns of files: `dunkelva schema FILE`, and
+//! `dunkelva diff --schema-only LEFT RIGHT`.
 
 use crate::command::with_option;
 use crate::files::open;
@@ -18,7 +18,7 @@ use std::alloc::{AllocError, Global};
 use std::io;
 use std::io::{ErrorKind, Write};
 
-/// What `dunkelva schema --help` has behind the options.
+/// The text behind the options in `dunkelva schema --help`.
 const NOTES: &str = "\
 Each column has the narrowest of the kinds empty, truth value, whole number,
 number and text that all its values are of. A field that is empty is missing,
@@ -29,7 +29,7 @@ The status is 0, or 2 where the file can't be read.";
 /// The options of `dunkelva diff` that the command has too.
 const SHARED: [&str; 4] = ["null", "delimiter", "no-header", "format"];
 
-/// The options of `dunkelva diff` that go with no schema.
+/// The options of `dunkelva diff` with a value that can't be given with `--schema-only`.
 const OTHERS: [&str; 7] = [
     "key",
     "only",
@@ -40,7 +40,7 @@ const OTHERS: [&str; 7] = [
     "relative-tolerance",
 ];
 
-/// Those of them that take nothing.
+/// The options of `dunkelva diff` without a value that can't be given with `--schema-only`.
 const OTHER_FLAGS: [&str; 8] = [
     "unique",
     "common",
@@ -52,10 +52,10 @@ const OTHER_FLAGS: [&str; 8] = [
     "markdown",
 ];
 
-/// The status where the file can't be read, or nobody reads what is said of it.
+/// The status if the file can't be read, or if nobody reads the output.
 const TROUBLE: u8 = 2;
 
-/// Returns the file whose columns are asked for.
+/// Returns the argument that names the file.
 fn file_arg<'a>(alloc: Global) -> Arg<'a> {
     Arg::new(alloc, "file")
         .value_name("FILE")
@@ -63,7 +63,7 @@ fn file_arg<'a>(alloc: Global) -> Arg<'a> {
         .required(true)
 }
 
-/// Returns the command that says what the columns of a file are.
+/// Returns the command that prints the schemas of the columns of a file.
 pub(crate) fn schema_command<'a>(alloc: Global) -> Result<Command<'a>, AllocError> {
     let mut command = Command::new(alloc, "schema")
         .about("Says what the columns of a CSV file are")
@@ -82,7 +82,7 @@ fn is_json(matches: &ArgMatches<'_>) -> bool {
     matches.get_str("format") == Some("json")
 }
 
-/// Returns the form of what is said.
+/// Returns the form of the output.
 fn form_in(matches: &ArgMatches<'_>) -> Form {
     if is_json(matches) {
         Form::Json
@@ -104,7 +104,7 @@ fn refuse_documents(file: &str) -> Result<()> {
     Ok(())
 }
 
-/// Reads what the columns of a file are, beside standard input or not.
+/// Reads the schemas of a file's columns. `is_beside` says that an input is standard input.
 fn schema_in(
     rt: &HostRuntime,
     matches: &ArgMatches<'_>,
@@ -120,8 +120,8 @@ fn schema_in(
     }
 }
 
-/// Prints a text, and returns the status: as with other programs, nothing is said where nobody
-/// reads it.
+/// Prints a text, and returns the status. If nobody reads the output, no error is printed, as with
+/// other programs.
 fn print_text(rt: &HostRuntime, text: &[u8], status: u8) -> Result<u8> {
     let mut out = io::writer(rt);
     match out.write_all(text) {
@@ -131,7 +131,7 @@ fn print_text(rt: &HostRuntime, text: &[u8], status: u8) -> Result<u8> {
     }
 }
 
-/// Returns what is said of the columns of a file.
+/// Returns the text of the schemas of the columns of a file.
 fn schema_text(
     rt: &HostRuntime,
     matches: &ArgMatches<'_>,
@@ -156,7 +156,7 @@ fn schema_text(
     }
 }
 
-/// Says what the columns of the file are that the words name, and returns the status.
+/// Prints the schemas of the columns of the file that the words name, and returns the status.
 pub(crate) fn show_schema(rt: &HostRuntime, matches: &ArgMatches<'_>) -> Result<u8> {
     let file = matches.get_str("file").unwrap_or("-");
     refuse_own_output(rt, &[file])?;
@@ -165,7 +165,7 @@ pub(crate) fn show_schema(rt: &HostRuntime, matches: &ArgMatches<'_>) -> Result<
     print_text(rt, &text, 0)
 }
 
-/// Refuses options that go with no schema.
+/// Refuses options that can't be given with `--schema-only`.
 fn refuse_others(matches: &ArgMatches<'_>) -> Result<()> {
     for option in options() {
         let is_given = match option.takes {
@@ -188,7 +188,7 @@ fn status_of(counts: SchemaCounts) -> u8 {
     }
 }
 
-/// Returns what is said of the differences of the columns of two files of these names.
+/// Returns the text of the differences between the columns of two files of these names.
 fn changes_text(
     alloc: Global,
     matches: &ArgMatches<'_>,
@@ -205,7 +205,7 @@ fn changes_text(
     Ok(text)
 }
 
-/// Prints what the columns of two files of these names differ in, and returns the status.
+/// Prints the differences between the columns of two files of these names, and returns the status.
 fn print_changes(
     rt: &HostRuntime,
     matches: &ArgMatches<'_>,
@@ -218,7 +218,7 @@ fn print_changes(
     print_text(rt, &text, status)
 }
 
-/// Says what the columns of two files differ in, and returns the status.
+/// Prints the differences between the columns of two files, and returns the status.
 pub(crate) fn compare_schemas(
     rt: &HostRuntime,
     matches: &ArgMatches<'_>,

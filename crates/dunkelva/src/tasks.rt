@@ -1,4 +1,4 @@
-//! What is compared, and what comes of it.
+//! Comparisons of two inputs, and the forms of their reports.
 
 use crate::files::{Source, open, total_of};
 use crate::progress::{Cleared, Counted, Progress};
@@ -18,7 +18,7 @@ use std::alloc::Global;
 use std::io::{ErrorKind, Write};
 use std::{fs, io};
 
-/// How a comparison ended.
+/// The end of a comparison.
 #[derive(Clone, Copy)]
 enum Ending {
     Same,
@@ -47,7 +47,7 @@ impl From<Outcome> for Ending {
     }
 }
 
-/// Where the report goes.
+/// The destination and the form of the report.
 #[derive(Clone, Copy)]
 pub(crate) enum Target<'a> {
     /// Standard output.
@@ -60,7 +60,7 @@ pub(crate) enum Target<'a> {
     Page(&'a str),
 }
 
-/// What the files hold, and how they are compared.
+/// The kind of the files, and the options of their comparison.
 #[derive(Clone, Copy)]
 pub(crate) enum Task<'a> {
     /// Tables, as CSV.
@@ -81,8 +81,8 @@ fn counted<'a>(input: Input<'a, Source>, progress: &'a Progress<'a>) -> Input<'a
     }
 }
 
-/// Returns how a comparison ended whose report could not be written: as with other programs,
-/// nothing is said where nobody reads it.
+/// Returns the end of a comparison whose report could not be written. If nobody reads the output,
+/// that is not an error, as with other programs.
 fn unwritten(cause: io::Error) -> Result<Ending> {
     if cause.kind() == ErrorKind::BrokenPipe {
         return Ok(Ending::Unread);
@@ -90,7 +90,7 @@ fn unwritten(cause: io::Error) -> Result<Ending> {
     Err(anyhow!("{cause}").context("standard output"))
 }
 
-/// Returns how a comparison of tables ended that came to this.
+/// Returns the end of a comparison of tables with this result.
 fn tables_ending(
     came_to: Result<Outcome, RunError>,
     files: (&[u8], &[u8]),
@@ -103,7 +103,7 @@ fn tables_ending(
     }
 }
 
-/// Returns how a comparison of documents ended that came to this.
+/// Returns the end of a comparison of documents with this result.
 fn documents_ending(
     came_to: Result<Outcome, DocumentError>,
     files: (&[u8], &[u8]),
@@ -139,7 +139,7 @@ fn report_to<W: Write>(
     }
 }
 
-/// A report, and how its comparison ended.
+/// A report, and the end of its comparison.
 #[derive(Drop)]
 struct Made {
     report: Vec<u8>,
@@ -199,7 +199,7 @@ fn write_page(rt: &HostRuntime, page: &[u8], path: &str, ending: Ending) -> Resu
     }
 }
 
-/// Appends what the target takes of a report of two files of these names.
+/// Appends a report of two files of these names in the form that the target takes.
 fn push_form(
     alloc: Global,
     text: &mut Vec<u8>,

@@ -1,4 +1,4 @@
-//! What is said where the files can't be compared.
+//! Errors for files that can't be compared.
 
 use anyhow::{Error, anyhow};
 use diff_columns::error::{ColumnError, Side};
@@ -17,7 +17,7 @@ fn file_of<'a>(files: (&'a [u8], &'a [u8]), side: Side) -> &'a str {
     str::from_utf8(name).unwrap_or("-")
 }
 
-/// Returns what is said of a key that no column has for its name.
+/// Returns the error for a key that is not the name of a column.
 fn no_key(key: usize, options: &Options<'_>) -> Error {
     match options.choice.keys.get(key) {
         Some(name) => anyhow!(
@@ -28,12 +28,12 @@ fn no_key(key: usize, options: &Options<'_>) -> Error {
     }
 }
 
-/// Returns what is said of two rows that have one key.
+/// Returns the error for two rows that have the same key.
 fn one_key(first: u64, again: u64) -> Error {
     anyhow!("the rows at lines {first} and {again} have one key")
 }
 
-/// Returns what is said of a number whose exponent is too wide, in the column of this name.
+/// Returns the error for a number in the column of this name, whose exponent is too wide.
 fn wide_exponent(line: u64, name: &[u8]) -> Error {
     anyhow!(
         "line {line} has a number in column {} whose exponent has more than 30 digits: see --text",
@@ -41,7 +41,7 @@ fn wide_exponent(line: u64, name: &[u8]) -> Error {
     )
 }
 
-/// Returns what is said of an error: what is wrong, and of which file as its context.
+/// Returns the error that is printed for one of a comparison of tables, with the file as context.
 pub(crate) fn table_trouble(
     error: RunError,
     files: (&[u8], &[u8]),
@@ -69,7 +69,7 @@ pub(crate) fn table_trouble(
     }
 }
 
-/// Returns what is wrong with a line that is no document.
+/// Returns the reason why a line is not a document.
 fn fault_text(fault: LineFault, options: &DocumentOptions<'_>) -> Error {
     match fault {
         LineFault::NoPart { key } => match options.names.get(key) {
@@ -80,7 +80,7 @@ fn fault_text(fault: LineFault, options: &DocumentOptions<'_>) -> Error {
     }
 }
 
-/// Returns what is said of a line that is no document.
+/// Returns the error for a line that is not a document.
 fn line_trouble(
     line: u64,
     column: Option<u64>,
@@ -94,7 +94,7 @@ fn line_trouble(
     }
 }
 
-/// Returns what is said of an input of documents that can't be read.
+/// Returns the error for an input of documents that can't be read.
 fn read_trouble(cause: ReadError, options: &DocumentOptions<'_>) -> Error {
     match cause {
         ReadError::Line {
@@ -106,8 +106,8 @@ fn read_trouble(cause: ReadError, options: &DocumentOptions<'_>) -> Error {
     }
 }
 
-/// Returns what is said of an error that a comparison of documents has: what is wrong, and of which
-/// file as its context.
+/// Returns the error that is printed for one of a comparison of documents, with the file as
+/// context.
 pub(crate) fn document_trouble(
     error: DocumentError,
     files: (&[u8], &[u8]),

@@ -1,4 +1,4 @@
-//! What the words of the command line ask for.
+//! The settings that the words of the command line give.
 
 use crate::kinds::usual_delimiter;
 use crate::tasks::Target;
@@ -66,7 +66,7 @@ fn delimiter_of(text: &str) -> Result<u8> {
     Ok(byte)
 }
 
-/// Returns how two tables are read.
+/// Returns the options for reading two tables.
 pub(crate) fn csv_options(matches: &ArgMatches<'_>, left: &str, right: &str) -> Result<CsvOptions> {
     let delimiter = match matches.get_str("delimiter") {
         Some(text) => delimiter_of(text)?,
@@ -84,8 +84,8 @@ const MOST_IN_PAGE: usize = 10_000;
 /// The least number of columns that aligned columns are printed in.
 const LEAST_WIDTH: usize = 40;
 
-/// Returns the columns of the terminal where aligned columns are asked for. Fails where they are
-/// too few, or another form of the report is asked for.
+/// Returns the width of the terminal, if aligned columns are asked for. Fails if it is too small,
+/// or if another form of the report is asked for too.
 fn width_of(matches: &ArgMatches<'_>) -> Result<Option<usize>> {
     let Some(width) = matches.get_one::<usize>("width") else {
         return Ok(None);
@@ -105,7 +105,7 @@ fn width_of(matches: &ArgMatches<'_>) -> Result<Option<usize>> {
     Ok(Some(width))
 }
 
-/// Returns where the report goes.
+/// Returns the destination and the form of the report.
 pub(crate) fn target_of<'a>(rt: &HostRuntime, matches: &ArgMatches<'a>) -> Result<Target<'a>> {
     if let Some(width) = width_of(matches)? {
         let colored = is_colored(rt, matches);
@@ -118,7 +118,7 @@ pub(crate) fn target_of<'a>(rt: &HostRuntime, matches: &ArgMatches<'a>) -> Resul
     }
 }
 
-/// Returns how many differences are printed. On the command line the limit 0 stands for all.
+/// Returns the number of differences to print. On the command line the limit 0 stands for all.
 pub(crate) fn limit_of(matches: &ArgMatches<'_>) -> usize {
     if matches.get_flag("summary") {
         return 0;
@@ -134,7 +134,7 @@ pub(crate) fn limit_of(matches: &ArgMatches<'_>) -> usize {
     }
 }
 
-/// Returns the form of the report. Pages, Markdown and aligned columns are made of JSON lines.
+/// Returns the format of the report. Pages, Markdown and aligned columns are made of JSON lines.
 pub(crate) fn format_of(matches: &ArgMatches<'_>) -> Format {
     if matches.contains_id("html") || matches.get_flag("markdown") || matches.contains_id("width") {
         return Format::Json;
@@ -154,7 +154,7 @@ fn asks_no_color(rt: &HostRuntime) -> bool {
     }
 }
 
-/// Returns whether the report has colours: where it is asked for, or standard output is a terminal.
+/// Returns whether the report has colours: if they are asked for, or on a terminal.
 pub(crate) fn is_colored(rt: &HostRuntime, matches: &ArgMatches<'_>) -> bool {
     match matches.get_str("color") {
         Some("always") => true,

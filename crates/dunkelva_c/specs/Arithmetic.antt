@@ -51,8 +51,8 @@ room_at (Some kind.UInt32) s = length s.u32s
 room_at (Some kind.UInt64) s = length s.u64s
 room_at _ s = 0
 
--- numbers, under the bits that words hold, are rows; a bit is 0 where a row is null, as many as are
--- counted
+-- numbers, under the bits that words hold, are rows. A bit is 0 where a row is null, and `nulls` is
+-- the number of these rows
 pub record AreRows {A : Type 0} (value : A → ℤ) (rows : List Row) (values : List A) (words : List ℕ)
     (nulls : ℕ) : Type 0 where
   pub present : List Bool
@@ -60,7 +60,7 @@ pub record AreRows {A : Type 0} (value : A → ℤ) (rows : List Row) (values : 
   pub same : rows_under (Some present) (number_slots value values) ≡ rows
   pub count : nulls ≡ count_by not present
 
--- the same of the numbers in the slice of a kind
+-- the numbers in the slice of a kind, under the bits that words hold, are rows
 abbrev pub AreRowsAt : Option PartKind → List Row → Slices → List ℕ → ℕ → Type 0
 AreRowsAt (Some kind.Int8) rows s words nulls = AreRows (λ x. x) rows s.i8s words nulls
 AreRowsAt (Some kind.Int16) rows s words nulls = AreRows (λ x. x) rows s.i16s words nulls
@@ -114,7 +114,7 @@ abbrev pub AreNumberedSigns : Option Sign → Part → Slices → List ℕ → �
 AreNumberedSigns None p s words nulls = ⊥
 AreNumberedSigns (Some sign) p s words nulls = AreAnswers (function_of sign) p s words nulls
 
--- there is room for the numbers and the bits of a part: as many numbers as rows, and enough words
+-- there is room for the numbers and the bits of a part: a number for each row, and enough words
 pub record HasRoom (p : Part) (room words : ℕ) : Type 0 where
   pub values : room ≡ p.rows
   pub bits : p.rows ≤ 64 * words
@@ -136,7 +136,7 @@ IsTruePartsFault s words left right fault =
     (count_at (kind_number left.kind) right) (room_at (kind_number left.kind) s) words left
     right fault
 
--- there may also be no operation with a number
+-- a fault of a numbered operation on two parts is true: no operation may have the number
 abbrev pub IsTrueArithmeticFault : Option Arithmetic → Slices → ℕ → Part → Part → Fault → Type 0
 IsTrueArithmeticFault None s words left right fault = fault ≡ NotServed
 IsTrueArithmeticFault (Some op) s words left right fault = IsTruePartsFault s words left right fault
@@ -156,19 +156,19 @@ IsTruePartFault s words p fault =
     IsTrueAnswerFault (count_at (kind_number p.kind) p) (room_at (kind_number p.kind) s) words p
     fault
 
--- there may also be no function with a number
+-- a fault of a numbered function of a part is true: no function may have the number
 abbrev pub IsTrueSignFault : Option Sign → Slices → ℕ → Part → Fault → Type 0
 IsTrueSignFault None s words p fault = fault ≡ NotServed
 IsTrueSignFault (Some sign) s words p fault = IsTruePartFault s words p fault
 
--- a fault of an operation on numbers from `least` to `greatest` and n is true: n may be no such
--- number
+-- a fault of an operation on numbers from `least` to `greatest` and n is true: n may lie outside of
+-- these
 abbrev pub IsTrueTypedFault : ℤ → ℤ → ℤ → ℕ → ℕ → ℕ → Part → Fault → Type 0
 IsTrueTypedFault least greatest n count room words p Types = ¬ ((least ≤ℤ n) × (n ≤ℤ greatest))
 IsTrueTypedFault least greatest n count room words p fault =
     IsTrueAnswerFault count room words p fault
 
--- a fault of an operation on a part and n is true: also that it is not one of numbers
+-- a fault of an operation on a part and n is true: the part may have no numbers
 abbrev pub IsTrueWithFaultAt : Option NumberType → ℤ → ℕ → ℕ → ℕ → Part → Fault → Type 0
 IsTrueWithFaultAt None n count room words p fault = fault ≡ NotServed
 IsTrueWithFaultAt (Some type) n count room words p fault =
@@ -179,7 +179,7 @@ IsTrueWithFault n s words p fault =
     IsTrueWithFaultAt (number_type (kind_number p.kind)) n (count_at (kind_number p.kind) p)
     (room_at (kind_number p.kind) s) words p fault
 
--- there may also be no operation or no side with a number
+-- a fault of a numbered operation on a numbered side is true: one of the numbers may name nothing
 abbrev pub IsTrueSidedFault : Option Arithmetic → Option Side → ℤ → Slices → ℕ → Part → Fault
     → Type 0
 IsTrueSidedFault (Some op) (Some side) n s words p fault = IsTrueWithFault n s words p fault

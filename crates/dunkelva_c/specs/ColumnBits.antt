@@ -42,7 +42,7 @@ abbrev pub IsNumberedReduction : Option BitOperator → Part → Number → Type
 IsNumberedReduction None p out = ⊥
 IsNumberedReduction (Some operator) p out = IsReduced operator p out
 
--- a fault of a reduction is true: there may also be no operator with this number
+-- a fault of a numbered reduction is true: no operator may have the number
 abbrev pub IsTrueReduceFault : Option BitOperator → Part → Fault → Type 0
 IsTrueReduceFault None p fault = fault ≡ NotServed
 IsTrueReduceFault (Some operator) p fault = IsTrueFault p fault

@@ -33,7 +33,7 @@ abbrev pub IsTrueCountFault : ℕ → Part → Fault → Type 0
 IsTrueCountFault room p NotServed = number_type (kind_number p.kind) ≡ None
 IsTrueCountFault room p fault = IsTrueCountsFault (count_at (kind_number p.kind) p) room p fault
 
--- there may also be no count with a number
+-- a fault of a numbered count of a part is true: no count may have the number
 abbrev pub IsTrueCountingFault : Option Counting → ℕ → Part → Fault → Type 0
 IsTrueCountingFault None room p fault = fault ≡ NotServed
 IsTrueCountingFault (Some counting) room p fault = IsTrueCountFault room p fault

@@ -77,7 +77,7 @@ sum_at (Some type) rows = sum_if_any type.least type.width rows
 abbrev pub sum_of_part : Part → Option ℤ
 sum_of_part p = sum_at (number_type (kind_number p.kind)) (number_rows_of p)
 
--- a fault of a call on one part of numbers is true: it lends no column, or is not one of numbers
+-- a fault of a call on one part is true: the part lends no column, or has no numbers
 abbrev pub IsTrueFault : Part → Fault → Type 0
 IsTrueFault p Parts = ¬ IsColumn p (count_at (kind_number p.kind) p)
 IsTrueFault p Types = ⊥

@@ -46,12 +46,12 @@ abbrev pub IsNumberedComparison : Option Test → Part → Part → List ℕ →
 IsNumberedComparison None left right words = ⊥
 IsNumberedComparison (Some test) left right words = IsComparison test left right words
 
--- a fault of a comparison into this many words is true: there may also be too few of them
+-- a fault of a comparison, written into this many words, is true: they may be too few
 abbrev pub IsTrueRoomFault : ℕ → Part → Part → Fault → Type 0
 IsTrueRoomFault words left right Room = ¬ (left.rows ≤ 64 * words)
 IsTrueRoomFault words left right fault = IsTruePairFault left right fault
 
--- a fault of a comparison with a number is true: there may also be none with this number
+-- a fault of a numbered comparison is true: no comparison may have the number
 abbrev pub IsTrueTestFault : Option Test → ℕ → Part → Part → Fault → Type 0
 IsTrueTestFault None words left right fault = fault ≡ NotServed
 IsTrueTestFault (Some test) words left right fault = IsTrueRoomFault words left right fault

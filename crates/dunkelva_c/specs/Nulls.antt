@@ -37,7 +37,7 @@ pub record AreNulls (p : Part) (words : List ℕ) (count : ℕ) : Type 0 where
   pub bits : AreWritten (nulls_at (kind_number p.kind) p) words
   pub total : count ≡ null_count_at (kind_number p.kind) p
 
--- whether there is such a type
+-- there is a type
 abbrev pub is_some_type : Option NumberType → Bool
 is_some_type None = false
 is_some_type (Some type) = true
@@ -56,7 +56,7 @@ IsTrueNullFault k p Room = ⊥
 IsTrueNullFault k p Memory = ⊤
 IsTrueNullFault k p NotServed = has_nulls k ≡ false
 
--- there may also be too few words
+-- a fault of the nulls of a part, written into this many words, is true: they may be too few
 abbrev pub IsTrueNullRoomFault : ℕ → Part → Fault → Type 0
 IsTrueNullRoomFault words p Room = ¬ (p.rows ≤ 64 * words)
 IsTrueNullRoomFault words p fault = IsTrueNullFault (kind_number p.kind) p fault

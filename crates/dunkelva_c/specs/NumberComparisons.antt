@@ -36,7 +36,7 @@ IsTrueTypeFault least greatest n count p Room = ⊥
 IsTrueTypeFault least greatest n count p Memory = ⊤
 IsTrueTypeFault least greatest n count p NotServed = ⊥
 
--- a fault of a comparison of a part with n is true: also that it is not one of numbers
+-- a fault of a comparison of a part with n is true: the part may have no numbers
 abbrev pub IsTrueFaultAt : Option NumberType → ℤ → ℕ → Part → Fault → Type 0
 IsTrueFaultAt None n count p fault = fault ≡ NotServed
 IsTrueFaultAt (Some type) n count p fault = IsTrueTypeFault type.least type.greatest n count p fault
@@ -45,12 +45,12 @@ abbrev pub IsTrueNumberFault : ℤ → Part → Fault → Type 0
 IsTrueNumberFault n p fault =
     IsTrueFaultAt (number_type (kind_number p.kind)) n (count_at (kind_number p.kind) p) p fault
 
--- there may also be too few words
+-- a fault of such a comparison, written into this many words, is true: they may be too few
 abbrev pub IsTrueNumberRoomFault : ℤ → ℕ → Part → Fault → Type 0
 IsTrueNumberRoomFault n words p Room = ¬ (p.rows ≤ 64 * words)
 IsTrueNumberRoomFault n words p fault = IsTrueNumberFault n p fault
 
--- there may also be no comparison with a number
+-- a fault of a numbered comparison with n is true: no comparison may have the number
 abbrev pub IsTrueNumberTestFault : Option Test → ℤ → ℕ → Part → Fault → Type 0
 IsTrueNumberTestFault None n words p fault = fault ≡ NotServed
 IsTrueNumberTestFault (Some test) n words p fault = IsTrueNumberRoomFault n words p fault

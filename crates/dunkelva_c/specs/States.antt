@@ -69,8 +69,8 @@ IsTrueRangeFault least greatest words fault = ⊥
 
 -- ---- rows that are appended
 
--- whether rows lie in the range of n numbers from `least` on; if they do, memory holds the state to
--- which they are appended, and else it is as before
+-- `within` says whether rows lie in the range of n numbers from `least` on. If they do, memory
+-- holds the state to which they are appended; otherwise it is as before
 pub record IsAppended (least : ℤ) (n : ℕ) (rows : List Row) (old new : List ℕ) (flag after : ℕ)
     (within : Bool) : Type 0 where
   pub told : within ≡ are_within (numbers_from least n) rows
@@ -96,7 +96,7 @@ IsTrueNumbersFault low high least greatest count p Room = ⊥
 IsTrueNumbersFault low high least greatest count p Memory = ⊤
 IsTrueNumbersFault low high least greatest count p NotServed = ⊥
 
--- a fault of a part, at its type, is true: also that it is not one of numbers
+-- a fault of a part, at its type, is true: the part may have no numbers
 abbrev pub IsTrueFaultAt : Option NumberType → ℤ → ℤ → ℕ → Part → Fault → Type 0
 IsTrueFaultAt None least greatest count p fault = fault ≡ NotServed
 IsTrueFaultAt (Some type) least greatest count p fault =
@@ -124,7 +124,7 @@ IsMerged least greatest old new flag after others other =
     HoldsAt least greatest old new after
     (merged (state_at least greatest old flag) (state_at least greatest others other))
 
--- a fault of two states of so many words is true
+-- a fault of two states of these numbers of words is true
 abbrev pub IsTrueMergeFault : Number → Number → ℕ → ℕ → StateFault → Type 0
 IsTrueMergeFault least greatest words others NoRange =
     ¬ RangeFits (whole_in least) (whole_in greatest)
@@ -134,21 +134,21 @@ IsTrueMergeFault least greatest words others fault = ⊥
 
 -- ---- contents of states
 
--- two numbers are how many values a state has seen, and how many rows, null among them
+-- the number of values that a state has seen, and the number of rows, null among them
 pub record AreCounts (least greatest : Number) (words : List ℕ) (flag values rows : ℕ) :
     Type 0 where
   pub present : values ≡ length (set_of (state_at least greatest words flag))
   pub all : rows ≡ length (finalised Int (state_at least greatest words flag))
 
--- memory holds the values that a state has seen, ascending, and what it held behind them, and a
--- number is 1 if a null was seen and else 0
+-- memory holds the values that a state has seen, ascending, and its old contents behind them.
+-- `told` is 1 if a null was seen, and otherwise 0
 pub record IsListed (least greatest : Number) (words : List ℕ) (flag : ℕ) (old new : List ℕ)
     (told : ℕ) : Type 0 where
   pub values : new ≡ map low_word (set_of (state_at least greatest words flag))
       ++ drop (length (set_of (state_at least greatest words flag))) old
   pub null : told ≡ cond (state_at least greatest words flag).has_null 1 0
 
--- a fault of a list of what a state has seen, with room for so many numbers, is true
+-- a fault of the list of the values of a state, with room for this many numbers, is true
 abbrev pub IsTrueListFault : Number → Number → List ℕ → ℕ → StateFault → Type 0
 IsTrueListFault least greatest words room NoRange = ¬ RangeFits (whole_in least) (whole_in greatest)
 IsTrueListFault least greatest words room (Of Room) =

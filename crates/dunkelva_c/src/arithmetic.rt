@@ -101,10 +101,10 @@ fn calculate_parts(
 }
 
 /// Writes the results of an operation on two columns of numbers of one kind and length, row by row,
-/// into the slice of their type, which has as many numbers as there are rows. Writes a bit for each
-/// row, 1 if the result is present, with zeros past the last, and the number of null results. A
-/// result is null if one of the two rows is, or if the divisor is 0; what is written for it is
-/// arbitrary. Other results are wrapped to the type.
+/// into the slice of their type, which has a number for each row. Writes a bit for each row, 1 if
+/// the result is present, with zeros past the last, and the number of null results. A result is
+/// null if one of the two rows is, or if the divisor is 0; what is written for it is arbitrary.
+/// Other results are wrapped to the type.
 ///
 /// `operation` is 0 for sums, 1 for differences, 2 for products, 3 for quotients that are rounded
 /// down, 4 for quotients that are rounded toward 0, and 5 for the remainders of those rounded down.

@@ -28,8 +28,8 @@ fn count_part(
     at_number_kind!(part, values => count_numbers(alloc, counting, part, values, counts))
 }
 
-/// Writes a count of the bits of each row of a column, into a slice of as many numbers as there are
-/// rows. The count of a null row is arbitrary: the validity of the counts is that of the column.
+/// Writes a count of the bits of each row of a column, into a slice with a number for each row. The
+/// count of a null row is arbitrary: the validity of the counts is that of the column.
 /// `counting` is 0 for ones, 1 for zeros, 2 for leading ones, 3 for leading zeros, 4 for trailing
 /// ones and 5 for trailing zeros.
 #[unsafe(no_mangle)]

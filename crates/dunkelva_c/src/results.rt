@@ -80,8 +80,8 @@ pub(crate) fn write_present(bits: &Bitmap, present: &mut [u64], nulls: &mut u64)
     }
 }
 
-/// Returns that there is room for as many numbers as a part has rows, and for their bits. The error
-/// is `Room`.
+/// Checks that there is room for a number for each row of a part, and for their bits. The error is
+/// `Room`.
 pub(crate) fn check_room(part: &Part<'_>, values: usize, words: usize) -> Result<(), Fault>
     ensures room { OnOk result (HasRoom part.now values words) }
     ensures refused { IfErr result (λ fault. fault ≡ Room) }

@@ -1,10 +1,10 @@
--- Lists of texts with commas between them. A comma within quotes parts no texts.
+-- Lists of texts with commas between them. A comma within quotes does not separate texts.
 use Rattle.std.specs.Prelude.{ℕ, List, [], ◌∷◌, ◌++◌, Bool, false, cond, ◌==◌}
 use Rattle.std.specs.List.{flat_map}
 use Rattle.dunkelva_options.specs.declared.lists.Quoting.{Quoting}
 use Rattle.dunkelva_options.specs.declared.lists.Quoting.TheVariants.{Outside, Inside, Escaped}
 
--- where the byte behind x stands
+-- the place of the byte behind x, which is at the given place
 abbrev pub after : Quoting → ℕ → Quoting
 after Outside x = cond (x == 34) Inside Outside
 after Inside x = cond (x == 34) Outside (cond (x == 92) Escaped Inside)

@@ -1,4 +1,4 @@
-//! What the words of options hold.
+//! The contents of the words of options.
 #![tactic(auto)]
 
 pub mod lists;

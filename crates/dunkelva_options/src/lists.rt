@@ -7,7 +7,7 @@ ghost use Rattle.dunkelva_options.specs.Lists.{after, all_parts, is_end, list_pa
 
 use std::alloc::{AllocError, Global};
 
-/// Where a byte stands.
+/// The place of a byte: outside of quotes, within quotes, or escaped.
 #[derive(Clone, Copy, PartialEq, Eq)]
 enum Quoting {
     Outside,
@@ -17,7 +17,7 @@ enum Quoting {
 }
 
 impl Quoting {
-    /// Returns where the byte behind this one stands.
+    /// Returns the place of the byte behind `byte`, which is at this place.
     fn after(self, byte: u8) -> Quoting
         ensures { result ≡ after self byte }
     {

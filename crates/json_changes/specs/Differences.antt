@@ -36,7 +36,7 @@ only_left j = apart (Some j) None
 abbrev pub only_right : Json → Difference
 only_right k = apart None (Some k)
 
--- two values with no parts are the same: numbers by what they are worth
+-- two values with no parts are the same, where numbers are compared by their values
 abbrev pub is_same_leaf : Json → Json → Bool
 is_same_leaf null null = true
 is_same_leaf (boolean a) (boolean b) = beq a b
@@ -48,22 +48,23 @@ is_same_leaf j k = false
 abbrev pub leaf_differences : Json → Json → List Difference
 leaf_differences j k = if is_same_leaf j k then [] else apart (Some j) (Some k) ∷ []
 
--- items that one side alone has, the first of them at a place
+-- items that only one side has, the first of them at a place
 abbrev pub alone_items : (Json → Difference) → ℕ → Items → List Difference
 alone_items alone n no_items = []
 alone_items alone n (item j js) = inside (place n) (alone j) ∷ alone_items alone (suc n) js
 
--- the differences between a value and the one that is found for it, where there is one
+-- the differences between a value and the one that is found for it, or the value that only the left
+-- side has if none is found
 abbrev pub beside : Json → (Json → List Difference) → Option Json → List Difference
 beside j between None = only_left j ∷ []
 beside j between (Some i) = between i
 
--- a member of the right side, where the left side has none of its name
+-- a member of the right side, if the left side has none of its name
 abbrev pub added_member : List ℕ → Json → Option Json → List Difference
 added_member k i None = inside (name k) (only_right i) ∷ []
 added_member k i (Some j) = []
 
--- the members of the right side whose names the left side has not
+-- the members of the right side whose names the left side does not have
 abbrev pub added_members : Members → Members → List Difference
 added_members ms no_members = []
 added_members ms (member k i ns) = added_member k i (get_member k ms) ++ added_members ms ns

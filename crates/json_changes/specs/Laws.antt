@@ -13,8 +13,8 @@ abbrev pub NoneWhereSame : Type 0
 NoneWhereSame = (j k : Json) → HasUniqueKeys j → HasUniqueKeys k → (differences j k ≡ [])
     ↔ AreSame j k
 
--- the path of a difference leads to its parts: on each side to the part told, and nowhere where
--- none is
+-- the path of a difference leads to its part on each side, and to no part on a side where the
+-- difference has none
 pub record LeadsToParts (j k : Json) (d : Difference) : Type 0 where
   pub left : part_at d.path j ≡ d.left
   pub right : part_at d.path k ≡ d.right
@@ -46,43 +46,42 @@ abbrev pub CanGoOn : Option Json → Option Json → Type 0
 CanGoOn (Some j) (Some k) = HaveParts j k
 CanGoOn o p = ⊥
 
--- no difference is of two arrays or of two objects: it is of their parts
+-- no difference is between two arrays or between two objects: it is between their parts
 abbrev pub EachIsSmallest : Type 0
 EachIsSmallest = (j k : Json) → HasUniqueKeys j → HasUniqueKeys k
     → All (λ d. ¬ CanGoOn d.left d.right) (differences j k)
 
--- one of two paths goes on from the other, or they are one
+-- two paths are equal, or one of them begins with the other
 abbrev pub IsAlong : Path → Path → Type 0
 IsAlong [] q = ⊤
 IsAlong (s ∷ p) [] = ⊤
 IsAlong (s ∷ p) (t ∷ q) = (s ≡ t) × IsAlong p q
 
--- the path of one of the differences is along this one
+-- the path of one of the differences equals this path, or one of the two begins with the other
 abbrev pub OneIsAlong : Path → List Difference → Type 0
 OneIsAlong p [] = ⊥
 OneIsAlong p (d ∷ ds) = IsAlong d.path p ⊎ OneIsAlong p ds
 
--- where the parts at a path are not the same, there is a difference at this path, above it or below
--- it
+-- there is a difference at a path, above it or below it, if the parts at this path are not the same
 abbrev pub NoneIsMissed : Type 0
 NoneIsMissed = (j k : Json) (p : Path) → ¬ PartsAreSame (part_at p j) (part_at p k)
     → OneIsAlong p (differences j k)
 
--- no path of a difference goes on from that of another
+-- no path of a difference equals the path of another difference, or begins with it
 abbrev pub PathsPart : Type 0
 PathsPart = (j k : Json) → HasUniqueKeys j → HasUniqueKeys k
     → AllPairs (λ d e. ¬ IsAlong d.path e.path) (differences j k)
 
--- with no rules each difference is told
+-- with no rules each difference is reported
 abbrev pub AllToldWithoutRules : Type 0
 AllToldWithoutRules = (j k : Json) → differences_told no_rules j k ≡ differences j k
 
--- what is told under rules is told without them
+-- each difference that is reported under rules is also a difference without them
 abbrev pub ToldAreDifferences : Type 0
 ToldAreDifferences = (rules : Rules) (j k : Json)
     → All (Contains (differences j k)) (differences_told rules j k)
 
--- where two values are the same nothing is told
+-- nothing is reported where two values are the same
 abbrev pub NothingToldWhereSame : Type 0
 NothingToldWhereSame = (rules : Rules) (j k : Json) → HasUniqueKeys k → AreSame j k
     → differences_told rules j k ≡ []
@@ -92,7 +91,7 @@ abbrev pub AreNumbers : Option Json → Option Json → Type 0
 AreNumbers (Some (number s)) (Some (number t)) = ⊤
 AreNumbers o p = ⊥
 
--- what tolerances allow are differences between two numbers
+-- tolerances allow only differences between two numbers
 abbrev pub OnlyNumbersTolerated : Type 0
 OnlyNumbersTolerated = (ts : List Tolerance) (d : Difference) → IsTrue (is_tolerated ts d)
     → AreNumbers d.left d.right
@@ -101,7 +100,7 @@ OnlyNumbersTolerated = (ts : List Tolerance) (d : Difference) → IsTrue (is_tol
 abbrev pub strict : Rules → Rules
 strict rules = record rules { tolerances = [] }
 
--- what is told under rules is told where they have no tolerances
+-- each difference that is reported under rules is also reported under them without their tolerances
 abbrev pub TolerancesAddNone : Type 0
 TolerancesAddNone = (rules : Rules) (j k : Json)
     → All (Contains (differences_told (strict rules) j k)) (differences_told rules j k)

@@ -40,7 +40,7 @@ abbrev pub with_step : List ℕ → Step → List ℕ
 with_step text (name k) = text ++ name_text text k
 with_step text (place i) = text ++ (91 ∷ decimal i ++ 93 ∷ [])
 
--- the text of a path that goes on from another, whose text is given
+-- the text of a path that continues another one, whose text is given
 abbrev pub path_from : List ℕ → Path → List ℕ
 path_from = fold with_step
 
@@ -71,7 +71,7 @@ told d = record {
 abbrev pub at_path : Path → Difference → Difference
 at_path path d = record { path = path ++ d.path; left = d.left; right = d.right }
 
--- the texts of those differences that are told under rules, between parts that lie at a path
+-- the texts of the differences that are reported under rules between parts at a path
 abbrev pub told_at : specs.Rules → Path → List Difference → List Told
 told_at rules path ds = map told (filter (is_told rules) (map (at_path path) ds))
 
@@ -85,7 +85,7 @@ change_view c =
           (λ v. v.items) c.right;
     }
 
--- a value that this side alone has
+-- a value that only this side has
 abbrev pub only_in : Side → Json → Difference
 only_in Left = only_left
 only_in Right = only_right

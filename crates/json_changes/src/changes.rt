@@ -15,10 +15,10 @@ use json::Value;
 use json_decimals::error::NumberError;
 use std::alloc::Global;
 
-/// Returns those differences between two values that rules tell, in texts.
+/// Returns the texts of the differences that are reported under rules between two values.
 ///
-/// Fails with `WideExponent` only where the exponent of a number has more than 30 digits, its
-/// leading zeros not counted. Numbers are compared whether or not their difference is told.
+/// Fails with `WideExponent` only if the exponent of a number has more than 30 digits, leading
+/// zeros not counted. Numbers are compared even if their difference is not reported.
 pub fn changes_under(
     alloc: Global,
     left: &Value<'_>,
@@ -39,10 +39,10 @@ pub fn changes_under(
     Ok(changes)
 }
 
-/// Returns whether two values are the same under rules: whether no difference between them is told.
+/// Returns whether no difference is reported under rules between two values.
 ///
-/// Fails with `WideExponent` only where the exponent of a number has more than 30 digits, its
-/// leading zeros not counted.
+/// Fails with `WideExponent` only if the exponent of a number has more than 30 digits, leading
+/// zeros not counted.
 pub fn are_same_under(
     alloc: Global,
     left: &Value<'_>,

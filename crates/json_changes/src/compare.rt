@@ -21,7 +21,7 @@ use json_decimals::error::NumberError;
 use json_paths::path::Step;
 use std::alloc::{AllocError, Global};
 
-/// Appends the changes of the items that one side alone has, which are those from a place on.
+/// Appends the changes of the items from a place on, which only one side has.
 fn push_items(
     alloc: Global,
     rules: &Rules,
@@ -47,7 +47,7 @@ fn push_items(
     Ok(())
 }
 
-/// Appends a member of the right side, where none was found for it on the left side.
+/// Appends the change of a member of the right side, if none was found for it on the left side.
 fn push_added_member(
     alloc: Global,
     rules: &Rules,
@@ -74,7 +74,7 @@ fn push_added_member(
     Ok(())
 }
 
-/// Appends the members of the right side whose names the left side has not.
+/// Appends the changes of the members of the right side whose names the left side does not have.
 fn push_added_members<'a, 'b>(
     alloc: Global,
     rules: &Rules,
@@ -159,7 +159,8 @@ fn compare_items<'a, 'b>(
     Ok(())
 }
 
-/// Appends the changes between a value and the one that was found for it, where there is one.
+/// Appends the changes between a value and the one that was found for it. If none was found,
+/// appends the change of the value alone.
 #[cycle(compare)]
 fn compare_found<'a, 'b>(
     alloc: Global,

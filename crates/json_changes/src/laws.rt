@@ -5,8 +5,9 @@ ghost use Rattle.json_changes.specs.Laws.{NoneIsMissed, NoneWhereSame, NothingTo
 ghost use Rattle.json_changes.specs.Laws.{OnlyNumbersTolerated, PathsLead, PathsPart};
 ghost use Rattle.json_changes.specs.Laws.{ToldAreDifferences, TolerancesAddNone};
 
-/// Says that only values that differ have differences, where the path of a difference leads, that
-/// its parts differ and are the smallest, that none is missed, and that none is told twice.
+/// Says that only values that differ have differences, and that the path of a difference leads to
+/// its parts. Says that these parts differ and are the smallest such parts, and that no difference
+/// is missed or reported twice.
 pub fn change_laws()
     ensures none_where_same { NoneWhereSame }
     ensures paths_lead { PathsLead }
@@ -16,8 +17,9 @@ pub fn change_laws()
     ensures paths_part { PathsPart }
 {}
 
-/// Says that each difference is told with no rules, that rules add none, that nothing is told where
-/// two values are the same, and that tolerances add none and take out only those between numbers.
+/// Says that each difference is reported if there are no rules, and that rules add none. Says that
+/// nothing is reported where two values are the same, and that tolerances add no difference and
+/// remove only differences between numbers.
 pub fn rule_laws()
     ensures all_told { AllToldWithoutRules }
     ensures told_are_differences { ToldAreDifferences }

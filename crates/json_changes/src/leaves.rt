@@ -54,7 +54,7 @@ fn are_same(alloc: Global, left: &Value<'_>, right: &Value<'_>) -> Result<bool, 
     }
 }
 
-/// Appends the change of two values, where they are not the same and it is told.
+/// Appends the change between two values, if they are not the same and it is reported.
 pub(crate) fn compare_leaves(
     alloc: Global,
     rules: &Rules,

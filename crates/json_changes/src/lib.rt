@@ -1,4 +1,4 @@
-//! The differences between two JSON values: the smallest parts that differ, told by path.
+//! The differences between two JSON values: the smallest parts that differ, each with its path.
 #![tactic(auto)]
 
 pub mod changes;

@@ -8,7 +8,7 @@ ghost use Rattle.json.specs.Value.{value_view, items_view, members_view};
 
 use json::Value;
 
-/// Returns the items of an array.
+/// Returns the items of an array, or `None` for any other value.
 pub(crate) fn items_of<'v, 'a>(value: &'v Value<'a>) -> Option<&'v Vec<Value<'a>>>
     ensures { MatchOption result (as_array (value_view value.now) ≡ None)
         (λ v. value_view value.now ≡ array (items_view v.now.items)) }
@@ -20,7 +20,7 @@ pub(crate) fn items_of<'v, 'a>(value: &'v Value<'a>) -> Option<&'v Vec<Value<'a>
     }
 }
 
-/// Returns the members of an object.
+/// Returns the members of an object, or `None` for any other value.
 pub(crate) fn members_of<'v, 'a>(value: &'v Value<'a>) -> Option<&'v Vec<(&'a str, Value<'a>)>>
     ensures { MatchOption result (as_object (value_view value.now) ≡ None)
         (λ v. value_view value.now ≡ object (members_view v.now.items)) }
@@ -32,7 +32,7 @@ pub(crate) fn members_of<'v, 'a>(value: &'v Value<'a>) -> Option<&'v Vec<(&'a st
     }
 }
 
-/// Returns the value of the member of a name, where there is one.
+/// Returns the value of the member with this name, if there is one.
 pub(crate) fn find_member<'v, 'a>(
     members: &'v Vec<(&'a str, Value<'a>)>,
     name: &str,

@@ -10,10 +10,10 @@ use json::Value;
 use std::alloc::{AllocError, Global};
 use std::collections::BTreeMap;
 
-/// The number of members that are looked through one by one.
+/// The greatest number of members that are looked through one by one.
 const FEW: usize = 16;
 
-/// Returns the values of members by their names, where the members are many.
+/// Returns the values of members by their names, or an empty map if the members are few.
 fn by_name<'v, 'a>(
     alloc: Global,
     members: &'v Vec<(&'a str, Value<'a>)>,
@@ -32,14 +32,15 @@ fn by_name<'v, 'a>(
     Ok(names)
 }
 
-/// Returns the value at a name.
+/// Returns the value at a name, if there is one.
 fn look_up<'v, 'a>(names: &BTreeMap<&'a str, &'v Value<'a>>, name: &str) -> Option<&'v Value<'a>>
     ensures { result ≡ at_name names.now name.now }
 {
     names.get(name).copied()
 }
 
-/// Returns the value of the member of a name, which is looked up where the members are many.
+/// Returns the value of the member with this name, if there is one. `names` is used where the
+/// members are many.
 fn find_in<'v, 'a>(
     members: &'v Vec<(&'a str, Value<'a>)>,
     names: &BTreeMap<&'a str, &'v Value<'a>>,
@@ -56,7 +57,7 @@ fn find_in<'v, 'a>(
     }
 }
 
-/// Returns the values that other members have at the members' names: one for each, or none.
+/// Returns for each of some members the value that other members have at its name, if there is one.
 pub(crate) fn find_all<'v, 'a, 'b>(
     alloc: Global,
     members: &Vec<(&'a str, Value<'a>)>,

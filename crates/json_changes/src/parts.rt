@@ -45,7 +45,7 @@ fn text_of(alloc: Global, part: Option<&Value<'_>>) -> Result<Option<Vec<u8>>, A
     }
 }
 
-/// Appends the change of two parts at a path, where it is told.
+/// Appends the change between two parts at a path, if it is reported.
 pub(crate) fn push_change(
     alloc: Global,
     rules: &Rules,
@@ -74,7 +74,7 @@ pub(crate) fn push_change(
     Ok(())
 }
 
-/// Appends the change of a part that one side alone has, where it is told.
+/// Appends the change of a part that only one side has, if it is reported.
 pub(crate) fn push_alone(
     alloc: Global,
     rules: &Rules,

@@ -39,7 +39,7 @@ fn push_quoted(alloc: Global, path: &mut Vec<u8>, name: &str) -> Result<(), Allo
     Ok(())
 }
 
-/// Appends the step to the member of a name.
+/// Appends the text of the step that leads to the member with this name.
 fn push_name(alloc: Global, path: &mut Vec<u8>, key: &str) -> Result<(), AllocError>
     ensures { OnOk result (path.new.items ≡ with_step path.old.items (name key.now)) }
 {
@@ -54,7 +54,7 @@ fn push_name(alloc: Global, path: &mut Vec<u8>, key: &str) -> Result<(), AllocEr
     Ok(())
 }
 
-/// Appends the step to the item at a place.
+/// Appends the text of the step that leads to the item at this place.
 fn push_place(path: &mut Vec<u8>, i: usize) -> Result<(), AllocError>
     ensures { OnOk result (path.new.items ≡ with_step path.old.items (place i)) }
 {
@@ -65,7 +65,7 @@ fn push_place(path: &mut Vec<u8>, i: usize) -> Result<(), AllocError>
     Ok(())
 }
 
-/// Appends a step.
+/// Appends the text of a step.
 fn push_step(alloc: Global, path: &mut Vec<u8>, step: &Step) -> Result<(), AllocError>
     ensures { OnOk result (path.new.items ≡ with_step path.old.items (step_view step.now)) }
 {

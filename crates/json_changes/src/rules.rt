@@ -1,4 +1,4 @@
-//! Rules that say which differences are told.
+//! Rules that say which differences are reported.
 
 ghost use Rattle.std.specs.List.{list_any};
 ghost use Rattle.std.specs.Option.{option_map};
@@ -19,30 +19,29 @@ use json_paths::pattern::Pattern;
 use json_tolerances::closeness::Margin;
 use std::alloc::Global;
 
-/// How far apart the numbers may lie that a pattern names.
+/// A pattern, and the margin within which the numbers that it names may differ.
 #[derive(Drop)]
 pub struct Tolerance {
-    /// The numbers, and the parts that have them.
+    /// The pattern, which names numbers or parts that contain them.
     pub pattern: Pattern,
-    /// How far apart they may lie.
+    /// The margin within which the numbers may differ.
     pub margin: Margin,
 }
 
-/// Rules that say which differences between two values are told.
+/// Rules that say which differences between two values are reported.
 #[derive(Drop)]
 pub struct Rules {
-    /// The parts whose differences are never told.
+    /// The parts whose differences are never reported.
     pub ignored: Vec<Pattern>,
-    /// The parts whose differences alone are told. All are, where there are none.
+    /// The parts whose differences alone are reported. An empty list leaves out no difference.
     pub only: Vec<Pattern>,
-    /// Whether a missing part is the same as null.
+    /// `true` if a missing part is the same as null.
     pub missing_is_null: bool,
-    /// How far apart numbers may lie. Each tolerance stands for itself: one that allows a
-    /// difference is enough.
+    /// The tolerances for numbers. A difference is allowed if one of them allows it.
     pub tolerances: Vec<Tolerance>,
 }
 
-/// Returns whether a path leads to a part that one of some patterns names, or into one.
+/// Returns whether a path leads to a part that one of some patterns names, or to a part within it.
 fn is_named(patterns: &[Pattern], path: &[Step]) -> bool
     ensures { result ≡ is_named (map pattern_view patterns.now) (trail_view path.now) }
 {
@@ -52,7 +51,7 @@ fn is_named(patterns: &[Pattern], path: &[Step]) -> bool
     pattern.begins(path) || is_named(rest, path)
 }
 
-/// Returns whether a path leads to a part that has parts which one of some patterns names.
+/// Returns whether a path leads to a part around those that one of some patterns names.
 fn has_named(patterns: &[Pattern], path: &[Step]) -> bool
     ensures { result ≡ has_named (map pattern_view patterns.now) (trail_view path.now) }
 {
@@ -62,7 +61,7 @@ fn has_named(patterns: &[Pattern], path: &[Step]) -> bool
     pattern.goes_on_in(path) || has_named(rest, path)
 }
 
-/// Returns whether a path leads to what is asked for.
+/// Returns whether a path leads to a part that is asked for.
 fn is_asked_for(patterns: &[Pattern], path: &[Step]) -> bool
     ensures { result ≡ is_asked_for (map pattern_view patterns.now) (trail_view path.now) }
 {
@@ -72,7 +71,7 @@ fn is_asked_for(patterns: &[Pattern], path: &[Step]) -> bool
     is_named(patterns, path) || has_named(patterns, path)
 }
 
-/// Returns whether this is no part, or null.
+/// Returns whether a part is missing or null.
 fn is_nothing(part: Option<&Value<'_>>) -> bool
     ensures { result ≡ is_nothing (option_map (λ v. value_view v.now) part.entry) }
 {
@@ -141,7 +140,7 @@ fn is_tolerated(
 }
 
 impl Rules {
-    /// Returns no rules: each difference is told.
+    /// Returns empty rules, under which each difference is reported.
     pub fn none(alloc: Global) -> Rules
         ensures { rules_view result ≡ no_rules }
     {
@@ -153,7 +152,7 @@ impl Rules {
         }
     }
 
-    /// Returns whether the difference between two parts at a path is told.
+    /// Returns whether the difference between two parts at a path is reported.
     pub(crate) fn tell(
         &self,
         path: &[Step],

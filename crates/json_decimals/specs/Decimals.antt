@@ -1,18 +1,20 @@
 -- Exact decimals, and the normal form of each.
 --
--- The numeral 1500e-2 has the coefficient 1500 and two tens down, and its normal form 15 and none.
+-- The numeral 1500e-2 has the coefficient 1500 and two tens down. Its normal form has the
+-- coefficient 15 and no tens.
 use Rattle.std.specs.Prelude.{◌≡◌, ◌≢◌, ℕ, zero, suc, ◌+◌, ◌-◌, ◌*◌, ◌/◌, ◌%◌, ◌^◌, ◌==◌, ◌⊎◌, Bool}
 use Rattle.std.specs.Prelude.{false, List, drop, slice_index, if◌then◌else◌}
 use Rattle.fast_float.specs.Text.{minus, Parts, scan, digits_of, tens_up, tens_down}
 
--- the number coefficient * 10 ^ up / 10 ^ down, or what lies as far below zero
+-- the number coefficient * 10 ^ up / 10 ^ down, or minus this number if `negative` is true
 pub record Decimal : Type 0 where
   pub negative : Bool
   pub coefficient : ℕ
   pub up : ℕ
   pub down : ℕ
 
--- one number: of one size, once the tens that divide are multiplied out, and of one sign or zero
+-- two decimals are the same number: their sizes are equal once both are multiplied by the tens that
+-- divide them, and they have one sign or are zero
 pub record AreEqual (a b : Decimal) : Type 0 where
   pub size : a.coefficient * 10 ^ (a.up + b.down) ≡ b.coefficient * 10 ^ (b.up + a.down)
   pub sign : (a.coefficient ≡ 0) ⊎ (a.negative ≡ b.negative)
@@ -29,17 +31,17 @@ IsTrimmed a = (a.coefficient % 10 ≢ 0) × ((a.up ≡ 0) ⊎ (a.down ≡ 0))
 abbrev pub IsNormal : Decimal → Type 0
 IsNormal a = (a ≡ zero_decimal) ⊎ IsTrimmed a
 
--- how often ten divides a number, up to a most
+-- the number of times that ten divides a number, up to a limit
 abbrev pub tens_in : ℕ → ℕ → ℕ
 tens_in zero c = 0
 tens_in (suc most) c = if c % 10 == 0 then suc (tens_in most (c / 10)) else 0
 
--- a number divided by ten that often
+-- a number divided by ten this number of times
 abbrev pub without_tens : ℕ → ℕ → ℕ
 without_tens zero c = c
 without_tens (suc most) c = if c % 10 == 0 then without_tens most (c / 10) else c
 
--- a decimal with this coefficient and so many zeros behind it, its tens brought to one side
+-- a decimal with this coefficient and this number of zeros behind it, with tens on one side only
 abbrev pub shifted : Decimal → ℕ → ℕ → Decimal
 shifted a coefficient zeros = record {
   negative = a.negative;

@@ -3,7 +3,7 @@ use Rattle.std.specs.Prelude.{◌≡◌, ◌↔◌, ℕ, List}
 use Rattle.json_decimals.specs.Decimals.{Decimal, AreEqual, IsNormal, normal_of, decimal_of}
 use Rattle.json_decimals.specs.Texts.{number_text, normal_number}
 
--- equality of decimals passes on
+-- equality of decimals is transitive
 abbrev pub PassesOn : Type 0
 PassesOn = (a b c : Decimal) → AreEqual a b → AreEqual b c → AreEqual a c
 
@@ -15,7 +15,7 @@ NormalIsEqual = (a : Decimal) → IsNormal (normal_of a) × AreEqual (normal_of 
 abbrev pub OneNormalForm : Type 0
 OneNormalForm = (a b : Decimal) → IsNormal a → IsNormal b → AreEqual a b → a ≡ b
 
--- two decimals are equal where their normal forms are one, and only there
+-- two decimals are equal if and only if their normal forms are the same
 abbrev pub NormalFormsTell : Type 0
 NormalFormsTell = (a b : Decimal) → AreEqual a b ↔ (normal_of a ≡ normal_of b)
 
@@ -23,7 +23,7 @@ NormalFormsTell = (a b : Decimal) → AreEqual a b ↔ (normal_of a ≡ normal_o
 abbrev pub TextReadsBack : Type 0
 TextReadsBack = (n : Decimal) → IsNormal n → decimal_of (number_text n) ≡ n
 
--- two texts write equal decimals where their normal texts are one, and only there
+-- two texts write equal decimals if and only if their normal texts are the same
 abbrev pub NormalTextsTell : Type 0
 NormalTextsTell = (s t : List ℕ) → AreEqual (decimal_of s) (decimal_of t)
     ↔ (normal_number s ≡ normal_number t)

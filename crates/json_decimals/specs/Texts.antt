@@ -9,11 +9,11 @@ use Rattle.std.specs.Prelude.{if◌then◌else◌}
 use Rattle.std.specs.Str.Parse.{digits_value}
 use Rattle.json_decimals.specs.Decimals.{Decimal, normal_of, decimal_of, parts_of}
 
--- the digits of a number, of which the first is not 0 unless it is the only one
+-- the digits of a number; the first is 0 only if it is the only one
 unfoldable pub digits_text : ℕ → List ℕ
 digits_text n = if n == 0 then 48 ∷ [] else map (λ d. 48 + d) (digits_of 10 n)
 
--- an exponent, and nothing where there are no tens
+-- an exponent, or nothing if there are no tens
 unfoldable pub tens_text : ℕ → ℕ → List ℕ
 tens_text zero zero = []
 tens_text zero (suc down) = 101 ∷ 45 ∷ digits_text (suc down)

@@ -33,7 +33,7 @@ impl<'a> Digits<'a> {
         }
     }
 
-    /// Returns how many digits there are.
+    /// Returns the number of digits.
     pub(crate) fn len(&self) -> usize
         ensures { result ≡ length self.now }
     {

@@ -1,4 +1,4 @@
-//! Why a number has no normal text.
+//! Errors of writing the normal text of a number.
 
 ghost use Rattle.json_decimals.specs.Errors.{IsMemory};
 

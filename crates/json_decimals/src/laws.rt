@@ -3,7 +3,8 @@
 ghost use Rattle.json_decimals.specs.Laws.{NormalFormsTell, NormalIsEqual, NormalTextsTell};
 ghost use Rattle.json_decimals.specs.Laws.{OneNormalForm, PassesOn, TextReadsBack};
 
-/// Says which decimals are equal, and that their texts tell.
+/// Says that each decimal has one normal form and one normal text, and that two decimals are equal
+/// if and only if these are the same.
 pub fn decimal_laws()
     ensures passes_on { PassesOn }
     ensures normal_is_equal { NormalIsEqual }

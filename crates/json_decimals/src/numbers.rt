@@ -42,11 +42,11 @@ fn push_sign(out: &mut Vec<u8>, negative: bool) -> Result<(), AllocError>
     Ok(())
 }
 
-/// Appends the normal text of the number that a text writes. Of a text that is no number, it is
-/// that of the longest numeral at the front, or 0.
+/// Appends the normal text of the number that a text writes. If the text is no number, appends the
+/// normal text of the longest numeral at its front, or else `0`.
 ///
-/// Fails where the exponent has more than 30 digits, its leading zeros not counted, whatever the
-/// other digits are.
+/// Fails if the exponent has more than 30 digits, leading zeros not counted, whatever the other
+/// digits are.
 pub fn push_normal_number(out: &mut Vec<u8>, text: &str) -> Result<(), NumberError>
     ensures ok { OnOk result (out.new.items ≡ out.old.items ++ normal_number text.now) }
     ensures narrow { OnOk result (¬ HasWideExponent text.now) }

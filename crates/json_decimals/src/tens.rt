@@ -20,7 +20,8 @@ pub struct Tens {
 }
 
 impl Tens {
-    /// Returns the tens where so many zeros more stand behind the coefficient, on one side.
+    /// Returns the tens of a coefficient with `zeros` more zeros behind it. At most one side has
+    /// tens.
     pub(crate) fn with_zeros(self, zeros: usize) -> Tens
         requires { self.up + self.down < 10 ^ 31 }
         ensures up { result.up ≡ self.up + zeros - self.down }
@@ -34,7 +35,7 @@ impl Tens {
     }
 }
 
-/// Returns the number that digits write, where it has at most 30 digits behind its zeros.
+/// Returns the number that digits write, if it has at most 30 digits behind its leading zeros.
 fn value_of(digits: &[u8]) -> Option<u128>
     requires { AllDigits 10 digits.now }
     ensures { SomeIff result (digits_value 10 digits.now < 10 ^ 30) (digits_value 10 digits.now) }
@@ -49,7 +50,7 @@ fn value_of(digits: &[u8]) -> Option<u128>
     Some(value)
 }
 
-/// Returns the tens of a numeral, where its exponent has at most 30 digits behind its zeros.
+/// Returns the tens of a numeral, if its exponent has at most 30 digits behind its leading zeros.
 pub fn tens_of(numeral: &Numeral<'_>) -> Option<Tens>
     ensures tens { MatchOption result (10 ^ 30 ≤ digits_value 10 numeral.now.exponent)
         (λ t. (t.up ≡ tens_up numeral.now) × (t.down ≡ tens_down numeral.now)) }
@@ -73,7 +74,7 @@ pub fn tens_of(numeral: &Numeral<'_>) -> Option<Tens>
     }
 }
 
-/// Appends an exponent, and nothing where there are no tens.
+/// Appends an exponent, or nothing if there are no tens.
 pub(crate) fn push_tens(out: &mut Vec<u8>, tens: Tens) -> Result<(), AllocError>
     requires { tens.up + tens.down < 10 ^ 32 }
     ensures { OnOk result (out.new.items ≡ out.old.items ++ tens_text tens.up tens.down) }

@@ -25,7 +25,7 @@ has path parts = list_any (is_at path) parts
 abbrev pub values_at : List ℕ → List Part → List Json
 values_at path parts = map (λ p. p.value) (filter (is_at path) parts)
 
--- paths, and that of one part more, if it is none of them
+-- paths, and the path of one more part, if it is not among them
 abbrev pub with_path : List (List ℕ) → Part → List (List ℕ)
 with_path paths p = if list_any (bytes_eq p.path) paths then paths else paths ++ p.path ∷ []
 
@@ -37,12 +37,13 @@ paths_of parts = fold with_path [] parts
 abbrev pub group_paths : {T : Type 0} → List (Group T) → List (List ℕ)
 group_paths groups = map (λ g. g.path.items) groups
 
--- the parts of all documents
+-- the parts of all documents, one document after another
 abbrev pub all_parts : List (List Part) → List Part
 all_parts documents = flat_map (λ parts. parts) documents
 
 module _ {T : Type 0} (Gathers : List Json → T → Type 0) where
-  -- a group tells of the values at its path in all documents, and how many documents have one
+  -- a group has the tally of the values at its path in all documents, and the number of documents
+  -- that have such a value
   pub record IsGroupOf (documents : List (List Part)) (g : Group T) : Type 0 where
     pub documents_is : g.documents ≡ count_by (has g.path.items) documents
     pub tally : Gathers (values_at g.path.items (all_parts documents)) g.tally
@@ -56,14 +57,14 @@ module _ {T : Type 0} (Gathers : List Json → T → Type 0) where
 abbrev pub place_of : {S : Type 0} → List ℕ → HashMap (Vec ℕ) ℕ S → Option ℕ
 place_of path places = get_by (λ key. bytes_eq path key.items) places
 
--- each path is found at its place, and no other one is
+-- each path is found at its place, and no other path is found
 pub record AreFound {S : Type 0} (places : HashMap (Vec ℕ) ℕ S) (paths : List (List ℕ)) :
     Type 0 where
   pub within : (path : List ℕ) (i : ℕ) → place_of path places ≡ Some i → i < length paths
   pub same : (path : List ℕ) (i : ℕ) → place_of path places ≡ Some i → get_or paths i [] ≡ path
   pub each : (i : ℕ) → i < length paths → place_of (get_or paths i []) places ≡ Some i
 
--- the numbers of a group: of some documents and of the first parts of one more
+-- the counts of a group, made from some documents and from the first parts of one more
 pub record AreCounted (done : List (List Part)) (parts : List Part) (path : List ℕ)
     (documents last : ℕ) : Type 0 where
   pub documents_are : documents ≡ count_by (has path) done + (if has path parts then 1 else 0)
@@ -71,7 +72,8 @@ pub record AreCounted (done : List (List Part)) (parts : List Part) (path : List
   pub within : last ≤ suc (length done)
 
 module _ {T : Type 0} (Gathers : List Json → T → Type 0) where
-  -- a group tells of the values at its path in some documents, and in the first parts of one more
+  -- a group is made from the values at its path in some documents, and in the first parts of one
+  -- more
   pub record IsGroup (done : List (List Part)) (parts : List Part) (g : Group T) : Type 0 where
     pub counted : AreCounted done parts g.path.items g.documents g.last
     pub tally : Gathers (values_at g.path.items (all_parts done ++ parts)) g.tally

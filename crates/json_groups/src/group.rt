@@ -9,16 +9,16 @@ use crate::tally::Tally;
 use json::Value;
 use std::alloc::{AllocError, Global};
 
-/// What is gathered of the values at a path.
+/// A path, and a tally of the values at it.
 #[derive(Drop)]
 pub struct Group<T> {
     /// The text of the path.
     pub path: Vec<u8>,
-    /// How many documents have a value there.
+    /// The number of documents that have a value there.
     pub documents: usize,
-    /// What is gathered of the values.
+    /// The tally of these values.
     pub tally: T,
-    // The number of the last document that has one, from 1 on.
+    // The number of the last document that has a value there, the first being 1.
     last: usize,
 }
 
@@ -26,12 +26,12 @@ pub struct Group<T> {
 pub(crate) fn one_more(n: usize) -> Result<usize, AllocError>
     ensures { IfOk result (λ m. m ≡ n + 1) }
 {
-    // No memory holds so many documents.
+    // No memory holds this many documents.
     n.checked_add(1).ok_or(AllocError)
 }
 
 impl<T: Tally> Group<T> {
-    /// Returns what is gathered of no values.
+    /// Returns the group of a path, with no values.
     pub(crate) fn new(alloc: Global, path: &[u8]) -> Result<Group<T>, AllocError>
         ensures path { IfOk result (λ g. g.path.items ≡ path.now) }
         ensures documents { IfOk result (λ g. g.documents ≡ 0) }
@@ -48,7 +48,7 @@ impl<T: Tally> Group<T> {
         })
     }
 
-    /// Notes that a document has a value.
+    /// Counts a document that has a value, unless it is the last one that was counted.
     fn note(&mut self, document: usize) -> Result<(), AllocError>
         ensures documents { OnOk result
             (self.new.documents

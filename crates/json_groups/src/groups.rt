@@ -12,18 +12,18 @@ use json_parts::parts::parts_of;
 use std::alloc::{AllocError, Global};
 use std::collections::HashMap;
 
-/// What is gathered of the values at each path of documents, which are added one after another.
+/// The values of documents, gathered by their paths. The documents are added one after another.
 #[derive(Drop)]
 pub struct Groups<T> {
-    // The place of each path's group.
+    // The place of the group of each path.
     places: HashMap<Vec<u8>, usize>,
     groups: Vec<Group<T>>,
-    // How many documents were added, with the one that is being added.
+    // The number of documents that were added, including the one that is being added.
     documents: usize,
 }
 
 impl<T: Tally> Groups<T> {
-    /// Returns what is gathered of no documents.
+    /// Returns the groups of no documents.
     pub fn new(alloc: Global) -> Groups<T>
         ensures { HoldsDocuments T.Gathers [] result }
     {

@@ -1,4 +1,4 @@
-//! What is gathered of values.
+//! Tallies of values.
 
 ghost use Rattle.std.specs.Prelude.{◌++◌, ◌∷◌, [], List, IfOk, OnOk};
 ghost use Rattle.json.specs.Json.{Json};
@@ -7,12 +7,12 @@ ghost use Rattle.json.specs.Value.{value_view};
 use json::Value;
 use std::alloc::{AllocError, Global};
 
-/// What is gathered of values, which are added one after another.
+/// A tally of values, which are added one after another.
 pub trait Tally: Drop + Sized {
-    // This was gathered of these values.
+    // The tally was made from these values.
     ghost Gathers: { List Json → Self → Type 0 };
 
-    /// Returns what is gathered of no values.
+    /// Returns the tally of no values.
     fn new(alloc: Global) -> Result<Self, AllocError>
         ensures { IfOk result (λ t. Gathers [] t) };
 

@@ -14,12 +14,12 @@ abbrev pub MembersInAnyOrder : Type 0
 MembersInAnyOrder = (ms ns : Members) → AreDistinct (keys ms)
     → IsPermutation (entries ms) (entries ns) → normal (object ms) ≡ normal (object ns)
 
--- two values are the same where their normal forms are one, and only there
+-- two values are the same if and only if their normal forms are equal
 abbrev pub NormalFormsTell : Type 0
 NormalFormsTell = (j k : Json) → HasUniqueKeys j → HasUniqueKeys k → AreSame j k
     ↔ (normal j ≡ normal k)
 
--- two values are the same where their normal texts are one, and only there
+-- two values are the same if and only if their normal texts are equal
 abbrev pub NormalTextsTell : Type 0
 NormalTextsTell = (j k : Json) → HasUniqueKeys j → HasUniqueKeys k → AreSame j k
     ↔ (normal_text j ≡ normal_text k)
@@ -28,6 +28,6 @@ NormalTextsTell = (j k : Json) → HasUniqueKeys j → HasUniqueKeys k → AreSa
 abbrev pub TextReadsBack : Type 0
 TextReadsBack = (j : Json) → depth j ≤ max_depth → document (normal_text j) ≡ Some (normal j)
 
--- what a number is worth is read from the whole of its text, its sign and the numeral behind it
+-- the value of a number is read from the whole of its text: its sign and the numeral behind it
 abbrev pub NumbersAreReadWhole : Type 0
 NumbersAreReadWhole = (s : List ℕ) → IsNumber s → (parts_of s).len ≡ length (unsigned s)

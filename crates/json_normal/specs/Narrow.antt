@@ -18,17 +18,17 @@ abbrev mutual
   HasNarrowNumbers (array js) = ItemsHaveNarrowNumbers js
   HasNarrowNumbers (object ms) = MembersHaveNarrowNumbers ms
 
-  -- nor of an array's items
+  -- no number of an array's items has a wide exponent
   pub ItemsHaveNarrowNumbers : Items → Type 0
   ItemsHaveNarrowNumbers no_items = ⊤
   ItemsHaveNarrowNumbers (item j js) = HasNarrowNumbers j × ItemsHaveNarrowNumbers js
 
-  -- nor of an object's members
+  -- no number of an object's members has a wide exponent
   pub MembersHaveNarrowNumbers : Members → Type 0
   MembersHaveNarrowNumbers no_members = ⊤
   MembersHaveNarrowNumbers (member k j ms) = HasNarrowNumbers j × MembersHaveNarrowNumbers ms
 
--- the numbers are narrow where a call succeeds, and are not where it names a wide exponent
+-- the numbers are narrow if a call succeeds, and are not narrow if it fails with `WideExponent`
 abbrev pub TellsNarrow : {T : Type 0} → Result T NumberError → Type 0 → Type 0
 TellsNarrow (Ok x) AreNarrow = AreNarrow
 TellsNarrow (Err e) AreNarrow = e ≡ WideExponent → ¬ AreNarrow

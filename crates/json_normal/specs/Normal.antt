@@ -17,7 +17,7 @@ use Rattle.json_decimals.specs.Texts.{normal_number}
 abbrev pub Entry : Type 0
 Entry = List ℕ × Json
 
--- an entry put before the first whose name is not below its own
+-- entries with one more, which is put before the first whose name is not below its own
 abbrev pub put_in : Entry → List Entry → List Entry
 put_in m [] = m ∷ []
 put_in m (n ∷ ns) =
@@ -28,7 +28,7 @@ abbrev pub in_order : List Entry → List Entry
 in_order [] = []
 in_order (m ∷ ms) = put_in m (in_order ms)
 
--- the members that entries are
+-- entries, as the members of an object
 abbrev pub members_from : List Entry → Members
 members_from [] = no_members
 members_from (m ∷ ms) = member m.0 m.1 (members_from ms)
@@ -48,7 +48,7 @@ abbrev mutual
   normal_items no_items = no_items
   normal_items (item j js) = item (normal j) (normal_items js)
 
-  -- an object's members with their values in their normal forms, as they stand
+  -- an object's members in their order, each with its value in its normal form
   pub normal_entries : Members → List Entry
   normal_entries no_members = []
   normal_entries (member k j ms) = (k, normal j) ∷ normal_entries ms
@@ -61,7 +61,7 @@ normal_text j = print (json_tokens (normal j))
 abbrev pub entry_of : {A : Type 0} → Bor (Bor (List ℕ) × Value A) → Entry
 entry_of m = (m.now.0.now, normal (value_view m.now.1))
 
--- an object's members, as they stand
+-- an object's members, in their order
 abbrev pub entries : Members → List Entry
 entries no_members = []
 entries (member k j ms) = (k, j) ∷ entries ms

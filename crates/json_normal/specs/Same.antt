@@ -1,4 +1,5 @@
--- When two JSON values are the same: numbers by what they are worth, members in any order.
+-- The rules by which two JSON values are the same: numbers are compared by their values, and
+-- members may stand in any order.
 --
 -- {"a": 1.0, "b": 2} and {"b": 2, "a": 1} are the same.
 -- {"a": 1} and {"a": 1, "b": 2} are not, and neither are [1, 2] and [2, 1].
@@ -7,7 +8,7 @@ use Rattle.json.specs.Json.{Json, null, boolean, number, string, array, object, 
 use Rattle.json.specs.Json.{item, Members, no_members, member}
 use Rattle.json_decimals.specs.Decimals.{AreEqual, decimal_of}
 
--- a member of this name has such a value
+-- a member has this name, and its value has this property
 abbrev pub HasMember : List ℕ → (Json → Type 0) → Members → Type 0
 HasMember name Such no_members = ⊥
 HasMember name Such (member k j ms) = ((name ≡ k) × Such j) ⊎ HasMember name Such ms
@@ -28,7 +29,7 @@ abbrev mutual
   AreSame (object ms) (object ns) = EachIsIn ms ns × HaveNamesIn ns ms
   AreSame j k = ⊥
 
-  -- as many items, and each the same as the one at its place
+  -- there is the same number of items on both sides, and each is the same as the one at its place
   pub ItemsAreSame : Items → Items → Type 0
   ItemsAreSame no_items no_items = ⊤
   ItemsAreSame (item j js) (item k ks) = AreSame j k × ItemsAreSame js ks

@@ -3,7 +3,8 @@
 ghost use Rattle.json_normal.specs.Laws.{MembersInAnyOrder, NormalFormsTell, NormalTextsTell};
 ghost use Rattle.json_normal.specs.Laws.{NumbersAreReadWhole, TextReadsBack};
 
-/// Says which values have one normal form, and that its text tells.
+/// Says that two values are the same if and only if their normal forms are equal, and likewise
+/// their normal texts. Says that the normal text of a value is JSON of its normal form.
 pub fn normal_laws()
     ensures members_in_any_order { MembersInAnyOrder }
     ensures normal_forms_tell { NormalFormsTell }

@@ -33,7 +33,7 @@ fn write_token(writer: &mut Writer, token: Token<'_>) -> Result<(), NumberError>
     Ok(())
 }
 
-/// Appends the normal text of a number. `room` holds it on the way.
+/// Appends the normal text of a number. `room` holds the text before it is written.
 fn write_number(writer: &mut Writer, room: &mut Vec<u8>, text: &str) -> Result<(), NumberError>
     ensures ok { OnOk result (writer.new.tokens
         ≡ writer.old.tokens ++ number (normal_number text.now) ∷ []) }

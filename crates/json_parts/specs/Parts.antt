@@ -22,7 +22,7 @@ part path j = record { path = path; value = j }
 abbrev pub item_path : List ℕ → List ℕ
 item_path path = path ++ 91 ∷ 93 ∷ []
 
--- the path to the member of a name of an object at a path
+-- the path to the member with this name in an object at a path
 abbrev pub member_path : List ℕ → List ℕ → List ℕ
 member_path path k = path ++ name_text path k
 

@@ -35,7 +35,7 @@ fn push_quoted(alloc: Global, path: &mut Vec<u8>, name: &str) -> Result<(), Allo
     Ok(())
 }
 
-/// Appends the text of a step to the member of a name.
+/// Appends the text of the step that leads to the member with this name.
 fn push_step(alloc: Global, path: &mut Vec<u8>, key: &str) -> Result<(), AllocError>
     ensures { OnOk result (path.new.items ≡ path.old.items ++ name_text path.old.items key.now) }
 {
@@ -50,7 +50,7 @@ fn push_step(alloc: Global, path: &mut Vec<u8>, key: &str) -> Result<(), AllocEr
     Ok(())
 }
 
-/// Appends the step to the member of a name.
+/// Appends the step that leads to the member with this name.
 pub(crate) fn push_name(alloc: Global, path: &mut Vec<u8>, key: &str) -> Result<(), AllocError>
     ensures path { OnOk result
         (path.new.items ≡ path.old.items ++ name_text path.old.items key.now) }
@@ -60,7 +60,7 @@ pub(crate) fn push_name(alloc: Global, path: &mut Vec<u8>, key: &str) -> Result<
     Ok(())
 }
 
-/// Appends the step to any item.
+/// Appends the step that leads to any item.
 pub(crate) fn push_any_item(path: &mut Vec<u8>) -> Result<(), AllocError>
     ensures path { OnOk result (path.new.items ≡ item_path path.old.items) }
     ensures front { OnOk result (take (length path.old.items) path.new.items ≡ path.old.items) }

@@ -9,7 +9,7 @@ use crate::names::{push_any_item, push_name};
 use json::Value;
 use std::alloc::{AllocError, Global};
 
-/// A part of a value, and the text of the path to it, in which `[]` stands for any item.
+/// A part of a value, and the text of the path to it. In the text `[]` stands for any item.
 #[derive(Drop)]
 pub struct Part<'v, 'a> {
     pub path: Vec<u8>,

@@ -1,4 +1,4 @@
--- Why a text is no path.
+-- Errors of reading a path.
 use Rattle.std.specs.Prelude.{◌≡◌}
 use Rattle.json_paths.specs.declared.error.PathError.{PathError}
 use Rattle.json_paths.specs.declared.error.PathError.TheVariants.{Memory, Invalid}

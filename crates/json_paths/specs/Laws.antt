@@ -19,7 +19,7 @@ Fits (exactly (name k)) = ⊤
 Fits (exactly (place i)) = i < 2 ^ 64
 Fits any_item = ⊤
 
--- some text writes each pattern, whatever its names
+-- each pattern has a text, whatever its names
 abbrev pub EachHasAText : Type 0
 EachHasAText = (pattern : Pattern) → pattern ≢ [] → AllByRecursion Fits pattern → (text : List ℕ)
     × IsPatternText text pattern

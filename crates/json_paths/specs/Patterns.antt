@@ -21,19 +21,19 @@ is_same_step (name k) (name l) = bytes_eq k l
 is_same_step (place i) (place j) = i == j
 is_same_step s t = false
 
--- a step is one that a pattern's step allows
+-- a step of a pattern allows a step
 abbrev pub fits : PatternStep → Step → Bool
 fits (exactly s) t = is_same_step s t
 fits any_item (name k) = false
 fits any_item (place i) = true
 
--- a path leads to a part that the pattern names, or into one
+-- a path leads to a part that the pattern names, or to a part within it
 abbrev pub begins : Pattern → Path → Bool
 begins [] path = true
 begins (p ∷ pattern) [] = false
 begins (p ∷ pattern) (s ∷ path) = fits p s && begins pattern path
 
--- a path leads to a part in which the pattern goes on
+-- a path leads to a part around those that the pattern names
 abbrev pub leads_to : Pattern → Path → Bool
 leads_to [] path = false
 leads_to (p ∷ pattern) [] = true

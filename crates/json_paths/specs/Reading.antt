@@ -1,4 +1,4 @@
--- What a reader of steps has found in a text. Only private clauses cite it.
+-- The steps that a reader finds in a text. Only private clauses cite this.
 use Rattle.std.specs.Prelude.{◌≡◌, ◌==◌, ◌<◌, ◌≤◌, ◌&&◌, ℕ, suc, Bool, cond, not, List, [], ◌∷◌}
 use Rattle.std.specs.Prelude.{◌++◌, length, drop, Option, Some, None, option_map, Result}
 use Rattle.std.specs.Prelude.{MatchResult}
@@ -10,28 +10,29 @@ use Rattle.json_paths.specs.Texts.{AreSteps, with_dot}
 use Rattle.json_paths.specs.declared.error.PathError.{PathError}
 use Rattle.json_paths.specs.declared.parse.Found.{Found}
 
--- how many bytes stand before the first quote that no backslash escapes
+-- the number of bytes before the first quote that no backslash escapes
 abbrev pub up_to_quote : Bool → List ℕ → Option ℕ
 up_to_quote escaped [] = None
 up_to_quote escaped (x ∷ xs) =
     cond ((x == quote) && not escaped) (Some 0)
     (option_map suc (up_to_quote ((x == backslash) && not escaped) xs))
 
--- what is left to be read at a place, with the first dot
+-- the text that is left to be read at a place, with the first dot
 abbrev pub left_at : List ℕ → ℕ → List ℕ
 left_at text start = cond (start == 0) (with_dot text) (drop start text)
 
--- whichever steps a text writes, these come first, and a rest writes the others
+-- a text writes these steps and then those that the rest writes, and no others
 pub record Begins (text : List ℕ) (steps : Pattern) (rest : List ℕ) : Type 0 where
   pub back : (more : Pattern) → AreSteps rest more → AreSteps text (steps ++ more)
   pub on : (all : Pattern) → AreSteps text all → (more : Pattern) × (all ≡ steps ++ more)
       × AreSteps rest more
 
--- no steps have the text
+-- the text writes no steps
 abbrev pub NoSteps : List ℕ → Type 0
 NoSteps text = (all : Pattern) → AreSteps text all → ⊥
 
--- the step that the text left begins with, and the place behind it; an error for no step
+-- the step at the beginning of the text that is left, and the place behind it; an error if there is
+-- no step
 abbrev pub Finds : List ℕ → ℕ → List ℕ → Result Found PathError → Type 0
 Finds text start left r = MatchResult r
     (λ f. (start < f.end) × (f.end ≤ length text)

@@ -28,7 +28,7 @@ IsQuotedName text k = (inner : List ℕ) × (text ≡ quote ∷ (inner ++ quote 
 abbrev pub IsPlaceText : List ℕ → ℕ → Type 0
 IsPlaceText digits i = IsNumeral 10 digits × (digits_value 10 digits ≡ i) × (i < 2 ^ 64)
 
--- a step: a dot and a name, or a place within brackets, which are empty for any item
+-- the text of a step: a dot and a name, or a place within brackets, which are empty for any item
 abbrev pub IsStepText : List ℕ → PatternStep → Type 0
 IsStepText text (exactly (name k)) = (written : List ℕ) × (text ≡ dot ∷ written)
     × (((written ≡ k) × IsPlainName k) ⊎ IsQuotedName written k)
@@ -36,18 +36,18 @@ IsStepText text (exactly (place i)) = (digits : List ℕ)
     × (text ≡ open_bracket ∷ (digits ++ close_bracket ∷ [])) × IsPlaceText digits i
 IsStepText text any_item = text ≡ open_bracket ∷ close_bracket ∷ []
 
--- steps, one after another
+-- the texts of steps, one after another
 abbrev pub AreSteps : List ℕ → Pattern → Type 0
 AreSteps text [] = text ≡ []
 AreSteps text (s ∷ steps) = (front : List ℕ) × (rest : List ℕ) × (text ≡ front ++ rest)
     × IsStepText front s × AreSteps rest steps
 
--- a text with the dot that may be left out where a name without quotes comes first
+-- a text with its first dot, which may be left out before a name without quotes
 abbrev pub with_dot : List ℕ → List ℕ
 with_dot [] = []
 with_dot (x ∷ xs) = cond (is_plain x) (dot ∷ x ∷ xs) (x ∷ xs)
 
--- the text of a pattern, which has a step at least
+-- the text of a pattern, which has at least one step
 abbrev pub IsPatternText : List ℕ → Pattern → Type 0
 IsPatternText text pattern = (pattern ≢ []) × AreSteps (with_dot text) pattern
 

@@ -1,4 +1,4 @@
-//! Why a text is no path.
+//! Errors of reading a path.
 
 ghost use Rattle.json_paths.specs.Errors.{IsMemory};
 

@@ -41,7 +41,7 @@ fn is_plain(byte: u8) -> bool
     !matches!(byte, b'.' | b'[' | b']' | b'"')
 }
 
-/// Returns the place behind the bytes from a place on that may stand in a name without quotes.
+/// Returns the place behind the bytes from `start` on that may stand in a name without quotes.
 fn plain_end(bytes: &[u8], start: usize) -> usize
     requires { start ≤ length bytes.now }
     ensures { result ≡ start + prefix_len is_plain (drop start bytes.now) }
@@ -68,7 +68,7 @@ fn plain_name(alloc: Global, text: &str, start: usize) -> Result<Found, PathErro
     Ok(Found { step, end })
 }
 
-/// Returns the place behind the quote that ends a name, whose first quote stands at a place.
+/// Returns the place behind the quote that ends a name. `start` is the place of its first quote.
 fn quoted_end(bytes: &[u8], start: usize) -> Option<usize>
     requires { start < length bytes.now }
     ensures { result
@@ -123,7 +123,7 @@ fn name_at(alloc: Global, text: &str, start: usize) -> Result<Found, PathError>
     plain_name(alloc, text, start)
 }
 
-/// Returns the place that a text writes, where this is decimal digits.
+/// Returns the place that a text writes, if the text is decimal digits.
 fn place_of(digits: &str) -> Option<usize>
     ensures { MatchOption result ((i : _) → ¬ (IsPlaceText digits.now i))
         (λ i. IsPlaceText digits.now i) }
@@ -134,7 +134,7 @@ fn place_of(digits: &str) -> Option<usize>
     digits.parse::<usize>().ok()
 }
 
-/// Reads what stands within brackets, behind the first of them: a place, or nothing for any item.
+/// Reads the text within brackets, from behind the first bracket: a place, or nothing for any item.
 fn item_at(text: &str, start: usize) -> Result<Found, PathError>
     requires { IsCharBoundary text.now start }
     ensures { Finds text.now start (open_bracket ∷ drop start text.now) result }
@@ -156,7 +156,7 @@ fn item_at(text: &str, start: usize) -> Result<Found, PathError>
     Ok(Found { step, end: behind })
 }
 
-/// Reads the step that begins at a place. Before the first name the dot may be missing.
+/// Reads the step that begins at a place. The dot before the first name may be missing.
 fn step_at(alloc: Global, text: &str, start: usize) -> Result<Found, PathError>
     requires { start < length text.now }
     ensures { Finds text.now start (left_at text.now start) result }
@@ -174,7 +174,7 @@ fn step_at(alloc: Global, text: &str, start: usize) -> Result<Found, PathError>
     plain_name(alloc, text, start)
 }
 
-/// Returns the path that a text writes, or says that it writes none.
+/// Returns the path that a text writes, or an error if it writes none.
 pub fn parse_path(alloc: Global, text: &str) -> Result<Path, PathError>
     ensures read { IfOk result (λ path. IsPathText text.now (path_view path)) }
     ensures invalid { IfErr result (λ e. IsInvalid e → IsNoPath text.now) }
@@ -195,7 +195,7 @@ pub fn parse_path(alloc: Global, text: &str) -> Result<Path, PathError>
     Ok(Path { steps })
 }
 
-/// Returns the pattern that a text writes, or says that it writes none.
+/// Returns the pattern that a text writes, or an error if it writes none.
 pub fn parse_pattern(alloc: Global, text: &str) -> Result<Pattern, PathError>
     ensures read { IfOk result (λ pattern. IsPatternText text.now (pattern_view pattern)) }
     ensures invalid { IfErr result (λ e. IsInvalid e → IsNoPattern text.now) }

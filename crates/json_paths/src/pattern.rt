@@ -21,7 +21,7 @@ pub struct Pattern {
 }
 
 impl PatternStep {
-    /// Returns whether a step is one that this allows.
+    /// Returns whether this step of a pattern allows a step.
     pub fn fits(&self, step: &Step) -> bool
         ensures { result ≡ fits (pattern_step_view self.now) (step_view step.now) }
     {
@@ -34,7 +34,7 @@ impl PatternStep {
     }
 }
 
-/// Returns whether a path leads to a part that these steps name, or into one.
+/// Returns whether a path leads to a part that these steps name, or to a part within it.
 fn do_begin(steps: &[PatternStep], path: &[Step]) -> bool
     ensures { result ≡ begins (map pattern_step_view steps.now) (map step_view path.now) }
 {
@@ -47,7 +47,7 @@ fn do_begin(steps: &[PatternStep], path: &[Step]) -> bool
     }
 }
 
-/// Returns whether a path leads to a part in which these steps go on.
+/// Returns whether a path leads to a part around those that these steps name.
 fn do_go_on(steps: &[PatternStep], path: &[Step]) -> bool
     ensures { result ≡ leads_to (map pattern_step_view steps.now) (map step_view path.now) }
 {
@@ -61,14 +61,14 @@ fn do_go_on(steps: &[PatternStep], path: &[Step]) -> bool
 }
 
 impl Pattern {
-    /// Returns whether a path leads to a part that the pattern names, or into one.
+    /// Returns whether a path leads to a part that the pattern names, or to a part within it.
     pub fn begins(&self, path: &[Step]) -> bool
         ensures { result ≡ begins (pattern_view self.now) (map step_view path.now) }
     {
         do_begin(&self.steps, path)
     }
 
-    /// Returns whether a path leads to a part in which the pattern goes on.
+    /// Returns whether a path leads to a part around those that the pattern names.
     pub fn goes_on_in(&self, path: &[Step]) -> bool
         ensures { result ≡ leads_to (pattern_view self.now) (map step_view path.now) }
     {

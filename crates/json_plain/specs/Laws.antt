@@ -10,8 +10,8 @@ pub record IsShown (b : ℕ) : Type 0 where
   pub above : 32 ≤ b
   pub other : ¬ (b ≡ 127)
 
--- no two bytes one after the other are a control character from U+0080 to U+009F, where `before`
--- stands before the first
+-- no two adjacent bytes are a control character from U+0080 to U+009F; `before` is the byte before
+-- the first
 abbrev pub HasNoHigh : ℕ → List ℕ → Type 0
 HasNoHigh before [] = ⊤
 HasNoHigh before (b ∷ bs) = (is_high_control before b ≡ false) × HasNoHigh b bs
@@ -20,7 +20,7 @@ HasNoHigh before (b ∷ bs) = (is_high_control before b ≡ false) × HasNoHigh 
 abbrev pub HighOnesAreEscaped : Type 0
 HighOnesAreEscaped = (text : List ℕ) → HasNoHigh 0 (plain_json text)
 
--- nor one of ASCII, where the text has none below 32
+-- a plain text has no control character of ASCII, if the text has no byte below 32
 abbrev pub LowOnesAreEscaped : Type 0
 LowOnesAreEscaped = (text : List ℕ) → All (λ b. 32 ≤ b) text → All IsShown (plain_json text)
 

@@ -10,7 +10,8 @@ use Rattle.std.specs.Prelude.{List, [], ◌∷◌, ◌++◌, get_or, codes}
 abbrev pub is_high_control : ℕ → ℕ → Bool
 is_high_control first second = first == 194 && nat_lt 127 second && nat_lt second 160
 
--- a byte that is U+007F, or the last one of U+0080 to U+009F, of which it has the number
+-- a byte is U+007F, or the last byte of a character from U+0080 to U+009F, which has the number of
+-- that character
 abbrev pub is_escaped : ℕ → ℕ → Bool
 is_escaped before b = b == 127 || is_high_control before b
 
@@ -18,16 +19,17 @@ is_escaped before b = b == 127 || is_high_control before b
 abbrev pub escape_text : ℕ → List ℕ
 escape_text c = codes "\\u00" ++ digit_glyph false (c / 16) ∷ digit_glyph false (c % 16) ∷ []
 
--- what stands for a byte between two others: nothing for the first one of U+0080 to U+009F
+-- the output for a byte between two others: nothing for the first byte of a character from U+0080
+-- to U+009F
 unfoldable pub plain_byte : ℕ → ℕ → ℕ → List ℕ
 plain_byte before b after =
     if is_high_control b after then [] else (if is_escaped before b then escape_text b else b ∷ [])
 
--- the bytes of a text that stand behind another one, where 0 stands for none
+-- the output for the bytes of a text that stand behind another byte, which is 0 if there is none
 abbrev pub plain_behind : ℕ → List ℕ → List ℕ
 plain_behind before [] = []
 plain_behind before (b ∷ bs) = plain_byte before b (get_or bs 0 0) ++ plain_behind b bs
 
--- a JSON text as it is, but for the characters from U+007F to U+009F, which are escaped
+-- a JSON text in which each character from U+007F to U+009F is escaped
 unfoldable pub plain_json : List ℕ → List ℕ
 plain_json text = plain_behind 0 text

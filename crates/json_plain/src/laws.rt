@@ -2,7 +2,8 @@
 
 ghost use Rattle.json_plain.specs.Laws.{HighOnesAreEscaped, LowOnesAreEscaped, ValuesAreKept};
 
-/// Says that a plain JSON text has no control character, and the value that was printed.
+/// Says that a plain JSON text has no control character, and that it is JSON of the value that was
+/// printed.
 pub fn plain_laws()
     ensures high { HighOnesAreEscaped }
     ensures low { LowOnesAreEscaped }

@@ -14,7 +14,8 @@ fn is_high_control(first: u8, second: u8) -> bool
     first == 194 && 127 < second && second < 160
 }
 
-/// Returns whether a byte is U+007F or, behind another one, ends one of U+0080 to U+009F.
+/// Returns whether a byte is U+007F, or ends a character from U+0080 to U+009F. `before` is the
+/// byte before it.
 fn is_escaped(before: u8, byte: u8) -> bool
     ensures { result ≡ is_escaped before byte }
 {
@@ -39,7 +40,7 @@ fn push_escape(out: &mut Vec<u8>, code: u8) -> Result<(), AllocError>
     Ok(())
 }
 
-/// Appends what stands for a byte between two others.
+/// Appends the output for a byte between two others.
 #[tactic(auto, unfolding(crate::specs::Plain::plain_byte))]
 fn push_byte(out: &mut Vec<u8>, before: u8, byte: u8, after: u8) -> Result<(), AllocError>
     ensures { OnOk result (out.new.items ≡ out.old.items ++ plain_byte before byte after) }

@@ -1,4 +1,4 @@
--- Why a text is no bound.
+-- The errors of reading a bound.
 use Rattle.std.specs.Prelude.{ℕ, ◌^◌, ◌≤◌, List, IsTrue}
 use Rattle.json.specs.Print.{IsNumber}
 use Rattle.json_decimals.specs.Decimals.{is_negative, decimal_of}
@@ -7,7 +7,7 @@ use Rattle.json_tolerances.specs.declared.error.BoundError.{BoundError}
 use Rattle.json_tolerances.specs.declared.error.BoundError.TheVariants.{NotANumber, Negative}
 use Rattle.json_tolerances.specs.declared.error.BoundError.TheVariants.{WideExponent, TooLong}
 
--- what each error says of a text
+-- the meaning of each error for a text
 abbrev pub IsFaultOf : List ℕ → BoundError → Type 0
 IsFaultOf s NotANumber = ¬ IsNumber s
 IsFaultOf s Negative = IsTrue (is_negative s)

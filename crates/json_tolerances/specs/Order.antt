@@ -5,8 +5,8 @@ use Rattle.std.specs.Prelude.{ℕ, ◌+◌, Bool, not, ◌&&◌, nat_lt, if◌th
 use Rattle.json_decimals.specs.Decimals.{Decimal}
 use Rattle.json_tolerances.specs.Closeness.{size_beside}
 
--- a number of this sign and size is less than another: of two negative ones the larger is less, and
--- a negative one is less than one that is not, unless both are zero
+-- a number of this sign and size is less than another; of two negative numbers the one of larger
+-- size is less, and a negative one is less than one that is not negative, unless both are zero
 abbrev pub signed_less : Bool → Bool → ℕ → ℕ → Bool
 signed_less negative other_negative m n =
     if negative then (if other_negative then nat_lt n m else nat_lt 0 (m + n)) else not

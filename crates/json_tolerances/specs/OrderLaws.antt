@@ -10,7 +10,7 @@ use Rattle.json_decimals.specs.Decimals.{Decimal, AreEqual}
 use Rattle.json_tolerances.specs.Closeness.{size_beside}
 use Rattle.json_tolerances.specs.Order.{decimal_less, signed_less}
 
--- a decimal that is less than one that another is not less than is less than this other
+-- if a is less than c, and b is not less than c, then a is less than b
 abbrev pub LessPassesOn : Type 0
 LessPassesOn = (a b c : Decimal) → decimal_less a c ≡ true → decimal_less b c ≡ false
     → decimal_less a b ≡ true
@@ -19,7 +19,7 @@ LessPassesOn = (a b c : Decimal) → decimal_less a c ≡ true → decimal_less 
 abbrev pub LessIsOneWay : Type 0
 LessIsOneWay = (a b : Decimal) → decimal_less a b ≡ true → decimal_less b a ≡ false
 
--- of two decimals neither is less where they are equal, and only there
+-- two decimals are equal if and only if neither is less than the other
 abbrev pub EqualAreNotLess : Type 0
 EqualAreNotLess = (a b : Decimal) → AreEqual a b
     ↔ ((decimal_less a b ≡ false) × (decimal_less b a ≡ false))

@@ -1,4 +1,4 @@
-//! Bounds of how far apart two numbers may lie.
+//! Bounds of the distance between two numbers.
 
 ghost use Rattle.std.specs.Prelude.{◌≡◌, ◌+◌, ◌^◌, ◌<◌, false, IfErr, IfOk};
 ghost use Rattle.json.specs.Print.{IsNumber};
@@ -11,7 +11,7 @@ use json::is_number;
 use json_decimals::tens::Tens;
 use std::marker::Model;
 
-/// A bound of how far apart two numbers may lie: a decimal of at most 18 digits that is not
+/// A bound of the distance between two numbers: a decimal of at most 18 digits that is not
 /// negative.
 #[derive(Drop)]
 pub struct Bound {
@@ -39,8 +39,8 @@ impl Model for Bound {
 impl Bound {
     /// Returns the bound that a text writes.
     ///
-    /// Fails with `NotANumber` for a text that is no number of JSON, and otherwise with `Negative`
-    /// for one that begins with a minus, with `WideExponent`, or with `TooLong` for more than 18
+    /// Fails with `NotANumber` if the text is no number of JSON. Otherwise fails with `Negative` if
+    /// it begins with a minus, with `WideExponent`, or with `TooLong` if it has more than 18
     /// digits, leading zeros not counted.
     pub fn read(text: &str) -> Result<Bound, BoundError>
         ensures bound { IfOk result (λ bound. bound ≡ decimal_of text.now) }

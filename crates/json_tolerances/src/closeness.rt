@@ -11,16 +11,16 @@ use crate::sums::{is_each_at_most, is_sum_at_most, is_sum_at_most_either};
 use crate::terms::Term;
 use json_decimals::error::NumberError;
 
-/// How far apart two numbers may lie.
+/// The greatest distance at which two numbers are still close together.
 #[derive(Drop)]
 pub enum Margin {
-    /// At most this far.
+    /// This distance.
     Absolute(Bound),
-    /// At most this part of the one that is larger without its sign.
+    /// This part of the number that is larger without its sign.
     Relative(Bound),
 }
 
-/// Returns whether two numbers lie at most a bound apart.
+/// Returns whether two numbers lie at most `bound` apart.
 fn are_within(bound: &Bound, left: &Number<'_>, right: &Number<'_>) -> bool
     ensures { result ≡ is_within bound.now left.now right.now }
 {
@@ -35,7 +35,7 @@ fn are_within(bound: &Bound, left: &Number<'_>, right: &Number<'_>) -> bool
     is_sum_at_most(&first, &second, &room, times)
 }
 
-/// Returns whether two numbers lie at most a part of the larger one apart.
+/// Returns whether two numbers lie at most `bound` times the larger one apart, without the signs.
 fn are_within_part(bound: &Bound, left: &Number<'_>, right: &Number<'_>) -> bool
     ensures { result ≡ is_within_part bound.now left.now right.now }
 {
@@ -54,8 +54,8 @@ fn are_within_part(bound: &Bound, left: &Number<'_>, right: &Number<'_>) -> bool
 impl Margin {
     /// Returns whether the numbers that two texts write lie this close together.
     ///
-    /// Fails with `WideExponent` where the exponent of one has more than 30 digits, its leading
-    /// zeros not counted.
+    /// Fails with `WideExponent` if the exponent of one has more than 30 digits, leading zeros not
+    /// counted.
     pub fn allows(&self, left: &str, right: &str) -> Result<bool, NumberError>
         ensures close { IfOk result
             (λ b. b ≡ is_close self.now (decimal_of left.now) (decimal_of right.now)) }

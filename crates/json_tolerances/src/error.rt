@@ -1,4 +1,4 @@
-//! Why a text is no bound.
+//! Errors of reading a bound.
 
 use thiserror::Error;
 

@@ -4,15 +4,15 @@ ghost use Rattle.json_tolerances.specs.Laws.{EqualAreClose, IsSymmetric, OnlyEqu
 ghost use Rattle.json_tolerances.specs.OrderLaws.{EqualAreNotLess, LessIsOneWay, LessPassesOn};
 
 /// Says that closeness does not depend on which number comes first, that equal numbers are close
-/// within any margin, and that within nothing only those are.
+/// within any margin, and that only equal numbers are close within a margin of 0.
 pub fn closeness_laws()
     ensures symmetric { IsSymmetric }
     ensures equal_are_close { EqualAreClose }
     ensures only_equal_within_zero { OnlyEqualWithinZero }
 {}
 
-/// Says that of two numbers at most one is less, and neither exactly where they are equal; and that
-/// a number that is less than one that another is not less than is less than this other.
+/// Says that of two numbers at most one is less than the other, and neither if and only if they are
+/// equal. Says that if `a` is less than `c`, and `b` is not, then `a` is less than `b`.
 pub fn order_laws()
     ensures passes_on { LessPassesOn }
     ensures one_way { LessIsOneWay }

@@ -38,8 +38,8 @@ impl<'a> Model for Number<'a> {
 }
 
 impl<'a> Number<'a> {
-    /// Returns the number that a text writes, where its exponent has at most 30 digits, its leading
-    /// zeros not counted.
+    /// Returns the number that a text writes, if its exponent has at most 30 digits, leading zeros
+    /// not counted.
     #[tactic(auto, unfolding(json_decimals::specs::Decimals::decimal_of))]
     pub(crate) fn read(text: &'a str) -> Option<Number<'a>>
         ensures number { MatchOption result (HasWideExponent text.now)
@@ -63,7 +63,7 @@ impl<'a> Number<'a> {
         self.negative
     }
 
-    /// Returns whether both have a minus, or neither has.
+    /// Returns whether both numbers have a minus, or neither has one.
     pub(crate) fn has_sign_of(&self, other: &Number<'_>) -> bool
         ensures { result ≡ beq self.now.negative other.now.negative }
     {
@@ -79,14 +79,15 @@ impl<'a> Number<'a> {
         self.tens
     }
 
-    /// Returns the number that the digits write, where it has at most 18 digits behind its zeros.
+    /// Returns the number that the digits write, if it has at most 18 digits behind its leading
+    /// zeros.
     pub(crate) fn coefficient(&self) -> Option<u64>
         ensures { SomeIff result (self.now.coefficient < 10 ^ 18) self.now.coefficient }
     {
         value_of(self.numeral.whole(), self.numeral.fraction())
     }
 
-    /// Returns the digits, times the tens that multiply them and more.
+    /// Returns the digits as a number, times the tens that multiply them and `more` tens.
     pub(crate) fn times_tens(&self, more: u128) -> Term<'a>
         requires { more < 10 ^ 32 }
         ensures { result ≡ self.now.coefficient * 10 ^ (self.now.up + more) }

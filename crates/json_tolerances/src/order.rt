@@ -50,8 +50,8 @@ fn is_number_less(left: &Number<'_>, right: &Number<'_>) -> bool
 
 /// Returns whether the number that a text writes is less than that of another.
 ///
-/// Fails with `WideExponent` where the exponent of one has more than 30 digits, its leading zeros
-/// not counted.
+/// Fails with `WideExponent` if the exponent of one has more than 30 digits, leading zeros not
+/// counted.
 pub fn is_less(left: &str, right: &str) -> Result<bool, NumberError>
     ensures less { IfOk result
         (λ b. b ≡ decimal_less (decimal_of left.now) (decimal_of right.now)) }

@@ -6,8 +6,8 @@ ghost use Rattle.std.specs.Prelude.{◌≡◌, ℕ, ◌+◌, ◌-◌, ◌*◌, �
 use crate::terms::Term;
 use std::cmp::Ordering;
 
-/// Returns the next place below this one at which a digit is to be read, and the digits above which
-/// are zeros in all three.
+/// Returns a place at or below this one. All digits from it up to this one are zeros in all three
+/// numbers.
 fn next_place(x: &Term<'_>, y: &Term<'_>, z: &Term<'_>, place: u128) -> u128
     ensures within { result ≤ place }
     ensures first { x.now / 10 ^ result ≡ x.now / 10 ^ place * 10 ^ (place - result) }
@@ -19,9 +19,10 @@ fn next_place(x: &Term<'_>, y: &Term<'_>, z: &Term<'_>, place: u128) -> u128
         .max(z.zeros_from(place))
 }
 
-/// Compares so many times one number with the sum of so many times two others.
+/// Compares `by_x` times `x` with the sum of `by_y` times `y` and `by_z` times `z`.
 ///
-/// Takes digits from the first place on, and ends where those that are left can no longer decide.
+/// Reads digits from the first place on, and ends as soon as the remaining ones can't change the
+/// result.
 pub(crate) fn compare_with_sum(
     x: &Term<'_>,
     y: &Term<'_>,
@@ -57,21 +58,22 @@ pub(crate) fn compare_with_sum(
     over.cmp(&under)
 }
 
-/// Returns whether a number is at most another and so many times a third.
+/// Returns whether `x` is at most the sum of `y` and `by_z` times `z`.
 fn is_at_most_sum(x: &Term<'_>, y: &Term<'_>, z: &Term<'_>, by_z: u64) -> bool
     ensures { result ≡ nat_le x.now (y.now + by_z * z.now) }
 {
     compare_with_sum(x, y, z, 1, 1, by_z).is_le()
 }
 
-/// Returns whether the sum of two numbers is at most so many times a third.
+/// Returns whether the sum of `x` and `y` is at most `by_z` times `z`.
 pub(crate) fn is_sum_at_most(x: &Term<'_>, y: &Term<'_>, z: &Term<'_>, by_z: u64) -> bool
     ensures { result ≡ nat_le (x.now + y.now) (by_z * z.now) }
 {
     compare_with_sum(z, x, y, by_z, 1, 1).is_ge()
 }
 
-/// Returns whether each of two numbers is at most the other and so many times one beside it.
+/// Returns whether `x` is at most the sum of `y` and `times` times `beside_x`, and `y` at most the
+/// sum of `x` and `times` times `beside_y`.
 pub(crate) fn is_each_at_most(
     x: &Term<'_>,
     y: &Term<'_>,
@@ -85,7 +87,8 @@ pub(crate) fn is_each_at_most(
     is_at_most_sum(x, y, beside_x, times) && is_at_most_sum(y, x, beside_y, times)
 }
 
-/// Returns whether the sum of two numbers is at most so many times one of two others.
+/// Returns whether the sum of `x` and `y` is at most `times` times `v`, or at most `times` times
+/// `w`.
 pub(crate) fn is_sum_at_most_either(
     x: &Term<'_>,
     y: &Term<'_>,

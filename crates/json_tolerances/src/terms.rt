@@ -40,8 +40,8 @@ fn byte_at(front: &[u8], back: &[u8], i: usize) -> u8
     }
 }
 
-/// Returns the number that digits in two slices write, one slice behind the other, where it has at
-/// most 18 digits behind its zeros.
+/// Returns the number that digits in two slices write, one slice behind the other, if it has at
+/// most 18 digits behind its leading zeros.
 pub(crate) fn value_of(front: &[u8], back: &[u8]) -> Option<u64>
     requires front { AllDigits 10 front.now }
     requires back { AllDigits 10 back.now }
@@ -83,7 +83,7 @@ impl<'a> Term<'a> {
         }
     }
 
-    /// Returns a place above each digit that is not 0.
+    /// Returns a place above all digits that are not 0.
     pub(crate) fn top(&self) -> u128
         ensures above { self.now < 10 ^ result }
         ensures bound { result < 10 ^ 34 }
@@ -91,7 +91,7 @@ impl<'a> Term<'a> {
         (self.whole.len() + self.fraction.len()) as u128 + self.tens
     }
 
-    /// Returns a place from which there are only zeros up to this one.
+    /// Returns a place at or below this one. All digits from it up to this one are zeros.
     pub(crate) fn zeros_from(&self, place: u128) -> u128
         ensures within { result ≤ place }
         ensures zeros { (p : ℕ) → result ≤ p → p ≤ place

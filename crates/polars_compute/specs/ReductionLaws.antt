@@ -17,8 +17,8 @@ use Rattle.polars_compare_extremes.specs.declared.scalar.AnyScalar.{AnyScalar}
 use Rattle.polars_compute_bits.specs.Bitwise.{AreCounts, reduced}
 use Rattle.polars_compute_bits.specs.Sum.{total}
 
--- two columns with the same rows, however stored, have equal results; `Answers` holds of a result
--- for rows, `read` is what a caller sees of it
+-- two columns with the same rows, however they are stored, have equal results. `Answers` says that
+-- a result is right for rows, and `read` gives the part of it that a caller sees
 abbrev pub ByRows : {A B : Type 0} → (List Row → A → Type 0) → (A → B) → Type 0
 ByRows Answers read = (a a' : Stored) (answer answer' : _) → rows_of a ≡ rows_of a'
     → Answers (rows_of a) answer → Answers (rows_of a') answer' → read answer ≡ read answer'

@@ -24,7 +24,7 @@ use polars_compute_bits::wrapping::WrappingNumber;
 /// same rows get the same rows of functions, operations and counts, the same sum, the same bits of
 /// a reduction, and the same extremes: of numbers, of truth values, of byte strings and texts, and
 /// of arrays of any kind, of one type. They have the same effect on a state of distinct values,
-/// which reads equally many of their rows.
+/// which reads the same number of their rows.
 pub fn law_3<T: PlNumArithmetic>()
     ensures functions { AnswersByRows T.value T.low (bit_len T.width) }
     ensures operations { ResultsByRows T.value T.low (bit_len T.width) }

@@ -75,7 +75,7 @@ pub fn clone_part<T: NativeType>(
     Ok(copy)
 }
 
-/// Clones some rows of two arrays, which must be equally many.
+/// Clones some rows of two arrays. Both must have the same number of rows.
 pub fn clone_parts<L: NativeType, R: NativeType>(
     alloc: Global,
     left: &PrimitiveArray<L>,

@@ -58,7 +58,7 @@ impl CountedValues for CostlyBits<'_> {
         self.bits.get_bit(i)
     }
 
-    // A value that costs nothing may be guessed.
+    // Returns whether a value may be guessed: one that costs nothing.
     fn is_sure(&self, i: usize) -> bool {
         self.costs[i] == 0
     }

@@ -10,7 +10,7 @@
 //! | `NAME = [shared] ARRAY` | names an array, in parts that are shared or owned |
 //! | `NAME = [shared] ARRAY -> refused: WHY` | these parts make no array |
 //! | `NAME = copy OTHER` | names a clone of an array |
-//! | `CALL OPERAND.. -> ANSWER` | the call returns this answer |
+//! | `CALL OPERAND.. -> RESULT` | the call returns this result |
 //!
 //! Operands are names of arrays, numbers, truth values, names of types, bits `b<at>:<0 and 1..>`,
 //! whose first `<at>` digits are cut off, and bytes `x<hexadecimal digits>`. Results are rows, bits

@@ -23,8 +23,8 @@ use polars_arrays_nested::list_offsets::ListOffsets;
 use polars_arrays_nested::struct_array::StructArray;
 use std::alloc::Global;
 
-/// Greatest depth of nested arrays. A stack of 8 MiB has room for more than twice as many levels of
-/// this reader.
+/// The greatest depth of nested arrays. On a stack of 8 MiB this reader has room for more than
+/// twice this number of levels.
 const DEPTH: usize = 500;
 
 /// Reads an array. Its first word says whether its parts are shared. The error is `Depth`, if it is

@@ -1,7 +1,7 @@
--- What the cells of a column are.
+-- Schemas of columns.
 --
--- Of the cells 7, 12, an empty one and 7 one is missing. The others are whole numbers, of which two
--- differ, and the least is 7 and the greatest 12.
+-- Of the cells 7, 12, an empty one and 7, one is missing. The others are whole numbers: two of them
+-- are different, the least is 7, and the greatest is 12.
 use Rattle.std.specs.List.{count_by}
 use Rattle.std.specs.Ordering.{int_eq}
 use Rattle.std.specs.Prelude.{◌≡◌, ℕ, List, length, map, Option, Some, option_map}
@@ -18,17 +18,17 @@ use Rattle.schema_values.specs.Distinct.{distinct_total}
 use Rattle.schema_values.specs.Numbers.{TellsNumbers}
 use Rattle.schema_values.specs.Told.{Told}
 
--- what is told of byte strings
+-- t has the number of different byte strings, and the least and the greatest of them
 pub record TellsStrings (cells : List (List ℕ)) (t : Told) : Type 0 where
   pub distinct : t.distinct ≡ Some (distinct_total bytes_eq cells)
   pub ends : TellsEnds (byte_slots cells) t.least t.greatest
 
--- what is told of whole numbers
+-- t has the number of different whole numbers, and the least and the greatest of them
 pub record TellsWholes (cells : List (List ℕ)) (t : Told) : Type 0 where
   pub distinct : t.distinct ≡ Some (distinct_total int_eq (map whole_of cells))
   pub ends : TellsEnds (map Int (map whole_of cells)) t.least t.greatest
 
--- what is told of cells of a kind
+-- t has the number of different cells of a kind, and the least and the greatest of them
 abbrev pub TellsValues : Kind → List (List ℕ) → Told → Type 0
 TellsValues Empty = TellsStrings
 TellsValues Truth = TellsStrings
@@ -36,7 +36,7 @@ TellsValues Whole = TellsWholes
 TellsValues Number = TellsNumbers
 TellsValues Text = TellsStrings
 
--- what is told in a schema
+-- the number of different values in a schema, and the least and the greatest of them
 abbrev pub told_in : ColumnSchema → Told
 told_in s = record {
   distinct = s.distinct;

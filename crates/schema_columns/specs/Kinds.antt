@@ -1,7 +1,7 @@
 -- Kinds of cells.
 --
--- The cells 12 and -7 are whole numbers, with 1.5 among them all are numbers, and with 007 among
--- them all are texts. The cells true and false are truth values.
+-- The cells 12 and -7 are whole numbers. The cells 12, -7 and 1.5 are numbers, and with 007 they
+-- are texts. The cells true and false are truth values.
 use Rattle.std.specs.List.{All}
 use Rattle.std.specs.Prelude.{◌≡◌, ◌<◌, ◌⊎◌, ⊤, ℕ, ℤ, ◌==◌, Bool, List, [], FitsSigned, codes}
 use Rattle.std.specs.Int.{w64}
@@ -31,7 +31,7 @@ AreOf Whole cells = All IsWhole cells
 AreOf Number cells = All IsNumber cells
 AreOf Text cells = ⊤
 
--- how many kinds are narrower
+-- the number of narrower kinds
 abbrev pub width : Kind → ℕ
 width Empty = 0
 width Truth = 1

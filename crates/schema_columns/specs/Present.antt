@@ -1,7 +1,7 @@
 -- The cells of a column that have a value.
 --
--- Where NA stands for no value, of the cells 7, NA, an empty one and 9 the cells 7 and 9 have a
--- value, one is null, and one is missing.
+-- The cells are 7, NA, an empty one and 9, and NA stands for no value. Then 7 and 9 have a value,
+-- one cell is null, and one is missing.
 use Rattle.std.specs.List.{count_by, filter}
 use Rattle.std.specs.Prelude.{◌≡◌, ℕ, ◌==◌, Bool, false, not, ◌&&◌, List, [], length, map, get_or}
 use Rattle.std.specs.Prelude.{Option, None, Some}
@@ -38,7 +38,7 @@ pub record Gathers (null : Option (List ℕ)) (cells : List (List ℕ)) (g : Gat
   pub nulls : g.nulls ≡ count_by (is_null null) cells
   pub missing : g.missing ≡ count_by (is_missing null) cells
 
--- the cells of a column that have a value, and how many have none
+-- the cells of a column that have a value, and the numbers of null and of missing cells
 pub record IsPresentOf (null : Option (List ℕ)) (column : List (List ℕ)) (p : Present) :
     Type 0 where
   pub cells : offset_strings (λ x. x) p.cells ≡ present null column

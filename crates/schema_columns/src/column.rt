@@ -1,4 +1,4 @@
-//! What the cells of a column are.
+//! The schema of a column: the kind of its values, counts of its cells, and its extremes.
 
 ghost use Rattle.std.specs.List.{All};
 ghost use Rattle.std.specs.Option.{option_copied};
@@ -23,30 +23,30 @@ use schema_values::distinct::count_strings;
 use schema_values::numbers::{Values, number_values};
 use std::alloc::Global;
 
-/// What the cells of a column are. A cell is null where it is the word that stands for no value,
-/// and else missing where it is empty; what is said of values is said of the other cells.
+/// A summary of the cells of a column. A cell that is the word for no value is null, and any other
+/// empty cell is missing. The remaining cells are the values.
 #[derive(Drop)]
 pub struct ColumnSchema {
     pub name: Vec<u8>,
     /// The narrowest kind that all values are of.
     pub kind: Kind,
-    /// How many cells there are.
+    /// The number of cells.
     pub rows: usize,
-    /// How many of them are null.
+    /// The number of null cells.
     pub nulls: usize,
-    /// How many of them are missing.
+    /// The number of missing cells.
     pub missing: usize,
-    /// How many values differ: numbers by what they are worth, and else byte strings. It is not
-    /// told of numbers of which one has an exponent of more than 30 digits.
+    /// The number of different values. Numbers are compared exactly, and other values as bytes.
+    /// `None` if the values are numbers and one has an exponent of more than 30 digits.
     pub distinct: Option<usize>,
-    /// The least value: as a number where all are numbers, and else as bytes. There is none where
-    /// there is no value, or `distinct` is not told.
+    /// The least value: by number if all values are numbers, and otherwise by bytes. `None` if
+    /// there is no value, or if `distinct` is `None`.
     pub least: Option<Vec<u8>>,
-    /// The greatest value, in the same way.
+    /// The greatest value, by the same order. `None` in the same cases.
     pub greatest: Option<Vec<u8>>,
 }
 
-/// Returns what is said of byte strings.
+/// Returns the number of different byte strings, and the least and the greatest of them.
 fn string_values(alloc: Global, cells: &BinaryArray<i64>) -> Result<Values, ComputeError>
     requires { cells.now.validity ≡ None }
     ensures { MatchResult result
@@ -61,7 +61,7 @@ fn string_values(alloc: Global, cells: &BinaryArray<i64>) -> Result<Values, Comp
     })
 }
 
-/// Returns what is said of whole numbers.
+/// Returns the number of different whole numbers, and the least and the greatest of them.
 fn whole_values(alloc: Global, cells: &BinaryArray<i64>) -> Result<Values, ComputeError>
     requires { All IsWhole (offset_strings (λ x. x) cells.now) }
     ensures { MatchResult result
@@ -79,7 +79,7 @@ fn whole_values(alloc: Global, cells: &BinaryArray<i64>) -> Result<Values, Compu
     })
 }
 
-/// Returns what is said of cells of a kind.
+/// Returns the number of different cells of a kind, and the least and the greatest of them.
 fn values_of(alloc: Global, cells: &BinaryArray<i64>, kind: Kind) -> Result<Values, ComputeError>
     requires plain { cells.now.validity ≡ None }
     requires all { AreOf kind (offset_strings (λ x. x) cells.now) }
@@ -95,8 +95,8 @@ fn values_of(alloc: Global, cells: &BinaryArray<i64>, kind: Kind) -> Result<Valu
     }
 }
 
-/// Returns what the cells of a table's column are, which has this name. A cell that is the word
-/// `null` is null. The one error is `Memory`.
+/// Returns the schema of a column of a table, under this name. A cell that is the word `null` is
+/// null. The only error is `Memory`.
 pub fn schema_of(
     alloc: Global,
     name: &[u8],

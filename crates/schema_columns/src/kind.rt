@@ -10,7 +10,7 @@ use diff_numbers::cells::number_in;
 use polars_arrays_bytes::binary::BinaryArray;
 use polars_arrays_flat::byte_rows::ByteRows;
 
-/// What all cells of a column are, from the narrowest kind to the widest.
+/// The kind of all cells of a column, from the narrowest to the widest.
 #[derive(Clone, Copy, Debug, PartialEq, Eq)]
 pub enum Kind {
     /// There is no cell.
@@ -25,7 +25,7 @@ pub enum Kind {
     Text,
 }
 
-/// Returns how many kinds are narrower.
+/// Returns the number of narrower kinds.
 fn width(kind: Kind) -> u8
     ensures { result ≡ width kind }
 {
@@ -55,13 +55,13 @@ trait CellTest {
         ensures { IsTrue result ↔ Passes cell.now };
 }
 
-/// Truth values pass.
+/// The test that truth values pass.
 struct Truths;
 
-/// Whole numbers pass.
+/// The test that whole numbers pass.
 struct Wholes;
 
-/// Numbers pass.
+/// The test that numbers pass.
 struct Numbers;
 
 impl CellTest for Truths {

@@ -1,4 +1,4 @@
-//! What the cells of a column are: their kind, how many are null or missing, how many differ, and
+//! Schemas of columns: the kind of the cells, the numbers of null, missing and different ones, and
 //! the least and the greatest of them.
 #![tactic(auto)]
 

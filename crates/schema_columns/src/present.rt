@@ -11,14 +11,14 @@ use polars_arrays_bits::error::ComputeError;
 use polars_arrays_bytes::binary::BinaryArray;
 use std::alloc::{AllocError, Global};
 
-/// The cells of a column that have a value, and how many have none.
+/// The cells of a column that have a value, and the numbers of null and of missing cells.
 #[derive(Drop)]
 pub struct Present {
     /// The cells that are neither null nor missing, in the order of their rows.
     pub cells: BinaryArray<i64>,
-    /// How many cells are null.
+    /// The number of null cells.
     pub nulls: usize,
-    /// How many are missing: empty, where these are not null.
+    /// The number of missing cells: those that are empty and not null.
     pub missing: usize,
 }
 
@@ -34,7 +34,7 @@ struct Gathered {
 fn one_more(n: usize) -> Result<usize, AllocError>
     ensures { IfOk result (λ m. m ≡ n + 1) }
 {
-    // No memory holds so many cells.
+    // No memory holds this many cells.
     n.checked_add(1).ok_or(AllocError)
 }
 
@@ -68,8 +68,8 @@ impl Gathered {
     }
 }
 
-/// Returns the cells of a column that have a value. A cell is null where it is the word `null`, and
-/// else missing where it is empty. The one error is `Memory`.
+/// Returns the cells of a column that have a value. A cell that is the word `null` is null, and any
+/// other empty cell is missing. The only error is `Memory`.
 pub fn present_cells(
     alloc: Global,
     table: &Table,

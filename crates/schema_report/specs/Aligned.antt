@@ -5,7 +5,7 @@ use Rattle.std.specs.List.{count_by}
 use Rattle.std.specs.Prelude.{ℕ, zero, suc, ◌+◌, ◌-◌, Bool, ◌||◌, nat_lt, max, if◌then◌else◌, List}
 use Rattle.std.specs.Prelude.{[], ◌∷◌, ◌++◌, length, get_or, replicate, codes}
 
--- a character begins with a byte
+-- a byte is the first one of a character
 abbrev pub begins : ℕ → Bool
 begins byte = nat_lt byte 128 || nat_lt 191 byte
 
@@ -19,7 +19,7 @@ widest column rows zero = 0
 widest column rows (suc n) =
     max (glyphs (get_or (get_or rows n []) column [])) (widest column rows n)
 
--- a cell, and what stands between it and the next of w columns
+-- a cell, and the blanks between it and the next of w columns
 abbrev pub aligned_cell : List (List (List ℕ)) → ℕ → ℕ → List ℕ → List ℕ
 aligned_cell rows w column cell = cell
     ++ (if nat_lt (column + 1) w then replicate (widest column rows (length rows) - glyphs cell) 32

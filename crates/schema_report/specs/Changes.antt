@@ -1,7 +1,7 @@
--- What the columns of two tables differ in.
+-- Differences between the columns of two tables.
 --
--- Of the left columns id and note, and the right columns id and day, where id is a whole number on
--- the left and a text on the right, one is changed, one is removed, and one is added.
+-- The left columns are id, a whole number, and note. The right columns are id, a text, and day. The
+-- column id is changed, note is removed, and day is added.
 use Rattle.std.specs.Fmt.{decimal}
 use Rattle.std.specs.List.{count_by, flat_map}
 use Rattle.std.specs.Prelude.{ℕ, ◌-◌, Bool, false, not, if◌then◌else◌, List, [], ◌∷◌, ◌++◌, length}
@@ -23,11 +23,11 @@ kind_named name [] = None
 kind_named name (s ∷ more) =
     if bytes_eq s.name.items name then Some s.kind else kind_named name more
 
--- no other column has the name of a column
+-- none of the other columns has the name of this column
 abbrev pub is_alone : List ColumnSchema → ColumnSchema → Bool
 is_alone others s = is_none (kind_named s.name.items others)
 
--- there is another kind, and it differs
+-- there is another kind, and it is not the same
 abbrev pub differs_from : Kind → Option Kind → Bool
 differs_from kind None = false
 differs_from kind (Some other) = not (same_kind kind other)
@@ -36,7 +36,7 @@ differs_from kind (Some other) = not (same_kind kind other)
 abbrev pub is_changed : List ColumnSchema → ColumnSchema → Bool
 is_changed others s = differs_from s.kind (kind_named s.name.items others)
 
--- how many columns have another kind, are in one table alone, and are the same
+-- the numbers of columns that have another kind, are in one table alone, and are the same
 abbrev pub counts_of : List ColumnSchema → List ColumnSchema → SchemaCounts
 counts_of left right = record {
   changed = count_by (is_changed right) left;

@@ -11,7 +11,7 @@ unfoldable pub head_line : List ℕ → ℕ → ℕ → List ℕ
 head_line file rows columns = word_text file ++ codes ": " ++ decimal rows ++ codes " rows, "
     ++ decimal columns ++ codes " columns\n"
 
--- what the columns of a file are, in a line each, below the names of what is shown
+-- the properties of the columns of a file, in a line each, below their headings
 abbrev pub schema_text : List ℕ → ℕ → List ColumnSchema → List ℕ
 schema_text file rows columns = head_line file rows (length columns)
     ++ aligned 7 (header ∷ map row_of columns)

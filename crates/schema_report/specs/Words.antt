@@ -1,4 +1,4 @@
--- The words for what a column is.
+-- The words for the kinds, counts and values of columns.
 --
 -- The least value Oslo of texts is shown as "Oslo", with its quotes, and the least value 7 of whole
 -- numbers as 7.
@@ -29,7 +29,7 @@ front_len bytes zero = 0
 front_len bytes (suc n) = if nat_lt 127 (get_or bytes (suc n) 0)
     && nat_lt (get_or bytes (suc n) 0) 192 then front_len bytes n else suc n
 
--- a string between quotes, of which no more than 40 bytes are shown
+-- a string between quotes; no more than its first 40 bytes are shown
 abbrev pub shown_string : List ℕ → List ℕ
 shown_string bytes =
     if nat_le (length bytes) 40 then quoted bytes else quoted (take (front_len bytes 40) bytes)

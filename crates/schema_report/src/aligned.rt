@@ -8,7 +8,7 @@ ghost use Rattle.schema_report.specs.Aligned.{widest};
 use diff_tables::table::Table;
 use std::alloc::{AllocError, Global};
 
-/// Returns whether a character begins with a byte.
+/// Returns whether a byte is the first one of a character.
 fn begins(byte: u8) -> bool
     ensures { result ≡ begins byte }
 {
@@ -58,7 +58,7 @@ fn push_blanks(out: &mut Vec<u8>, len: usize, width: usize) -> Result<(), AllocE
     Ok(())
 }
 
-/// Appends a cell, and what stands between it and the next one.
+/// Appends a cell, and the blanks between it and the next one.
 fn push_cell(
     out: &mut Vec<u8>,
     table: &Table,

@@ -1,4 +1,4 @@
-//! What the columns of two tables differ in.
+//! Differences between the columns of two tables.
 
 ghost use Rattle.std.specs.List.{count_by};
 ghost use Rattle.std.specs.Prelude.{◌≡◌, ◌++◌, OnOk};
@@ -13,7 +13,7 @@ use schema_columns::column::ColumnSchema;
 use schema_columns::kind::{Kind, is_same_kind};
 use std::alloc::AllocError;
 
-/// How many columns have another kind, are in one table alone, and are the same.
+/// The numbers of columns that have another kind, are in one table alone, and are the same.
 #[derive(Clone, Copy, Debug, PartialEq, Eq)]
 pub struct SchemaCounts {
     pub changed: usize,
@@ -34,7 +34,7 @@ pub(crate) fn kind_named(columns: &[ColumnSchema], name: &[u8]) -> Option<Kind>
     None
 }
 
-/// Returns whether no other column has the name of a column.
+/// Returns whether none of the other columns has the name of this column.
 pub(crate) fn is_alone(others: &[ColumnSchema], column: &ColumnSchema) -> bool
     ensures { result ≡ is_alone others.now column.now }
 {
@@ -77,7 +77,7 @@ fn count_changed(others: &[ColumnSchema], columns: &[ColumnSchema]) -> usize
     count
 }
 
-/// Returns how many columns differ in what way.
+/// Returns the number of columns that differ in each way, and of those that are the same.
 pub fn counts_of(left: &[ColumnSchema], right: &[ColumnSchema]) -> SchemaCounts
     ensures { result ≡ counts_of left.now right.now }
 {
@@ -172,7 +172,7 @@ fn push_counts(out: &mut Vec<u8>, counts: SchemaCounts) -> Result<(), AllocError
     Ok(())
 }
 
-/// Appends what the columns of two files differ in, as text.
+/// Appends the differences between the columns of two files, as text.
 pub fn push_changes(
     out: &mut Vec<u8>,
     files: (&[u8], &[u8]),

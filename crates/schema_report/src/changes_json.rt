@@ -1,4 +1,4 @@
-//! What the columns of two tables differ in, as JSON lines.
+//! Differences between the columns of two tables, as JSON lines.
 
 ghost use Rattle.std.specs.Fmt.{decimal};
 ghost use Rattle.std.specs.Prelude.{◌≡◌, ◌++◌, OnOk};
@@ -85,8 +85,8 @@ fn push_counts(out: &mut Vec<u8>, counts: SchemaCounts) -> Result<(), AllocError
     Ok(())
 }
 
-/// Appends what the columns of two files differ in, as JSON lines: an object for each difference,
-/// and one for the counts.
+/// Appends the differences between the columns of two files, as JSON lines: an object for each
+/// difference, and one for the counts.
 pub fn push_changes_json(
     out: &mut Vec<u8>,
     left: &[ColumnSchema],

@@ -1,4 +1,4 @@
-//! What is shown of columns, as a table of words.
+//! The properties of columns, as a table of words.
 
 ghost use Rattle.std.specs.Prelude.{◌≡◌, ◌++◌, ◌∷◌, [], ℕ, List, map, OnOk, IfOk, MatchResult};
 ghost use Rattle.polars_arrays_bits.specs.Errors.{IsMemory};
@@ -15,7 +15,7 @@ use polars_arrays_bits::error::ComputeError;
 use schema_columns::column::ColumnSchema;
 use std::alloc::{AllocError, Global};
 
-/// Appends the names of a column's name and its kind.
+/// Appends the headings of a column's name and its kind.
 fn push_head_names(cells: &mut Strings) -> Result<(), AllocError>
     ensures { OnOk result
         ((all : List (List ℕ)) → AreStrings cells.old all
@@ -26,7 +26,7 @@ fn push_head_names(cells: &mut Strings) -> Result<(), AllocError>
     Ok(())
 }
 
-/// Appends the names of its counts.
+/// Appends the headings of its counts.
 fn push_count_names(cells: &mut Strings) -> Result<(), AllocError>
     ensures { OnOk result
         ((all : List (List ℕ)) → AreStrings cells.old all
@@ -38,7 +38,7 @@ fn push_count_names(cells: &mut Strings) -> Result<(), AllocError>
     Ok(())
 }
 
-/// Appends the names of its least and its greatest value.
+/// Appends the headings of its least and its greatest value.
 fn push_end_names(cells: &mut Strings) -> Result<(), AllocError>
     ensures { OnOk result
         ((all : List (List ℕ)) → AreStrings cells.old all
@@ -49,7 +49,7 @@ fn push_end_names(cells: &mut Strings) -> Result<(), AllocError>
     Ok(())
 }
 
-/// Appends the names of what is shown.
+/// Appends the headings of all properties.
 fn push_header(cells: &mut Strings) -> Result<(), AllocError>
     ensures { OnOk result
         ((all : List (List ℕ)) → AreStrings cells.old all → AreStrings cells.new (all ++ header)) }
@@ -93,7 +93,7 @@ fn push_one_count(
     Ok(())
 }
 
-/// Appends how many cells of a column are null, are missing, and differ.
+/// Appends the numbers of a column's null cells, missing cells and different values.
 fn push_counts(
     cells: &mut Strings,
     room: &mut Vec<u8>,
@@ -128,7 +128,7 @@ fn push_ends(
     Ok(())
 }
 
-/// Appends what is shown of a column.
+/// Appends the properties of a column.
 fn push_row(
     cells: &mut Strings,
     room: &mut Vec<u8>,
@@ -144,10 +144,10 @@ fn push_row(
     Ok(())
 }
 
-/// How many words are shown of a column.
+/// The number of words in a row.
 const WIDTH: usize = 7;
 
-/// Returns what is shown of columns, below the names of that. The one error is `Memory`.
+/// Returns the properties of columns, below their headings. The only error is `Memory`.
 pub(crate) fn grid_of(alloc: Global, columns: &[ColumnSchema]) -> Result<Table, ComputeError>
     ensures width { MatchResult result (λ grid. grid.width ≡ 7) IsMemory }
     ensures rows { IfOk result (λ grid. grid.rows ≡ header ∷ map row_of columns.now) }

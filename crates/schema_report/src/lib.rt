@@ -1,4 +1,5 @@
-//! What a table's columns are, as text and as JSON lines, and what two tables' columns differ in.
+//! The columns of a table, and the differences between the columns of two tables, as text and as
+//! JSON lines.
 #![tactic(auto)]
 
 mod aligned;

@@ -26,8 +26,8 @@ fn push_head(out: &mut Vec<u8>, file: &[u8], rows: usize, columns: usize) -> Res
     Ok(())
 }
 
-/// Appends what the columns of a file with so many rows are, in a line each. The one error is
-/// `Memory`.
+/// Appends the schemas of the columns of a file with this many rows, in a line each. The only error
+/// is `Memory`.
 pub fn push_schema(
     alloc: Global,
     out: &mut Vec<u8>,

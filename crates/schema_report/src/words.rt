@@ -1,4 +1,4 @@
-//! The words for what a column is.
+//! The words for the kinds, counts and values of columns.
 
 ghost use Rattle.std.specs.Option.{option_map};
 ghost use Rattle.std.specs.Prelude.{◌≡◌, ◌≤◌, ◌++◌, length, OnOk};

@@ -1,4 +1,4 @@
--- What the columns of a CSV text are.
+-- Schemas of the columns of a CSV text.
 use Rattle.std.specs.Prelude.{◌≡◌, ◌<◌, ℕ, false, List, [], length, get_or, Option}
 use Rattle.diff_csv.specs.Quotes.{ends_open}
 use Rattle.diff_csv.specs.Records.{AreRecordsOf, HaveOneLength, data_rows, names_of}
@@ -8,14 +8,15 @@ use Rattle.schema_columns.specs.Present.{cells_of}
 use Rattle.schema_columns.specs.declared.column.ColumnSchema.{ColumnSchema}
 use Rattle.schema_run.specs.declared.read.TableSchema.{TableSchema}
 
--- the columns of rows, which have these names
+-- the schemas of the columns of rows, under these names
 pub record AreSchemasOf (null : Option (List ℕ)) (names : List (List ℕ))
     (rows : List (List (List ℕ))) (columns : List ColumnSchema) : Type 0 where
   pub many : length columns ≡ length names
   pub each : (c : ℕ) (d : ColumnSchema) → c < length names
       → IsSchemaOf (get_or names c []) null (cells_of c rows) (get_or columns c d)
 
--- the columns of a text whose records have one length, and in which no quote is open at the end
+-- the schemas of the columns of a text. Its records have one length, and no quote is open at its
+-- end
 pub record IsSchemaOfText (options : CsvOptions) (text : List ℕ) (null : Option (List ℕ))
     (s : TableSchema) : Type 0 where
   pub records : List (List (List ℕ))

@@ -1,4 +1,4 @@
-//! What the columns of a CSV text are, from a reader.
+//! Schemas of the columns of a CSV text, which is read from a reader.
 #![tactic(auto)]
 
 pub mod read;

@@ -1,4 +1,4 @@
-//! What the columns of a CSV text are.
+//! Schemas of the columns of a CSV text.
 
 ghost use Rattle.std.specs.List.{range_with_len};
 ghost use Rattle.std.specs.Option.{option_copied};
@@ -23,16 +23,16 @@ use schema_columns::column::{ColumnSchema, schema_of};
 use std::alloc::{AllocError, Global};
 use std::io::Read;
 
-/// What the columns of a table are.
+/// The schemas of the columns of a table.
 #[derive(Drop)]
 pub struct TableSchema {
-    /// How many rows the table has.
+    /// The number of rows of the table.
     pub rows: usize,
     /// Its columns, in their order.
     pub columns: Vec<ColumnSchema>,
 }
 
-/// Returns the numbers of so many columns.
+/// Returns the numbers of this many columns, from 0 on.
 fn all_columns(alloc: Global, count: usize) -> Result<Vec<usize>, AllocError>
     ensures { IfOk result (λ columns. columns.items ≡ range_with_len 0 count) }
 {
@@ -56,7 +56,7 @@ fn names_in<R: Read + Drop>(alloc: Global, source: &Source<R>) -> Result<BinaryA
     }
 }
 
-/// Returns what a column of a table is, which has this name. The one error is `Memory`.
+/// Returns the schema of a column of a table, under this name. The only error is `Memory`.
 fn column_schema(
     alloc: Global,
     name: &[u8],
@@ -75,7 +75,7 @@ fn column_schema(
     }
 }
 
-/// Returns what the columns of a table are, which have these names. The one error is `Memory`.
+/// Returns the schemas of a table's columns, under these names. The only error is `Memory`.
 fn schemas_of(
     alloc: Global,
     names: &BinaryArray<i64>,
@@ -95,8 +95,8 @@ fn schemas_of(
     Ok(columns)
 }
 
-/// Reads a CSV text, and returns what its columns are. A cell that is the word `null` is null.
-/// Fails as `Source` of `diff_csv` does.
+/// Reads a CSV text, and returns the schemas of its columns. A cell that is the word `null` is
+/// null. Fails as `Source` of `diff_csv` does.
 pub fn read_schema<R: Read + Drop>(
     alloc: Global,
     input: R,

@@ -1,4 +1,4 @@
-//! What the columns of a CSV text are, said as text or as JSON lines.
+//! Schemas of the columns of a CSV text, printed as text or as JSON lines.
 
 ghost use Rattle.std.specs.Option.{option_copied};
 ghost use Rattle.std.specs.Prelude.{◌≡◌, ◌++◌, ℕ, List, Some, IfErr, OnOk};
@@ -14,7 +14,7 @@ use schema_report::text::push_schema;
 use std::alloc::Global;
 use std::io::Read;
 
-/// How columns are said.
+/// The form in which schemas are printed.
 #[derive(Clone, Copy, Debug, PartialEq, Eq)]
 pub enum Form {
     /// In aligned lines.
@@ -23,7 +23,7 @@ pub enum Form {
     Json,
 }
 
-/// Appends what the columns of a table are, as those of a file of this name. The one error is
+/// Appends the schemas of a table's columns, under the name of its file. The only error is
 /// `Memory`.
 pub fn push_form(
     alloc: Global,
@@ -47,8 +47,8 @@ pub fn push_form(
     }
 }
 
-/// Reads a CSV text, and appends what its columns are, as those of a file of this name. A cell that
-/// is the word `null` is null. Fails as `Source` of `diff_csv` does.
+/// Reads a CSV text, and appends the schemas of its columns, under the name of its file. A cell
+/// that is the word `null` is null. Fails as `Source` of `diff_csv` does.
 pub fn push_schema_of<R: Read + Drop>(
     alloc: Global,
     out: &mut Vec<u8>,

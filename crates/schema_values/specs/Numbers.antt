@@ -1,7 +1,7 @@
--- How many of the numbers that texts write differ, and the least and the greatest.
+-- The number of different numbers that texts write, and the least and the greatest of them.
 --
--- The texts 1.0, -2, 1e0 and 0.5 write three numbers. The least is -2, and of the greatest the
--- first text is 1.0.
+-- The texts 1.0, -2, 1e0 and 0.5 write three different numbers. The least is -2. The greatest is 1,
+-- and its first text is 1.0.
 use Rattle.std.specs.List.{All}
 use Rattle.std.specs.Prelude.{◌≡◌, ◌<◌, ◌⊎◌, ℕ, Bool, true, false, not, ◌&&◌, List, [], length, map}
 use Rattle.std.specs.Prelude.{get_or, Option, Some, MatchOption, ⊤}
@@ -33,12 +33,12 @@ number_less s t = decimal_less (decimal_of s) (decimal_of t)
 abbrev pub same_number : List ℕ → List ℕ → Bool
 same_number s t = not (number_less s t) && not (number_less t s)
 
--- a number is better than another: greater where the greatest is looked for, and else less
+-- a number is better than another one: greater for `better true`, and less for `better false`
 abbrev pub better : Bool → List ℕ → List ℕ → Bool
 better true s t = number_less t s
 better false s t = number_less s t
 
--- of the first n texts this is the first that no other one is better than
+-- the place of the first of n texts that no other one of them is better than
 pub record IsBestPlace (beats : List ℕ → List ℕ → Bool) (texts : List (List ℕ)) (n place : ℕ) :
     Type 0 where
   pub within : place < n
@@ -52,11 +52,11 @@ pub record IsBestText (beats : List ℕ → List ℕ → Bool) (texts : List (Li
   pub best : IsBestPlace beats texts (length texts) place
   pub is : text ≡ get_or texts place []
 
--- that text, if there is one
+-- the first of all texts that no other one is better than, or None if there is no text
 abbrev pub TellsBest : (List ℕ → List ℕ → Bool) → List (List ℕ) → Option (List ℕ) → Type 0
 TellsBest beats texts best = MatchOption best (texts ≡ []) (IsBestText beats texts)
 
--- what is told of numbers that have narrow exponents
+-- all numbers have narrow exponents, and t is their summary
 pub record TellsDecimals (texts : List (List ℕ)) (t : Told) : Type 0 where
   pub narrow : All IsNarrow texts
   pub distinct : t.distinct ≡ Some (distinct_total same_number texts)
@@ -69,12 +69,12 @@ pub record HasWide (texts : List (List ℕ)) : Type 0 where
   pub within : place < length texts
   pub wide : HasWideExponent (get_or texts place [])
 
--- nothing is told of numbers of which one has a wide exponent
+-- a number has a wide exponent, and each part of t is None
 pub record TellsWide (texts : List (List ℕ)) (t : Told) : Type 0 where
   pub some : HasWide texts
   pub nothing : TellsNothing t
 
--- what is told of numbers
+-- t is the summary of numbers, and is empty if one has a wide exponent
 abbrev pub TellsNumbers : List (List ℕ) → Told → Type 0
 TellsNumbers texts t = TellsDecimals texts t ⊎ TellsWide texts t
 
@@ -83,7 +83,7 @@ pub record AreNormal (texts : List (List ℕ)) (made : Strings) : Type 0 where
   pub strings : AreStrings made (map normal_number texts)
   pub narrow : All IsNarrow texts
 
--- why numbers have no normal texts: an exponent is wide, or an allocation failed
+-- a reason why numbers have no normal texts is true: an exponent is wide, or an allocation failed
 abbrev pub IsNumberFault : List (List ℕ) → NumberError → Type 0
 IsNumberFault texts Memory = ⊤
 IsNumberFault texts WideExponent = HasWide texts

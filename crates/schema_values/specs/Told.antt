@@ -1,20 +1,20 @@
--- What is told of values.
+-- Summaries of values.
 use Rattle.std.specs.Prelude.{◌≡◌, ℕ, List, Option, None, option_map}
 use Rattle.schema_values.specs.declared.numbers.Values.{Values}
 
--- how many values differ, and the texts of the least and the greatest, where there are any
+-- the number of different values, and the texts of the least and the greatest, where they are known
 pub record Told : Type 0 where
   pub distinct : Option ℕ
   pub least : Option (List ℕ)
   pub greatest : Option (List ℕ)
 
--- nothing is told
+-- nothing is known: each part is None
 pub record TellsNothing (t : Told) : Type 0 where
   pub distinct : t.distinct ≡ None
   pub least : t.least ≡ None
   pub greatest : t.greatest ≡ None
 
--- what is told of values
+-- the summary that a program returns, with its texts as lists of bytes
 abbrev pub told_of : Values → Told
 told_of v = record {
   distinct = v.distinct;

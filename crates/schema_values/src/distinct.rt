@@ -1,4 +1,4 @@
-//! How many byte strings differ.
+//! Counts of different byte strings.
 
 ghost use Rattle.std.specs.Prelude.{◌≡◌, MatchResult};
 ghost use Rattle.std.specs.Str.{bytes_eq};

@@ -2,7 +2,7 @@
 
 ghost use Rattle.schema_values.specs.Laws.{OneNumberWhereEqual};
 
-/// Says which texts write one number.
+/// States that two texts write one number exactly if their decimals are equal.
 pub fn number_laws()
     ensures { OneNumberWhereEqual }
 {}

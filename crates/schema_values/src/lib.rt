@@ -1,5 +1,5 @@
-//! How many values differ, and which are the least and the greatest: of byte strings, and of
-//! numbers as exact decimals.
+//! The number of different values, and the least and the greatest of them: for byte strings, and
+//! for numbers as exact decimals.
 #![tactic(auto)]
 
 pub mod distinct;

@@ -16,7 +16,7 @@ use polars_arrays_bytes::binary::BinaryArray;
 use polars_arrays_flat::byte_rows::ByteRows;
 use std::alloc::Global;
 
-/// Appends the normal text of the number that a cell writes, which is made in `room`.
+/// Appends the normal text of the number that a cell writes. The text is made in `room`.
 fn push_normal(texts: &mut Strings, room: &mut Vec<u8>, cell: &[u8]) -> Result<(), NumberError>
     requires { is_number cell.now ≡ true }
     ensures ok { OnOk result
@@ -34,8 +34,8 @@ fn push_normal(texts: &mut Strings, room: &mut Vec<u8>, cell: &[u8]) -> Result<(
     Ok(())
 }
 
-/// Returns the normal texts of the numbers that cells write. Fails where a number has a wide
-/// exponent, and else for want of memory alone.
+/// Returns the normal texts of the numbers that cells write. Fails if a number has a wide exponent,
+/// or if an allocation fails.
 pub(crate) fn normal_texts(alloc: Global, cells: &BinaryArray<i64>) -> Result<Strings, NumberError>
     requires { All IsNumber (offset_strings (λ x. x) cells.now) }
     ensures { MatchResult result (AreNormal (offset_strings (λ x. x) cells.now))

@@ -1,4 +1,4 @@
-//! How many numbers differ, and the least and the greatest, as exact decimals.
+//! The number of different numbers, and the least and the greatest of them, as exact decimals.
 
 ghost use Rattle.std.specs.List.{All};
 ghost use Rattle.std.specs.Option.{option_map};
@@ -19,7 +19,7 @@ use polars_arrays_bytes::binary::BinaryArray;
 use polars_arrays_flat::byte_rows::ByteRows;
 use std::alloc::{AllocError, Global};
 
-/// How many values differ, and the least and the greatest, where there are any that are told.
+/// The number of different values, and the least and the greatest of them, where they are known.
 #[derive(Drop)]
 pub struct Values {
     pub distinct: Option<usize>,
@@ -27,7 +27,7 @@ pub struct Values {
     pub greatest: Option<Vec<u8>>,
 }
 
-/// Returns the first text of the least number, or of the greatest, if there is a number.
+/// Returns the first text of the least number, or of the greatest one, or `None` without numbers.
 fn best_text(
     alloc: Global,
     cells: &BinaryArray<i64>,
@@ -46,7 +46,7 @@ fn best_text(
     Ok(Some(text))
 }
 
-/// Returns what is said of numbers that have these normal texts.
+/// Returns the summary of numbers that have these normal texts.
 fn exact_values(
     alloc: Global,
     cells: &BinaryArray<i64>,
@@ -68,9 +68,9 @@ fn exact_values(
     })
 }
 
-/// Returns what is said of numbers, as JSON writes them: how many differ, and the first texts of
-/// the least and of the greatest. Nothing is said where a number has an exponent of more than 30
-/// digits, its leading zeros not counted. The one error is `Memory`.
+/// Returns the number of different numbers in cells that JSON would accept as numbers, and the
+/// first texts of the least and of the greatest. Each is `None` if a number has an exponent of more
+/// than 30 digits, not counting its leading zeros. The only error is `Memory`.
 pub fn number_values(alloc: Global, cells: &BinaryArray<i64>) -> Result<Values, ComputeError>
     requires { All IsNumber (offset_strings (λ x. x) cells.now) }
     ensures { MatchResult result

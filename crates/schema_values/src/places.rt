@@ -28,7 +28,7 @@ fn is_number_less(left: &[u8], right: &[u8]) -> bool
     }
 }
 
-/// Returns whether a number is less than another, or greater where the greatest is looked for.
+/// Returns whether a number is less than another one, or greater than it if `greatest` is set.
 fn is_better(greatest: bool, left: &[u8], right: &[u8]) -> bool
     requires left { IsNarrow left.now }
     requires right { IsNarrow right.now }
@@ -57,7 +57,7 @@ fn better_place(cells: &BinaryArray<i64>, greatest: bool, best: usize, other: us
     }
 }
 
-/// Returns the place of the first of the least numbers, or of the greatest.
+/// Returns the place of the first of the least numbers, or of the greatest if `greatest` is set.
 pub(crate) fn best_place(cells: &BinaryArray<i64>, greatest: bool) -> usize
     requires all { All IsNarrow (offset_strings (λ x. x) cells.now) }
     requires some { 0 < length (offset_strings (λ x. x) cells.now) }
