@@ -21,8 +21,7 @@ pub(crate) struct Rooms {
     pub(crate) note: usize,
 }
 
-/// Returns the columns that some rows need together with one row more. Without it they need
-/// `rooms`.
+/// Returns `rooms`, widened to what one more row needs.
 fn with_row(rooms: Rooms, row: &Row) -> Rooms
     ensures { result ≡ with_row rooms (row_view row.now) }
 {
@@ -52,8 +51,8 @@ fn needed(rows: &[Row]) -> Rooms
     rooms
 }
 
-/// Returns the number of columns for one of `n` parts. The part needs `need` columns, `free`
-/// columns are free, and the other parts leave `left` of them.
+/// Returns how many of `free` columns one of `n` parts gets: what it needs, but no more than the
+/// greater of an even share and the `left` columns that the other parts do not need.
 fn share(n: usize, free: usize, need: usize, left: usize) -> usize
     requires { 0 < n }
     ensures { result ≡ share n free need left }
@@ -83,6 +82,7 @@ fn rooms_in(free: usize, need: Rooms) -> Rooms
     let part = share(3, rest, need.part, sides_leave);
     let rest = rest.saturating_sub(part);
     let left = share(2, rest, need.left, rest.saturating_sub(need.right));
+    // The line of a row with a note has marks and gaps of 4 columns, where GAPS has 10.
     Rooms {
         key,
         part,

@@ -83,7 +83,7 @@ pub(crate) fn push_side(
     }
 }
 
-/// Appends a member.
+/// Appends a member as `name=value`.
 #[tactic(auto, unfolding(crate::specs::Texts::pair_text))]
 pub(crate) fn push_pair(
     alloc: Global,
@@ -138,7 +138,7 @@ pub(crate) fn push_pairs_of(
     }
 }
 
-/// Appends the number that a member is, as it is written.
+/// Appends the member of this name as it is written if it is a number, and otherwise nothing.
 #[tactic(auto, unfolding(crate::specs::Texts::number_text))]
 pub(crate) fn push_number(
     out: &mut Vec<char>,

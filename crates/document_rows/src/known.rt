@@ -1,4 +1,5 @@
-//! Lines whose documents were read before.
+//! Lines of the left input, by which equal lines of the right one get their rows without being
+//! parsed.
 
 ghost use Rattle.std.specs.Prelude.{◌≡◌, ◌<◌, ◌≤◌, ◌+◌, ◌++◌, ◌∷◌, [], ℕ, suc, List, false, true};
 ghost use Rattle.std.specs.Prelude.{length, IfOk};
@@ -25,7 +26,9 @@ const SLOTS: usize = 8;
 #[derive(Drop)]
 pub(crate) struct Known<'a> {
     table: Option<&'a Table>,
-    // For each slot, a row whose line has this slot. Of several such rows only one is kept.
+    // A hash table without chains: the slot of a line holds the row that was read from it. Where
+    // lines share a slot, the last one's row stays, and a slot of no line holds 0. A row found here
+    // is right only if its line is equal, which push_row tests.
     slots: Vec<u32>,
 }
 
@@ -90,7 +93,7 @@ fn slot_of(line: &[u8], count: usize) -> usize
 }
 
 impl<'a> Known<'a> {
-    /// Returns no lines.
+    /// Creates a hash table of no lines.
     pub(crate) fn none(alloc: Global) -> Known<'a>
         ensures { (reading : Reading) (keys : List Path) → KnowsLines reading keys result }
     {
@@ -98,7 +101,7 @@ impl<'a> Known<'a> {
         Known { table: None, slots }
     }
 
-    /// Returns the lines of a table of documents.
+    /// Creates the hash table of the lines that a table of documents was read from.
     pub(crate) fn of(alloc: Global, table: &'a Table) -> Result<Known<'a>, AllocError>
         requires { HoldsDocuments table.now }
         ensures { IfOk result
@@ -119,7 +122,7 @@ impl<'a> Known<'a> {
         })
     }
 
-    /// Returns the slot of each of these lines.
+    /// Returns the slot of each line, or no slots if no line is known.
     fn slots_for(&self, alloc: Global, lines: &[&[u8]]) -> Result<Vec<usize>, AllocError> {
         let mut slots = Vec::with_capacity(alloc, lines.len())?;
         if self.slots.is_empty() {
@@ -142,8 +145,9 @@ impl<'a> Known<'a> {
         Ok(rows)
     }
 
-    /// Returns a row for each complete line of some bytes, at most a block of them. The row may
-    /// have been read from an equal line. The reads for one line don't wait for those of another.
+    /// Returns for each of the first complete lines of some bytes, at most a block of them, a row
+    /// that may have been read from an equal line. Each step is taken for all of these lines before
+    /// the next step, so that memory is fetched for several lines at once.
     pub(crate) fn guesses_for(&self, alloc: Global, bytes: &[u8]) -> Result<Guesses, AllocError>
         requires { (reading : Reading) × (keys : List Path) × KnowsLines reading keys self.now }
     {

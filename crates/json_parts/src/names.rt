@@ -25,7 +25,7 @@ fn is_plain(name: &str) -> bool
     !name.is_empty() && are_plain(name.as_bytes())
 }
 
-/// Appends a name between quotes.
+/// Appends a name as a JSON string.
 fn push_quoted(alloc: Global, path: &mut Vec<u8>, name: &str) -> Result<(), AllocError>
     ensures { OnOk result (path.new.items ≡ path.old.items ++ quoted name.now) }
 {
@@ -50,7 +50,7 @@ fn push_step(alloc: Global, path: &mut Vec<u8>, key: &str) -> Result<(), AllocEr
     Ok(())
 }
 
-/// Appends the step that leads to the member with this name.
+/// Appends the same text as [`push_step`], and says besides that what stood before it stays.
 pub(crate) fn push_name(alloc: Global, path: &mut Vec<u8>, key: &str) -> Result<(), AllocError>
     ensures path { OnOk result
         (path.new.items ≡ path.old.items ++ name_text path.old.items key.now) }

@@ -27,7 +27,7 @@ use crate::pattern::{Pattern, PatternStep};
 use json::{Error, Scratch, Value};
 use std::alloc::Global;
 
-/// A step of a pattern, and the place behind its text.
+/// A step of a pattern, and where its text ends.
 #[derive(Drop)]
 struct Found {
     step: PatternStep,
@@ -41,7 +41,7 @@ fn is_plain(byte: u8) -> bool
     !matches!(byte, b'.' | b'[' | b']' | b'"')
 }
 
-/// Returns the place behind the bytes from `start` on that may stand in a name without quotes.
+/// Returns the end of the bytes from `start` on that may stand in a name without quotes.
 fn plain_end(bytes: &[u8], start: usize) -> usize
     requires { start ≤ length bytes.now }
     ensures { result ≡ start + prefix_len is_plain (drop start bytes.now) }
@@ -53,7 +53,8 @@ fn plain_end(bytes: &[u8], start: usize) -> usize
     end
 }
 
-/// Reads the name without quotes that begins at a place, behind its dot.
+/// Reads the name without quotes that begins at byte `start`. Its dot stands before that, or is
+/// left out.
 fn plain_name(alloc: Global, text: &str, start: usize) -> Result<Found, PathError>
     requires starts { IsCharBoundary text.now start }
     requires unquoted { slice_index text.now start ≢ quote }
@@ -68,7 +69,7 @@ fn plain_name(alloc: Global, text: &str, start: usize) -> Result<Found, PathErro
     Ok(Found { step, end })
 }
 
-/// Returns the place behind the quote that ends a name. `start` is the place of its first quote.
+/// Returns the end of a name with quotes, behind the second one. The first one is byte `start`.
 fn quoted_end(bytes: &[u8], start: usize) -> Option<usize>
     requires { start < length bytes.now }
     ensures { result
@@ -98,7 +99,7 @@ fn unquoted(alloc: Global, quoted: &str) -> Result<String, PathError>
     }
 }
 
-/// Reads the name within quotes that begins at a place, behind its dot.
+/// Reads the name within quotes whose first quote is byte `start`.
 fn quoted_name(alloc: Global, text: &str, start: usize) -> Result<Found, PathError>
     requires within { start < length text.now }
     requires quoted { slice_index text.now start ≡ quote }
@@ -112,7 +113,7 @@ fn quoted_name(alloc: Global, text: &str, start: usize) -> Result<Found, PathErr
     Ok(Found { step, end })
 }
 
-/// Reads the name that begins at a place, behind its dot.
+/// Reads the name that begins at byte `start`, with quotes or without.
 fn name_at(alloc: Global, text: &str, start: usize) -> Result<Found, PathError>
     requires { IsCharBoundary text.now start }
     ensures { Finds text.now start (dot ∷ drop start text.now) result }
@@ -123,18 +124,20 @@ fn name_at(alloc: Global, text: &str, start: usize) -> Result<Found, PathError>
     plain_name(alloc, text, start)
 }
 
-/// Returns the place that a text writes, if the text is decimal digits.
+/// Returns the place that decimal digits write, or `None` for any other text and from 2^64 on.
 fn place_of(digits: &str) -> Option<usize>
     ensures { MatchOption result ((i : _) → ¬ (IsPlaceText digits.now i))
         (λ i. IsPlaceText digits.now i) }
 {
+    // `parse` would accept the plus sign.
     if digits.starts_with('+') {
         return None;
     }
     digits.parse::<usize>().ok()
 }
 
-/// Reads the text within brackets, from behind the first bracket: a place, or nothing for any item.
+/// Reads the step within brackets. Behind the first bracket, at byte `start`, stand the digits of a
+/// place, or nothing, which means any item.
 fn item_at(text: &str, start: usize) -> Result<Found, PathError>
     requires { IsCharBoundary text.now start }
     ensures { Finds text.now start (open_bracket ∷ drop start text.now) result }

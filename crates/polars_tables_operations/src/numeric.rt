@@ -152,7 +152,8 @@ fn answer_calculation<T: LineNumber>(
     }
 }
 
-// Calculates with a scalar on the left, and the numbers of a list on the right.
+// Returns the results of a calculation as words. The only row of the first list is the scalar on
+// the left, and the rows of the second list are the numbers on the right.
 #[tactic(auto, using(crate::proofs::Answered::answered))]
 fn answer_from_scalar<T: LineNumber>(
     alloc: Global,
@@ -171,7 +172,7 @@ fn answer_from_scalar<T: LineNumber>(
     )
 }
 
-// Returns the word of the sum of rows.
+// Returns the word of the wrapped sum of rows.
 fn write_sum<T: LineNumber>(alloc: Global, rows: &PrimitiveArray<T>) -> Result<String, AllocError>
     ensures { IfOk result
         (λ text. string_bytes text
@@ -194,7 +195,8 @@ fn answer_sum<T: LineNumber>(
     Ok(write_sum(alloc, &rows)?)
 }
 
-// Creates the state of the range whose ends are the first list, and appends the rows of the second.
+// Creates the state that collects the distinct numbers of a range, and appends the rows of the
+// second list. The first list holds the two ends of the range.
 fn state_of_lists<T: LineNumber>(
     alloc: Global,
     lists: Vec<PrimitiveArray<T>>,
