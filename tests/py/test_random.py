@@ -141,6 +141,45 @@ def _reduced(side: Any, present: List[int], dtype: Any) -> None:
         assert call(side).tolist() == [None if text is None else count(text) for text in texts]
 
 
+@st.composite
+def _laid_out(draw: Any) -> Any:
+    """Makes an array of numbers that lie one way or another."""
+    dtype = np.dtype(draw(st.sampled_from([*_DTYPES, np.longlong])))
+    numbers = draw(st.lists(st.integers(0, 2 ** 64 - 1) | st.integers(0, 200), max_size=40))
+    rows = np.array(numbers, np.uint64).astype(dtype)
+    how = draw(st.sampled_from(["as it is", "every second", "reversed", "other bytes", "odd"]))
+    if how == "every second":
+        rows = np.repeat(rows, 2)[::2]
+    elif how == "reversed":
+        rows = rows[::-1]
+    elif how == "other bytes":
+        rows = rows.astype(dtype.newbyteorder())
+    elif how == "odd":
+        rows = np.frombuffer(b"." + rows.tobytes(), dtype, offset=1)
+    if draw(st.booleans()):
+        masked: Any = np.ma.MaskedArray
+        return masked(rows, mask=draw(st.lists(
+            st.booleans(), min_size=len(rows), max_size=len(rows)) | st.just(np.ma.nomask)))
+    rows.flags.writeable = rows.flags.writeable and draw(st.booleans())
+    return rows
+
+
+@given(_laid_out(), st.integers(0, 2 ** 64 - 1))
+def test_layouts_of_numpy(rows: Any, number: int) -> None:
+    """Equality and distinct values of arrays, wherever their numbers lie and whatever is masked."""
+    wanted: List[Any] = rows.tolist()
+    assert dunkelva.equal(rows, wanted).all()
+    other = rows.copy()
+    other[len(wanted) // 2:len(wanted) // 2 + 1] = np.uint64(number).astype(rows.dtype)
+    pairs = list(zip(wanted, other.tolist()))
+    assert dunkelva.equal(rows, other).tolist() == [one == another for one, another in pairs]
+    present: List[Any] = sorted({row for row in wanted if row is not None})
+    seen = present + [None] * (None in wanted)
+    found: Any = dunkelva.unique(rows)
+    assert found.tolist() == seen
+    assert dunkelva.n_unique(rows) == len(seen)
+
+
 _KEYS = st.sampled_from([
     st.integers(0, 4), st.sampled_from(["a", "b", "é"]), st.lists(st.integers(0, 1), max_size=2),
     st.sampled_from([decimal.Decimal("1.5"), decimal.Decimal("2")]),

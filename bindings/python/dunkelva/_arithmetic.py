@@ -7,10 +7,10 @@ from typing import TYPE_CHECKING, Any, Callable, List, Tuple
 import numpy as np
 import numpy.typing as npt
 
-from ._library import BITS, COLUMN, NotServed, TypesDiffer, bits_for, declare, refusal, unpacked
-from ._library import windows
+from ._library import (BITS, COLUMN, NotServed, TypesDiffer, bits_for, declare, joined, refusal,
+                       unpacked, windows)
 from ._numbers import NUMBER, is_one_value, number_of_value, one_column, two_columns
-from ._structs import part_of
+from ._structs import address_of, part_of
 from ._types import NUMBERS, Type
 
 __all__ = ["add", "subtract", "multiply", "floor_divide", "truncating_divide", "mod", "negative",
@@ -51,20 +51,19 @@ class _Out:
     def add(self, rows: int, call: Callable[..., int]) -> None:
         """Makes a call that writes results."""
         values, present, nulls = np.empty(rows, self.kind), bits_for(rows), ctypes.c_uint64()
-        status = call(values.ctypes.data, rows, present.ctypes.data, present.size,
+        status = call(address_of(values), rows, address_of(present), present.size,
                       ctypes.byref(nulls))
         if status:
             raise refusal(status, self.what, self.type)
         self.values.append(values)
-        self.masks.append(~unpacked(present, rows))
+        self.masks.append(unpacked(np.invert(present, out=present), rows))
         self.nulls += nulls.value
 
     def joined(self) -> Results:
         """Returns all results."""
         masked: Any = np.ma.MaskedArray
-        values = self.values[0] if len(self.values) == 1 else np.concatenate(self.values)
-        mask = np.concatenate(self.masks) if self.nulls else np.ma.nomask
-        array: Results = masked(values, mask=mask)
+        mask = joined(self.masks) if self.nulls else np.ma.nomask
+        array: Results = masked(joined(self.values), mask=mask)
         return array
 
 

@@ -3,12 +3,12 @@ from __future__ import annotations
 
 import ctypes
 import os
-from typing import Any, Iterator, Optional, Tuple
+from typing import Any, Iterator, List, Optional, Tuple
 
 import numpy as np
 import numpy.typing as npt
 
-from ._structs import ArrowArray, ArrowSchema, Chunk, Column
+from ._structs import ArrowArray, ArrowSchema, Chunk, Column, address_of
 from ._types import Type
 
 FLOATS_BY_BITS = 1
@@ -66,6 +66,7 @@ def declare(name: str, *parts: Any) -> Any:
 LIBRARY = _load()
 COLUMN = (ctypes.POINTER(ArrowSchema), ctypes.POINTER(ArrowArray))
 BITS = (ctypes.c_void_p, ctypes.c_size_t)
+_equal = declare("dunkelva_equal", *COLUMN, *COLUMN, ctypes.c_uint32, *BITS)
 _equal_rows = declare("dunkelva_equal_rows", *COLUMN, ctypes.c_int64, *COLUMN, ctypes.c_int64,
                       ctypes.c_int64, ctypes.c_uint32, *BITS, ctypes.c_void_p)
 VERSION: str = LIBRARY.dunkelva_version().decode()
@@ -73,9 +74,12 @@ VERSION: str = LIBRARY.dunkelva_version().decode()
 
 def _status(left: Chunk, left_first: int, right: Chunk, right_first: int, rows: int, flags: int,
             out: npt.NDArray[np.uint8]) -> int:
+    if left_first == right_first == 0 and rows == left.rows == right.rows:
+        return int(_equal(left.schema, left.array, right.schema, right.array, flags,
+                          address_of(out), out.size))
     return int(_equal_rows(
         left.schema, left.array, left_first, right.schema, right.array, right_first, rows, flags,
-        out.__array_interface__["data"][0], out.size, None))
+        address_of(out), out.size, None))
 
 
 def _said(status: int) -> str:
@@ -133,20 +137,24 @@ def unpacked(bits: npt.NDArray[np.uint8], rows: int) -> npt.NDArray[np.bool_]:
     return np.unpackbits(bits, count=rows, bitorder="little").view(np.bool_)
 
 
+def joined(parts: List[npt.NDArray[Any]]) -> npt.NDArray[Any]:
+    """Returns the results of windows, one after another."""
+    return parts[0] if len(parts) == 1 else np.concatenate(parts)
+
+
 def compare(left: Column, right: Column, flags: int, what: str = "") -> npt.NDArray[np.bool_]:
     """Compares two columns of one length, whose chunks may end at different rows."""
-    if len(left) != len(right):
-        raise TypesDiffer(f"{what}left has {len(left)} rows, right has {len(right)}")
+    if left.rows != right.rows:
+        raise TypesDiffer(f"{what}left has {left.rows} rows, right has {right.rows}")
     # types may have other names of items, which are not compared
     if left.type is not right.type and left.type != right.type:
         difference = left.type.difference(right.type)
         if difference is not None:
             raise TypesDiffer(what + difference)
     if len(left.chunks) == len(right.chunks) == 1:
-        return compare_rows(left.chunks[0], 0, right.chunks[0], 0, len(left), flags, what)
-    parts = [compare_rows(one, first, other, second, rows, flags, what)
-             for one, first, other, second, rows in windows(left, right)]
-    return np.concatenate(parts)
+        return compare_rows(left.chunks[0], 0, right.chunks[0], 0, left.rows, flags, what)
+    return joined([compare_rows(one, first, other, second, rows, flags, what)
+                   for one, first, other, second, rows in windows(left, right)])
 
 
 def windows(left: Column, right: Column) -> Iterator[Tuple[Chunk, int, Chunk, int, int]]:

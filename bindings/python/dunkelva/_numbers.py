@@ -8,11 +8,11 @@ from typing import TYPE_CHECKING, Any, Callable, List, Optional, Tuple
 import numpy as np
 import numpy.typing as npt
 
-from ._library import (BITS, COLUMN, NotServed, TypesDiffer, bits_for, declare, refusal, unpacked,
-                       windows)
+from ._library import (BITS, COLUMN, NotServed, TypesDiffer, bits_for, declare, joined, refusal,
+                       unpacked, windows)
 from ._rows import Unfit, build
 from ._sources import Table, pair, read, typed
-from ._structs import Chunk, Column, part_of
+from ._structs import Chunk, Column, address_of, part_of
 from ._types import Type
 from ._values import named, numbers_of, present_rows
 
@@ -70,7 +70,7 @@ def two_columns(left: object, right: object) -> Tuple[Column, Column]:
     if isinstance(sides[0], Table) or isinstance(sides[1], Table):
         raise NotServed(f"{'left' if isinstance(sides[0], Table) else 'right'} is a table")
     lefts, rights = pair(sides[0], sides[1])
-    if lefts.type != rights.type:
+    if lefts.type is not rights.type and lefts.type != rights.type:
         raise TypesDiffer(lefts.type.difference(rights.type) or "the sides differ in type")
     if len(lefts) != len(rights):
         raise TypesDiffer(f"left has {len(lefts)} rows, right has {len(rights)}")
@@ -102,11 +102,11 @@ def is_null(column: object) -> npt.NDArray[np.bool_]:
     held = _column(column)
     for chunk in held.chunks:
         out = bits_for(len(chunk))
-        status = _is_null(chunk.schema, chunk.array, out.ctypes.data, out.size, None)
+        status = _is_null(chunk.schema, chunk.array, address_of(out), out.size, None)
         if status:
             raise refusal(status, "column", held.type)
         masks.append(unpacked(out, len(chunk)))
-    return np.concatenate(masks)
+    return joined(masks)
 
 
 def compare(left: object, test: str, right: object) -> npt.NDArray[np.bool_]:
@@ -139,11 +139,11 @@ def compare(left: object, test: str, right: object) -> npt.NDArray[np.bool_]:
     for one, first, other, second, rows in windows(lefts, rights):
         out, parts = bits_for(rows), (part_of(one, first, rows), part_of(other, second, rows))
         status = _compare(number, parts[0].schema, parts[0].array, parts[1].schema, parts[1].array,
-                          out.ctypes.data, out.size)
+                          address_of(out), out.size)
         if status:
             raise refusal(status, "left and right", lefts.type)
         masks.append(unpacked(out, rows))
-    return np.concatenate(masks)
+    return joined(masks)
 
 
 def _compare_value(column: Column, test: int, value: object) -> npt.NDArray[np.bool_]:
@@ -153,11 +153,11 @@ def _compare_value(column: Column, test: int, value: object) -> npt.NDArray[np.b
     for chunk in column.chunks:
         out = bits_for(len(chunk))
         status = _compare_number(test, chunk.schema, chunk.array, ctypes.byref(right),
-                                 out.ctypes.data, out.size)
+                                 address_of(out), out.size)
         if status:
             raise refusal(status, "left", column.type)
         masks.append(unpacked(out, len(chunk)))
-    return np.concatenate(masks)
+    return joined(masks)
 
 
 def _reduced(value: object, call: Any, join: Callable[[int, int], int],
@@ -295,13 +295,13 @@ def _counted(value: object, which: int) -> Counts:
     column, counts, nulls = _column(value), [], []
     for chunk in column.chunks:
         out = np.zeros(len(chunk), np.uint32)
-        status = _count_bits(which, chunk.schema, chunk.array, out.ctypes.data, out.size)
+        status = _count_bits(which, chunk.schema, chunk.array, address_of(out), out.size)
         if status:
             raise refusal(status, "column", column.type)
         counts.append(out)
         nulls.append(~present_rows(chunk))
     masked: Any = np.ma.MaskedArray
-    array: Counts = masked(np.concatenate(counts), mask=np.concatenate(nulls))
+    array: Counts = masked(joined(counts), mask=joined(nulls))
     return array
 
 

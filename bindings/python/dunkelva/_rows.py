@@ -140,7 +140,7 @@ def build(values: Sequence[object], type: Type) -> Chunk:
             if row is not None:
                 raise Unfit(f"{row!r} is not null")
         return make(type, len(rows), [])
-    bits, form = validity(_present(rows)), type.format
+    bits, form = validity(_nulls(rows)), type.format
     if form == "+s":
         names = [name for name, _ in type.children]
         for row in rows:
@@ -166,11 +166,11 @@ def build(values: Sequence[object], type: Type) -> Chunk:
     return make(type, len(rows), [bits, _numbers(rows, type)])
 
 
-def _present(rows: Sequence[object]) -> Optional[npt.NDArray[np.bool_]]:
-    """Returns which rows are not None, or None where all are not."""
+def _nulls(rows: Sequence[object]) -> Optional[npt.NDArray[np.bool_]]:
+    """Returns which rows are None, or None where no row is."""
     if type(None) not in set(map(type, rows)):
         return None
-    return np.array([row is not None for row in rows], np.bool_)
+    return np.array([row is None for row in rows], np.bool_)
 
 
 def _lists(rows: Sequence[Any], type: Type, bits: Optional[npt.NDArray[np.uint8]]) -> Chunk:
@@ -328,5 +328,5 @@ def _dictionary(rows: Sequence[Any], type: Type) -> Chunk:
             entries.append(row)
         keys.append(None if row is None else places[name])
     held = build(entries, type.entries) if entries else no_rows(type.entries)
-    bits = validity(_present(keys))
+    bits = validity(_nulls(keys))
     return make(type, len(rows), [bits, _numbers(keys, Type(type.format))], entries=held)

@@ -14,9 +14,9 @@ from ._structs import (Chunk, Column, fields_of, from_capsules, from_stream, mak
 from ._types import NUMBERS, Type
 
 _FORMATS = {kind: form for form, kind in NUMBERS.items()}
-_NUMBERS = {kind: Type(form) for form, kind in NUMBERS.items()}
+_NUMBERS = {np.dtype(kind): Type(form) for form, kind in NUMBERS.items()}
 _UNITS = {"s": "s", "ms": "m", "us": "u", "ns": "n"}
-_Present = Optional[npt.NDArray[np.bool_]]
+_Nulls = Optional[npt.NDArray[np.bool_]]
 
 
 class Rows:
@@ -159,8 +159,11 @@ def pair(left: Side, right: Side, what: str = "") -> Tuple[Column, Column]:
     return typed(left, right_type, what + "left"), typed(right, left_type, what + "right")
 
 
-def _numpy(array: npt.NDArray[Any], present: _Present = None) -> Side:
+def _numpy(array: npt.NDArray[Any], nulls: _Nulls = None) -> Side:
     """Reads an array of numpy. One of two dimensions has lists of one length as rows."""
+    numbers = _NUMBERS.get(array.dtype)
+    if numbers is not None and array.ndim == 1 and not isinstance(array, np.ma.MaskedArray):
+        return Column([make(numbers, len(array), [validity(nulls), np.ascontiguousarray(array)])])
     if array.ndim == 2:
         width, rows = array.shape[1], array.shape[0]
         inner = _numpy(array.reshape(-1))
@@ -173,47 +176,47 @@ def _numpy(array: npt.NDArray[Any], present: _Present = None) -> Side:
         names = array.dtype.names
         fields = [typed(_numpy(array[name]), None, name).chunks[0] for name in names]
         kind = Type("+s", tuple((name, field.type) for name, field in zip(names, fields)))
-        return Column([make(kind, len(array), [validity(present)], fields)])
+        return Column([make(kind, len(array), [validity(nulls)], fields)])
     if isinstance(array, np.ma.MaskedArray):
-        mask: npt.NDArray[np.bool_] = np.broadcast_to(array.mask, array.shape)
-        unmasked = ~mask
-        present = unmasked if present is None else present & unmasked
-        array = array.data
+        masked: Any = np.ma
+        nulls = masked.getmask(array)
+        nulls = None if nulls is masked.nomask else nulls
+        array = masked.getdata(array, subok=False)
     if array.dtype.kind in "OU":
         values = array.tolist()
-        if present is not None:
-            values = [value if there else None for value, there in zip(values, present)]
+        if nulls is not None:
+            values = [None if null else value for value, null in zip(values, nulls)]
         return Rows(values)
-    return Column([_flat(np.ascontiguousarray(array), present)])
+    return Column([_flat(np.ascontiguousarray(array), nulls)])
 
 
-def _flat(array: npt.NDArray[Any], present: _Present) -> Chunk:
+def _flat(array: npt.NDArray[Any], nulls: _Nulls) -> Chunk:
     if array.dtype.byteorder == ">":
         array = array.astype(array.dtype.newbyteorder("="))
-    kind, rows = array.dtype.kind, len(array)
-    if kind in "mM":
-        return _times(array, present)
-    if kind == "b":
-        return make(Type("b"), rows, [validity(present), packed(array)])
-    if kind == "S":
-        width = array.dtype.itemsize
-        return make(Type(f"w:{width}"), rows, [validity(present), array.view(np.uint8)], held=array)
-    numbers = _NUMBERS.get(array.dtype.str[1:])
-    if numbers is None:
-        raise NotServed(f"an array of {array.dtype} is not served")
-    return make(numbers, rows, [validity(present), array])
+    numbers, rows = _NUMBERS.get(array.dtype), len(array)
+    if numbers is not None:
+        return make(numbers, rows, [validity(nulls), array])
+    letter = array.dtype.kind
+    if letter in "mM":
+        return _times(array, nulls)
+    if letter == "b":
+        return make(Type("b"), rows, [validity(nulls), packed(array)])
+    if letter == "S":
+        kind = Type(f"w:{array.dtype.itemsize}")
+        return make(kind, rows, [validity(nulls), array.view(np.uint8)], held=array)
+    raise NotServed(f"an array of {array.dtype} is not served")
 
 
-def _times(array: npt.NDArray[Any], present: _Present) -> Chunk:
+def _times(array: npt.NDArray[Any], nulls: _Nulls) -> Chunk:
     gone = np.isnat(array)
     if gone.any():
-        present = ~gone if present is None else present & ~gone
+        nulls = gone if nulls is None else nulls | gone
     unit, count = np.datetime_data(array.dtype)
-    letter = array.dtype.kind
+    letter, bits = array.dtype.kind, validity(nulls)
     if letter == "M" and (unit, count) == ("D", 1):
         days = np.where(gone, 0, array.view(np.int64))
         if rows_fit(days, np.int32):
-            return make(Type("tdD"), len(array), [validity(present), days.astype(np.int32)])
+            return make(Type("tdD"), len(array), [bits, days.astype(np.int32)])
     if unit in ("W", "D", "h", "m") or count != 1 and unit in _UNITS:
         unit = unit if unit in _UNITS else "s"
         exact = array.astype(f"{letter}8[{unit}]")
@@ -223,7 +226,7 @@ def _times(array: npt.NDArray[Any], present: _Present) -> Chunk:
     elif unit not in _UNITS:
         raise NotServed(f"an array of {array.dtype} is not served: give days or a shorter unit")
     form = "ts" + _UNITS[unit] + ":" if letter == "M" else "tD" + _UNITS[unit]
-    return make(Type(form), len(array), [validity(present), array.view(np.int64)], held=array)
+    return make(Type(form), len(array), [bits, array.view(np.int64)], held=array)
 
 
 def rows_fit(numbers: npt.NDArray[Any], dtype: Any) -> bool:
@@ -257,15 +260,15 @@ def _series(series: Any) -> Side:
         entries = typed(_series(array.categories), None, "categories").chunks[0]
         codes = np.ascontiguousarray(array.codes, np.int32)
         kind = Type("i", (), entries.type)
-        return Column([make(kind, len(codes), [validity(codes >= 0), codes], entries=entries)])
+        return Column([make(kind, len(codes), [validity(codes < 0), codes], entries=entries)])
     if hasattr(array, "_mask") and hasattr(array, "_data"):
-        return _numpy(array._data, ~array._mask)
+        return _numpy(array._data, array._mask)
     if name == "DatetimeTZDtype":
         zone, unit = str(dtype.tz), getattr(dtype, "unit", "ns")
         numbers = np.ascontiguousarray(array.asi8)
-        present = numbers != np.iinfo(np.int64).min
+        nulls = numbers == np.iinfo(np.int64).min
         kind = Type(f"ts{_UNITS[unit]}:{zone}")
-        return Column([make(kind, len(numbers), [validity(present), numbers])])
+        return Column([make(kind, len(numbers), [validity(nulls), numbers])])
     if name in ("PeriodDtype", "IntervalDtype"):
         raise NotServed(f"{dtype} is not served: convert it")
     if name == "SparseDtype":
@@ -321,46 +324,46 @@ def _interchanged_column(column: Any) -> Chunk:
     kind, bits, form, _ = column.dtype
     rows = column.size() if callable(column.size) else column.size
     buffers, first = column.get_buffers(), column.offset
-    present = _interchanged_present(column, buffers, first, rows)
+    nulls = _interchanged_nulls(column, buffers, first, rows)
     if kind == _STRING:
         offsets = _numbers_of(buffers["offsets"], first, rows + 1).astype(np.int64)
         content = buffers["data"][0]
         if rows and offsets[-1] > content.bufsize:
             raise Unfit(f"texts have {content.bufsize} bytes, where {offsets[-1]} are needed")
         data = memory(content.ptr, content.bufsize) if content.bufsize else np.zeros(1, np.uint8)
-        return make(Type("U"), rows, [validity(present), offsets, data], held=buffers)
+        return make(Type("U"), rows, [validity(nulls), offsets, data], held=buffers)
     if kind == _CATEGORICAL:
         described = column.describe_categorical
         if not described["is_dictionary"]:
             raise NotServed("categories without a dictionary are not served")
         entries = _interchanged_column(described["categories"])
         codes = _numbers_of(buffers["data"], first, rows).astype(np.int32)
-        return make(Type("i", (), entries.type), rows, [validity(present), codes], entries=entries,
-                    held=buffers)
+        return make(Type("i", (), entries.type), rows, [validity(nulls), codes],
+                    entries=entries, held=buffers)
     if kind == _BOOL and bits == 1:
         packed_bits = memory(buffers["data"][0].ptr, (first + rows + 7) // 8)
         truth = np.unpackbits(packed_bits, bitorder="little")[first:first + rows]
-        return make(Type("b"), rows, [validity(present), packed(truth)])
+        return make(Type("b"), rows, [validity(nulls), packed(truth)])
     numbers = _numbers_of(buffers["data"], first, rows)
     if kind == _BOOL:
-        return make(Type("b"), rows, [validity(present), packed(numbers)])
+        return make(Type("b"), rows, [validity(nulls), packed(numbers)])
     if kind == _DATETIME and form[:2] == "ts":
-        return make(Type(form), rows, [validity(present), numbers.view(np.int64)], held=buffers)
+        return make(Type(form), rows, [validity(nulls), numbers.view(np.int64)], held=buffers)
     name = _FORMATS.get(numbers.dtype.str[1:])
     if name is None or kind == _DATETIME:
         raise NotServed(f"rows of format {form!r} are not served")
-    return make(Type(name), rows, [validity(present), numbers], held=buffers)
+    return make(Type(name), rows, [validity(nulls), numbers], held=buffers)
 
 
-def _interchanged_present(column: Any, buffers: Any, first: int, rows: int) -> _Present:
+def _interchanged_nulls(column: Any, buffers: Any, first: int, rows: int) -> _Nulls:
     how, mark = column.describe_null
-    present: _Present = None
+    nulls: _Nulls = None
     if how == _BITMASK:
         content = buffers["validity"][0]
         bits = np.unpackbits(memory(content.ptr, (first + rows + 7) // 8), bitorder="little")
-        present = bits[first:first + rows] != mark
+        nulls = bits[first:first + rows] == mark
     elif how == _BYTEMASK:
-        present = _numbers_of(buffers["validity"], first, rows) != mark
+        nulls = _numbers_of(buffers["validity"], first, rows) == mark
     elif how == _SENTINEL:
-        present = _numbers_of(buffers["data"], first, rows) != mark
-    return present
+        nulls = _numbers_of(buffers["data"], first, rows) == mark
+    return nulls

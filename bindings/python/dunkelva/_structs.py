@@ -3,12 +3,13 @@ from __future__ import annotations
 
 import ctypes
 import functools
+import struct
 from typing import Any, List, Optional, Sequence
 
 import numpy as np
 import numpy.typing as npt
 
-from ._types import Type, type_of_format
+from ._types import Type, flat_type, type_of_format
 
 
 class ArrowSchema(ctypes.Structure):
@@ -46,6 +47,19 @@ ArrowArrayStream._fields_ = [
 # The library borrows and never calls `release`, but a struct without one counts as released.
 _release_schema = ctypes.CFUNCTYPE(None, _POINTER(ArrowSchema))(lambda _: None)
 _release_array = ctypes.CFUNCTYPE(None, _POINTER(ArrowArray))(lambda _: None)
+_RELEASE = ctypes.cast(_release_array, ctypes.c_void_p).value
+
+
+class _Lent(ArrowArray):
+    """An array of at most four buffers, with the pointers to these."""
+
+    _fields_ = [("pointers", ctypes.c_void_p * 4)]
+
+
+# Write an array and its pointers, one for each number of buffers. To set the fields one by one
+# takes several times as long.
+_write_array = [struct.Struct(f"@5q5P{buffers}P").pack_into for buffers in range(5)]
+_POINTERS: int = _Lent.pointers.offset
 
 _NULLABLE = 2
 
@@ -57,26 +71,28 @@ _capsule_pointer.argtypes = [ctypes.py_object, ctypes.c_char_p]
 class Chunk:
     """A type and rows of it, with what keeps their memory."""
 
-    __slots__ = ("schema", "array", "held", "type")
+    __slots__ = ("schema", "array", "held", "type", "rows")
 
-    def __init__(self, schema: ArrowSchema, array: ArrowArray, held: object, type: Type):
-        self.schema, self.array, self.held, self.type = schema, array, held, type
+    def __init__(self, schema: ArrowSchema, array: ArrowArray, held: object, type: Type, rows: int):
+        self.schema, self.array, self.held, self.type, self.rows = schema, array, held, type, rows
 
     def __len__(self) -> int:
-        return int(self.array.length)
+        return self.rows
 
 
 class Column:
     """Rows of one type in one chunk or more."""
 
-    __slots__ = ("chunks", "type")
+    __slots__ = ("chunks", "type", "rows")
 
     def __init__(self, chunks: Sequence[Chunk]):
         self.chunks = tuple(chunks)
-        self.type = self.chunks[0].type
+        first = self.chunks[0]
+        self.type = first.type
+        self.rows = first.rows if len(self.chunks) == 1 else sum(map(len, self.chunks))
 
     def __len__(self) -> int:
-        return sum(map(len, self.chunks))
+        return self.rows
 
 
 def borrowed(schema: ArrowSchema, array: ArrowArray, held: object,
@@ -86,7 +102,8 @@ def borrowed(schema: ArrowSchema, array: ArrowArray, held: object,
         raise ValueError("its array was released")
     if array.length < 0:
         raise ValueError(f"its length is {array.length}")
-    return Chunk(schema, array, held, type_of_schema(schema) if type is None else type)
+    kind = type_of_schema(schema) if type is None else type
+    return Chunk(schema, array, held, kind, int(array.length))
 
 
 def type_of_schema(schema: ArrowSchema) -> Type:
@@ -96,6 +113,8 @@ def type_of_schema(schema: ArrowSchema) -> Type:
     if not schema.format:
         raise ValueError("its schema has no format")
     text = schema.format.decode("utf-8", "backslashreplace")
+    if schema.n_children <= 0 and not schema.dictionary:
+        return flat_type(text)
     children = tuple(
         ((schema.children[k].contents.name or b"").decode("utf-8", "backslashreplace"),
          type_of_schema(schema.children[k].contents)) for k in range(schema.n_children))
@@ -111,45 +130,75 @@ def memory(address: int, count: int) -> npt.NDArray[np.uint8]:
     return np.frombuffer(content, np.uint8)
 
 
+def address_of(array: npt.NDArray[Any]) -> int:
+    """Returns where the first row of an array lies."""
+    held: Any = array
+    try:
+        return ctypes.addressof(ctypes.c_char.from_buffer(held))
+    except (TypeError, ValueError, BufferError):  # no rows, read only, or times
+        address: int = array.__array_interface__["data"][0]
+        return address
+
+
 def packed(mask: npt.ArrayLike) -> npt.NDArray[np.uint8]:
     """Packs truth values into bits, the first one lowest."""
     return np.packbits(np.asarray(mask, np.bool_), bitorder="little")
 
 
-def validity(present: Optional[npt.NDArray[np.bool_]]) -> Optional[npt.NDArray[np.uint8]]:
-    """Returns the bits of a validity, or None where every row is present."""
-    return None if present is None or present.all() else packed(present)
+def validity(nulls: Optional[npt.NDArray[np.bool_]]) -> Optional[npt.NDArray[np.uint8]]:
+    """Returns the bits of a validity of which the null rows are given, or None where none is."""
+    if nulls is None or not np.count_nonzero(nulls):
+        return None
+    bits = packed(nulls)
+    return np.invert(bits, out=bits)
 
 
 def make(type: Type, length: int, buffers: Sequence[Optional[npt.NDArray[Any]]],
          children: Sequence[Chunk] = (), entries: Optional[Chunk] = None,
          held: object = None) -> Chunk:
     """Makes an array of buffers, children and entries, which it borrows."""
-    array = ArrowArray()
-    array.length, array.null_count, array.n_buffers = length, -1, len(buffers)
-    array.release = _release_array
-    pointers = (ctypes.c_void_p * len(buffers))(
-        *[None if buffer is None else buffer.__array_interface__["data"][0] for buffer in buffers])
-    array.buffers = pointers
+    inside = None
     if children:
-        inside = (_POINTER(ArrowArray) * len(children))(
-            *[ctypes.pointer(child.array) for child in children])
-        array.n_children, array.children = len(children), inside
-    if entries is not None:
-        array.dictionary = ctypes.pointer(entries.array)
-    # ctypes keeps the structs and the pointers, but not what the buffers and the children hold
-    return Chunk(make_schema(type), array, (list(buffers), children, entries, held), type)
+        inside = (ctypes.c_void_p * len(children))(
+            *[ctypes.addressof(child.array) for child in children])
+    array = _Lent()
+    _write_array[len(buffers)](
+        array, 0, length, -1, 0, len(buffers), len(children), ctypes.addressof(array) + _POINTERS,
+        0 if inside is None else ctypes.addressof(inside),
+        0 if entries is None else ctypes.addressof(entries.array), _RELEASE, 0,
+        *[0 if buffer is None else address_of(buffer) for buffer in buffers])
+    # the struct has addresses alone, and keeps nothing of what lies there
+    kept = (inside, buffers, children, entries, held)
+    return Chunk(make_schema(type), array, kept, type, length)
+
+
+def is_made_here(chunk: Chunk) -> bool:
+    """Says whether `make` made an array, so that its buffers are known to be long enough."""
+    return isinstance(chunk.array, _Lent)
+
+
+def make_schema(type: Type) -> ArrowSchema:
+    """Returns the schema of a type, which nobody changes."""
+    if type.children or type.entries is not None:
+        return _named_schema(type, "")
+    return _flat_schema(type.format)
 
 
 @functools.lru_cache(maxsize=256)
-def make_schema(type: Type, name: str = "") -> ArrowSchema:
-    """Makes the schema of a type, which nobody changes."""
+def _flat_schema(format: str) -> ArrowSchema:
+    """Makes the schema of a type that has no others inside, found again by its format alone."""
+    return _named_schema(flat_type(format), "")
+
+
+@functools.lru_cache(maxsize=256)
+def _named_schema(type: Type, name: str) -> ArrowSchema:
+    """Makes the schema of a type with a name."""
     schema = ArrowSchema()
     schema.format, schema.name = type.format.encode(), name.encode()
     schema.flags, schema.release = _NULLABLE, _release_schema
     if type.children:
         inside = (_POINTER(ArrowSchema) * len(type.children))(
-            *[ctypes.pointer(make_schema(child, its)) for its, child in type.children])
+            *[ctypes.pointer(_named_schema(child, its)) for its, child in type.children])
         schema.n_children, schema.children = len(type.children), inside
     if type.entries is not None:
         schema.dictionary = ctypes.pointer(make_schema(type.entries))
@@ -183,12 +232,12 @@ def fields_of(chunk: Chunk) -> List[Chunk]:
 
 def part_of(chunk: Chunk, first: int, rows: int) -> Chunk:
     """Returns some rows of an array, those from row `first` on."""
-    if first == 0 and rows == len(chunk):
+    if first == 0 and rows == chunk.rows:
         return chunk
     array = ArrowArray.from_buffer_copy(chunk.array)
     array.offset += first
     array.length = rows
-    return Chunk(chunk.schema, array, chunk, chunk.type)
+    return Chunk(chunk.schema, array, chunk, chunk.type, rows)
 
 
 class _Released:

@@ -1,6 +1,7 @@
 """Types of rows: formats of Arrow, read and named."""
 from __future__ import annotations
 
+import functools
 from dataclasses import dataclass
 from typing import Dict, Optional, Tuple
 
@@ -105,6 +106,12 @@ def type_of_format(text: str, children: Tuple[Tuple[str, Type], ...],
                    entries: Optional[Type]) -> Type:
     """Makes a type."""
     return Type(text, children, entries)
+
+
+@functools.lru_cache(maxsize=256)
+def flat_type(text: str) -> Type:
+    """Returns the type of a format that has no others inside, mostly the same object again."""
+    return Type(text)
 
 
 def list_of(item: Type) -> Type:

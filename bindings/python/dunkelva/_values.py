@@ -32,7 +32,8 @@ def gathered(chunk: Chunk, rows: npt.NDArray[np.int64]) -> Chunk:
     if chunk.type.entries is None:
         numbers = numbers_of(chunk)
         if numbers is not None:
-            return make(chunk.type, len(rows), [validity(present_rows(chunk)[rows]), numbers[rows]])
+            nulls = ~present_rows(chunk)[rows]
+            return make(chunk.type, len(rows), [validity(nulls), numbers[rows]])
     keys = np.ascontiguousarray(rows, np.int64)
     return make(Type("l", (), chunk.type), len(keys), [None, keys], entries=chunk)
 
