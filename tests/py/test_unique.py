@@ -48,12 +48,59 @@ def test_n_unique() -> None:
     assert dunkelva.n_unique(pd.Series([1, 2, 2], dtype="Int16")) == 2
 
 
+def test_wide_ranges() -> None:
+    """Rows of a range that is too wide for a state are sorted."""
+    ends = [-2 ** 63, 2 ** 63 - 1]
+    assert listed(dunkelva.unique(ends)) == ends and dunkelva.n_unique(ends) == 2
+    rows = masked([2 ** 64 - 1, 5, 0, 5], mask=[0, 0, 0, 1], dtype="u8")
+    assert listed(dunkelva.unique(rows)) == [0, 5, 2 ** 64 - 1, None]
+    assert dunkelva.unique(rows).dtype == np.uint64 and dunkelva.n_unique(rows) == 4
+    parts: Any = ([], [7, None], [-2 ** 31, 7], [2 ** 31 - 1])
+    stream = Streamed([column("i", rows, 3) for rows in parts])
+    assert listed(dunkelva.unique(stream)) == [-2 ** 31, 7, 2 ** 31 - 1, None]
+    times = np.array(["2024-01-01T00:00:00", "NaT", "1970-01-01T00:00:01"], "M8[ns]")
+    found: Any = dunkelva.unique(times)
+    assert listed(found.compressed()) == [10 ** 9, 1704067200 * 10 ** 9] and found.mask[-1]
+    prices = Exported(column("d:18,2,64", [-10 ** 17, 10 ** 17, 10 ** 17], 1))
+    assert listed(dunkelva.unique(prices)) == [
+        decimal.Decimal(-10 ** 15), decimal.Decimal(10 ** 15)]
+
+
+def test_stored_under_nulls() -> None:
+    """What lies under a null widens no range past what a state can have."""
+    for under in (0, -2 ** 63, 2 ** 63 - 1):
+        rows = masked([under, 70, 71, under], mask=[1, 0, 0, 1])
+        assert listed(dunkelva.unique(rows)) == [70, 71, None] and dunkelva.n_unique(rows) == 3
+    assert listed(dunkelva.unique(masked([-2 ** 63, 2 ** 63 - 1], mask=[1, 1]))) == [None]
+
+
+@pytest.mark.parametrize("count", [524_287, 524_288, 524_289, 1_000_000])
+def test_beside_the_widest_state(count: int) -> None:
+    """Ranges next to the one of the most numbers that a state of few rows has."""
+    for low in (-2 ** 63, -count // 2, 2 ** 63 - count):
+        rows = [low, low + count - 1, low + count // 2, low]
+        assert listed(dunkelva.unique(rows)) == sorted(set(rows))
+        assert dunkelva.n_unique([*rows, None]) == 4
+
+
+def test_steps(monkeypatch: pytest.MonkeyPatch) -> None:
+    """The bits of a state are looked at in steps, of which the last one is shorter."""
+    monkeypatch.setattr("dunkelva._unique._STEP", 2)
+    for count in (1, 64, 127, 128, 129, 256, 300):
+        state = dunkelva.Unique(-5, count - 6)
+        rows = [row - 5 for row in range(count) if row % 7 in (0, 3) or row == count - 1]
+        state.append(np.array(rows))
+        assert listed(state.values) == rows and len(state) == len(rows)
+
+
 def test_refused() -> None:
     for value in (["a"], np.array([1.5]), pd.DataFrame({"a": [1]})):
         with pytest.raises(dunkelva.NotServed):
             dunkelva.unique(value)
-    with pytest.raises(dunkelva.NotServed, match="more numbers than a state"):
-        dunkelva.unique([-2 ** 63, 2 ** 63 - 1])
+    broken = column("l", [1, 2, 3], 3)
+    broken.array.buffers[1] = None
+    with pytest.raises(dunkelva.BadArray):
+        dunkelva.unique(Exported(broken))
     with pytest.raises(ValueError, match="no range from 3 to 2"):
         dunkelva.Unique(3, 2)
     with pytest.raises(dunkelva.TypesDiffer, match="range: 300 is no uint8"):

@@ -1,26 +1,29 @@
 """Distinct values of columns that are kept as whole numbers."""
 from __future__ import annotations
 
-import builtins
 import ctypes
 import sys
-from typing import TYPE_CHECKING, Any, List, Tuple
+from typing import TYPE_CHECKING, Any, Optional, Tuple
 
 import numpy as np
 import numpy.typing as npt
 
-from ._library import COLUMN, LIBRARY, NotServed, TypesDiffer, declare, refusal
+from ._library import COLUMN, LIBRARY, NotServed, TypesDiffer, declare, refusal, unpacked
 from ._numbers import NUMBER, Number, _column, extremes
 from ._rows import Unfit, build
 from ._sources import Table, read, typed
-from ._structs import Column
+from ._structs import Column, address_of, is_made_here
 from ._types import NUMBERS, Type
 from ._values import named, numbers_of, present_rows
 
 __all__ = ["Unique", "unique", "n_unique"]
 
-# The most bytes that `unique` takes for a state.
-MOST_BYTES = 1 << 30
+# The most words of 64 bits that `unique` takes for a state: as many as there are rows, or these.
+# Where the range of a column needs more, its rows are sorted.
+_FEW_WORDS = 1 << 13
+
+# Words whose bits are looked at in one step.
+_STEP = 1 << 16
 
 
 class _State(ctypes.Structure):
@@ -35,7 +38,6 @@ _init = declare("dunkelva_unique_init", _STATE, NUMBER, NUMBER, ctypes.c_void_p,
 _append = declare("dunkelva_unique_append", _STATE, *COLUMN)
 _merge = declare("dunkelva_unique_merge", _STATE, _STATE)
 _count = declare("dunkelva_unique_count", _STATE, _WHOLE, _WHOLE)
-_finish = declare("dunkelva_unique_finish", _STATE, ctypes.c_void_p, ctypes.c_size_t, _WHOLE)
 _words = LIBRARY.dunkelva_unique_words
 _words.restype, _words.argtypes = ctypes.c_size_t, (NUMBER, NUMBER)
 
@@ -108,9 +110,9 @@ class Unique:
         words = int(_words(least, greatest))
         if words == 0:
             raise ValueError(f"there is no range from {self.low!r} to {self.high!r}")
-        self._bits: npt.NDArray[np.uint64] = np.zeros(words, np.uint64)
+        self._bits: npt.NDArray[np.uint64] = np.empty(words, np.uint64)
         self._state = _State()
-        self._check(_init(self._state, least, greatest, self._bits.ctypes.data, words), "range")
+        self._check(_init(self._state, least, greatest, address_of(self._bits), words), "range")
 
     @property
     def low(self) -> object:
@@ -138,7 +140,7 @@ class Unique:
         self._append(typed(source, self._type, "column"))
 
     def _append(self, column: Column) -> None:
-        if column.type != self._type:
+        if column.type is not self._type and column.type != self._type:
             raise TypesDiffer(f"column: it is {column.type}, and the state of {self._type}")
         to = self if len(column.chunks) == 1 else self._copy()
         for chunk in column.chunks:
@@ -176,11 +178,10 @@ class Unique:
     @property
     def values(self) -> npt.NDArray[Any]:
         """The values that were seen, ascending, as an array of the state's type."""
-        found: npt.NDArray[np.uint64] = np.zeros(len(self), np.uint64)
-        null = ctypes.c_uint64()
-        self._check(_finish(self._state, found.ctypes.data, found.size, ctypes.byref(null)),
-                    "state")
-        return _as_rows(found, self._type)
+        places = _places_of_ones(self._bits, self._ends[1] - self._ends[0] + 1).view(np.uint64)
+        places += np.uint64(self._ends[0] & 2 ** 64 - 1)
+        numbers = places.view(np.int64).astype(self._type.number() or "i8", copy=False)
+        return _as_rows(numbers, self._type)
 
     def finish(self) -> Masked:
         """Returns the values as a masked array, with a null last if one was seen."""
@@ -200,56 +201,100 @@ class Unique:
         return f"<Unique of {self._type} from {self.low!r} to {self.high!r}: {len(self)}{null}>"
 
 
-def _as_rows(numbers: npt.NDArray[np.uint64], kind: Type) -> npt.NDArray[Any]:
-    """Returns numbers of 64 bits as rows of a type."""
-    kept = numbers.view(np.int64).astype(np.dtype(kind.number() or "i8"), copy=False)
+def _places_of_ones(words: npt.NDArray[np.uint64], count: int) -> npt.NDArray[np.int64]:
+    """Returns which of the first bits of words are 1."""
+    found = []
+    for at in range(0, len(words), _STEP):
+        some = words[at:at + _STEP].view(np.uint8)
+        places = np.flatnonzero(unpacked(some, min(count - 64 * at, 64 * _STEP)))
+        found.append(places + 64 * at if at else places)
+    return found[0] if len(found) == 1 else np.concatenate(found)
+
+
+def _as_rows(numbers: npt.NDArray[Any], kind: Type) -> npt.NDArray[Any]:
+    """Returns numbers as rows of the type that keeps them."""
     if kind.format in NUMBERS:
-        return kept
+        return numbers
     if kind.format == "tdD" or kind.format[:2] in ("ts", "tD"):
         unit = {"s": "s", "m": "ms", "u": "us", "n": "ns"}.get(kind.format[2], "D")
-        return kept.astype(np.int64).view(f"{'m' if kind.format[:2] == 'tD' else 'M'}8[{unit}]")
-    rows = np.empty(kept.size, object)
-    rows[:] = [named(number, kind.format) for number in kept.tolist()]
+        return numbers.astype(np.int64).view(f"{'m' if kind.format[:2] == 'tD' else 'M'}8[{unit}]")
+    rows = np.empty(numbers.size, object)
+    rows[:] = [named(number, kind.format) for number in numbers.tolist()]
     return rows
 
 
 def _with_null(values: npt.NDArray[Any], null: bool) -> Masked:
+    """Returns values as a masked array, with a null behind them if there is one."""
     masked: Any = np.ma.MaskedArray
-    rows = np.concatenate([values, np.zeros(int(null), values.dtype)])
-    array: Masked = masked(rows, mask=[False] * values.size + [True] * int(null))
+    if not null:
+        array: Masked = masked(values, mask=np.zeros(values.size, np.bool_))
+        return array
+    mask = np.zeros(values.size + 1, np.bool_)
+    mask[-1] = True
+    array = masked(np.concatenate([values, np.zeros(1, values.dtype)]), mask=mask)
     return array
 
 
-def _state_of(column: object) -> Tuple[Type, List[Unique], bool]:
-    """Collects a column, and returns its type, no state or one, and whether a row is null."""
-    held = _column(column)
-    least, greatest = extremes(held)
-    if least is None or greatest is None:
-        return held.type, [], len(held) > 0
-    if (greatest - least) // 8 > MOST_BYTES:
-        raise NotServed(f"column: from {named(least, held.type.format)} to "
-                        f"{named(greatest, held.type.format)} there are more numbers than a state "
-                        f"of {MOST_BYTES} bytes has bits")
+def _stored_ends(column: Column) -> Optional[Tuple[int, int]]:
+    """Returns the least and the greatest stored number of an array that was made here.
+
+    This takes less time than `extremes`, but what is stored under nulls counts too. Arrays of other
+    programs are not read before the library has checked them.
+    """
+    chunk = column.chunks[0]
+    if len(column.chunks) > 1 or chunk.rows == 0 or not is_made_here(chunk):
+        return None
+    stored = numbers_of(chunk)
+    if stored is None or column.type.entries is not None or column.type.has_floats():
+        return None
+    return int(stored.min()), int(stored.max())
+
+
+def _state_of(column: Column) -> Optional[Unique]:
+    """Collects a column, or returns None where a state takes more room than its rows."""
+    most = 64 * max(column.rows, _FEW_WORDS)
+    ends = _stored_ends(column)
+    if ends is None or ends[1] - ends[0] >= most:
+        least, greatest = extremes(column)
+        ends = (0, 0) if least is None or greatest is None else (least, greatest)
+    if ends[1] - ends[0] >= most:
+        return None
     state: Unique = Unique.__new__(Unique)
-    state._make(held.type, (least, greatest))
-    state._append(held)
-    return held.type, [state], state.has_null
+    state._make(column.type, ends)
+    state._append(column)
+    return state
+
+
+def _sorted(column: Column) -> Tuple[npt.NDArray[Any], bool]:
+    """Returns the distinct numbers of a column, ascending, and whether a row is null."""
+    numbers, null = [], False
+    for chunk in column.chunks:
+        stored, present = numbers_of(chunk), present_rows(chunk)
+        assert stored is not None
+        is_whole = bool(present.all())
+        numbers.append(stored if is_whole else stored[present])
+        null = null or not is_whole
+    return np.unique(np.concatenate(numbers)), null
 
 
 def unique(column: object) -> Masked:
     """Returns the distinct rows of a column, ascending, as a masked array: a null comes last.
 
-    Serves the columns that `compare` serves. It takes a bit for each number from the least row to
-    the greatest one, up to a gigabyte; what needs more is NotServed.
+    Serves the columns that `compare` serves. A state has a bit for each number from the least row
+    to the greatest one. Where these are more than 64 times the rows and more than 524,288, numpy
+    sorts the rows instead.
 
     >>> unique([3, None, 1, 3]).tolist()
     [1, 3, None]
     >>> unique(np.array(["2024-02-01", "2024-01-01"], "M8[D]")).tolist()
     [datetime.date(2024, 1, 1), datetime.date(2024, 2, 1)]
     """
-    kind, states, null = _state_of(column)
-    values = states[0].values if states else _as_rows(np.zeros(0, np.uint64), kind)
-    return _with_null(values, null)
+    held = _column(column)
+    state = _state_of(held)
+    if state is not None:
+        return state.finish()
+    numbers, null = _sorted(held)
+    return _with_null(_as_rows(numbers, held.type), null)
 
 
 def n_unique(column: object) -> int:
@@ -260,5 +305,9 @@ def n_unique(column: object) -> int:
     >>> n_unique([3, None, 1, 3])
     3
     """
-    _, states, null = _state_of(column)
-    return builtins.sum(len(state) for state in states) + null
+    held = _column(column)
+    state = _state_of(held)
+    if state is not None:
+        return len(state) + state.has_null
+    numbers, null = _sorted(held)
+    return len(numbers) + null
