@@ -105,7 +105,8 @@ def run(call: Callable[[Any, Any], Found], rows: int, processes: int) -> Tuple[f
     """Runs a call twice on a cluster of its own."""
     times: List[float] = []
     with LocalCluster(n_workers=processes, threads_per_worker=1, dashboard_address=None,
-                      silence_logs=logging.ERROR, env={"PYTHONPATH": PACKAGE}) as cluster, Client(cluster) as client:
+                      silence_logs=logging.ERROR,
+                      env={"PYTHONPATH": PACKAGE}) as cluster, Client(cluster) as client:
         client.run(sys.path.insert, 0, PACKAGE)
         sides = [frame(side, rows) for side in ("left", "right")]
         for _ in range(2):

@@ -4,8 +4,9 @@
 usage: python.py [ROWS ..]
 
 Prints nanoseconds a row, each the best of many runs, for columns of 16,384, 1,000,000 and 8,000,000
-rows or as asked. DUNKELVA_LIBRARY names the library where the package is not installed. A column
-that the library does not serve is left out. Calls of one line compute the same.
+rows or as asked. Calls of one line compute the same, and take turns, so that other work slows all
+of them. DUNKELVA_LIBRARY names the library where the package is not installed. A column that the
+library does not serve is left out.
 """
 from __future__ import annotations
 
@@ -28,6 +29,9 @@ _masked_array: Any = np.ma.masked_array  # which has no types
 _capsule = ctypes.pythonapi.PyCapsule_New
 _capsule.restype = ctypes.py_object
 _capsule.argtypes = [ctypes.c_void_p, ctypes.c_char_p, ctypes.c_void_p]
+
+# Turns that each call takes, and how long one is, in seconds.
+ROUNDS, SECONDS = 8, 0.15
 
 Line = Tuple[str, Dict[str, Callable[[], Any]]]
 
@@ -64,11 +68,7 @@ def lines(rows: int) -> Iterator[Line]:
         "pandas": lambda: nulls[0] < nulls[1]}
     yield "Int64 with nulls, sum", {"dunkelva": lambda: dunkelva.sum(nulls[0]),
                                     "pandas": lambda: nulls[0].sum()}
-    codes = pd.Series(pd.arrays.IntegerArray(left * 7919 % 50_000, left % 3 == 0))
-    yield "Int64 with nulls, unique", {"dunkelva": lambda: dunkelva.unique(codes),
-                                       "pandas": lambda: codes.unique()}
-    yield "Int64 with nulls, n_unique", {"dunkelva": lambda: dunkelva.n_unique(codes),
-                                         "pandas": lambda: codes.nunique(dropna=False)}
+    yield from distinct(left * 7919 % 50_000, left % 3 == 0)
     texts = [pd.Series((side % 1000).astype(str)).astype(object) for side in (left, right)]
     buffers = [Texts(side) for side in texts]
     yield "texts, equal", {"dunkelva": lambda: dunkelva.equal(*buffers),
@@ -86,6 +86,27 @@ def lines(rows: int) -> Iterator[Line]:
     yield "two columns by key", {
         "dunkelva": lambda: dunkelva.diff(frames[0], turned, on="id", limit=0),
         "pandas": lambda: _differences(frames[0], turned)}
+
+
+def distinct(numbers: Any, nulls: Any) -> Iterator[Line]:
+    """Makes what is timed of distinct values."""
+    plain, codes = pd.Series(numbers), pd.Series(pd.arrays.IntegerArray(numbers, nulls))
+    yield "int64, unique", {"dunkelva": lambda: dunkelva.unique(numbers),
+                            "numpy": lambda: np.unique(numbers), "pandas": lambda: plain.unique()}
+    yield "int64, n_unique", {"dunkelva": lambda: dunkelva.n_unique(numbers),
+                              "pandas": lambda: plain.nunique()}
+    yield "Int64 with nulls, unique", {"dunkelva": lambda: dunkelva.unique(codes),
+                                       "pandas": lambda: codes.unique()}
+    yield "Int64 with nulls, n_unique", {"dunkelva": lambda: dunkelva.n_unique(codes),
+                                         "pandas": lambda: codes.nunique(dropna=False)}
+    chance = np.random.default_rng(1)
+    some = pd.Series(pd.arrays.IntegerArray(numbers, chance.random(len(numbers)) < 1 / 3))
+    yield "nulls in no order, unique", {"dunkelva": lambda: dunkelva.unique(some),
+                                        "pandas": lambda: some.unique()}
+    wide = pd.Series(chance.integers(-2 ** 63, 2 ** 63 - 1, len(numbers)))
+    yield "wide int64, unique", {"dunkelva": lambda: dunkelva.unique(wide),
+                                 "numpy": lambda: np.unique(wide.to_numpy()),
+                                 "pandas": lambda: wide.unique()}
 
 
 class Texts:
@@ -116,15 +137,20 @@ def _differences(left: Any, right: Any) -> int:
     return int((~same | (both["_merge"] != "both")).sum())
 
 
-def best(call: Callable[[], Any]) -> float:
-    """Returns the shortest of the times of many runs, in seconds."""
-    times: List[float] = []
-    end = time.perf_counter() + 1
-    while len(times) < 3 or time.perf_counter() < end and len(times) < 1000:
-        start = time.perf_counter()
-        call()
-        times.append(time.perf_counter() - start)
-    return min(times)
+def best(calls: Dict[str, Callable[[], Any]]) -> Dict[str, float]:
+    """Returns the shortest of the times of many runs of each call, in seconds."""
+    found: Dict[str, float] = {}
+    for _ in range(ROUNDS):
+        for name, call in calls.items():
+            end = time.perf_counter() + SECONDS
+            runs = 0
+            while runs == 0 or time.perf_counter() < end:
+                start = time.perf_counter()
+                call()
+                took = time.perf_counter() - start
+                found[name] = min(took, found.get(name, took))
+                runs += 1
+    return found
 
 
 def main() -> None:
@@ -133,7 +159,8 @@ def main() -> None:
     for rows in [int(text) for text in sys.argv[1:]] or [16_384, 1_000_000, 8_000_000]:
         for what, calls in lines(rows):
             try:
-                found = {name: f"{best(call) / rows * 1e9:.2f}" for name, call in calls.items()}
+                found = {name: f"{seconds / rows * 1e9:.2f}"
+                         for name, seconds in best(calls).items()}
             except dunkelva.NotServed:
                 continue
             cells = "".join(f"{found.get(name, '-'):>10}" for name in ("dunkelva", "numpy",
