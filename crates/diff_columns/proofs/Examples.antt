@@ -5,7 +5,7 @@ use Rattle.std.specs.Prelude.{◌≡◌, ◌≢◌, ◌<◌, ℕ, zero, suc, Lis
 use Rattle.diff_columns.specs.Choice.{IsChosen}
 use Rattle.diff_columns.specs.Errors.{IsColumnFault}
 use Rattle.diff_columns.specs.Layout.{AreKeyPlaces, HaveSameNames, IsAlone, IsCompared}
-use Rattle.diff_columns.specs.Names.{IsMissing, IsRepeated}
+use Rattle.diff_columns.specs.Names.{IsKnown, IsMissing, IsRepeated, IsUnknown}
 use Rattle.diff_columns.specs.declared.choice.Choice.{Choice}
 use Rattle.diff_columns.specs.declared.error.ColumnError.TheVariants.{NameTwice}
 use Rattle.diff_columns.specs.declared.error.Side.TheVariants.{Right}
@@ -52,6 +52,19 @@ right-twice = third-repeated
 -- to the names a, b the keys a, c have one that is missing
 second-missing : IsMissing (a ∷ b ∷ []) (a ∷ c ∷ []) 1
 second-missing = (omega arith, two-others 97 98 99 (omega arith) (omega arith))
+
+-- of the names c, d the second one is unknown to tables with the columns a, b and a, c
+d-unknown : IsUnknown (a ∷ b ∷ []) (a ∷ c ∷ []) (c ∷ (100 ∷ []) ∷ []) 1
+d-unknown = (
+  omega arith,
+  λ known. elim known [
+    | inl left ↦ two-others 97 98 100 (omega arith) (omega arith) left
+    | inr right ↦ two-others 97 99 100 (omega arith) (omega arith) right
+  ],
+)
+
+c-known : IsKnown (a ∷ b ∷ []) (a ∷ c ∷ []) c
+c-known = inr (1, omega arith, refl)
 
 -- what is lent
 abbrev lent : {A : Type 0} → A → Bor A

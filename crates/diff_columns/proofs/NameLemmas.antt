@@ -41,6 +41,10 @@ are_distinct names n past once d c other before within e =
     once c (omega (arith, within, past))
     (within, (d, before, get_or_default names d [] other low ∙ (e ∙ get_or_default names c other [] within)))
 
+-- each of some names is as P says
+pub all_meet : (P : List ℕ → Type 0) (names : Names) (n : ℕ) → length names ≤ n → ((k : ℕ) → k < n → P (name_at names k)) → All P names
+all_meet P names n past met k other within = subst P (get_or_default names k [] other within) (met k (omega (arith, within, past)))
+
 -- each key is a name
 pub all_there : (names keys : Names) (n : ℕ) → length keys ≤ n → ((k : ℕ) → k < n → Contains names (name_at keys k)) → All (Contains names) keys
 all_there names keys n past there k other within =

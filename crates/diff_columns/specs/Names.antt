@@ -1,10 +1,11 @@
 -- The names of a table's columns, each a list of bytes.
 --
 -- Of the names "id", "city", "id" that of column 2 comes twice. To the names "id", "city" the keys
--- "id", "day" have one that is missing, key 1.
+-- "id", "day" have one that is missing, key 1. Of the names "day", "age" the second one is unknown
+-- to tables with the columns "id", "city" and "id", "day".
 use Rattle.std.specs.Borrow.{Bor}
-use Rattle.std.specs.Prelude.{◌≡◌, ◌≢◌, ◌<◌, ℕ, List, [], All, AllPairs, Contains, get_or, length}
-use Rattle.std.specs.Prelude.{map}
+use Rattle.std.specs.Prelude.{◌≡◌, ◌≢◌, ◌<◌, ◌⊎◌, ℕ, List, [], All, AllPairs, Contains, get_or}
+use Rattle.std.specs.Prelude.{length, map}
 
 -- the names of columns, one after another
 abbrev pub Names : Type 0
@@ -33,6 +34,14 @@ AreDistinct names = AllPairs (λ x y. x ≢ y) names
 -- key k is the name of no column
 abbrev pub IsMissing : Names → Names → ℕ → Type 0
 IsMissing names keys k = (k < length keys) × (¬ (Contains names (name_at keys k)))
+
+-- a column of one of two tables has this name
+abbrev pub IsKnown : Names → Names → List ℕ → Type 0
+IsKnown left right name = Contains left name ⊎ Contains right name
+
+-- name k of some is that of no column of either table
+abbrev pub IsUnknown : Names → Names → Names → ℕ → Type 0
+IsUnknown left right names k = (k < length names) × (¬ (IsKnown left right (name_at names k)))
 
 -- no name comes twice in a table, and each key is a name in both
 pub record AreMatchable (left right keys : Names) : Type 0 where

@@ -6,6 +6,7 @@
 mod alone;
 pub mod choice;
 pub mod error;
+pub mod known;
 pub mod layout;
 mod names;
 mod pairs;
