@@ -472,7 +472,7 @@ GOOD_WORDS = (["good.ndjson", "good.jsonl"], ["--input", "ndjson", "good.ndjson"
               ["--only", "[].a,.id,x[1]", "--ignore", "[]", "good.ndjson", "good.jsonl"],
               ["--missing-is-null", "good.ndjson", "good.jsonl"], ["--skip-bad", "good.ndjson", "good.jsonl"],
               ["--tolerance", "id=0.1", "--relative-tolerance=[].a=1E-9", "good.ndjson", "good.jsonl"],
-              ["--only", "id", "--ignore", "a[]", "table.csv", "table.csv"],
+              ["--only", "id", "table.csv", "table.csv"],
               ["--key", "id", "--unique", "good.jsonl", "good.jsonl"], ["--key=.id", "good.jsonl", "good.jsonl"])
 NAMED = {"good.ndjson": b'{"id":1}\n', "good.jsonl": b'{"id":1.0}', "good.txt": b'{"id":1}\n', "table.csv": b"id\n1\n",
          "table.ndjson": b"id\n1\n"}

@@ -111,9 +111,11 @@ def made_options(names, keys, chance):
                "unique": bool(keys) and chance.random() < 0.2, "summary": chance.random() < 0.05}
     others = [name for name in names if name not in options["keys"]]
     if others and chance.random() < 0.3:
-        options[chance.choice(("ignored", "only"))] = chance.sample(others, chance.randrange(1, len(others) + 1))
+        which = chance.choice(("ignored", "only"))
+        most = len(others) - (which == "ignored" and not options["keys"])
+        options[which] = chance.sample(others, chance.randrange(1, most + 1)) if most else []
     if options["numbers"] and chance.random() < 0.4:
-        options["texts"] = chance.sample([*names, "none"], chance.randrange(1, len(names) + 2))
+        options["texts"] = chance.sample(names, chance.randrange(1, len(names) + 1))
     return options
 
 

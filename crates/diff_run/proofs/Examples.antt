@@ -10,6 +10,7 @@ use Rattle.diff_csv.specs.RecordLaws.{one_reading}
 use Rattle.diff_csv.specs.Records.{AreRecordsOf}
 use Rattle.diff_csv.specs.Records as csv
 use Rattle.diff_numbers.specs.Cells.{comparable}
+use Rattle.diff_run.specs.Chosen.{nothing_left}
 use Rattle.diff_run.specs.Comparables.{rows_by}
 use Rattle.diff_run.specs.Faults.{IsRunFault}
 use Rattle.diff_run.specs.Lone.{alone_lines, lone_line}
@@ -49,6 +50,14 @@ line-of-column = refl
 -- columns of one text alone are left out where that is asked for
 no-columns : (o : Options) (layout : Layout) (left right : List (List ℕ)) → o.common ≡ true → columns_text o (codes "old.csv") (codes "new.csv") left right layout ≡ []
 no-columns o layout left right common = rw common refl
+
+-- of two tables with other columns none is left, where those that one table has alone are left out
+none-left : (o : Options) (layout : Layout) → o.common ≡ true → layout.left.items ≡ [] → nothing_left o (codes "id" ∷ []) (codes "day" ∷ []) layout ≡ true
+none-left o layout common left = rw (common, left) refl
+
+-- tables without columns have none that could be left
+none-there : (o : Options) (layout : Layout) → nothing_left o [] [] layout ≡ false
+none-there o layout = refl
 
 -- what is lent
 abbrev lent : {A : Type 0} → A → Bor A

@@ -22,9 +22,10 @@ use Rattle.diff_report.specs.declared.sides.Comparables.{Comparables}
 use Rattle.diff_report.specs.declared.sides.Sides.{Sides}
 use Rattle.diff_run.specs.Comparables.{AreComparables, HasNamedColumns, HasWideNumber, IsComparedFault, table_on}
 use Rattle.diff_run.specs.Faults.{IsRowsFault, IsRunFault, IsSideFault, rows_on}
-use Rattle.diff_run.specs.Heads.{AreHeadsOf, IsFrameOf, fault_of}
+use Rattle.diff_run.specs.Heads.{AreChosen, AreHeadsOf, IsFrameOf, IsHeadsFault, fault_of}
 use Rattle.diff_run.specs.Inputs.{AreBothOf}
 use Rattle.diff_run.specs.Run.{AreSidesOf}
+use Rattle.diff_run.specs.declared.error.ChoiceError.TheVariants as choice
 use Rattle.diff_run.specs.declared.error.RunError.{RunError}
 use Rattle.diff_run.specs.declared.error.RunError.TheVariants as error
 use Rattle.diff_run.specs.declared.heads.Heads.{Heads}
@@ -66,10 +67,10 @@ sides_fit options h left right f b by laid frame l r large = record {
 
 -- the sides of two texts, whose names are those of the columns that were matched
 pub sides_are : (options : Options) (left_text right_text left right : List ℕ) (h : Heads) (f : Frame) (b : Both) (by : Option Comparables) → AreHeadsOf options left_text right_text h
-    → IsLayout (offset_strings (λ x. x) h.left_names) (offset_strings (λ x. x) h.right_names) options.choice h.layout → IsFrameOf options h left right f
+    → IsLayout (offset_strings (λ x. x) h.left_names) (offset_strings (λ x. x) h.right_names) options.choice h.layout → AreChosen options h → IsFrameOf options h left right f
     → AreBothOf options left_text right_text h.layout b → AreComparables options (offset_strings (λ x. x) f.names) b by
     → AreSidesOf options left_text right_text left right h.layout (made_of options f b by)
-sides_are options left_text right_text left right h f b by heads laid frame both compared =
+sides_are options left_text right_text left right h f b by heads laid chosen frame both compared =
     let l = both.left in
     let r = both.right in
     let el = heads.left_names l.records l.all in
@@ -85,6 +86,8 @@ sides_are options left_text right_text left right h f b by heads laid frame both
       right_closed = r.closed;
       matchable = rw (el, er) at heads.matchable;
       laid_out = rw (el, er) at laid;
+      known = rw (el, er) at chosen.known;
+      some_left = rw (el, er) at chosen.some_left;
       left = record { named = frame.left_named; width = l.table.width; rows = l.table.rows; lines = l.table.lines; numbers = l.table.numbers };
       right = record { named = frame.right_named; width = r.table.width; rows = r.table.rows; lines = r.table.lines; numbers = r.table.numbers };
       left_compared = compared.left;
@@ -119,6 +122,7 @@ rows_fault options left_text right_text left right layout s (error.KeyTwice side
 rows_fault options left_text right_text left right layout s (error.WideExponent side line name) sides fault = absurd fault
 rows_fault options left_text right_text left right layout s (error.Csv side cause) sides fault = absurd fault
 rows_fault options left_text right_text left right layout s (error.Columns cause) sides fault = absurd fault
+rows_fault options left_text right_text left right layout s (error.Choice cause) sides fault = absurd fault
 rows_fault options left_text right_text left right layout s (error.Write cause) sides fault = absurd fault
 
 -- a fault of a side is one of both
@@ -129,6 +133,7 @@ left_fault options s (error.KeyTwice side first again) asked (is, twice) = (aske
 left_fault options s (error.WideExponent side line name) asked fault = absurd fault
 left_fault options s (error.Csv side cause) asked fault = absurd fault
 left_fault options s (error.Columns cause) asked fault = absurd fault
+left_fault options s (error.Choice cause) asked fault = absurd fault
 left_fault options s (error.Write cause) asked fault = absurd fault
 
 pub right_fault : (options : Options) (s : Sides) (e : RunError) → options.unique ≡ true → IsSideFault (compared_right s) s.keys.items Right e → IsRowsFault options s e
@@ -138,6 +143,7 @@ right_fault options s (error.KeyTwice side first again) asked (is, twice) = (ask
 right_fault options s (error.WideExponent side line name) asked fault = absurd fault
 right_fault options s (error.Csv side cause) asked fault = absurd fault
 right_fault options s (error.Columns cause) asked fault = absurd fault
+right_fault options s (error.Choice cause) asked fault = absurd fault
 right_fault options s (error.Write cause) asked fault = absurd fault
 
 -- inputs of matched columns have the columns that are named
@@ -188,6 +194,7 @@ number_fault options left_text right_text left right h f b error.TooManyRows hea
 number_fault options left_text right_text left right h f b (error.KeyTwice side first again) heads laid frame both fault = absurd fault.fault
 number_fault options left_text right_text left right h f b (error.Csv side cause) heads laid frame both fault = absurd fault.fault
 number_fault options left_text right_text left right h f b (error.Columns cause) heads laid frame both fault = absurd fault.fault
+number_fault options left_text right_text left right h f b (error.Choice cause) heads laid frame both fault = absurd fault.fault
 number_fault options left_text right_text left right h f b (error.Write cause) heads laid frame both fault = absurd fault.fault
 
 -- why the columns of two texts are not matched is why the texts are not compared
@@ -198,3 +205,21 @@ pub columns_fault : (options : Options) (left_text right_text : List ℕ) (left 
 columns_fault options left_text right_text left right column.Memory l r h = tt
 columns_fault options left_text right_text left right (column.NameTwice side at) l r h = λ all_left all_right are_left are_right. rw (l all_left are_left, r all_right are_right) at h
 columns_fault options left_text right_text left right (column.NoKey side key) l r h = λ all_left all_right are_left are_right. rw (l all_left are_left, r all_right are_right) at h
+
+-- where the options choose no columns of two texts, these are not compared
+pub heads_fault : (options : Options) (left_text right_text : List ℕ) (h : Heads) (e : RunError) → AreHeadsOf options left_text right_text h
+    → IsLayout (offset_strings (λ x. x) h.left_names) (offset_strings (λ x. x) h.right_names) options.choice h.layout → IsHeadsFault options h e → IsRunFault options left_text right_text e
+heads_fault options left_text right_text h (error.Choice (choice.NoColumn list name)) heads laid fault = λ left right all_left all_right.
+    rw (heads.left_names left all_left, heads.right_names right all_right) at fault
+heads_fault options left_text right_text h (error.Choice choice.NothingLeft) heads laid fault = λ left right all_left all_right. (
+  h.layout,
+  rw (heads.left_names left all_left, heads.right_names right all_right) at laid,
+  rw (heads.left_names left all_left, heads.right_names right all_right) at fault,
+)
+heads_fault options left_text right_text h error.Memory heads laid fault = absurd fault
+heads_fault options left_text right_text h error.TooManyRows heads laid fault = absurd fault
+heads_fault options left_text right_text h (error.KeyTwice side first again) heads laid fault = absurd fault
+heads_fault options left_text right_text h (error.WideExponent side line name) heads laid fault = absurd fault
+heads_fault options left_text right_text h (error.Csv side cause) heads laid fault = absurd fault
+heads_fault options left_text right_text h (error.Columns cause) heads laid fault = absurd fault
+heads_fault options left_text right_text h (error.Write cause) heads laid fault = absurd fault

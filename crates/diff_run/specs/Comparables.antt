@@ -53,6 +53,7 @@ NamesWideNumber names column side error.TooManyRows = ⊥
 NamesWideNumber names column side (error.KeyTwice s first again) = ⊥
 NamesWideNumber names column side (error.Csv s cause) = ⊥
 NamesWideNumber names column side (error.Columns cause) = ⊥
+NamesWideNumber names column side (error.Choice cause) = ⊥
 NamesWideNumber names column side (error.Write cause) = ⊥
 
 -- a number in the column of this name counts, and its exponent is wide
@@ -72,6 +73,7 @@ IsTableFault numeric names rows side error.TooManyRows = ⊥
 IsTableFault numeric names rows side (error.KeyTwice s first again) = ⊥
 IsTableFault numeric names rows side (error.Csv s cause) = ⊥
 IsTableFault numeric names rows side (error.Columns cause) = ⊥
+IsTableFault numeric names rows side (error.Choice cause) = ⊥
 IsTableFault numeric names rows side (error.Write cause) = ⊥
 
 -- the table on a side
@@ -89,6 +91,7 @@ IsNumberFault numeric names both error.TooManyRows = ⊥
 IsNumberFault numeric names both (error.KeyTwice side first again) = ⊥
 IsNumberFault numeric names both (error.Csv side cause) = ⊥
 IsNumberFault numeric names both (error.Columns cause) = ⊥
+IsNumberFault numeric names both (error.Choice cause) = ⊥
 IsNumberFault numeric names both (error.Write cause) = ⊥
 
 -- numbers count in all columns except some, and one has a wide exponent or an allocation failed

@@ -20,9 +20,11 @@ use Rattle.diff_numbers.specs.Columns.{number_columns}
 use Rattle.diff_parts.specs.Rows.{rows_in}
 use Rattle.diff_report.specs.Sides.{compared_left, compared_right}
 use Rattle.diff_report.specs.declared.sides.Sides.{Sides}
+use Rattle.diff_run.specs.Chosen.{IsNoChoice}
 use Rattle.diff_run.specs.Comparables.{HasWideNumber}
 use Rattle.diff_run.specs.Inputs.{rows_of}
 use Rattle.diff_run.specs.Run.{AreSidesOf}
+use Rattle.diff_run.specs.declared.error.ChoiceError.{ChoiceError}
 use Rattle.diff_run.specs.declared.error.RunError.{RunError}
 use Rattle.diff_run.specs.declared.error.RunError.TheVariants as error
 use Rattle.diff_run.specs.declared.options.Options.{Options}
@@ -43,6 +45,13 @@ IsNamesFault options left_text right_text cause = (left right : List (List (List
     → AreRecordsOf options.csv left_text left → AreRecordsOf options.csv right_text right
     → IsColumnFault (csv.names_of options.csv.has_header left)
     (csv.names_of options.csv.has_header right) (names_of options.choice.keys.now) cause
+
+-- the options choose columns that neither text has, or none of those that the texts have
+abbrev pub IsChoiceFault : Options → List ℕ → List ℕ → ChoiceError → Type 0
+IsChoiceFault options left_text right_text cause = (left right : List (List (List ℕ)))
+    → AreRecordsOf options.csv left_text left → AreRecordsOf options.csv right_text right
+    → IsNoChoice options (csv.names_of options.csv.has_header left)
+    (csv.names_of options.csv.has_header right) cause
 
 -- each row of the two tables has a number below 2^32
 abbrev pub HaveFewRows : Sides → Type 0
@@ -65,6 +74,7 @@ IsSideFault rows keys side (error.KeyTwice s first again) = (s ≡ side) × HasK
 IsSideFault rows keys side (error.WideExponent s line name) = ⊥
 IsSideFault rows keys side (error.Csv s cause) = ⊥
 IsSideFault rows keys side (error.Columns cause) = ⊥
+IsSideFault rows keys side (error.Choice cause) = ⊥
 IsSideFault rows keys side (error.Write cause) = ⊥
 
 -- the rows of the two tables are too many, two of one table have one key where keys have to be
@@ -77,6 +87,7 @@ IsRowsFault options s (error.KeyTwice side first again) = (options.unique ≡ tr
 IsRowsFault options s (error.WideExponent side line name) = ⊥
 IsRowsFault options s (error.Csv side cause) = ⊥
 IsRowsFault options s (error.Columns cause) = ⊥
+IsRowsFault options s (error.Choice cause) = ⊥
 IsRowsFault options s (error.Write cause) = ⊥
 
 -- a table of the two texts has more than 2^32 rows
@@ -127,8 +138,9 @@ pub record IsWideFault (options : Options) (left_text right_text : List ℕ) (si
   pub wide : HasWideNumber (number_columns (names_of texts.now) names) names
       (rows_on side options layout left_records right_records) name
 
--- why two texts are not compared: one can't be read, the columns can't be matched, a number can't
--- be compared, there are too many rows, two rows have one key, or an allocation or a write failed
+-- why two texts are not compared: one can't be read, the columns can't be matched, the options
+-- choose unknown columns or none, a number can't be compared, there are too many rows, two rows
+-- have one key, or an allocation or a write failed
 abbrev pub IsRunFault : Options → List ℕ → List ℕ → RunError → Type 0
 IsRunFault options left_text right_text error.Memory = ⊤
 IsRunFault options left_text right_text error.TooManyRows =
@@ -141,6 +153,8 @@ IsRunFault options left_text right_text (error.Csv side cause) =
     IsReadFault options.csv (text_on side left_text right_text) cause
 IsRunFault options left_text right_text (error.Columns cause) =
     IsNamesFault options left_text right_text cause
+IsRunFault options left_text right_text (error.Choice cause) =
+    IsChoiceFault options left_text right_text cause
 IsRunFault options left_text right_text (error.Write cause) = ⊤
 
 -- a write failed
@@ -151,4 +165,5 @@ IsWrite (error.KeyTwice side first again) = ⊥
 IsWrite (error.WideExponent side line name) = ⊥
 IsWrite (error.Csv side cause) = ⊥
 IsWrite (error.Columns cause) = ⊥
+IsWrite (error.Choice cause) = ⊥
 IsWrite (error.Write cause) = ⊤

@@ -1,3 +1,4 @@
+pub mod Chosen
 pub mod Comparables
 pub mod Faults
 pub mod Heads

@@ -5,8 +5,7 @@
 -- ~ id=8  n "2" -> "3"
 -- - id=7  old.csv line 2
 -- 1 changed, 1 removed, 0 added, 0 the same.  By column: n 1.
-use Rattle.std.specs.Prelude.{◌≡◌, ◌==◌, ◌&&◌, ◌||◌, ℕ, Bool, true, false, if◌then◌else◌, List, []}
-use Rattle.std.specs.Prelude.{◌++◌, length, option_map}
+use Rattle.std.specs.Prelude.{◌≡◌, ◌||◌, ℕ, true, false, if◌then◌else◌, List, [], ◌++◌, option_map}
 use Rattle.polars_arrays_bytes.specs.OffsetStrings.{offset_strings}
 use Rattle.diff_columns.specs.Layout.{IsLayout}
 use Rattle.diff_columns.specs.Names.{AreMatchable, Names, names_of}
@@ -22,6 +21,7 @@ use Rattle.diff_report.specs.Counts.{column_counts}
 use Rattle.diff_report.specs.Report.{report_text}
 use Rattle.diff_report.specs.Sides.{compared_left, compared_right}
 use Rattle.diff_report.specs.declared.sides.Sides.{Sides}
+use Rattle.diff_run.specs.Chosen.{AreKnown, no_columns, nothing_left}
 use Rattle.diff_run.specs.Comparables.{rows_by}
 use Rattle.diff_run.specs.Inputs.{IsSideWith}
 use Rattle.diff_run.specs.Lone.{alone_lines}
@@ -32,10 +32,6 @@ use Rattle.diff_keys.specs.declared.outcome.Outcome.{Outcome}
 use Rattle.diff_tables.specs.Comparison.{IsComparison}
 use Rattle.diff_tables.specs.Keys.{cells_at, row_keys}
 use Rattle.diff_tables.specs.declared.compare.Comparison.{Comparison}
-
--- neither input has a column that the other does not have
-abbrev pub no_columns : Layout → Bool
-no_columns layout = (length layout.left_alone.items == 0) && (length layout.right_alone.items == 0)
 
 -- the outcome: the tables are the same if no row and no column makes a difference
 abbrev pub outcome_of : Options → Layout → Comparison → Outcome
@@ -77,6 +73,12 @@ pub record AreSidesOf (options : Options) (left_text right_text left_name right_
   pub laid_out :
       IsLayout (csv.names_of options.csv.has_header left_records)
       (csv.names_of options.csv.has_header right_records) options.choice layout
+  pub known :
+      AreKnown options (csv.names_of options.csv.has_header left_records)
+      (csv.names_of options.csv.has_header right_records)
+  pub some_left :
+      nothing_left options (csv.names_of options.csv.has_header left_records)
+      (csv.names_of options.csv.has_header right_records) layout ≡ false
   pub left : IsSideWith options.csv.has_header left_records layout.left.items layout.keys.items
       options.part left_name sides.left
   pub right : IsSideWith options.csv.has_header right_records layout.right.items layout.keys.items

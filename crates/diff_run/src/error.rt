@@ -1,13 +1,49 @@
 //! Why two inputs are not compared.
 
+ghost use Rattle.std.specs.Prelude.{Some};
+ghost use Rattle.diff_run.specs.Chosen.{list_text};
 ghost use Rattle.diff_run.specs.Faults.{IsMemory};
 
 use diff_columns::error::{ColumnError, Side};
 use diff_csv::error::CsvError;
 use polars_arrays_bits::error::ComputeError;
 use std::alloc::AllocError;
-use std::io;
+use std::{fmt, io};
 use thiserror::Error;
+
+/// A list of names that the options give.
+#[derive(Clone, Copy, Debug)]
+pub enum NameList {
+    /// The columns to compare.
+    Only,
+    /// The columns not to compare.
+    Ignored,
+    /// The columns to compare as texts.
+    Texts,
+}
+
+impl fmt::Display for NameList {
+    ghost output = { λ list. Some (list_text list) };
+
+    fn fmt<W: fmt::Write>(&self, f: &mut fmt::Formatter<W>) -> fmt::Result {
+        match self {
+            NameList::Only => f.write_str("columns to compare"),
+            NameList::Ignored => f.write_str("columns to ignore"),
+            NameList::Texts => f.write_str("columns to compare as texts"),
+        }
+    }
+}
+
+/// The reason why no columns are chosen.
+#[derive(Clone, Copy, Debug, Error)]
+pub enum ChoiceError {
+    /// No column of either table has a name of the options, whose place in its list is `name`.
+    #[error("neither table has a column for name {name} of the {list}")]
+    NoColumn { list: NameList, name: usize },
+    /// No column is compared, and none that one table has alone is reported.
+    #[error("no column is left to compare")]
+    NothingLeft,
+}
 
 /// The reason why two inputs are not compared. Nothing was written, unless it is `Write`.
 #[derive(Debug, Drop, Error)]
@@ -26,7 +62,7 @@ pub enum RunError {
     },
     /// Two rows of a table have one key, where keys have to be unique. `first` and `again` are the
     /// lines at which they begin.
-    #[error("the rows at lines {first} and {again} have one key")]
+    #[error("the rows at lines {first} and {again} have the same key")]
     KeyTwice {
         side: Side,
         first: u64,
@@ -45,6 +81,11 @@ pub enum RunError {
     #[error("{cause}")]
     Columns {
         cause: ColumnError,
+    },
+    /// The options choose columns that neither input has, or none of those that they have.
+    #[error("{cause}")]
+    Choice {
+        cause: ChoiceError,
     },
     /// A write failed. A beginning of the report may have been written.
     #[error("{cause}")]

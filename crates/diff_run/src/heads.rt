@@ -5,8 +5,9 @@ ghost use Rattle.polars_arrays_bytes.specs.OffsetStrings.{offset_strings};
 ghost use Rattle.diff_columns.specs.Layout.{IsLayout};
 ghost use Rattle.diff_csv.specs.Reading.{IsOpen};
 ghost use Rattle.diff_run.specs.Faults.{IsRunFault};
-ghost use Rattle.diff_run.specs.Heads.{AreHeadsOf, fault_of};
+ghost use Rattle.diff_run.specs.Heads.{AreChosen, AreHeadsOf, fault_of};
 
+use crate::chosen::test_heads;
 use crate::error::RunError;
 use crate::options::Options;
 use diff_columns::error::ColumnError;
@@ -48,7 +49,7 @@ fn fault_of(error: ColumnError) -> RunError
 }
 
 /// Matches the columns of two inputs by their names.
-pub(crate) fn heads_of<L: Read + Drop, R: Read + Drop>(
+fn matched<L: Read + Drop, R: Read + Drop>(
     alloc: Global,
     left: &Source<L>,
     right: &Source<R>,
@@ -84,4 +85,30 @@ pub(crate) fn heads_of<L: Read + Drop, R: Read + Drop>(
             Err(fault_of(error))
         }
     }
+}
+
+/// Matches the columns of two inputs by their names, of which the options choose some.
+pub(crate) fn heads_of<L: Read + Drop, R: Read + Drop>(
+    alloc: Global,
+    left: &Source<L>,
+    right: &Source<R>,
+    options: &Options<'_>,
+) -> Result<Heads, RunError>
+    ensures layout { IfOk result
+        (λ h. IsLayout (offset_strings (λ x. x) h.left_names)
+        (offset_strings (λ x. x) h.right_names) options.now.choice h.layout) }
+    ensures chosen { IfOk result (AreChosen options.now) }
+    ensures texts { MatchResult result
+        (λ h. (left_text right_text : List ℕ)
+        → IsOpen L.remaining options.now.csv left_text left.now
+        → IsOpen R.remaining options.now.csv right_text right.now
+        → AreHeadsOf options.now left_text right_text h)
+        (λ error. (left_text right_text : List ℕ)
+        → IsOpen L.remaining options.now.csv left_text left.now
+        → IsOpen R.remaining options.now.csv right_text right.now
+        → IsRunFault options.now left_text right_text error) }
+{
+    let heads = matched(alloc, left, right, options)?;
+    test_heads(&heads, options)?;
+    Ok(heads)
 }

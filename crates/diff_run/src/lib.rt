@@ -1,6 +1,7 @@
 //! Compares two CSV inputs by key, and writes what differs.
 #![tactic(auto)]
 
+mod chosen;
 mod comparables;
 pub mod error;
 mod heads;

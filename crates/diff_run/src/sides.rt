@@ -7,7 +7,7 @@ ghost use Rattle.diff_columns.specs.Layout.{IsLayout};
 ghost use Rattle.diff_csv.specs.Reading.{IsOpen};
 ghost use Rattle.diff_report.specs.Sides.{AreSides};
 ghost use Rattle.diff_run.specs.Faults.{IsMemory, IsRunFault};
-ghost use Rattle.diff_run.specs.Heads.{AreHeadsOf, IsFrameOf};
+ghost use Rattle.diff_run.specs.Heads.{AreChosen, AreHeadsOf, IsFrameOf};
 ghost use Rattle.diff_run.specs.Run.{AreSidesOf};
 
 use crate::comparables::compared_by;
@@ -86,8 +86,9 @@ pub(crate) fn sides_of<L: Read + Drop, R: Read + Drop>(
     files: Files<'_>,
     options: &Options<'_>,
 ) -> Result<Sides, RunError>
-    requires { IsLayout (offset_strings (λ x. x) heads.now.left_names)
+    requires layout { IsLayout (offset_strings (λ x. x) heads.now.left_names)
         (offset_strings (λ x. x) heads.now.right_names) options.now.choice heads.now.layout }
+    requires chosen { AreChosen options.now heads.now }
     ensures sides { IfOk result AreSides }
     ensures texts { MatchResult result
         (λ sides. (left_text right_text : List ℕ)

@@ -1,0 +1,95 @@
+//! What the options choose of the columns of two inputs.
+
+ghost use Rattle.std.specs.Prelude.{◌≡◌, All, MatchOption, MatchResult};
+ghost use Rattle.polars_arrays_bytes.specs.OffsetStrings.{offset_strings};
+ghost use Rattle.diff_columns.specs.Names.{IsKnown, IsUnknown};
+ghost use Rattle.diff_run.specs.Chosen.{AreKnown, IsUnknownName, names_given, nothing_left};
+ghost use Rattle.diff_run.specs.Heads.{AreChosen, IsHeadsFault};
+
+use crate::error::{ChoiceError, NameList, RunError};
+use crate::heads::Heads;
+use crate::options::Options;
+use diff_columns::known::name_unknown;
+use diff_columns::layout::Layout;
+use polars_arrays_bytes::binary::BinaryArray;
+use polars_arrays_flat::byte_rows::ByteRows;
+
+/// Returns the place of the first of the names that no column of either input has, or `None`.
+fn unknown_among(
+    left: &BinaryArray<i64>,
+    right: &BinaryArray<i64>,
+    names: Option<&[&[u8]]>,
+) -> Option<usize>
+    ensures { MatchOption result
+        (All (IsKnown (offset_strings (λ x. x) left.now) (offset_strings (λ x. x) right.now))
+        (names_given names.entry))
+        (IsUnknown (offset_strings (λ x. x) left.now) (offset_strings (λ x. x) right.now)
+        (names_given names.entry)) }
+{
+    match names {
+        Some(names) => name_unknown(left, right, names),
+        None => None,
+    }
+}
+
+/// Returns the error for the first name of the options that is not that of a column of either
+/// input, or `None`.
+fn unknown_name(
+    left: &BinaryArray<i64>,
+    right: &BinaryArray<i64>,
+    options: &Options<'_>,
+) -> Option<ChoiceError>
+    ensures { MatchOption result
+        (AreKnown options.now (offset_strings (λ x. x) left.now)
+        (offset_strings (λ x. x) right.now))
+        (IsUnknownName options.now (offset_strings (λ x. x) left.now)
+        (offset_strings (λ x. x) right.now)) }
+{
+    let list = NameList::Only;
+    if let Some(name) = unknown_among(left, right, options.choice.only) {
+        return Some(ChoiceError::NoColumn { list, name });
+    }
+    let list = NameList::Ignored;
+    if let Some(name) = name_unknown(left, right, options.choice.ignored) {
+        return Some(ChoiceError::NoColumn { list, name });
+    }
+    let list = NameList::Texts;
+    if let Some(name) = unknown_among(left, right, options.numbers) {
+        return Some(ChoiceError::NoColumn { list, name });
+    }
+    None
+}
+
+/// Returns whether one of the inputs has columns, but none is compared, and none that one input has
+/// alone is reported.
+fn nothing_left(
+    left: &BinaryArray<i64>,
+    right: &BinaryArray<i64>,
+    layout: &Layout,
+    options: &Options<'_>,
+) -> bool
+    ensures { result
+        ≡ nothing_left options.now (offset_strings (λ x. x) left.now)
+        (offset_strings (λ x. x) right.now) layout.now }
+{
+    let are_bare = left.count() == 0 && right.count() == 0;
+    let same_columns = layout.left_alone.is_empty() && layout.right_alone.is_empty();
+    let is_silent = options.common || same_columns;
+    !are_bare && layout.left.is_empty() && is_silent
+}
+
+/// Tests that the options choose columns of two inputs. The only error is `Choice`.
+pub(crate) fn test_heads(heads: &Heads, options: &Options<'_>) -> Result<(), RunError>
+    ensures { MatchResult result (λ _. AreChosen options.now heads.now)
+        (IsHeadsFault options.now heads.now) }
+{
+    let (left, right) = (&heads.left_names, &heads.right_names);
+    if let Some(cause) = unknown_name(left, right, options) {
+        return Err(RunError::Choice { cause });
+    }
+    if nothing_left(left, right, &heads.layout, options) {
+        let cause = ChoiceError::NothingLeft;
+        return Err(RunError::Choice { cause });
+    }
+    Ok(())
+}
