@@ -5,10 +5,11 @@ use Rattle.diff_words.specs.Words.{word_text}
 use Rattle.schema_columns.specs.declared.kind.Kind.TheVariants.{Truth, Whole, Text}
 use Rattle.schema_report.specs.Aligned.{aligned}
 use Rattle.schema_report.specs.Changes.{kind_line}
+use Rattle.schema_report.specs.Text.{head_line}
 use Rattle.schema_report.specs.Words.{value_text}
 
 -- two rows of two words
-two-rows : aligned 2 ((codes "id" ∷ codes "kind" ∷ []) ∷ (codes "amount" ∷ codes "text" ∷ []) ∷ []) ≡ codes "id      kind\namount  text\n"
+two-rows : aligned 2 ((codes "id" ∷ codes "type" ∷ []) ∷ (codes "amount" ∷ codes "text" ∷ []) ∷ []) ≡ codes "id      type\namount  text\n"
 two-rows = refl
 
 -- a number, a text, and a value that there is none of
@@ -22,6 +23,11 @@ text-shown = refl
 
 none-shown : value_text Text None ≡ codes "-"
 none-shown = refl
+
+-- a file with one row and two columns
+one-row : head_line (codes "one.csv") 1 2 ≡ codes "one.csv: 1 row, 2 columns\n"
+unfolding head_line word_text
+one-row = refl
 
 -- a column whose kinds differ
 kinds-differ : kind_line (codes "paid") Truth Text ≡ codes "~ column paid  truth value -> text\n"

@@ -1,6 +1,6 @@
 -- Tables of words, whose columns stand one under another.
 --
--- The rows "id", "kind" and "amount", "text" are the lines `id      kind` and `amount  text`.
+-- The rows "id", "type" and "amount", "text" are the lines `id      type` and `amount  text`.
 use Rattle.std.specs.List.{count_by}
 use Rattle.std.specs.Prelude.{ℕ, zero, suc, ◌+◌, ◌-◌, Bool, ◌||◌, nat_lt, max, if◌then◌else◌, List}
 use Rattle.std.specs.Prelude.{[], ◌∷◌, ◌++◌, length, get_or, replicate, codes}

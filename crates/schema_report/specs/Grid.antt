@@ -6,7 +6,7 @@ use Rattle.schema_report.specs.Words.{count_text, kind_word, value_text}
 
 -- the headings of a column's name and its kind
 abbrev pub head_names : List (List ℕ)
-head_names = codes "column" ∷ codes "kind" ∷ []
+head_names = codes "column" ∷ codes "type" ∷ []
 
 -- the headings of its counts
 abbrev pub count_names : List (List ℕ)

@@ -22,7 +22,7 @@ fn push_head_names(cells: &mut Strings) -> Result<(), AllocError>
         → AreStrings cells.new (all ++ head_names)) }
 {
     cells.push(b"column")?;
-    cells.push(b"kind")?;
+    cells.push(b"type")?;
     Ok(())
 }
 

@@ -2,7 +2,8 @@
 
 ghost use Rattle.std.specs.Prelude.{◌≡◌, ◌++◌, OnOk, IfErr};
 ghost use Rattle.polars_arrays_bits.specs.Errors.{IsMemory};
-ghost use Rattle.schema_report.specs.Text.{head_line, schema_text};
+ghost use Rattle.schema_report.specs.Text.{columns_word, head_line, rows_word};
+ghost use Rattle.schema_report.specs.Text.{schema_text};
 
 use crate::aligned::push_aligned;
 use crate::grid::grid_of;
@@ -12,6 +13,24 @@ use polars_arrays_bits::error::ComputeError;
 use schema_columns::column::ColumnSchema;
 use std::alloc::{AllocError, Global};
 
+/// Returns what stands behind the number of rows.
+fn rows_word(count: usize) -> &'static [u8]
+    ensures { result.now ≡ rows_word count }
+{
+    if count == 1 { b" row, " } else { b" rows, " }
+}
+
+/// Returns what stands behind the number of columns.
+fn columns_word(count: usize) -> &'static [u8]
+    ensures { result.now ≡ columns_word count }
+{
+    if count == 1 {
+        b" column\n"
+    } else {
+        b" columns\n"
+    }
+}
+
 /// Appends how many rows and columns a file has.
 #[tactic(auto, unfolding(crate::specs::Text::head_line))]
 fn push_head(out: &mut Vec<u8>, file: &[u8], rows: usize, columns: usize) -> Result<(), AllocError>
@@ -20,9 +39,9 @@ fn push_head(out: &mut Vec<u8>, file: &[u8], rows: usize, columns: usize) -> Res
     push_word(out, file)?;
     out.extend_from_slice(b": ")?;
     push_decimal(out, rows)?;
-    out.extend_from_slice(b" rows, ")?;
+    out.extend_from_slice(rows_word(rows))?;
     push_decimal(out, columns)?;
-    out.extend_from_slice(b" columns\n")?;
+    out.extend_from_slice(columns_word(columns))?;
     Ok(())
 }
 
