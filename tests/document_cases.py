@@ -1,8 +1,8 @@
 """Lines and files of JSON documents with what `dunkelva diff` has to do with them, by RFC 8259 and by its own rules."""
 
 WIDE = "1" + "0" * 30
-NO_JSON, TWICE = "no JSON", "an object has a name twice"
-NO_OBJECT, NO_ID = "no JSON object", "no id"
+NO_JSON, TWICE = "not valid JSON", "an object has a name twice"
+NO_OBJECT, NO_ID = "not a JSON object", 'the key "id" is missing'
 TOO_WIDE = "an exponent has more than 30 digits"
 
 
@@ -267,14 +267,14 @@ FILES = (
     ([], b"{}\n{}\n", b"{}\n", 1, "- row 2  left.ndjson line 2\n0 changed, 1 removed, 0 added, 1 the same."),
     ([], b'{"a":1}\n{"a":2}\n', b'{"a":2}\n{"a":1}\n', 1,
      "~ row 1  a 1 -> 2\n~ row 2  a 2 -> 1\n2 changed, 0 removed, 0 added, 0 the same."),
-    ([], b"\n", b"", 2, "left.ndjson: line 1, column 1: no JSON"),
-    ([], b"{}\n\n", b"{}\n", 2, "left.ndjson: line 2, column 1: no JSON"),
-    ([], b"{}\n", b"{}\n\n{}\n", 2, "right.ndjson: line 2, column 1: no JSON"),
-    ([], b"{}\n", b"{}\r\n\r\n", 2, "right.ndjson: line 2, column 2: no JSON"),
-    ([], b"{}\r{}\n", b"", 2, "left.ndjson: line 1, column 4: no JSON"),
-    ([], b'{"a":\n1}\n', b"", 2, "left.ndjson: line 1, column 6: no JSON"),
-    ([], b"\xef\xbb\xbf", b"", 2, "left.ndjson: line 1, column 1: no JSON"),
-    ([], b"{}\n{}\0", b"", 2, "left.ndjson: line 2, column 3: no JSON"),
+    ([], b"\n", b"", 2, "left.ndjson: line 1, column 1: not valid JSON"),
+    ([], b"{}\n\n", b"{}\n", 2, "left.ndjson: line 2, column 1: not valid JSON"),
+    ([], b"{}\n", b"{}\n\n{}\n", 2, "right.ndjson: line 2, column 1: not valid JSON"),
+    ([], b"{}\n", b"{}\r\n\r\n", 2, "right.ndjson: line 2, column 2: not valid JSON"),
+    ([], b"{}\r{}\n", b"", 2, "left.ndjson: line 1, column 4: not valid JSON"),
+    ([], b'{"a":\n1}\n', b"", 2, "left.ndjson: line 1, column 6: not valid JSON"),
+    ([], b"\xef\xbb\xbf", b"", 2, "left.ndjson: line 1, column 1: not valid JSON"),
+    ([], b"{}\n{}\0", b"", 2, "left.ndjson: line 2, column 3: not valid JSON"),
     (["--key", "id"], b'{"id":1.0,"a":1}\n{"id":"1","a":2}\n{"id":null,"a":3}\n',
      b'{"id":null,"a":3}\n{"id":"1","a":0}\n{"id":1e0,"a":1}', 1,
      '~ id="1"  a 2 -> 0\n1 changed, 0 removed, 0 added, 2 the same.'),
@@ -297,8 +297,8 @@ FILES = (
     (["--key", "id"], b'{"id":2}\n{"id":1}\n', b'{"id":1}\n{"id":1}\n{"id":2}\n{"id":2}\n', 1,
      "+ id=1  right.ndjson line 2\n+ id=2  right.ndjson line 4\n0 changed, 0 removed, 2 added, 2 the same."),
     (["--unique", "--key", "id"], b'{"id":1}\n{"id":2}\n', b'{"id":2}\n{"id":1}\n{"id":2}\n', 2,
-     "right.ndjson: the rows at lines 1 and 3 have one key"),
-    (["--key", "id"], b'{"id":1}\n', b'{"id":1}\n{"id":1}x\n', 2, "right.ndjson: line 2, column 9: no JSON"),
+     "right.ndjson: lines 1 and 3 have the same key"),
+    (["--key", "id"], b'{"id":1}\n', b'{"id":1}\n{"id":1}x\n', 2, "right.ndjson: line 2, column 9: not valid JSON"),
     (["--key", "id"], b'{"id":2,"a":1}\n{"id":5}\n{"id":1,"a":1}\n{"id":4}\n',
      b'{"id":7}\n{"id":1,"a":2}\n{"id":6}\n{"id":2,"a":2}\n', 1,
      "~ id=2  a 1 -> 2\n~ id=1  a 1 -> 2\n- id=5  left.ndjson line 2\n- id=4  left.ndjson line 4\n"
@@ -336,7 +336,7 @@ FILES = (
     (["--key", "id", "--only", "b"], b'{"id":1,"a":1,"b":1}\n{"id":2,"a":1,"b":1}\n',
      b'{"id":2,"a":2,"b":2.0}\n{"id":1,"a":2,"b":1.0}\n', 1,
      "~ id=2  b 1 -> 2.0\n1 changed, 0 removed, 0 added, 1 the same."),
-    (["--key", "id", "--missing-is-null"], b'{"id":null,"a":1}\n', b'{"a":1}', 2, "right.ndjson: line 1: no id"),
+    (["--key", "id", "--missing-is-null"], b'{"id":null,"a":1}\n', b'{"a":1}', 2, 'right.ndjson: line 1: the key "id" is missing'),
     (["--limit", "1", "--ignore", "t"], b'{"t":1}\n{"a":1,"t":1}\n{"a":2,"t":1}\n',
      b'{"t":2}\n{"a":2,"t":2}\n{"a":3}\n', 1,
      "~ row 2  a 1 -> 2\n.. and 1 more\n2 changed, 0 removed, 0 added, 1 the same."),
@@ -344,11 +344,11 @@ FILES = (
      b'{"a":[{"p":2,"q":2}]}\n', 1,
      '{"kind":"changed","key":{},"left_line":1,"right_line":1,"changes":[{"path":"a[0].q","left":1,"right":2}]}\n'
      '{"kind":"counts","changed":1,"removed":0,"added":0,"same":0,"not_shown":0}'),
-    (["--key", "a.b"], b'{"a.b":1}\n', b"", 2, "left.ndjson: line 1: no a.b"),
-    (["--key", "a[1]"], b'{"a":[1]}\n', b"", 2, "left.ndjson: line 1: no a[1]"),
-    (["--key", "a[0]"], b'{"a":{"0":1}}\n', b"", 2, "left.ndjson: line 1: no a[0]"),
-    (["--key", "a.b"], b'{"a":{"b":1}}\n{"a":[1]}\n', b"", 2, "left.ndjson: line 2: no a.b"),
-    (["--key", "a,b"], b'{"a":1,"b":1}\n', b'{"a":1,"b":1}\n{"a":1}', 2, "right.ndjson: line 2: no b"),
+    (["--key", "a.b"], b'{"a.b":1}\n', b"", 2, 'left.ndjson: line 1: the key "a.b" is missing'),
+    (["--key", "a[1]"], b'{"a":[1]}\n', b"", 2, 'left.ndjson: line 1: the key "a[1]" is missing'),
+    (["--key", "a[0]"], b'{"a":{"0":1}}\n', b"", 2, 'left.ndjson: line 1: the key "a[0]" is missing'),
+    (["--key", "a.b"], b'{"a":{"b":1}}\n{"a":[1]}\n', b"", 2, 'left.ndjson: line 2: the key "a.b" is missing'),
+    (["--key", "a,b"], b'{"a":1,"b":1}\n', b'{"a":1,"b":1}\n{"a":1}', 2, 'right.ndjson: line 2: the key "b" is missing'),
     (["--no-key-is-null", "--key", "id"], b'{"id":1}\n{"a":1}\n', b'{"id":null,"a":1}\n{"id":1}\n', 1,
      "~ id=null  id missing -> null\n1 changed, 0 removed, 0 added, 1 the same."),
     (["--no-key-is-null", "--key", "id"], b'{"id":""}\n{"id":"null"}\n', b"{}\n", 1,
@@ -362,8 +362,8 @@ FILES = (
      '{"kind":"removed","key":{"id":null},"line":1}\n'
      '{"kind":"counts","changed":0,"removed":1,"added":0,"same":0,"not_shown":0}'),
     (["--no-key-is-null", "--unique", "--key", "id"], b'{}\n{"id":1}\n{"id":null}\n', b"", 2,
-     "left.ndjson: the rows at lines 1 and 3 have one key"),
-    (["--no-key-is-null", "--key", "id"], b"{}\n[]\n", b"", 2, "left.ndjson: line 2, column 1: no JSON object"),
+     "left.ndjson: lines 1 and 3 have the same key"),
+    (["--no-key-is-null", "--key", "id"], b"{}\n[]\n", b"", 2, "left.ndjson: line 2, column 1: not a JSON object"),
     (["--no-key-is-null"], b"{}\n", b"{}\n", 0, "0 changed, 0 removed, 0 added, 1 the same."),
     # lines that are passed over
     (["--skip-bad"], b"{}", b"{}\n", 0, "0 changed, 0 removed, 0 added, 1 the same."),
@@ -387,7 +387,7 @@ FILES = (
      "~ id=null  id missing -> null\n1 changed, 0 removed, 0 added, 0 the same.\n"
      "Skipped 1 line of right.ndjson (line 1)."),
     (["--skip-bad", "--key", "id", "--unique"], b'{"id":1}\n[\n{"id":1}\n', b"", 2,
-     "left.ndjson: the rows at lines 1 and 3 have one key"),
+     "left.ndjson: lines 1 and 3 have the same key"),
     (["--skip-bad", "--key", "id", "--limit", "1", "--color", "always"], b'[]\n{"id":1}\n{"id":2}\n', b"", 1,
      "\x1b[31m- id=1  left.ndjson line 2\x1b[0m\n.. and 1 more\n0 changed, 2 removed, 0 added, 0 the same.\n"
      "Skipped 1 line of left.ndjson (line 1)."),
@@ -400,9 +400,9 @@ FILES = (
     (["--unique", "--key", "id"], b'{"id":1}\n{"id":2}\n', b'{"id":2}\n{"id":1}\n', 0,
      "0 changed, 0 removed, 0 added, 2 the same."),
     (["--unique", "--key", "id"], b'{"id":1}\n{"id":2}\n{"id":1.0}\n', b"", 2,
-     "left.ndjson: the rows at lines 1 and 3 have one key"),
+     "left.ndjson: lines 1 and 3 have the same key"),
     (["--unique", "--key", "id"], b'{"id":1}\n', b'{"id":{"a":1,"b":2}}\n{"id":{"b":2,"a":1}}\n{"id":1}\n{"id":1}', 2,
-     "right.ndjson: the rows at lines 1 and 2 have one key"),
+     "right.ndjson: lines 1 and 2 have the same key"),
     (["--color", "always", "--key", "id"], b'{"id":1,"a":1}\n{"id":2}\n', b'{"id":1,"b":2}\n{"id":3}\n', 1,
      "\x1b[33m~ id=1\x1b[0m  a \x1b[31m1\x1b[0m -> \x1b[32mmissing\x1b[0m, "
      "b \x1b[31mmissing\x1b[0m -> \x1b[32m2\x1b[0m\n"
@@ -425,22 +425,25 @@ FILES = (
 TROUBLES = (
     (["missing.ndjson", "good.ndjson"], "missing.ndjson: "),
     (["good.ndjson", "missing.jsonl"], "missing.jsonl: "),
-    (["--input", "ndjson", "-", "-"], "only one of the two can be standard input"),
-    (["good.ndjson", "table.csv"], "dunkelva: "),
+    (["--input", "ndjson", "-", "-"], "only one of the two files can be standard input"),
+    (["good.ndjson", "table.csv"], '"good.ndjson" and "table.csv" have two formats by their names: give --input'),
+    (["--key", "id", "--key", "n,id", "good.ndjson", "good.ndjson"], '--key has "id" twice'),
+    (["--ignore", "a[]", "table.csv", "table.csv"], '--ignore: neither file has a column named "a[]"'),
+    (["good.json", "good.ndjson"], "good.json: give --input ndjson where each line is a JSON document"),
     (["table.csv", "good.jsonl"], "dunkelva: "),
     (["--input", "xml", "good.ndjson", "good.ndjson"], "xml"),
-    (["--input", "ndjson", "good.ndjson", "table.csv"], "table.csv: line 1, column 1: no JSON"),
-    (["--input", "csv", "--key", "nope", "good.ndjson", "good.ndjson"], "no column is named nope"),
+    (["--input", "ndjson", "good.ndjson", "table.csv"], "table.csv: line 1, column 1: not valid JSON"),
+    (["--input", "csv", "--key", "nope", "good.ndjson", "good.ndjson"], 'no column is named "nope"'),
     (["--limit", "many", "good.ndjson", "good.ndjson"], "many"),
     (["--format", "xml", "good.ndjson", "good.ndjson"], "xml"),
     (["--color", "sometimes", "good.ndjson", "good.ndjson"], "sometimes"),
     (["--unique", "good.ndjson", "good.ndjson"], "--key"),
-    (["--no-key-is-null", "table.csv", "table.csv"], "--no-key-is-null goes with JSON documents"),
+    (["--no-key-is-null", "table.csv", "table.csv"], "--no-key-is-null is for JSON documents alone"),
     (["--nope", "good.ndjson", "good.ndjson"], "--nope"),
-    (["--missing-is-null", "table.csv", "table.csv"], "--missing-is-null goes with JSON documents"),
-    (["--skip-bad", "table.csv", "table.csv"], "--skip-bad goes with JSON documents"),
-    (["--missing-is-null", "--input", "csv", "good.ndjson", "good.ndjson"], "--missing-is-null goes with"),
-    *(([option, "id=1", "table.csv", "table.csv"], f"{option} goes with JSON documents")
+    (["--missing-is-null", "table.csv", "table.csv"], "--missing-is-null is for JSON documents alone"),
+    (["--skip-bad", "table.csv", "table.csv"], "--skip-bad is for JSON documents alone"),
+    (["--missing-is-null", "--input", "csv", "good.ndjson", "good.ndjson"], "--missing-is-null is for JSON"),
+    *(([option, "id=1", "table.csv", "table.csv"], f"{option} is for JSON documents alone")
       for option in ("--tolerance", "--relative-tolerance")),
     *(([option, f"id{word}", "good.ndjson", "good.ndjson"], f"{option}{said}") for word, said in (
         ("", " takes a path and a bound such as"), ("0.1", " takes a path and a bound such as"),
@@ -454,8 +457,8 @@ TROUBLES = (
         ("[=1", " takes paths such"))
       for option in ("--tolerance", "--relative-tolerance")),
     (["--tolerance", "=1", "good.ndjson", "good.ndjson"], "--tolerance takes paths such as"),
-    (["--null", "", "good.ndjson", "good.ndjson"], "--null goes with CSV files"),
-    (["--common", "good.ndjson", "good.ndjson"], "--common goes with CSV files"),
+    (["--null", "", "good.ndjson", "good.ndjson"], "--null is for CSV files alone"),
+    (["--common", "good.ndjson", "good.ndjson"], "--common is for CSV files alone"),
     *(([option, path, "good.ndjson", "good.ndjson"], f"{option} takes paths such as") for path in (
         "", ".", "id.", "id..a", "id[", "id[ ]", "id[a]", "id[-1]", "id]", "[]id", "a,", "a,,b", '."id', '."id"a',
         '."\\ud800"') for option in ("--only", "--ignore")),

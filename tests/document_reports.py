@@ -23,7 +23,7 @@ ANY = object()
 PLAIN = re.compile(r"[A-Za-z0-9_-]+")
 LEXEME = re.compile(r'[\[\]{},:]|("(?:[^"\\]|\\.)*"?)([ \t\r]*:)?|[^\[\]{},: \t\r]+', re.DOTALL)
 WORD = re.compile(r"true|false|null|-?(?:0|[1-9][0-9]*)(?:\.[0-9]+)?(?:[eE][-+]?[0-9]+)?")
-NO_JSON, NO_OBJECT, TWICE = "no JSON", "no JSON object", "an object has a name twice"
+NO_JSON, NO_OBJECT, TWICE = "not valid JSON", "not a JSON object", "an object has a name twice"
 WIDE = "an exponent has more than 30 digits"
 
 # a difference between two values: where it is, and both parts, of which one may be missing
@@ -281,7 +281,7 @@ def faults_of(value, keys):
         said.append(TWICE)
     if any(is_wide(part.text) for part in held if isinstance(part, Number)):
         said.append(WIDE)
-    return said + [f"no {key}" for key in keys if part_at(value, steps_of(key)) is MISSING]
+    return said + [f'the key "{key}" is missing' for key in keys if part_at(value, steps_of(key)) is MISSING]
 
 
 def documents_of(content, options):
@@ -530,7 +530,7 @@ def key_fault(sides, options):
         for i, key in enumerate(keys_of(side, options)):
             first = seen.setdefault(key, i)
             if first < i:
-                return f"{file}: the rows at lines {side.numbers[first]} and {side.numbers[i]} have one key"
+                return f"{file}: lines {side.numbers[first]} and {side.numbers[i]} have the same key"
     return None
 
 

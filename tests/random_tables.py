@@ -111,11 +111,10 @@ def made_options(names, keys, chance):
                "unique": bool(keys) and chance.random() < 0.2, "summary": chance.random() < 0.05}
     others = [name for name in names if name not in options["keys"]]
     if others and chance.random() < 0.3:
-        which = chance.choice(("ignored", "only"))
-        most = len(others) - (which == "ignored" and not options["keys"])
-        options[which] = chance.sample(others, chance.randrange(1, most + 1)) if most else []
+        options[chance.choice(("ignored", "only"))] = chance.sample(others, chance.randrange(1, len(others) + 1))
     if options["numbers"] and chance.random() < 0.4:
-        options["texts"] = chance.sample(names, chance.randrange(1, len(names) + 1))
+        given = [*names, *["none"] * (chance.random() < 0.1)]
+        options["texts"] = chance.sample(given, chance.randrange(1, len(given) + 1))
     return options
 
 

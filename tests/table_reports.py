@@ -218,8 +218,19 @@ def key_twice(pair):
         for i, row in enumerate(rows):
             first = seen.setdefault(tuple(row[k] for k in found.keys), i)
             if first < i:
-                return f"{file}: the rows at lines {table.lines[first]} and {table.lines[i]} have one key"
+                return f"{file}: lines {table.lines[first]} and {table.lines[i]} have the same key"
     return None
+
+
+def choice_fault(pair):
+    """Returns what is said of options that name unknown columns or leave none to compare, or None."""
+    left, right, options = pair.left.names, pair.right.names, pair.options
+    for option, names in (("only", "only"), ("ignore", "ignored"), ("text", "texts")):
+        for name in options.get(names, []):
+            if name not in left and name not in right:
+                return f'--{option}: neither file has a column named "{name}"'
+    found = comparison_of(pair)
+    return "no column is left to compare" if (left or right) and not found.names and not found.lone else None
 
 
 LINES = re.compile(rb"(?m)^((?:\x1b\[3\dm)?[-+] .* line )\d+(?=(?:\x1b\[0m)?$)")
@@ -252,18 +263,21 @@ def is_report(printed, pair, has_lines):
 
 def is_right(ran, pair, has_lines=True):
     """Returns whether a run over two tables that can be compared did as it has to."""
+    said = choice_fault(pair)
+    if said:
+        return ran == (2, b"", f"dunkelva: {said}\n".encode("latin-1"))
     if wide_number(pair):
         return ran.status == 2 and not ran.printed and b"more than 30 digits" in ran.said
     said = key_twice(pair)
     if said and has_lines:
         return ran == (2, b"", f"dunkelva: {said}\n".encode("latin-1"))
     if said:
-        return ran.status == 2 and ran.said.endswith(b" have one key\n") and not ran.printed
+        return ran.status == 2 and ran.said.endswith(b" have the same key\n") and not ran.printed
     return not ran.said and ran.status == status_of(comparison_of(pair)) and is_report(ran.printed, pair, has_lines)
 
 
 def wanted(pair):
     """Returns what a run over two tables has to do, in words."""
-    said = wide_number(pair) or key_twice(pair)
+    said = choice_fault(pair) or wide_number(pair) or key_twice(pair)
     report = json_objects(pair) if pair.options["json"] else text_report(pair)
     return f"status 2: {said}" if said else f"status {status_of(comparison_of(pair))}: {report}"

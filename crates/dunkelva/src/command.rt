@@ -11,11 +11,11 @@ const VERSION: &str = "0.1.0";
 /// The text behind the options in `dunkelva diff --help`.
 const NOTES: &str = "\
 Files whose names end in .ndjson or .jsonl have a JSON object in each line, and
-others are CSV. For JSON, --key takes paths such as order.id or items[0].sku.
---only, --ignore and the two tolerances take paths in which [] is every item, as
-items[].price. --common, --numbers, --text, --null, --delimiter and --no-header
-are for CSV alone; --missing-is-null, --no-key-is-null, --skip-bad and the two
-tolerances are for JSON alone.
+others are CSV; files named .json need --input. For JSON, --key takes paths such
+as order.id or items[0].sku. --only, --ignore and the two tolerances take paths
+in which [] is every item, as items[].price. --common, --numbers, --text,
+--null, --delimiter and --no-header are for CSV alone; --missing-is-null,
+--no-key-is-null, --skip-bad and the two tolerances are for JSON alone.
 
 The status is 0 where the files are the same, 1 where they differ, and 2 where
 they can't be compared.";
@@ -41,6 +41,9 @@ fn arg_of<'a>(alloc: Global, option: CliOption) -> Result<Arg<'a>, AllocError> {
     }
     if let Some(word) = option.default {
         arg = arg.default_value(word);
+    }
+    for other in option.excludes {
+        arg = arg.conflicts_with(*other)?;
     }
     match option.needs {
         Some(other) => arg.requires_arg(other),

@@ -20,7 +20,7 @@ pub(crate) struct Config {
 
 /// Returns the error for a value that its option does not take.
 fn misfit(name: &str, takes: &str, value: &Value) -> Error {
-    anyhow!("{name} takes {takes}, and not this {}", value.type_str())
+    anyhow!("{name} takes {takes}, not this {}", value.type_str())
 }
 
 /// Returns the text that a value is.
@@ -130,7 +130,7 @@ fn is_known(name: &str) -> bool {
 fn refuse_unknown(table: &Table) -> Result<()> {
     for (name, _) in table {
         if !is_known(name) {
-            return Err(anyhow!("no option that a file may set is named {name:?}"));
+            return Err(anyhow!("a file of options can't set {name:?}"));
         }
     }
     Ok(())
@@ -153,6 +153,18 @@ fn is_given(words: &[String], id: &str) -> bool {
             Some(("", None)) => return false,
             Some((name, _)) if name == id => return true,
             _ => {}
+        }
+    }
+    false
+}
+
+/// Returns whether the words give an option, or one that may not be given with it.
+fn is_replaced(words: &[String], option: &CliOption) -> bool {
+    for other in options() {
+        let is_same = other.id == option.id;
+        let is_apart = other.excludes.contains(&option.id) || option.excludes.contains(&other.id);
+        if (is_same || is_apart) && is_given(words, other.id) {
+            return true;
         }
     }
     false
@@ -185,7 +197,7 @@ fn config_of(alloc: Global, table: &Table, given: &[String]) -> Result<Config> {
     let mut words = Vec::new(alloc);
     for option in options() {
         if let Some(value) = table.get(option.id) {
-            if !is_given(given, option.id) {
+            if !is_replaced(given, option) {
                 push_option(&mut words, alloc, option, value)?;
             }
         }
@@ -255,11 +267,25 @@ pub(crate) fn joined<'a>(
     Ok(all)
 }
 
-/// Returns the name of a file: the one of the command line, or else the one that a file sets.
-pub(crate) fn named_file<'a>(given: Option<&'a str>, set: &'a Option<String>) -> Result<&'a str> {
-    match (given, set) {
-        (Some(name), _) => Ok(name),
-        (None, Some(name)) => Ok(name.as_str()),
-        (None, None) => Err(anyhow!("two files are compared: give LEFT and RIGHT")),
+/// Returns the names of the two files: those of the command line, those that a file sets, or the
+/// one that it sets and one of the command line.
+pub(crate) fn named_files<'a>(
+    first: Option<&'a str>,
+    second: Option<&'a str>,
+    config: &'a Config,
+) -> Result<(&'a str, &'a str)> {
+    let set = (
+        config.left.as_ref().map(String::as_str),
+        config.right.as_ref().map(String::as_str),
+    );
+    match (first, second, set) {
+        (Some(left), Some(right), _) => Ok((left, right)),
+        (None, _, (Some(left), Some(right))) => Ok((left, right)),
+        (Some(right), None, (Some(left), None)) => Ok((left, right)),
+        (Some(left), None, (None, Some(right))) => Ok((left, right)),
+        (Some(file), None, (Some(_), Some(_))) => Err(anyhow!(
+            "two files are compared: {file:?} is a third one beside those that --config sets"
+        )),
+        _ => Err(anyhow!("two files are compared: give LEFT and RIGHT")),
     }
 }

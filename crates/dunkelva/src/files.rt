@@ -43,7 +43,7 @@ fn open_file(rt: &HostRuntime, name: &str, is_beside: bool) -> Result<fs::File> 
     match fs::open(rt, name) {
         Ok(file) => {
             if is_beside && file.as_raw_fd() == 0 {
-                return Err(anyhow!("standard input is closed").context("-"));
+                return Err(anyhow!("standard input is closed"));
             }
             Ok(file)
         }

@@ -3,7 +3,7 @@
 ghost use Rattle.std.specs.Prelude.{◌≡◌, length};
 
 use crate::rules::no_path;
-use anyhow::Result;
+use anyhow::{Result, anyhow};
 use clap::ArgMatches;
 use dunkelva_options::lists::split_lists;
 use json_paths::parse::parse_path;
@@ -18,6 +18,17 @@ pub(crate) struct Keys<'a> {
     ghost paired: { length names.items ≡ length paths.items },
 }
 
+/// Refuses a key that is given twice.
+pub(crate) fn refuse_repeated(keys: &[&[u8]]) -> Result<()> {
+    for i in 0..keys.len() {
+        if keys[..i].contains(&keys[i]) {
+            let name = str::from_utf8(keys[i]).unwrap_or("-");
+            return Err(anyhow!("--key has {name:?} twice"));
+        }
+    }
+    Ok(())
+}
+
 /// Returns the path that a word writes.
 fn path_of(alloc: Global, word: &str) -> Result<Path> {
     match parse_path(alloc, word) {
@@ -26,7 +37,7 @@ fn path_of(alloc: Global, word: &str) -> Result<Path> {
     }
 }
 
-/// Returns the keys that the words give.
+/// Returns the keys that the words give. Fails where one is given twice.
 pub(crate) fn keys_of<'a>(alloc: Global, matches: &ArgMatches<'a>) -> Result<Keys<'a>> {
     let words = split_lists(alloc, matches.get_strs("key").unwrap_or(&[]))?;
     let mut paths = Vec::new(alloc);
@@ -35,5 +46,6 @@ pub(crate) fn keys_of<'a>(alloc: Global, matches: &ArgMatches<'a>) -> Result<Key
         paths.push(path_of(alloc, word)?)?;
         names.push(word.as_bytes())?;
     }
+    refuse_repeated(&names)?;
     Ok(Keys { paths, names })
 }

@@ -9,15 +9,28 @@ pub(crate) fn names_documents(name: &str) -> bool {
     name.ends_with(".ndjson") || name.ends_with(".jsonl")
 }
 
+/// Refuses a file whose name does not say whether each of its lines is a document, or all of them
+/// are one.
+fn refuse_json(name: &str) -> Result<()> {
+    if name.ends_with(".json") {
+        return Err(anyhow!(
+            "give --input ndjson where each line is a JSON document, as jq -c makes them"
+        ).context(name));
+    }
+    Ok(())
+}
+
 /// Returns whether the two files hold documents, and not tables. Standard input has the kind of the
 /// other file.
 pub(crate) fn hold_documents(matches: &ArgMatches<'_>, left: &str, right: &str) -> Result<bool> {
     if let Some(input) = matches.get_str("input") {
         return Ok(input == "ndjson");
     }
+    refuse_json(left)?;
+    refuse_json(right)?;
     let (in_left, in_right) = (names_documents(left), names_documents(right));
     if in_left != in_right && left != "-" && right != "-" {
-        return Err(anyhow!("one of {left} and {right} is NDJSON by its name: give --input"));
+        return Err(anyhow!("{left:?} and {right:?} have two formats by their names: give --input"));
     }
     Ok(in_left || in_right)
 }
@@ -41,7 +54,7 @@ fn given_of(matches: &ArgMatches<'_>, kind: GoesWith, takes_value: bool) -> Opti
 pub(crate) fn refuse_table_options(matches: &ArgMatches<'_>) -> Result<()> {
     let tables = GoesWith::Tables;
     match given_of(matches, tables, true).or(given_of(matches, tables, false)) {
-        Some(option) => Err(anyhow!("--{option} goes with CSV files")),
+        Some(option) => Err(anyhow!("--{option} is for CSV files alone")),
         None => Ok(()),
     }
 }
@@ -50,7 +63,7 @@ pub(crate) fn refuse_table_options(matches: &ArgMatches<'_>) -> Result<()> {
 pub(crate) fn refuse_document_options(matches: &ArgMatches<'_>) -> Result<()> {
     let documents = GoesWith::Documents;
     match given_of(matches, documents, false).or(given_of(matches, documents, true)) {
-        Some(option) => Err(anyhow!("--{option} goes with JSON documents")),
+        Some(option) => Err(anyhow!("--{option} is for JSON documents alone")),
         None => Ok(()),
     }
 }
@@ -60,7 +73,9 @@ pub(crate) fn refuse_document_options(matches: &ArgMatches<'_>) -> Result<()> {
 pub(crate) fn usual_delimiter(left: &str, right: &str) -> Result<u8> {
     let (in_left, in_right) = (left.ends_with(".tsv"), right.ends_with(".tsv"));
     if in_left != in_right && left != "-" && right != "-" {
-        return Err(anyhow!("one of {left} and {right} is .tsv by its name: give --delimiter"));
+        return Err(anyhow!(
+            "{left:?} and {right:?} have two delimiters by their names: give --delimiter"
+        ));
     }
     if in_left || in_right {
         Ok(b'\t')

@@ -19,7 +19,7 @@ mod trouble;
 mod words;
 
 use crate::command::command;
-use crate::config::{Config, config_for, joined, named_file};
+use crate::config::{Config, config_for, joined, named_files};
 use crate::keys::keys_of;
 use crate::kinds::{hold_documents, refuse_document_options, refuse_table_options};
 use crate::outputs::refuse_own_target;
@@ -102,8 +102,8 @@ fn diff_documents(
 
 /// Compares the two files that the words name.
 fn diff(rt: &HostRuntime, matches: &ArgMatches<'_>, config: &Config) -> Result<u8> {
-    let left = named_file(matches.get_str("left"), &config.left)?;
-    let right = named_file(matches.get_str("right"), &config.right)?;
+    let (first, second) = (matches.get_str("left"), matches.get_str("right"));
+    let (left, right) = named_files(first, second, config)?;
     if matches.get_flag("schema-only") {
         return compare_schemas(rt, matches, left, right);
     }

@@ -37,6 +37,8 @@ pub(crate) struct CliOption {
     pub(crate) default: Option<&'static str>,
     /// The option that is given with it.
     pub(crate) needs: Option<&'static str>,
+    /// The options that may not be given with it.
+    pub(crate) excludes: &'static [&'static str],
     pub(crate) goes_with: GoesWith,
     pub(crate) help: &'static str,
 }
@@ -48,6 +50,7 @@ const SWITCH: CliOption = CliOption {
     value: "",
     default: None,
     needs: None,
+    excludes: &[],
     goes_with: GoesWith::Both,
     help: "",
 };
@@ -99,7 +102,7 @@ static OPTIONS: [CliOption; 26] = [
         value: "COLUMNS",
         needs: Some("numbers"),
         goes_with: GoesWith::Tables,
-        help: "With --numbers, compare these columns as text even so",
+        help: "With --numbers, compare these columns as text",
         ..SWITCH
     },
     CliOption {
@@ -113,7 +116,7 @@ static OPTIONS: [CliOption; 26] = [
         takes: Takes::Texts,
         value: "PATH=BOUND",
         goes_with: GoesWith::Documents,
-        help: "In JSON numbers at this path may lie so far apart",
+        help: "In JSON numbers at PATH may lie up to BOUND apart",
         ..SWITCH
     },
     CliOption {
@@ -121,14 +124,14 @@ static OPTIONS: [CliOption; 26] = [
         takes: Takes::Texts,
         value: "PATH=BOUND",
         goes_with: GoesWith::Documents,
-        help: "In JSON numbers at this path may lie this part of the larger one apart",
+        help: "In JSON numbers at PATH may lie up to BOUND times the larger one apart",
         ..SWITCH
     },
     CliOption {
         id: "input",
         takes: Takes::Word(&["csv", "ndjson"]),
         value: "KIND",
-        help: "What both files are; without it their names say it",
+        help: "The format of both files; without it their names tell it",
         ..SWITCH
     },
     CliOption {
@@ -136,7 +139,7 @@ static OPTIONS: [CliOption; 26] = [
         takes: Takes::Text,
         value: "WORD",
         goes_with: GoesWith::Tables,
-        help: "A field that is this word is a null",
+        help: "A field that is WORD is null",
         ..SWITCH
     },
     CliOption {
@@ -162,7 +165,7 @@ static OPTIONS: [CliOption; 26] = [
     CliOption {
         id: "skip-bad",
         goes_with: GoesWith::Documents,
-        help: "Pass over lines that are no documents, and say how many there are",
+        help: "Skip lines that are no documents, and say how many there are",
         ..SWITCH
     },
     CliOption {
@@ -183,13 +186,13 @@ static OPTIONS: [CliOption; 26] = [
     },
     CliOption {
         id: "summary",
-        help: "Print the counts, and no rows or documents that differ",
+        help: "Print the counts alone, and no differences",
         ..SWITCH
     },
     CliOption {
         id: "schema-only",
         goes_with: GoesWith::Tables,
-        help: "Compare the names and kinds of the columns, and no rows",
+        help: "Compare the names and types of the columns, and no rows",
         ..SWITCH
     },
     CliOption {
@@ -212,11 +215,13 @@ static OPTIONS: [CliOption; 26] = [
         id: "width",
         takes: Takes::Number,
         value: "N",
+        excludes: &["format"],
         help: "Print aligned columns, no wider than N columns of the terminal; 40 or more",
         ..SWITCH
     },
     CliOption {
         id: "markdown",
+        excludes: &["format", "width"],
         help: "Print the report as Markdown, for a pull request",
         ..SWITCH
     },
@@ -224,6 +229,7 @@ static OPTIONS: [CliOption; 26] = [
         id: "html",
         takes: Takes::Text,
         value: "FILE",
+        excludes: &["format", "width", "markdown"],
         help: "Write a page to look at into FILE, of up to 10000 differences, and print nothing",
         ..SWITCH
     },

@@ -28,7 +28,7 @@ fn input_at<'a>(rt: &HostRuntime, path: &str, inputs: &[&'a str]) -> Option<&'a 
 /// Refuses to write to standard output where that is one of the inputs.
 pub(crate) fn refuse_own_output(rt: &HostRuntime, inputs: &[&str]) -> Result<()> {
     match input_at(rt, "/dev/stdout", inputs) {
-        Some(input) => Err(anyhow!("is the input {input:?}").context("standard output")),
+        Some(input) => Err(anyhow!("standard output is the input {input:?}")),
         None => Ok(()),
     }
 }

@@ -22,7 +22,9 @@ fn refuse_numbers(matches: &ArgMatches<'_>, names: &Names<'_>) -> Result<()> {
     }
     for key in &names.keys {
         if !names.texts.contains(key) {
-            return Err(anyhow!("--partition goes with --numbers where --text has all key columns"));
+            return Err(anyhow!(
+                "with --partition and --numbers all key columns have to be among --text"
+            ));
         }
     }
     Ok(())
@@ -43,6 +45,6 @@ pub(crate) fn part_of(matches: &ArgMatches<'_>) -> Result<Option<Part>> {
     };
     match named_part(text) {
         Some(part) => Ok(Some(part)),
-        None => Err(anyhow!("--partition takes I/N, as 1/8, with I from 1 to N, and not {text:?}")),
+        None => Err(anyhow!("--partition takes I/N such as 1/8, with I from 1 to N, not {text:?}")),
     }
 }

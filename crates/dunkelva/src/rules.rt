@@ -22,7 +22,7 @@ pub(crate) fn no_path(error: PathError, option: &str, example: &str, word: &str)
     match error {
         PathError::Memory => anyhow!("out of memory"),
         PathError::Invalid => anyhow!(
-            "--{option} takes paths such as order.id or {example}, and not {word:?}"
+            "--{option} takes paths such as order.id or {example}, not {word:?}"
         ),
     }
 }
@@ -63,7 +63,7 @@ fn margin_of(option: &str, word: &str) -> Result<Margin> {
 fn tolerance_of(alloc: Global, option: &str, word: &str) -> Result<Tolerance> {
     let Some((path, number)) = word.rsplit_once('=') else {
         return Err(anyhow!(
-            "--{option} takes a path and a bound such as items[].price=0.01, and not {word:?}"
+            "--{option} takes a path and a bound such as items[].price=0.01, not {word:?}"
         ));
     };
     let margin = margin_of(option, number)?;

@@ -6,6 +6,7 @@ use crate::files::open;
 use crate::kinds::names_documents;
 use crate::options::{Takes, options};
 use crate::outputs::refuse_own_output;
+use crate::trouble::csv_trouble;
 use crate::words::csv_options;
 use anyhow::{Result, anyhow};
 use clap::{Arg, ArgMatches, Command};
@@ -20,7 +21,7 @@ use std::io::{ErrorKind, Write};
 
 /// The text behind the options in `dunkelva schema --help`.
 const NOTES: &str = "\
-Each column has the narrowest of the kinds empty, truth value, whole number,
+Each column has the narrowest of the types empty, truth value, whole number,
 number and text that all its values are of. A field that is empty is missing,
 unless --null says that it is null; the others are its values.
 
@@ -96,10 +97,10 @@ fn null_in<'m>(matches: &'m ArgMatches<'_>) -> Option<&'m [u8]> {
     matches.get_str("null").map(|word| word.as_bytes())
 }
 
-/// Refuses a file whose name says that it has documents.
+/// Refuses a file whose name says that it has JSON.
 fn refuse_documents(file: &str) -> Result<()> {
-    if names_documents(file) {
-        return Err(anyhow!("schemas are of CSV files").context(file));
+    if names_documents(file) || file.ends_with(".json") {
+        return Err(anyhow!("only CSV files have a schema").context(file));
     }
     Ok(())
 }
@@ -116,7 +117,7 @@ fn schema_in(
     let input = open(rt, file, is_beside)?;
     match read_schema(rt.alloc(), input.reader, options, null_in(matches)) {
         Ok(schema) => Ok(schema),
-        Err(error) => Err(anyhow!("{error}").context(file)),
+        Err(error) => Err(csv_trouble(error, options).context(file)),
     }
 }
 
@@ -152,7 +153,7 @@ fn schema_text(
         form,
     ) {
         Ok(()) => Ok(text),
-        Err(error) => Err(anyhow!("{error}").context(file)),
+        Err(error) => Err(csv_trouble(error, options).context(file)),
     }
 }
 
@@ -173,7 +174,7 @@ fn refuse_others(matches: &ArgMatches<'_>) -> Result<()> {
             _ => OTHERS.contains(&option.id) && matches.contains_id(option.id),
         };
         if is_given {
-            return Err(anyhow!("--{} goes with no --schema-only", option.id));
+            return Err(anyhow!("--{} can't be used with --schema-only", option.id));
         }
     }
     Ok(())
@@ -227,7 +228,7 @@ pub(crate) fn compare_schemas(
 ) -> Result<u8> {
     refuse_others(matches)?;
     if left == "-" && right == "-" {
-        return Err(anyhow!("only one of the two can be standard input"));
+        return Err(anyhow!("only one of the two files can be standard input"));
     }
     refuse_own_output(rt, &[left, right])?;
     let has_standard = left == "-" || right == "-";

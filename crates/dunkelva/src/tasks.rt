@@ -284,7 +284,7 @@ pub(crate) fn compare_named(
     target: Target<'_>,
 ) -> Result<u8> {
     if left == "-" && right == "-" {
-        return Err(anyhow!("only one of the two can be standard input"));
+        return Err(anyhow!("only one of the two files can be standard input"));
     }
     let has_standard = left == "-" || right == "-";
     let names = (left, right);

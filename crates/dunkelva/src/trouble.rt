@@ -2,7 +2,9 @@
 
 use anyhow::{Error, anyhow};
 use diff_columns::error::{ColumnError, Side};
-use diff_run::error::RunError;
+use diff_csv::error::CsvError;
+use diff_csv::options::CsvOptions;
+use diff_run::error::{ChoiceError, NameList, RunError};
 use diff_run::options::Options;
 use document_rows::error::{LineFault, ReadError};
 use document_run::error::DocumentError;
@@ -17,28 +19,87 @@ fn file_of<'a>(files: (&'a [u8], &'a [u8]), side: Side) -> &'a str {
     str::from_utf8(name).unwrap_or("-")
 }
 
+/// Returns the error for a record that has another number of fields than the first one.
+fn other_length(line: u64, found: u64, expected: u64, csv: CsvOptions) -> Error {
+    let first = if csv.has_header {
+        "header"
+    } else {
+        "first record"
+    };
+    let fields = if found == 1 { "field" } else { "fields" };
+    anyhow!("line {line} has {found} {fields}, the {first} has {expected}")
+}
+
+/// Returns the error for a CSV file that can't be read.
+pub(crate) fn csv_trouble(cause: CsvError, csv: CsvOptions) -> Error {
+    match cause {
+        CsvError::Length {
+            line,
+            expected,
+            found,
+        } => other_length(line, found, expected, csv),
+        other => anyhow!("{other}"),
+    }
+}
+
+/// Returns a name as a text.
+fn text_of(name: &[u8]) -> &str {
+    str::from_utf8(name).unwrap_or("-")
+}
+
 /// Returns the error for a key that is not the name of a column.
 fn no_key(key: usize, options: &Options<'_>) -> Error {
     match options.choice.keys.get(key) {
-        Some(name) => anyhow!(
-            "no column is named {}",
-            str::from_utf8(name).unwrap_or("so")
-        ),
+        Some(name) => anyhow!("no column is named {:?}", text_of(name)),
         None => anyhow!("a key column is missing"),
     }
 }
 
-/// Returns the error for two rows that have the same key.
+/// Returns the name of the option that gives a list, and the names in the list.
+fn names_in<'a>(list: NameList, options: &Options<'a>) -> (&'static str, &'a [&'a [u8]]) {
+    match list {
+        NameList::Only => ("only", options.choice.only.unwrap_or(&[])),
+        NameList::Ignored => ("ignore", options.choice.ignored),
+        NameList::Texts => ("text", options.numbers.unwrap_or(&[])),
+    }
+}
+
+/// Returns the error for a name in a list that is not the name of a column of either file.
+fn no_column(list: NameList, name: usize, options: &Options<'_>) -> Error {
+    let (option, names) = names_in(list, options);
+    match names.get(name) {
+        Some(name) => anyhow!(
+            "--{option}: neither file has a column named {:?}",
+            text_of(name)
+        ),
+        None => anyhow!("--{option}: neither file has a column of this name"),
+    }
+}
+
+/// Returns the error for two rows or documents that have the same key.
 fn one_key(first: u64, again: u64) -> Error {
-    anyhow!("the rows at lines {first} and {again} have one key")
+    anyhow!("lines {first} and {again} have the same key")
 }
 
 /// Returns the error for a number in the column of this name, whose exponent is too wide.
 fn wide_exponent(line: u64, name: &[u8]) -> Error {
     anyhow!(
-        "line {line} has a number in column {} whose exponent has more than 30 digits: see --text",
-        str::from_utf8(name).unwrap_or("-")
+        "line {line}: a number in column {:?} has an exponent of more than 30 digits: see --text",
+        text_of(name)
     )
+}
+
+/// Returns the error for columns that can't be matched, with the file as context.
+fn columns_trouble(cause: ColumnError, files: (&[u8], &[u8]), options: &Options<'_>) -> Error {
+    match cause {
+        ColumnError::NameTwice { side, column } => anyhow!(
+            "column {} has the name of an earlier column",
+            column.saturating_add(1)
+        )
+        .context(file_of(files, side)),
+        ColumnError::NoKey { side, key } => no_key(key, options).context(file_of(files, side)),
+        ColumnError::Memory => anyhow!("out of memory"),
+    }
 }
 
 /// Returns the error that is printed for one of a comparison of tables, with the file as context.
@@ -48,23 +109,19 @@ pub(crate) fn table_trouble(
     options: &Options<'_>,
 ) -> Error {
     match error {
-        RunError::Csv { side, cause } => anyhow!("{cause}").context(file_of(files, side)),
+        RunError::Csv { side, cause } => {
+            csv_trouble(cause, options.csv).context(file_of(files, side))
+        }
         RunError::KeyTwice { side, first, again } => {
             one_key(first, again).context(file_of(files, side))
         }
         RunError::WideExponent { side, line, name } => {
             wide_exponent(line, &name).context(file_of(files, side))
         }
-        RunError::Columns {
-            cause: ColumnError::NameTwice { side, column },
-        } => anyhow!(
-            "column {} has the name of an earlier one",
-            column.saturating_add(1)
-        )
-        .context(file_of(files, side)),
-        RunError::Columns {
-            cause: ColumnError::NoKey { side, key },
-        } => no_key(key, options).context(file_of(files, side)),
+        RunError::Columns { cause } => columns_trouble(cause, files, options),
+        RunError::Choice {
+            cause: ChoiceError::NoColumn { list, name },
+        } => no_column(list, name, options),
         other => anyhow!("{other}"),
     }
 }
@@ -73,9 +130,11 @@ pub(crate) fn table_trouble(
 fn fault_text(fault: LineFault, options: &DocumentOptions<'_>) -> Error {
     match fault {
         LineFault::NoPart { key } => match options.names.get(key) {
-            Some(name) => anyhow!("no {}", str::from_utf8(name).unwrap_or("key")),
-            None => anyhow!("no key"),
+            Some(name) => anyhow!("the key {:?} is missing", text_of(name)),
+            None => anyhow!("a key is missing"),
         },
+        LineFault::Invalid => anyhow!("not valid JSON"),
+        LineFault::NoObject => anyhow!("not a JSON object"),
         other => anyhow!("{other}"),
     }
 }

@@ -1,5 +1,6 @@
 //! The settings that the words of the command line give.
 
+use crate::keys::refuse_repeated;
 use crate::kinds::usual_delimiter;
 use crate::tasks::Target;
 use anyhow::{Result, anyhow};
@@ -36,8 +37,8 @@ fn push_names<'a>(
 }
 
 impl<'a> Names<'a> {
-    /// Returns the names that the words give.
-    pub(crate) fn of(alloc: Global, matches: &ArgMatches<'a>) -> Result<Names<'a>, AllocError> {
+    /// Returns the names that the words give. Fails where a key is given twice.
+    pub(crate) fn of(alloc: Global, matches: &ArgMatches<'a>) -> Result<Names<'a>> {
         let mut names = Names {
             keys: Vec::new(alloc),
             only: Vec::new(alloc),
@@ -48,6 +49,7 @@ impl<'a> Names<'a> {
         push_names(&mut names.only, matches, "only")?;
         push_names(&mut names.ignored, matches, "ignore")?;
         push_names(&mut names.texts, matches, "text")?;
+        refuse_repeated(&names.keys)?;
         Ok(names)
     }
 }
@@ -58,10 +60,12 @@ fn delimiter_of(text: &str) -> Result<u8> {
     let byte = match text.as_bytes() {
         b"\\t" => b'\t',
         [byte] => *byte,
-        _ => return Err(anyhow!("--delimiter takes one byte, and not {text:?}")),
+        _ => return Err(anyhow!("--delimiter takes one byte, not {text:?}")),
     };
     if !is_delimiter(byte) {
-        return Err(anyhow!("--delimiter takes no quote and no end of a line, and not {text:?}"));
+        return Err(anyhow!(
+            "--delimiter can be neither a quote nor the end of a line, as {text:?} is"
+        ));
     }
     Ok(byte)
 }
@@ -84,23 +88,13 @@ const MOST_IN_PAGE: usize = 10_000;
 /// The least number of columns that aligned columns are printed in.
 const LEAST_WIDTH: usize = 40;
 
-/// Returns the width of the terminal, if aligned columns are asked for. Fails if it is too small,
-/// or if another form of the report is asked for too.
+/// Returns the width of the terminal, if aligned columns are asked for. Fails if it is too small.
 fn width_of(matches: &ArgMatches<'_>) -> Result<Option<usize>> {
     let Some(width) = matches.get_one::<usize>("width") else {
         return Ok(None);
     };
-    if matches.get_str("format") == Some("json") {
-        return Err(anyhow!("--width goes with lines to read, and not with --format json"));
-    }
-    if matches.get_flag("markdown") {
-        return Err(anyhow!("--width goes with lines to read, and not with --markdown"));
-    }
-    if matches.contains_id("html") {
-        return Err(anyhow!("--width goes with lines to read, and not with --html"));
-    }
     if width < LEAST_WIDTH {
-        return Err(anyhow!("--width takes {LEAST_WIDTH} columns or more, and not {width}"));
+        return Err(anyhow!("--width takes {LEAST_WIDTH} columns or more, not {width}"));
     }
     Ok(Some(width))
 }
