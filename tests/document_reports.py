@@ -542,6 +542,9 @@ def faults_said(pair):
             sides.append(documents_of(content, pair.options))
         except Fault as fault:
             said += [f"{file}: {what}" for what in fault.said]
+    skipping = [file for file, side in zip(named_files(pair.options), sides) if side.skipped and not side.numbers]
+    if not said and skipping and not pair.options.get("partition"):
+        said = [f"{skipping[0]}: --skip-bad would skip every line"]
     if not said and pair.options["unique"] and (twice := key_fault(sides, pair.options)):
         said = [twice]
     return said, sides

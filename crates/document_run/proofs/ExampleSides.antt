@@ -1,5 +1,5 @@
 -- The worked example of a report: the sides of two texts, and which of their documents are changed.
-use Rattle.std.proofs.Common.{◌≡◌, ◌≢◌, ◌∙◌, ℕ, suc, false, List, [], ◌∷◌, None, length, map, ap, arith, subst, sym, refl}
+use Rattle.std.proofs.Common.{◌≡◌, ◌≢◌, ◌∙◌, ℕ, suc, false, List, [], ◌∷◌, None, length, map, true, ap, arith, subst, sym, refl}
 use Rattle.std.proofs.lemmas.List.{length-map}
 use Rattle.std.specs.Prelude.{codes, slice_index}
 use Rattle.diff_columns.specs.Names.{names_of}
@@ -14,6 +14,7 @@ use Rattle.document_rows.specs.Numbers.{AreNumbered, AreNumbersOf, IsNumberOf, n
 use Rattle.document_rows.specs.Parts.{IsWanted, is_in}
 use Rattle.document_rows.specs.declared.reading.Reading.{Reading}
 use Rattle.document_run.specs.Run.{IsSideOf, paths_of, rules_of, tree_at}
+use Rattle.document_run.specs.Skipped.{none_kept}
 use Rattle.document_run.specs.declared.options.DocumentOptions.{DocumentOptions}
 use Rattle.json_changes.specs.Differences.{Difference}
 use Rattle.json_changes.specs.Rules.{Rules, differences_told}
@@ -116,3 +117,7 @@ changed_listed rules (d ∷ ds) (e ∷ es) a b =
     let P : ℕ → Type 0 = TellsAt rules old_lines new_lines (0 ∷ 2 ∷ []) (0 ∷ 1 ∷ []) in
     one_listed P 1 2 (0 ∷ []) (one_listed P 0 1 [] (none_listed P) (λ none. let both : d ∷ ds ≡ [] = sym a ∙ none in absurd (cc both)) refl)
     (λ none. let both : e ∷ es ≡ [] = sym b ∙ none in absurd (cc both)) refl
+
+-- where lines 1 and 2 are skipped, and there is no other one, none is kept
+none-kept : none_kept [] (1 ∷ 2 ∷ []) ≡ true
+none-kept = refl

@@ -6,3 +6,4 @@ pub mod ExampleSides
 pub mod LawLemmas
 mod PartLemmas
 pub mod SideLemmas
+mod SkippedLemmas

@@ -177,6 +177,7 @@ rows_fault options left_text right_text left_name right_name s error.TooManyRows
   ),
 )
 rows_fault options left_text right_text left_name right_name s (error.Read side cause) sides fault = absurd fault
+rows_fault options left_text right_text left_name right_name s (error.AllSkipped side) sides fault = absurd fault
 rows_fault options left_text right_text left_name right_name s (error.KeyTwice Left first again) sides (asked, twice) = (asked, twice_is options left_text left_name s.left s.left_skipped.items first again sides.left twice)
 rows_fault options left_text right_text left_name right_name s (error.KeyTwice Right first again) sides (asked, twice) = (asked, twice_is options right_text right_name s.right s.right_skipped.items first again sides.right twice)
 rows_fault options left_text right_text left_name right_name s (error.Write cause) sides fault = absurd fault

@@ -14,7 +14,8 @@ use Rattle.diff_run.specs.Faults.{text_on}
 use Rattle.diff_tables.specs.Keys.{row_keys}
 use Rattle.document_rows.specs.Errors.{IsReadFault}
 use Rattle.document_rows.specs.Numbers.{AreDocumentNumbers}
-use Rattle.document_run.specs.Run.{document_keys, documents_at, key_columns, paths_of}
+use Rattle.document_run.specs.Run.{HasNoDocument, document_keys, documents_at, key_columns}
+use Rattle.document_run.specs.Run.{paths_of}
 use Rattle.document_run.specs.declared.error.DocumentError.{DocumentError}
 use Rattle.document_run.specs.declared.error.DocumentError.TheVariants as error
 use Rattle.document_run.specs.declared.options.DocumentOptions.{DocumentOptions}
@@ -48,15 +49,17 @@ HasTwice options text first again = (numbers : List ℕ)
     × AreDocumentNumbers text options.reading (paths_of options) numbers
     × AreFirstTwice (document_keys options (documents_at text numbers)) numbers first again
 
--- the errors of comparing two texts: a line of one is no document; there are too many documents;
--- keys have to be unique, and two documents of a text have the same one; or an allocation, a read
--- or a write failed
+-- the errors of comparing two texts: a line of one is no document; a text has lines, but no
+-- document; there are too many documents; keys have to be unique, and two documents of a text have
+-- the same one; or an allocation, a read or a write failed
 abbrev pub IsDocumentFault : DocumentOptions → List ℕ → List ℕ → DocumentError → Type 0
 IsDocumentFault options left_text right_text error.Memory = ⊤
 IsDocumentFault options left_text right_text error.TooManyRows =
     HaveTooMany options left_text right_text
 IsDocumentFault options left_text right_text (error.Read side cause) =
     IsReadFault (text_on side left_text right_text) options.reading (paths_of options) cause
+IsDocumentFault options left_text right_text (error.AllSkipped side) =
+    HasNoDocument options (text_on side left_text right_text)
 IsDocumentFault options left_text right_text (error.KeyTwice side first again) =
     (options.unique ≡ true) × HasTwice options (text_on side left_text right_text) first again
 IsDocumentFault options left_text right_text (error.Write cause) = ⊤
@@ -66,6 +69,7 @@ abbrev pub IsWrite : DocumentError → Type 0
 IsWrite error.Memory = ⊥
 IsWrite error.TooManyRows = ⊥
 IsWrite (error.Read side cause) = ⊥
+IsWrite (error.AllSkipped side) = ⊥
 IsWrite (error.KeyTwice side first again) = ⊥
 IsWrite (error.Write cause) = ⊤
 
@@ -79,6 +83,7 @@ abbrev pub IsSideFault : Table → List ℕ → Side → DocumentError → Type 
 IsSideFault table columns side error.Memory = ⊤
 IsSideFault table columns side error.TooManyRows = ⊥
 IsSideFault table columns side (error.Read s cause) = ⊥
+IsSideFault table columns side (error.AllSkipped s) = ⊥
 IsSideFault table columns side (error.KeyTwice s first again) = (s ≡ side)
     × HasKeyTwice table columns first again
 IsSideFault table columns side (error.Write cause) = ⊥
@@ -96,6 +101,7 @@ IsRowsFault options s error.TooManyRows =
     ¬ (AreFew (row_keys (key_columns options) s.left.table.rows)
     (row_keys (key_columns options) s.right.table.rows))
 IsRowsFault options s (error.Read side cause) = ⊥
+IsRowsFault options s (error.AllSkipped side) = ⊥
 IsRowsFault options s (error.KeyTwice side first again) = (options.unique ≡ true)
     × HasKeyTwice (side_on side s) (key_columns options) first again
 IsRowsFault options s (error.Write cause) = ⊥

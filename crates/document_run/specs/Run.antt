@@ -11,8 +11,8 @@
 -- last line more:
 -- Skipped 1 line of old.ndjson (line 1).
 use Rattle.std.specs.List.{range_with_len}
-use Rattle.std.specs.Prelude.{◌≡◌, ◌≢◌, ◌==◌, ◌&&◌, ℕ, Bool, true, if◌then◌else◌, List, [], get_or}
-use Rattle.std.specs.Prelude.{length, map, slice_index}
+use Rattle.std.specs.Prelude.{◌≡◌, ◌≢◌, ◌==◌, ◌&&◌, ℕ, Bool, true, if◌then◌else◌, All, List, []}
+use Rattle.std.specs.Prelude.{None, get_or, length, map, slice_index}
 use Rattle.diff_columns.specs.Names.{names_of}
 use Rattle.diff_keys.specs.Matching.{IsMatching}
 use Rattle.diff_keys.specs.Outcome as outcome
@@ -23,7 +23,7 @@ use Rattle.diff_report.specs.declared.sides.Side.{Side}
 use Rattle.diff_keys.specs.declared.outcome.Outcome.{Outcome}
 use Rattle.diff_tables.specs.Keys.{row_keys}
 use Rattle.document_report.specs.Forms.{format_text}
-use Rattle.document_rows.specs.Documents.{document_row, tree_of}
+use Rattle.document_rows.specs.Documents.{IsDocument, document_row, tree_of}
 use Rattle.document_rows.specs.Lines.{lines_of}
 use Rattle.document_rows.specs.Numbers.{numbered_lines}
 use Rattle.document_rows.specs.Tables.{AreDocumentsOf}
@@ -84,12 +84,19 @@ pub record IsSideOf (options : DocumentOptions) (text name : List ℕ) (side : S
   pub documents :
       AreDocumentsOf text options.reading (paths_of options) side.table side.lines.items skipped
 
+-- a text has lines, and none of them is a document
+abbrev pub HasNoDocument : DocumentOptions → List ℕ → Type 0
+HasNoDocument options text = (lines_of text ≢ [])
+    × All (λ line. ¬ (IsDocument options.reading (paths_of options) line)) (lines_of text)
+
 -- the sides have the documents of two texts, the numbers of the lines that are passed over, the
 -- names of the keys, and the rules
 pub record AreSidesOf (options : DocumentOptions)
     (left_text right_text left_name right_name : List ℕ) (sides : DocumentSides) : Type 0 where
   pub left : IsSideOf options left_text left_name sides.left sides.left_skipped.items
   pub right : IsSideOf options right_text right_name sides.right sides.right_skipped.items
+  pub left_some : options.reading.part ≡ None → ¬ (HasNoDocument options left_text)
+  pub right_some : options.reading.part ≡ None → ¬ (HasNoDocument options right_text)
   pub skip_bad : sides.skip_bad ≡ options.reading.skip_bad
   pub names : words.names_of sides ≡ names_of options.names.now
   pub colored : sides.colored ≡ options.colored

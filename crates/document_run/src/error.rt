@@ -21,9 +21,12 @@ pub enum DocumentError {
     /// An input can't be read, or a line of it is no document.
     #[error("{cause}")]
     Read { side: Side, cause: ReadError },
+    /// An input has lines, but none of them is a document, and bad lines are to be skipped.
+    #[error("no line is a document")]
+    AllSkipped { side: Side },
     /// Two documents of an input have the same key, where keys have to be unique. `first` and
     /// `again` are the numbers of their lines, from 1 on.
-    #[error("the rows at lines {first} and {again} have one key")]
+    #[error("the documents at lines {first} and {again} have the same key")]
     KeyTwice { side: Side, first: u64, again: u64 },
     /// A write failed. The beginning of the report may have been written.
     #[error("{cause}")]

@@ -9,4 +9,5 @@ pub mod options;
 mod report;
 pub mod run;
 mod sides;
+mod skipped;
 mod unique;

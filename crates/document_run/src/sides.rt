@@ -9,6 +9,7 @@ ghost use Rattle.document_run.specs.Sides.{AreComparable};
 use crate::error::DocumentError;
 use crate::inputs::{read_right, read_side};
 use crate::options::DocumentOptions;
+use crate::skipped::test_kept;
 use diff_columns::error::Side;
 use diff_run::run::Input;
 use document_words::sides::DocumentSides;
@@ -45,7 +46,9 @@ pub(crate) fn sides_of<'a, L: Read + Drop, R: Read + Drop>(
 {
     let keys = copied(alloc, options.names)?;
     let left = read_side(alloc, left, options, Side::Left)?;
+    test_kept(&left, options, Side::Left)?;
     let right = read_right(alloc, right, options, &left.table)?;
+    test_kept(&right, options, Side::Right)?;
     Ok(DocumentSides {
         left: left.table,
         right: right.table,

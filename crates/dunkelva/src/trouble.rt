@@ -179,6 +179,9 @@ pub(crate) fn document_trouble(
         DocumentError::KeyTwice { side, first, again } => {
             one_key(first, again).context(file_of(files, side))
         }
+        DocumentError::AllSkipped { side } => {
+            anyhow!("--skip-bad would skip every line").context(file_of(files, side))
+        }
         other => anyhow!("{other}"),
     }
 }

@@ -1,0 +1,37 @@
+//! Inputs of which every line is skipped.
+
+ghost use Rattle.std.specs.Prelude.{◌≡◌, false, None, MatchResult};
+ghost use Rattle.document_run.specs.Skipped.{IsSkippedFault, none_kept};
+
+use crate::error::DocumentError;
+use crate::inputs::ReadSide;
+use crate::options::DocumentOptions;
+use diff_columns::error::Side;
+
+/// Returns whether an input has no rows, and lines that are skipped.
+fn none_kept(read: &ReadSide) -> bool
+    ensures { result ≡ none_kept read.now.table.lines.items read.now.skipped.items }
+{
+    read.table.lines.is_empty() && !read.skipped.is_empty()
+}
+
+/// Tests that not every line of the input on a side is skipped. Of a part nothing is tested, since
+/// it may have none of the documents.
+pub(crate) fn test_kept(
+    read: &ReadSide,
+    options: &DocumentOptions<'_>,
+    side: Side,
+) -> Result<(), DocumentError>
+    ensures { MatchResult result
+        (λ _. options.now.reading.part ≡ None
+        → none_kept read.now.table.lines.items read.now.skipped.items ≡ false)
+        (IsSkippedFault options.now read.now side) }
+{
+    if options.reading.part.is_some() {
+        return Ok(());
+    }
+    if none_kept(read) {
+        return Err(DocumentError::AllSkipped { side });
+    }
+    Ok(())
+}
