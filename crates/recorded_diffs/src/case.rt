@@ -1,0 +1,42 @@
+//! A case: two texts, and how they are compared.
+
+use crate::documents::answer_documents;
+use crate::tables::answer_tables;
+use anyhow::{Context, Result, anyhow};
+use diff_keys::outcome::Outcome;
+use std::alloc::Global;
+
+/// Returns the outcome of the comparison that a line asks for, and the bytes that were written.
+pub(crate) fn answer(alloc: Global, line: &str) -> Result<String> {
+    let words: Vec<&str> = line.split(' ').collect(alloc)?;
+    let (kind, rest) = words.split_first().context("no kind")?;
+    let (right, rest) = rest.split_last().context("no right text")?;
+    let (left, options) = rest.split_last().context("no left text")?;
+    let left = read_bytes(alloc, left)?;
+    let right = read_bytes(alloc, right)?;
+    match *kind {
+        "tables" => answer_tables(alloc, options, &left, &right),
+        "documents" => answer_documents(alloc, options, &left, &right),
+        other => Err(anyhow!("no kind is named {other:?}")),
+    }
+}
+
+/// Returns the bytes that a word writes.
+fn read_bytes(alloc: Global, word: &str) -> Result<Vec<u8>> {
+    let digits = word.strip_prefix('x').context("no bytes")?;
+    Ok(hex::decode(alloc, digits)?)
+}
+
+/// Returns the word for an outcome.
+pub(crate) fn outcome_word(outcome: Outcome) -> &'static str {
+    match outcome {
+        Outcome::Same => "same",
+        Outcome::Different => "different",
+    }
+}
+
+/// Returns the text of an outcome or an error, and of the bytes that were written.
+pub(crate) fn write_answer(alloc: Global, said: &str, written: &[u8]) -> Result<String> {
+    let written = hex::encode(alloc, written)?;
+    Ok(format!(in alloc; "{said} x{written}")?)
+}

@@ -1,0 +1,44 @@
+//! Options of a case.
+
+use diff_run::options::Format;
+use std::alloc::{AllocError, Global};
+
+/// Returns whether an option is given.
+pub(crate) fn is_given(options: &[&str], name: &str) -> bool {
+    options.contains(&name)
+}
+
+/// Returns the value of an option, if it is given.
+pub(crate) fn value_of<'a>(options: &[&'a str], name: &str) -> Option<&'a str> {
+    for option in options {
+        match option.split_once('=') {
+            Some((given, value)) if given == name => return Some(value),
+            _ => {}
+        }
+    }
+    None
+}
+
+/// Returns the names that an option gives.
+pub(crate) fn names_of<'a>(
+    alloc: Global,
+    options: &[&'a str],
+    name: &str,
+) -> Result<Vec<&'a [u8]>, AllocError> {
+    let mut names = Vec::new(alloc);
+    if let Some(list) = value_of(options, name) {
+        for text in list.split(',') {
+            names.push(text.as_bytes())?;
+        }
+    }
+    Ok(names)
+}
+
+/// Returns the form of the report.
+pub(crate) fn format_of(options: &[&str]) -> Format {
+    if is_given(options, "json") {
+        Format::Json
+    } else {
+        Format::Text
+    }
+}
