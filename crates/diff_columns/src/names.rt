@@ -5,7 +5,7 @@ ghost use Rattle.diff_columns.specs.Names.{AreDistinct, IsMissing, IsNamed, IsRe
 
 use polars_arrays_flat::byte_rows::ByteRows;
 
-/// Returns a column of this name, or `None`.
+/// Returns the index of a column of this name, or `None`.
 pub(crate) fn column_named<N: ByteRows>(names: &N, name: &[u8]) -> Option<usize>
     ensures { MatchOption result (¬ (Contains (N.strings names.now) name.now))
         (IsNamed (N.strings names.now) name.now) }

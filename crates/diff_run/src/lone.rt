@@ -12,7 +12,7 @@ use polars_arrays_bytes::binary::BinaryArray;
 use polars_arrays_flat::byte_rows::ByteRows;
 use std::alloc::AllocError;
 
-/// Appends the line of a column that only one input has, in text.
+/// Appends the line of a column that only one input has to a report in text.
 #[tactic(auto, unfolding(crate::specs::Lone::lone_line))]
 fn push_lone_line(out: &mut Vec<u8>, input: &[u8], name: &[u8]) -> Result<(), AllocError>
     ensures { OnOk result (out.new.items ≡ out.old.items ++ lone_line input.now name.now) }
