@@ -1,29 +1,31 @@
 //! Rows of columns that are appended to states.
 
 ghost use Rattle.std.specs.Option.{option_copied};
-ghost use Rattle.std.specs.Prelude.{◌≡◌, ◌<◌, ◌≤◌, ◌*◌, [], ◌∷◌, false, length, IsTrue};
-ghost use Rattle.arrow_unique.specs.Memory.{AreMarked, Holds, state_in};
+ghost use Rattle.std.specs.Prelude.{◌≡◌, ◌<◌, ◌≤◌, ◌+◌, ◌*◌, ◌||◌, ◌-ℤ◌, [], ◌∷◌, false};
+ghost use Rattle.std.specs.Prelude.{length, IsTrue};
+ghost use Rattle.arrow_unique.specs.Memory.{AreMarked, Holds, low_word, state_in};
 ghost use Rattle.polars_arrays_flat.specs.ArrayRows.{number_rows};
 ghost use Rattle.polars_arrays_flat.specs.Row.{Int};
 ghost use Rattle.polars_arrays_flat.specs.StoredRows.{kept, number_slots, rows_under};
 ghost use Rattle.polars_arrays_flat.specs.Validity.{HasBits};
+ghost use Rattle.polars_arrays_words.specs.Bits.{IsWritten, bit_of};
 ghost use Rattle.polars_compute_slots.specs.Slots.{HasSlot, HaveSlots};
 ghost use Rattle.polars_compute_slots.specs.State.{appended, are_within, is_within, numbers_from};
 
 use arrow_columns::column::Column;
 use polars_arrays_bits::bitmap::Bitmap;
 use polars_arrays_flat::validity::is_present;
-use polars_arrays_words::write::write_bit;
+use polars_arrays_words::words::WORD_BITS;
 use polars_compute_slots::number::UniqueNumber;
 use polars_compute_slots::span::Span;
 
-// Returns whether a row is null or a number of a range.
+// Returns whether a row is null or a number of a range. It is compiled without a branch.
 #[inline(always)]
 fn accepts_row<T: UniqueNumber>(span: &Span<T>, present: bool, number: T) -> bool
     ensures { result ≡ is_within (numbers_from (T.value span.now.least) span.now.count)
         (kept present (Int (T.value number))) }
 {
-    if present { span.holds(number) } else { true }
+    !present | span.holds(number)
 }
 
 // Returns whether each row is null or a number of a range.
@@ -40,7 +42,29 @@ fn accepts<T: UniqueNumber>(span: &Span<T>, numbers: &[T], validity: Option<&Bit
     true
 }
 
-// Sets the bit of a row's number, if the row is present.
+// Returns how far a number lies above another one: the lower 64 bits of the distance, in two's
+// complement. If the number has a slot in the range from the other one on, that is its slot.
+#[inline(always)]
+fn low_distance<T: UniqueNumber>(least: T, number: T) -> usize
+    ensures { result ≡ low_word (T.value number -ℤ T.value least) }
+{
+    let distance = number.whole() - least.whole();
+    (distance.cast_unsigned() & 0xFFFF_FFFF_FFFF_FFFF) as usize
+}
+
+// Sets bit `p` if `value` is true. It is compiled without a branch.
+#[inline(always)]
+fn join_bit(words: &mut [u64], p: usize, value: bool)
+    requires { p < 64 * length words.old }
+    ensures { IsWritten words.old words.new p (p + 1) (bit_of words.old p || value) }
+{
+    let word = words[p / WORD_BITS];
+    let mask = 1u64 << (p % WORD_BITS);
+    words[p / WORD_BITS] = if value { word | mask } else { word };
+}
+
+// Sets the bit of a row's number, if the row is present. What is stored under a null is looked at
+// too, and changes nothing: so there is no branch that depends on the row.
 #[inline(always)]
 fn mark_row<T: UniqueNumber>(words: &mut [u64], span: &Span<T>, present: bool, number: T)
     requires fit { HasSlot (T.value span.now.least) span.now.count
@@ -49,8 +73,10 @@ fn mark_row<T: UniqueNumber>(words: &mut [u64], span: &Span<T>, present: bool, n
     ensures { AreMarked (T.value span.now.least) span.now.count
         (kept present (Int (T.value number)) ∷ []) words.old words.new }
 {
-    if present {
-        write_bit(words, span.slot(number), true);
+    let count = span.count;
+    let p = low_distance(span.least, number);
+    if p < count {
+        join_bit(words, p, present);
     }
 }
 

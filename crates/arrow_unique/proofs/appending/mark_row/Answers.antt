@@ -1,16 +1,16 @@
-use Rattle.std.proofs.Common.{◌∷◌, [], Bool, sym, subst}
-use Rattle.polars_arrays_flat.specs.Row.{Int}
-use Rattle.polars_arrays_flat.specs.StoredRows.{kept}
-use Rattle.polars_compute_slots.specs.Slots.{HasSlot}
-use Rattle.arrow_unique.specs.Memory.{AreMarked}
-use Rattle.arrow_unique.proofs.Marked.{marked-number}
+use Rattle.std.proofs.Common.{arith}
+use Rattle.arrow_unique.proofs.Marked.{marked-out, marked-row}
 use Rattle.arrow_unique.proofs.appending.mark_row.Goals as goal
 
-pub returns-then-present : goal.returns-then-present
-returns-then-present g c =
-    let least = g.T.Number.value c.args.span.now.least in
-    let n = c.args.span.now.count in
-    let number = g.T.Number.value c.args.number in
-    let fit = subst (λ (b : Bool). HasSlot least n (kept b (Int number))) c.if-present.true c.requires.fit in
-    subst (λ (b : Bool). AreMarked least n (kept b (Int number) ∷ []) c.args.words.now c.write_bit.new.words) (sym c.if-present.true)
-    (marked-number least number n c.slot.result c.args.words.now c.write_bit.new.words c.write_bit.ensures fit c.slot.ensures)
+pub join_bit-requires : goal.join_bit-requires
+join_bit-requires g c = omega (arith, c.requires.room, c.if-p-count.true)
+
+pub returns-then-p-count : goal.returns-then-p-count
+returns-then-p-count g c =
+    marked-row (g.T.Number.value c.args.span.now.least) (g.T.Number.value c.args.number) c.args.span.now.count c.low_distance-p.result c.args.present c.args.words.now c.join_bit.new.words
+    (omega arith) c.low_distance-p.ensures c.requires.fit c.join_bit.ensures
+
+pub returns-else-p-count : goal.returns-else-p-count
+returns-else-p-count g c =
+    marked-out (g.T.Number.value c.args.span.now.least) (g.T.Number.value c.args.number) c.args.span.now.count c.low_distance-p.result c.args.present c.args.words.now
+    (omega arith) c.low_distance-p.ensures c.requires.fit (λ lt. omega (arith, lt, c.if-p-count.false))
