@@ -1,9 +1,10 @@
-"""Which parts make an array, why others make none, and the rows of an array: an account of its own, which reads arrays
-as recorded cases write them and follows the rules below.
+"""Which parts make an array, why others make none, and the rows of an array: an account of its own,
+which reads arrays as recorded cases write them and follows the rules below.
 
-An array is written as its first row, how many rows, its kind, and the parts of the kind; arrays in it are written in
-the same way, and are made before the one that holds them. So the fault that is told is that of the innermost array
-first, then of the next one beside it, and at last that of the whole. Of one array it is the first of these that holds:
+An array is written as its first row, how many rows, its kind, and the parts of the kind; arrays in
+it are written in the same way, and are made before the one that holds them. So the fault that is
+told is that of the innermost array first, then of the next one beside it, and at last that of the
+whole. Of one array it is the first of these that holds:
 
 1. Lengths do not fit: a validity has not exactly one bit a row; or of byte strings of one size, or lists of one width,
    there are not size times rows bytes, or width times rows items, in whole numbers without a bound. Between offsets
@@ -20,10 +21,20 @@ first, then of the next one beside it, and at last that of the whole. Of one arr
 
 All of these but the last are asked of null rows too. Row i is always the first such row.
 """
-TYPES = {sign + str(width): (-(2 ** (width - 1)) if sign == "i" else 0, 2 ** (width - (sign == "i")) - 1)
-         for sign in "iu" for width in (8, 16, 32, 64, 128)}
+TYPES = {
+    sign + str(width): (-(2 ** (width - 1)) if sign == "i" else 0, 2 ** (width - (sign == "i")) - 1)
+    for sign in "iu"
+    for width in (8, 16, 32, 64, 128)
+}
 KEYS = ("i8", "i16", "i32", "i64", "u8", "u16", "u32", "u64")
-OFFSETS = {"binary": "i32", "utf8": "i32", "list": "i32", "largebinary": "i64", "largeutf8": "i64", "largelist": "i64"}
+OFFSETS = {
+    "binary": "i32",
+    "utf8": "i32",
+    "list": "i32",
+    "largebinary": "i64",
+    "largeutf8": "i64",
+    "largelist": "i64",
+}
 COUNT = "u64"
 GREATEST_COUNT = TYPES[COUNT][1]
 SHORT = 12
@@ -112,6 +123,7 @@ class Words:
 
 
 # ---- arrays
+
 
 class Array:
     """Rows, of which a validity masks some: the `n` rows from row `at` on of what its parts store.
@@ -222,7 +234,9 @@ class FixedLists(Lists):
 
 class Structs(Array):
     def __init__(self, n, names, columns, present):
-        fields = ", ".join(f"{name} {column.dtype}" for name, column in zip(names, columns, strict=True))
+        fields = ", ".join(
+            f"{name} {column.dtype}" for name, column in zip(names, columns, strict=True)
+        )
         super().__init__(f"struct({fields})", n, present)
         self.columns = columns
 
@@ -251,13 +265,16 @@ class Dictionary(Array):
         return [self.entries.at + self.keys[i] for i in range(at, at + n) if not self.is_null(i)]
 
     def slots(self, at, n):
-        return min(sum(self.entries.slots(place, 1) for place in self.places(at, n)), GREATEST_COUNT)
+        return min(
+            sum(self.entries.slots(place, 1) for place in self.places(at, n)), GREATEST_COUNT
+        )
 
     def visits(self, at, n):
         return n + sum(self.entries.visits(place, 1) for place in self.places(at, n))
 
 
 # ---- rules
+
 
 def ask_length(n, present):
     if present is not None and len(present) != n:
@@ -277,7 +294,11 @@ def string_of(view, buffers):
     if n <= SHORT:
         return view[4 : 4 + n] if not any(view[4 + n :]) else None
     number, at = int.from_bytes(view[8:12], "little"), int.from_bytes(view[12:], "little")
-    if number >= len(buffers) or at + n > len(buffers[number]) or buffers[number][at : at + 4] != view[4:8]:
+    if (
+        number >= len(buffers)
+        or at + n > len(buffers[number])
+        or buffers[number][at : at + 4] != view[4:8]
+    ):
         return None
     return buffers[number][at : at + n]
 
@@ -305,6 +326,7 @@ def ask_columns(n, dtypes, columns):
 
 
 # ---- arrays of parts, in the order in which words write these
+
 
 def booleans(words, _kind):
     bits, present = bits_of(words.read()), words.validity()
@@ -343,7 +365,12 @@ def viewed(words, kind):
 
 
 def sized(words, _kind):
-    size, n, data, present = words.number(), words.number(), bytes_of(words.read()), words.validity()
+    size, n, data, present = (
+        words.number(),
+        words.number(),
+        bytes_of(words.read()),
+        words.validity(),
+    )
     ask_length(n, present)
     if size * n != len(data):
         raise NoArray("lengths do not fit")
@@ -390,10 +417,16 @@ def dictionary(words, _kind):
 
 
 READERS = {
-    "null": lambda words, kind: Nulls(kind, words.number()), "bool": booleans, **dict.fromkeys(TYPES, integers),
+    "null": lambda words, kind: Nulls(kind, words.number()),
+    "bool": booleans,
+    **dict.fromkeys(TYPES, integers),
     **dict.fromkeys(("binary", "largebinary", "utf8", "largeutf8"), strings),
     **dict.fromkeys(("binaryview", "utf8view"), viewed),
-    "fixedbinary": sized, "list": lists, "largelist": lists, "fixedlist": fixed_lists, "struct": structs,
+    "fixedbinary": sized,
+    "list": lists,
+    "largelist": lists,
+    "fixedlist": fixed_lists,
+    "struct": structs,
     "dict": dictionary,
 }
 
@@ -416,7 +449,8 @@ def named_array(words):
 
 
 def struct_of(words, arrays):
-    """What `struct_try_new` makes: how many rows, their validity, fields of a name and an array's type, and columns."""
+    """What `struct_try_new` makes: how many rows, their validity, fields of a name and an array's
+    type, and columns."""
     n, present = words.number(), words.validity()
     fields = [(words.read(), arrays[words.read()]) for _ in range(words.number())]
     columns = [arrays[words.read()] for _ in range(words.number())]

@@ -1,7 +1,8 @@
 """Arrays at random as words, and changes of single words, after which the parts may make no array.
 
-A word is kept with what it is and with what its neighbours say of it, so that a change can be a likely one: an offset
-just behind the bytes, a validity one bit short, a text cut within a character. Mostly a line can be read after it.
+A word is kept with what it is and with what its neighbours say of it, so that a change can be a
+likely one: an offset just behind the bytes, a validity one bit short, a text cut within a
+character. Mostly a line can be read after it.
 """
 from array_rules import KEYS, OFFSETS, SHORT, TYPES
 
@@ -14,13 +15,51 @@ LEAVES = ("null", "bool", "fixedbinary", *NUMBERS, *STRINGS, *VIEWS)
 HOLDERS = ("list", "largelist", "fixedlist", "struct", "dict", "dict")
 KINDS = (*LEAVES, *STRINGS, *VIEWS, *VIEWS, *(3 * ("fixedbinary", *HOLDERS)))
 ALIKE = [STRINGS, VIEWS, ("list", "largelist"), NUMBERS]
-PIECES = ("", "a", "b", "é", "€", "😀", "\0", "abcd", "abcdé", "ab", "zzzzzzz", "\x7f", "\x80", "\ud7ff", "\ue000",
-          "\U0010ffff")
+PIECES = (
+    "",
+    "a",
+    "b",
+    "é",
+    "€",
+    "😀",
+    "\0",
+    "abcd",
+    "abcdé",
+    "ab",
+    "zzzzzzz",
+    "\x7f",
+    "\x80",
+    "\ud7ff",
+    "\ue000",
+    "\U0010ffff",
+)
 # bytes that no text has, or that cut a character
-NO_TEXT = (b"\x80", b"\xbf", b"\xc0\x80", b"\xc1\xbf", b"\xc3", b"\xe2\x82", b"\xe0\x9f\xbf", b"\xed\xa0\x80",
-           b"\xed\xbf\xbf", b"\xf0\x8f\xbf\xbf", b"\xf0\x9f\x98", b"\xf4\x90\x80\x80", b"\xf5\x80\x80\x80", b"\xff")
-ANY_TEXT = (b"\xc2\x80", b"\xdf\xbf", b"\xe0\xa0\x80", b"\xed\x9f\xbf", b"\xee\x80\x80", b"\xf0\x90\x80\x80",
-            b"\xf4\x8f\xbf\xbf", b"\xc3\xa9")
+NO_TEXT = (
+    b"\x80",
+    b"\xbf",
+    b"\xc0\x80",
+    b"\xc1\xbf",
+    b"\xc3",
+    b"\xe2\x82",
+    b"\xe0\x9f\xbf",
+    b"\xed\xa0\x80",
+    b"\xed\xbf\xbf",
+    b"\xf0\x8f\xbf\xbf",
+    b"\xf0\x9f\x98",
+    b"\xf4\x90\x80\x80",
+    b"\xf5\x80\x80\x80",
+    b"\xff",
+)
+ANY_TEXT = (
+    b"\xc2\x80",
+    b"\xdf\xbf",
+    b"\xe0\xa0\x80",
+    b"\xed\x9f\xbf",
+    b"\xee\x80\x80",
+    b"\xf0\x90\x80\x80",
+    b"\xf4\x8f\xbf\xbf",
+    b"\xc3\xa9",
+)
 
 
 def view_bytes(string, number, at):
@@ -41,7 +80,8 @@ class Maker:
         self.tokens.append((str(word), role, known))
 
     def array(self, n, depth, kind=None):
-        """An array of so many rows, which holds arrays at most so deep; behind other rows and before others."""
+        """An array of so many rows, which holds arrays at most so deep; behind other rows and
+        before others."""
         choose = self.random.choice
         kind = kind or choose(KINDS if depth else LEAVES)
         at = choose((0, 0, 0, 1, 3))
@@ -56,11 +96,17 @@ class Maker:
         shape = self.random.randrange(10)
         if shape < 4:
             return None
-        digits = f"{self.random.getrandbits(n or 1) | (self.random.getrandbits(n or 1) if shape < 8 else 0):0{n}b}"[:n]
+        digits = f"{self.random.getrandbits(n or 1) | (self.random.getrandbits(n or 1) if shape < 8 else 0):0{n}b}"[
+            :n
+        ]
         return n * str(shape % 2) if shape == 9 else digits
 
     def put_validity(self, n, present):
-        before = self.random.choice(("1", "0101010", 63 * "0", 64 * "1")) if self.random.random() < 0.15 else ""
+        before = (
+            self.random.choice(("1", "0101010", 63 * "0", 64 * "1"))
+            if self.random.random() < 0.15
+            else ""
+        )
         self.put("-" if present is None else f"b{len(before)}:{before}{present}", "validity", n)
 
     def put_list(self, words, role, known=None):
@@ -107,7 +153,10 @@ class Maker:
         self.put_validity(n, self.presence(n))
 
     def viewed(self, kind, n, _depth):
-        buffers = [bytearray(self.random.choice((b"", b"", b"abcd", b"\xff"))) for _ in range(self.random.randrange(4))]
+        buffers = [
+            bytearray(self.random.choice((b"", b"", b"abcd", b"\xff")))
+            for _ in range(self.random.randrange(4))
+        ]
         views = []
         for _ in range(n):
             string = self.string("utf8" in kind)
@@ -119,7 +168,11 @@ class Maker:
             if len(string) > SHORT:
                 buffers[number] += string
         self.put_list(views, "view", buffers)
-        self.put_list(["x" + buffer.hex() for buffer in buffers], "bytes", "text" if "utf8" in kind else "bytes")
+        self.put_list(
+            ["x" + buffer.hex() for buffer in buffers],
+            "bytes",
+            "text" if "utf8" in kind else "bytes",
+        )
         self.put_validity(n, self.presence(n))
 
     def sized(self, _kind, n, _depth):
@@ -160,7 +213,10 @@ class Maker:
         entries = self.random.choice((0, 1, 2, 3, 5))
         present = self.presence(n) if entries else n * "0"
         junk = (low, high, entries, min(entries + 1, high))
-        choose = {"0": lambda: self.random.choice(junk), "1": lambda: self.random.randrange(entries)}
+        choose = {
+            "0": lambda: self.random.choice(junk),
+            "1": lambda: self.random.randrange(entries),
+        }
         keys = [choose[digit]() for digit in (n * "1" if present is None else present)]
         self.put(kind, "key type")
         self.put_list(keys, "key", (kind, entries))
@@ -169,9 +225,16 @@ class Maker:
 
 
 PARTS = {
-    "null": Maker.nulls, "bool": Maker.booleans, **dict.fromkeys(NUMBERS, Maker.integers),
-    **dict.fromkeys(STRINGS, Maker.strings), **dict.fromkeys(VIEWS, Maker.viewed), "fixedbinary": Maker.sized,
-    "list": Maker.lists, "largelist": Maker.lists, "fixedlist": Maker.fixed_lists, "struct": Maker.structs,
+    "null": Maker.nulls,
+    "bool": Maker.booleans,
+    **dict.fromkeys(NUMBERS, Maker.integers),
+    **dict.fromkeys(STRINGS, Maker.strings),
+    **dict.fromkeys(VIEWS, Maker.viewed),
+    "fixedbinary": Maker.sized,
+    "list": Maker.lists,
+    "largelist": Maker.lists,
+    "fixedlist": Maker.fixed_lists,
+    "struct": Maker.structs,
     "dict": Maker.dictionary,
 }
 
@@ -190,6 +253,7 @@ def text_of(tokens):
 
 
 # ---- changes
+
 
 class Mutation:
     """Changes of one word of an array, or of a few that belong together."""
@@ -225,12 +289,23 @@ class Mutation:
     def bits(self, tokens, i):
         """Bits, or a validity: more, fewer, others, or none."""
         word, role, n = tokens[i]
-        digits = "1" * n if word == "-" else word.partition(":")[2][int(word[1 : word.index(":")]):]
+        digits = (
+            "1" * n if word == "-" else word.partition(":")[2][int(word[1 : word.index(":")]) :]
+        )
         before = self.random.choice(("", "", "1", 64 * "0"))
         half = len(digits) // 2
-        changed = self.random.choice((
-            digits + "1", digits[:-1], digits[1:] + "0", "0" * len(digits), "", digits + 8 * "0",
-            digits.translate({48: 49, 49: 48}), digits[:half] + "0" + digits[half + 1:]))
+        changed = self.random.choice(
+            (
+                digits + "1",
+                digits[:-1],
+                digits[1:] + "0",
+                "0" * len(digits),
+                "",
+                digits + 8 * "0",
+                digits.translate({48: 49, 49: 48}),
+                digits[:half] + "0" + digits[half + 1 :],
+            )
+        )
         is_none = role == "validity" and word != "-" and self.random.random() < 0.2
         self.set(tokens, i, "-" if is_none else f"b{len(before)}:{before}{changed}")
 
@@ -261,19 +336,41 @@ class Mutation:
         self.set(tokens, i, self.among(kind, (0, *TYPES[kind], self.random.randint(*TYPES[kind]))))
 
     def offset(self, tokens, i):
-        """An offset about its neighbours and the ends of the items, and one that wraps to itself in fewer bits."""
+        """An offset about its neighbours and the ends of the items, and one that wraps to itself in
+        fewer bits."""
         word, _, (kind, n) = tokens[i]
         here = int(word)
         near = [int(tokens[k][0]) for k in (i - 1, i + 1) if tokens[k][1] == "offset"] or [0]
-        likely = [here + 1, here - 1, *(place + step for place in near for step in (-1, 0, 1)), n, n, n + 1, 0, -1]
+        likely = [
+            here + 1,
+            here - 1,
+            *(place + step for place in near for step in (-1, 0, 1)),
+            n,
+            n,
+            n + 1,
+            0,
+            -1,
+        ]
         seldom = [*TYPES[kind], here + 2**32, here - 2**32, here + 2**31, 2**31 - 1, -here]
-        self.set(tokens, i, self.among(kind, likely if self.random.random() < 0.8 else seldom + [0]))
+        self.set(
+            tokens, i, self.among(kind, likely if self.random.random() < 0.8 else seldom + [0])
+        )
 
     def key(self, tokens, i):
         word, _, (kind, n) = tokens[i]
-        seldom = (*TYPES[kind], int(word) + 2**8, int(word) + 2**16, int(word) + 2**32, 2**31, 2**63, -1)
+        seldom = (
+            *TYPES[kind],
+            int(word) + 2**8,
+            int(word) + 2**16,
+            int(word) + 2**32,
+            2**31,
+            2**63,
+            -1,
+        )
         likely = (n, n, n + 1, max(n - 1, 0), 0, -1)
-        self.set(tokens, i, self.among(kind, likely if self.random.random() < 0.7 else seldom + (0,)))
+        self.set(
+            tokens, i, self.among(kind, likely if self.random.random() < 0.7 else seldom + (0,))
+        )
 
     def bytes(self, tokens, i):
         """Bytes cut, longer, or with others among them; of as many bytes mostly."""
@@ -288,22 +385,30 @@ class Mutation:
             others = NO_TEXT + ANY_TEXT if known == "text" else (self.random.randbytes(1), b"\0")
             piece = self.random.choice(others)
             at = max(min(at, len(data) - len(piece)), 0)
-            data = (data[:at] + piece + data[at + len(piece):])[: len(data)]
+            data = (data[:at] + piece + data[at + len(piece) :])[: len(data)]
         self.set(tokens, i, "x" + data.hex())
 
     def view(self, tokens, i):
         """A view with another length, prefix, buffer or offset, or bytes behind a short row."""
         word, _, buffers = tokens[i]
-        n, first, number, at = (int.from_bytes(bytes.fromhex(word[1:])[k : k + 4], "little") for k in (0, 4, 8, 12))
+        n, first, number, at = (
+            int.from_bytes(bytes.fromhex(word[1:])[k : k + 4], "little") for k in (0, 4, 8, 12)
+        )
         shape = self.random.randrange(6)
         if shape == 0:
-            n = self.random.choice((n + 1, max(n - 1, 0), SHORT, SHORT + 1, 0, 4, 2**32 - 1, 2**31, n + 2**31))
+            n = self.random.choice(
+                (n + 1, max(n - 1, 0), SHORT, SHORT + 1, 0, 4, 2**32 - 1, 2**31, n + 2**31)
+            )
         elif shape == 1:
             first ^= 1 << self.random.randrange(32)
         elif shape == 2:
-            number = self.random.choice((number + 1, max(number - 1, 0), len(buffers), 2**32 - 1, 2**31, 0))
+            number = self.random.choice(
+                (number + 1, max(number - 1, 0), len(buffers), 2**32 - 1, 2**31, 0)
+            )
         elif shape == 3:
-            here = self.random.choice((at + 1, max(at - 1, 0), 2**32 - 1, 2**32 - n, 2**32 - n + at, 2**31, 0))
+            here = self.random.choice(
+                (at + 1, max(at - 1, 0), 2**32 - 1, 2**32 - n, 2**32 - n + at, 2**31, 0)
+            )
             at = here
         elif shape == 4:
             at ^= 1 << self.random.randrange(32)
@@ -319,7 +424,8 @@ class Mutation:
         return self.random.choice(((SHORT, first, number, at), (n, first, at, number)))
 
     def width(self, tokens, i):
-        """A width or size about the one that stands there, or one whose product with some length wraps to it."""
+        """A width or size about the one that stands there, or one whose product with some length
+        wraps to it."""
         items = tokens[i][2]
         if self.random.random() < 0.6:
             self.count(tokens, i)
@@ -342,37 +448,121 @@ class Mutation:
 
 # how often a word of a role is changed, and how
 CHANGES = {
-    "place": (2, Mutation.count), "rows": (4, Mutation.count), "nulls": (3, Mutation.count), "len": (5, Mutation.count),
-    "kind": (2, Mutation.kind), "key type": (1, Mutation.key_type), "bits": (2, Mutation.bits),
-    "validity": (5, Mutation.bits), "count": (4, Mutation.elements), "number": (1, Mutation.number),
-    "offset": (9, Mutation.offset), "bytes": (8, Mutation.bytes), "view": (10, Mutation.view),
-    "key": (10, Mutation.key), "width": (7, Mutation.width), "name": (1, Mutation.name),
+    "place": (2, Mutation.count),
+    "rows": (4, Mutation.count),
+    "nulls": (3, Mutation.count),
+    "len": (5, Mutation.count),
+    "kind": (2, Mutation.kind),
+    "key type": (1, Mutation.key_type),
+    "bits": (2, Mutation.bits),
+    "validity": (5, Mutation.bits),
+    "count": (4, Mutation.elements),
+    "number": (1, Mutation.number),
+    "offset": (9, Mutation.offset),
+    "bytes": (8, Mutation.bytes),
+    "view": (10, Mutation.view),
+    "key": (10, Mutation.key),
+    "width": (7, Mutation.width),
+    "name": (1, Mutation.name),
 }
 
 # ---- lines that may no longer be readable
 
-ODD_WORDS = ("", "-", "+", "x", "x0", "xzz", "xAB", "b", "b:", "b0", "b0:", "b1:", "b9:01", "b0:2", "b-1:0", "b+0:1",
-             "nul", "null", "NULL", "i7", "i32", "list", "struct", "dict", "shared", "copy", "=", "0", "-0", "+0",
-             "007", "-1", "1.0", "0x1", "1e1", "1_0", str(2**64 - 1), str(2**64), str(2**128), "9" * 60, "é", "１", "\t",
-             "\r", "\0", "a", "=a")
-ODD_BYTES = (b"\0", b"\t", b"\r", b"\x80", b"\xc3", b"\xff", b"\xed\xa0\x80", b"\xc3\xa9", b"\xe2\x80\x82", b" ", b"#",
-             b"-", b"+", b"=", b":", b"x", b"1")
+ODD_WORDS = (
+    "",
+    "-",
+    "+",
+    "x",
+    "x0",
+    "xzz",
+    "xAB",
+    "b",
+    "b:",
+    "b0",
+    "b0:",
+    "b1:",
+    "b9:01",
+    "b0:2",
+    "b-1:0",
+    "b+0:1",
+    "nul",
+    "null",
+    "NULL",
+    "i7",
+    "i32",
+    "list",
+    "struct",
+    "dict",
+    "shared",
+    "copy",
+    "=",
+    "0",
+    "-0",
+    "+0",
+    "007",
+    "-1",
+    "1.0",
+    "0x1",
+    "1e1",
+    "1_0",
+    str(2**64 - 1),
+    str(2**64),
+    str(2**128),
+    "9" * 60,
+    "é",
+    "１",
+    "\t",
+    "\r",
+    "\0",
+    "a",
+    "=a",
+)
+ODD_BYTES = (
+    b"\0",
+    b"\t",
+    b"\r",
+    b"\x80",
+    b"\xc3",
+    b"\xff",
+    b"\xed\xa0\x80",
+    b"\xc3\xa9",
+    b"\xe2\x80\x82",
+    b" ",
+    b"#",
+    b"-",
+    b"+",
+    b"=",
+    b":",
+    b"x",
+    b"1",
+)
 
 
 def change_words(random, words):
     """Drops, repeats, replaces or joins words."""
     i, k = sorted(random.randrange(len(words)) for _ in range(2))
     odd = random.choice(ODD_WORDS).encode()
-    first, last, instead = random.choice((
-        (i, i + 1, []), (i, k, []), (i, i, [words[k]]), (i, i, [odd]), (i, i + 1, [odd]), (i, i + 1, [odd]),
-        (i, i + 1, [words[k]]), (i, i + 1, [words[i] + words[k]])))
+    first, last, instead = random.choice(
+        (
+            (i, i + 1, []),
+            (i, k, []),
+            (i, i, [words[k]]),
+            (i, i, [odd]),
+            (i, i + 1, [odd]),
+            (i, i + 1, [odd]),
+            (i, i + 1, [words[k]]),
+            (i, i + 1, [words[i] + words[k]]),
+        )
+    )
     words[first:last] = instead
 
 
 def change_bytes(random, line):
     """Cuts a line, or puts odd bytes in."""
     at = random.randrange(len(line) + 1)
-    return random.choice((line[:at], line[:at] + random.choice(ODD_BYTES) + line[at + random.randrange(2):]))
+    return random.choice(
+        (line[:at], line[:at] + random.choice(ODD_BYTES) + line[at + random.randrange(2) :])
+    )
 
 
 def broken(random, line):

@@ -1,8 +1,9 @@
-"""The reports that `dunkelva diff` has to print of two files of JSON documents, worked out by Python's json module.
+"""The reports that `dunkelva diff` has to print of two files of JSON documents, worked out by
+Python's json module.
 
-That module takes a little more than RFC 8259 has: NaN and Infinity, lone surrogates, and names that come twice. These,
-and what the program leaves out besides, are looked for here. Numbers keep their text, and are compared as digits and an
-exponent of any size.
+That module takes a little more than RFC 8259 has: NaN and Infinity, lone surrogates, and names that
+come twice. These, and what the program leaves out besides, are looked for here. Numbers keep their
+text, and are compared as digits and an exponent of any size.
 """
 import collections
 import dataclasses
@@ -28,24 +29,28 @@ WIDE = "an exponent has more than 30 digits"
 
 # a difference between two values: where it is, and both parts, of which one may be missing
 Change = collections.namedtuple("Change", "path left right")
-# the pairs of rows that changed with their changes, the rows without a partner, and how many pairs are the same
+# the pairs of rows that changed with their changes, the rows without a partner, and how many pairs
+# are the same
 Comparison = collections.namedtuple("Comparison", "changed removed added same")
 
 
 @dataclasses.dataclass(frozen=True)
 class Number:
     """A number as its text."""
+
     text: str
 
 
 @dataclasses.dataclass(frozen=True)
 class Object:
     """An object as pairs of a name and a value."""
+
     members: tuple
 
 
 class Documents(list):
-    """The documents of a file, with the numbers of their lines and of the lines that are passed over."""
+    """The documents of a file, with the numbers of their lines and of the lines that are passed
+    over."""
 
     def __init__(self):
         super().__init__()
@@ -62,6 +67,7 @@ class Fault(Exception):
 
 # ---- values
 
+
 def refuse(word):
     """Refuses NaN and the like."""
     raise ValueError(word)
@@ -69,8 +75,13 @@ def refuse(word):
 
 def parsed(text):
     """Returns the value of a JSON text. Raises a ValueError where it is none."""
-    return json.loads(text, object_pairs_hook=lambda pairs: Object(tuple(pairs)), parse_int=Number, parse_float=Number,
-                      parse_constant=refuse)
+    return json.loads(
+        text,
+        object_pairs_hook=lambda pairs: Object(tuple(pairs)),
+        parse_int=Number,
+        parse_float=Number,
+        parse_constant=refuse,
+    )
 
 
 def children(value):
@@ -107,7 +118,9 @@ def tree_of(line):
         value = parsed(line.decode("utf-8"))
     except (ValueError, RecursionError):
         return None, False
-    return value, depth_of(value) <= DEEPEST and not any(LONE.search(texts_of(part)) for part, _ in parts(value))
+    return value, depth_of(value) <= DEEPEST and not any(
+        LONE.search(texts_of(part)) for part, _ in parts(value)
+    )
 
 
 def number_parts(text):
@@ -116,7 +129,12 @@ def number_parts(text):
     digits = (whole + fraction).lstrip("0")
     if not digits:
         return "", "0", 0
-    tens = int(f"{down}0{exponent.lstrip('0')}") - len(fraction) + len(digits) - len(digits.rstrip("0"))
+    tens = (
+        int(f"{down}0{exponent.lstrip('0')}")
+        - len(fraction)
+        + len(digits)
+        - len(digits.rstrip("0"))
+    )
     return sign, digits.rstrip("0"), tens
 
 
@@ -131,11 +149,18 @@ def normal(value):
         sign, digits, tens = number_parts(value.text)
         return Number(f"{sign}{digits}e{tens}" if tens else f"{sign}{digits}")
     if isinstance(value, Object):
-        return Object(tuple(sorted(((name, normal(child)) for name, child in value.members), key=lambda it: it[0])))
+        return Object(
+            tuple(
+                sorted(
+                    ((name, normal(child)) for name, child in value.members), key=lambda it: it[0]
+                )
+            )
+        )
     return [normal(child) for child in value] if isinstance(value, list) else value
 
 
 # ---- texts
+
 
 def shown(text):
     """Returns a text of JSON without the control characters that may stand in its strings."""
@@ -184,9 +209,12 @@ def path_text(path):
 
 
 def steps_of(path):
-    """Returns the steps of a path or a pattern that is given as a word, where `[]` is the step to any item."""
-    return [int(place) if place else json.loads(quoted) if quoted else name if name else ANY
-            for place, name, quoted in STEP.findall(path)]
+    """Returns the steps of a path or a pattern that is given as a word, where `[]` is the step to
+    any item."""
+    return [
+        int(place) if place else json.loads(quoted) if quoted else name if name else ANY
+        for place, name, quoted in STEP.findall(path)
+    ]
 
 
 def part_at(value, steps):
@@ -201,6 +229,7 @@ def part_at(value, steps):
 
 # ---- places
 
+
 def kind_of(found):
     """Returns whether a lexeme is a sign, a string, a name, another value or bad."""
     string, colon = found.groups()
@@ -213,8 +242,11 @@ def kind_of(found):
 
 
 def tokens_of(text):
-    """Makes the tokens of a text, each with its kind and its place: a string and a colon behind it are a name."""
-    return ((kind_of(found), found.start(), found[1] or found[0]) for found in LEXEME.finditer(text))
+    """Makes the tokens of a text, each with its kind and its place: a string and a colon behind it
+    are a name."""
+    return (
+        (kind_of(found), found.start(), found[1] or found[0]) for found in LEXEME.finditer(text)
+    )
 
 
 def bad_place(text):
@@ -258,34 +290,47 @@ def place_of(text, what):
     if what == TWICE:
         return second_name_place(text)
     if what == WIDE:
-        return next(place for _, place, lexeme in tokens_of(text) if NUMBER.fullmatch(lexeme) and is_wide(lexeme))
+        return next(
+            place
+            for _, place, lexeme in tokens_of(text)
+            if NUMBER.fullmatch(lexeme) and is_wide(lexeme)
+        )
     return next(tokens_of(text))[1] if what == NO_OBJECT else None
 
 
 def fault_text(number, line, what):
-    """Returns what is said of a line that is no document, with the column of its fault in characters."""
+    """Returns what is said of a line that is no document, with the column of its fault in
+    characters."""
     try:
         place = place_of(line.decode(), what)
     except UnicodeDecodeError as error:
         place = len(line[: error.start].decode())
-    return f"line {number}: {what}" if place is None else f"line {number}, column {place + 1}: {what}"
+    return (
+        f"line {number}: {what}" if place is None else f"line {number}, column {place + 1}: {what}"
+    )
 
 
 # ---- reading
+
 
 def faults_of(value, keys):
     """Returns what may be said of a value that is no document with these keys."""
     said = [] if isinstance(value, Object) else [NO_OBJECT]
     held = [part for part, _ in parts(value)]
-    if any(len(dict(part.members)) < len(part.members) for part in held if isinstance(part, Object)):
+    if any(
+        len(dict(part.members)) < len(part.members) for part in held if isinstance(part, Object)
+    ):
         said.append(TWICE)
     if any(is_wide(part.text) for part in held if isinstance(part, Number)):
         said.append(WIDE)
-    return said + [f'the key "{key}" is missing' for key in keys if part_at(value, steps_of(key)) is MISSING]
+    return said + [
+        f'the key "{key}" is missing' for key in keys if part_at(value, steps_of(key)) is MISSING
+    ]
 
 
 def documents_of(content, options):
-    """Returns the documents of a file. Raises a Fault of the first line that is none, where none is passed over."""
+    """Returns the documents of a file. Raises a Fault of the first line that is none, where none is
+    passed over."""
     lines = content.split(b"\n")
     documents, keys = Documents(), [] if options["null_keys"] else options["keys"]
     for number, line in enumerate(lines if lines[-1] else lines[:-1], 1):
@@ -314,6 +359,7 @@ def key_text(part, string=string_text):
 
 # ---- tolerances
 
+
 def squeezed(terms):
     """Returns whole numbers that compare and add up as these signed digits with their exponents do.
 
@@ -338,9 +384,14 @@ def signed(text):
 
 
 def is_close(left, right, bound, relative):
-    """Returns whether two numbers lie at most a bound apart, or at most that part of the larger one."""
+    """Returns whether two numbers lie at most a bound apart, or at most that part of the larger
+    one."""
     own, other, (_, times, tens) = signed(left), signed(right), signed(bound)
-    rooms = [(1, times * digits, tens + up) for _, digits, up in (own, other)] if relative else [(1, times, tens)]
+    rooms = (
+        [(1, times * digits, tens + up) for _, digits, up in (own, other)]
+        if relative
+        else [(1, times, tens)]
+    )
     for room in rooms:
         first, second, most = squeezed([own, other, room])
         if abs(first - second) <= most:
@@ -350,41 +401,57 @@ def is_close(left, right, bound, relative):
 
 # ---- rules
 
+
 def agrees(pattern, path):
     """Returns whether a pattern and a path lead the same way as far as both go."""
-    return all(isinstance(step, int) if own is ANY else type(own) is type(step) and own == step
-               for own, step in zip(pattern, path))
+    return all(
+        isinstance(step, int) if own is ANY else type(own) is type(step) and own == step
+        for own, step in zip(pattern, path)
+    )
 
 
 def is_within(path, words):
     """Returns whether a path leads to a part that one of some words names, or into one."""
-    return any(len(pattern) <= len(path) and agrees(pattern, path) for pattern in map(steps_of, words))
+    return any(
+        len(pattern) <= len(path) and agrees(pattern, path) for pattern in map(steps_of, words)
+    )
 
 
 def is_around(path, words):
     """Returns whether a path leads to a part in which one of some words names others."""
-    return any(len(pattern) > len(path) and agrees(pattern, path) for pattern in map(steps_of, words))
+    return any(
+        len(pattern) > len(path) and agrees(pattern, path) for pattern in map(steps_of, words)
+    )
 
 
 def is_tolerated(change, tolerances):
-    """Returns whether one of some tolerances allows a difference: words of paths with their bounds."""
+    """Returns whether one of some tolerances allows a difference: words of paths with their
+    bounds."""
     if not all(isinstance(part, Number) for part in (change.left, change.right)):
         return False
-    return any(is_within(change.path, [word]) and is_close(change.left.text, change.right.text, bound, relative)
-               for word, bound, relative in tolerances)
+    return any(
+        is_within(change.path, [word])
+        and is_close(change.left.text, change.right.text, bound, relative)
+        for word, bound, relative in tolerances
+    )
 
 
 def is_told(change, options):
     """Returns whether the rules among the options tell a difference."""
-    if options.get("missing_is_null") and all(part is MISSING or part is None for part in (change.left, change.right)):
+    if options.get("missing_is_null") and all(
+        part is MISSING or part is None for part in (change.left, change.right)
+    ):
         return False
-    if is_within(change.path, options.get("ignored", ())) or is_tolerated(change, options.get("tolerances", ())):
+    if is_within(change.path, options.get("ignored", ())) or is_tolerated(
+        change, options.get("tolerances", ())
+    ):
         return False
     only = options.get("only", ())
     return not only or is_within(change.path, only) or is_around(change.path, only)
 
 
 # ---- comparing
+
 
 def changes_between(left, right, path=()):
     """Makes the smallest parts that differ."""
@@ -393,8 +460,10 @@ def changes_between(left, right, path=()):
         pairs = [(name, value, others.get(name, MISSING)) for name, value in left.members]
         pairs += [(name, MISSING, value) for name, value in right.members if name not in names]
     elif isinstance(left, list) and isinstance(right, list):
-        pairs = [(i, *(side[i] if i < len(side) else MISSING for side in (left, right)))
-                 for i in range(max(len(left), len(right)))]
+        pairs = [
+            (i, *(side[i] if i < len(side) else MISSING for side in (left, right)))
+            for i in range(max(len(left), len(right)))
+        ]
     else:
         if part_text(left) != part_text(right):
             yield Change(path, left, right)
@@ -415,8 +484,11 @@ def comparison_of(sides, options):
     """Compares the documents of two files."""
     pairs, added = rows_compared(sides, options)
     removed = [i for i, j in pairs if j is None]
-    matched = [(i, j, [it for it in changes_between(sides[0][i], sides[1][j]) if is_told(it, options)])
-               for i, j in pairs if j is not None]
+    matched = [
+        (i, j, [it for it in changes_between(sides[0][i], sides[1][j]) if is_told(it, options)])
+        for i, j in pairs
+        if j is not None
+    ]
     changed = [it for it in matched if it[2]]
     return Comparison(changed, removed, added, len(matched) - len(changed))
 
@@ -427,6 +499,7 @@ def status_of(found):
 
 
 # ---- the reports
+
 
 def word(text):
     """Returns a name or a file as the report tells it, as bytes."""
@@ -450,20 +523,33 @@ def text_report(sides, found, options):
         return painted(color, b"missing" if part is MISSING else compact(part).encode())
 
     def change_text(change):
-        left, right = side_text(table_reports.RED, change.left), side_text(table_reports.GREEN, change.right)
+        left, right = side_text(table_reports.RED, change.left), side_text(
+            table_reports.GREEN, change.right
+        )
         return b"%s %s -> %s" % (shown(path_text(change.path)).encode(), left, right)
 
     def alone_text(color, mark, side, i):
-        return painted(color, b"%s %s  %s line %d" % (mark, row_text(side, i), files[side], sides[side].numbers[i]))
+        return painted(
+            color,
+            b"%s %s  %s line %d" % (mark, row_text(side, i), files[side], sides[side].numbers[i]),
+        )
 
     def skipped_text(side):
         first, *others = sides[side].skipped
         if others:
-            return b"Skipped %d lines of %s (the first is line %d)." % (1 + len(others), files[side], first)
+            return b"Skipped %d lines of %s (the first is line %d)." % (
+                1 + len(others),
+                files[side],
+                first,
+            )
         return b"Skipped 1 line of %s (line %d)." % (files[side], first)
 
-    lines = [painted(table_reports.YELLOW, b"~ " + row_text(0, i)) + b"  " + b", ".join(map(change_text, changes))
-             for i, _, changes in found.changed]
+    lines = [
+        painted(table_reports.YELLOW, b"~ " + row_text(0, i))
+        + b"  "
+        + b", ".join(map(change_text, changes))
+        for i, _, changes in found.changed
+    ]
     lines += [alone_text(table_reports.RED, b"-", 0, i) for i in found.removed]
     lines += [alone_text(table_reports.GREEN, b"+", 1, j) for j in found.added]
     lines, rest = table_reports.shown(lines, options)
@@ -480,32 +566,59 @@ def counts_of(found):
 
 def numbered(*pairs):
     """Returns an object whose counts are numbers."""
-    return Object(tuple((name, Number(str(it)) if isinstance(it, int) else it) for name, it in pairs))
+    return Object(
+        tuple((name, Number(str(it)) if isinstance(it, int) else it) for name, it in pairs)
+    )
 
 
 def json_objects(sides, found, options):
     """Returns the objects of the lines that the program has to print."""
+
     def key(side, i):
         cells = keys_of([sides[side][i]], options)[0]
         return Object(tuple((name, parsed(cell)) for name, cell in zip(options["keys"], cells)))
 
     def change(it):
-        told = [(name, part) for name, part in (("left", it.left), ("right", it.right)) if part is not MISSING]
+        told = [
+            (name, part)
+            for name, part in (("left", it.left), ("right", it.right))
+            if part is not MISSING
+        ]
         return Object((("path", path_text(it.path)), *told))
 
     left, right = (side.numbers for side in sides)
-    objects = [numbered(("kind", "changed"), ("key", key(0, i)), ("left_line", left[i]), ("right_line", right[j]),
-                        ("changes", [change(it) for it in changes])) for i, j, changes in found.changed]
-    objects += [numbered(("kind", "removed"), ("key", key(0, i)), ("line", left[i])) for i in found.removed]
-    objects += [numbered(("kind", "added"), ("key", key(1, j)), ("line", right[j])) for j in found.added]
+    objects = [
+        numbered(
+            ("kind", "changed"),
+            ("key", key(0, i)),
+            ("left_line", left[i]),
+            ("right_line", right[j]),
+            ("changes", [change(it) for it in changes]),
+        )
+        for i, j, changes in found.changed
+    ]
+    objects += [
+        numbered(("kind", "removed"), ("key", key(0, i)), ("line", left[i])) for i in found.removed
+    ]
+    objects += [
+        numbered(("kind", "added"), ("key", key(1, j)), ("line", right[j])) for j in found.added
+    ]
     objects, rest = table_reports.shown(objects, options)
     skipped = zip(("left_skipped", "right_skipped"), (len(side.skipped) for side in sides))
-    return [*objects, numbered(("kind", "counts"), *zip(("changed", "removed", "added", "same"), counts_of(found)),
-                               ("not_shown", rest), *(skipped if options.get("skip_bad") else ()))]
+    return [
+        *objects,
+        numbered(
+            ("kind", "counts"),
+            *zip(("changed", "removed", "added", "same"), counts_of(found)),
+            ("not_shown", rest),
+            *(skipped if options.get("skip_bad") else ()),
+        ),
+    ]
 
 
 def objects_of(printed):
-    """Returns the objects of JSON lines. A line may have no blank outside of strings, and no control character."""
+    """Returns the objects of JSON lines. A line may have no blank outside of strings, and no
+    control character."""
     text = printed.decode()
     if not text.endswith("\n"):
         raise ValueError("no end of the last line")
@@ -518,31 +631,40 @@ def objects_of(printed):
 
 # ---- what a run has to do
 
+
 def named_files(options):
     """Returns the names that the report has for the two files."""
     return ["-" if side == options["piped"] else file for side, file in enumerate(options["files"])]
 
 
 def key_fault(sides, options):
-    """Returns what is said of the first document whose key an earlier one of its file has, or None."""
+    """Returns what is said of the first document whose key an earlier one of its file has, or
+    None."""
     for file, side in zip(named_files(options), sides):
         seen = {}
         for i, key in enumerate(keys_of(side, options)):
             first = seen.setdefault(key, i)
             if first < i:
-                return f"{file}: lines {side.numbers[first]} and {side.numbers[i]} have the same key"
+                return (
+                    f"{file}: lines {side.numbers[first]} and {side.numbers[i]} have the same key"
+                )
     return None
 
 
 def faults_said(pair):
-    """Returns all lines that may be said of a pair that can't be compared, and the documents of one that can."""
+    """Returns all lines that may be said of a pair that can't be compared, and the documents of one
+    that can."""
     said, sides = [], []
     for file, content in zip(named_files(pair.options), (pair.left_bytes, pair.right_bytes)):
         try:
             sides.append(documents_of(content, pair.options))
         except Fault as fault:
             said += [f"{file}: {what}" for what in fault.said]
-    skipping = [file for file, side in zip(named_files(pair.options), sides) if side.skipped and not side.numbers]
+    skipping = [
+        file
+        for file, side in zip(named_files(pair.options), sides)
+        if side.skipped and not side.numbers
+    ]
     if not said and skipping and not pair.options.get("partition"):
         said = [f"{skipping[0]}: --skip-bad would skip every line"]
     if not said and pair.options["unique"] and (twice := key_fault(sides, pair.options)):
@@ -551,7 +673,8 @@ def faults_said(pair):
 
 
 def wanted(pair):
-    """Returns the status that a run over a pair has to end with, and its report, or what it may say."""
+    """Returns the status that a run over a pair has to end with, and its report, or what it may
+    say."""
     said, sides = faults_said(pair)
     if said:
         return 2, said

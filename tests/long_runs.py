@@ -1,7 +1,8 @@
-"""Scripts that try parts of an endless row of inputs, as many as the time allows, and add up their figures in a file.
+"""Scripts that try parts of an endless row of inputs, as many as the time allows, and add up their
+figures in a file.
 
-Part `k` is made from the seed and `k` alone, so it is the same whatever the number of processes. A run with a file of
-figures begins behind the last part that an earlier run with that file began.
+Part `k` is made from the seed and `k` alone, so it is the same whatever the number of processes. A
+run with a file of figures begins behind the last part that an earlier run with that file began.
 """
 import argparse
 import collections
@@ -17,15 +18,24 @@ import runs
 
 
 def options(doc, name, number, what):
-    """Returns the options of a script that tries a program of the crates on so many inputs, if it is not told how many."""
-    parser = argparse.ArgumentParser(description=doc, formatter_class=argparse.RawDescriptionHelpFormatter)
+    """Returns the options of a script that tries a program of the crates on so many inputs, if it
+    is not told how many."""
+    parser = argparse.ArgumentParser(
+        description=doc, formatter_class=argparse.RawDescriptionHelpFormatter
+    )
     parser.add_argument("--number", type=int, default=number, help=f"how many {what} ({number:,})")
-    parser.add_argument("--seconds", type=float, default=math.inf, help="begin no part after so many seconds")
+    parser.add_argument(
+        "--seconds", type=float, default=math.inf, help="begin no part after so many seconds"
+    )
     parser.add_argument("--seed", default="1", help="what they are made from (1)")
     parser.add_argument("--jobs", type=int, default=1, help="how many processes (1)")
     parser.add_argument("--totals", type=pathlib.Path, help="a file of figures, which are added to")
-    parser.add_argument("--keep", help="the file that failing inputs are written to (/tmp/SCRIPT.failed)")
-    parser.add_argument("program", nargs="?", default=str(runs.ROOT / "crates" / name / "out" / name))
+    parser.add_argument(
+        "--keep", help="the file that failing inputs are written to (/tmp/SCRIPT.failed)"
+    )
+    parser.add_argument(
+        "program", nargs="?", default=str(runs.ROOT / "crates" / name / "out" / name)
+    )
     chosen = parser.parse_args()
     if not pathlib.Path(chosen.program).exists():
         parser.error(f"{chosen.program} is not built: `rt run < /dev/null` in crates/{name}")
@@ -49,24 +59,34 @@ class Totals:
         """Adds what a part counted, and writes the file."""
         self.counts.update(counts)
         if self.path:
-            text = json.dumps({"seed": self.seed, "next": self.next, "counts": self.counts}, indent=1)
+            text = json.dumps(
+                {"seed": self.seed, "next": self.next, "counts": self.counts}, indent=1
+            )
             new = self.path.with_name(f"{self.path.name}.new")
             new.write_text(f"{text}\n", encoding="utf-8")
             os.replace(new, self.path)
 
 
 def try_parts(try_part, chosen, count, totals):
-    """Tries so many parts, or fewer where the time is over or one fails. Returns what they counted and the complaints."""
+    """Tries so many parts, or fewer where the time is over or one fails. Returns what they counted
+    and the complaints."""
     counts, failures, waiting = collections.Counter(), [], set()
     last, until = totals.next + count, time.monotonic() + chosen.seconds
     with concurrent.futures.ProcessPoolExecutor(chosen.jobs) as pool:
         while True:
-            while len(waiting) < chosen.jobs and totals.next < last and time.monotonic() < until and not failures:
+            while (
+                len(waiting) < chosen.jobs
+                and totals.next < last
+                and time.monotonic() < until
+                and not failures
+            ):
                 waiting.add(pool.submit(try_part, totals.next))
                 totals.next += 1
             if not waiting:
                 return counts, failures
-            done, waiting = concurrent.futures.wait(waiting, return_when=concurrent.futures.FIRST_COMPLETED)
+            done, waiting = concurrent.futures.wait(
+                waiting, return_when=concurrent.futures.FIRST_COMPLETED
+            )
             for counted, failed in (it.result() for it in done):
                 totals.add(counted | {"failed": len(failed)})
                 counts.update(counted)
@@ -79,12 +99,17 @@ def told(counts):
 
 
 def end(script, chosen, try_part, count):
-    """Tries so many parts, prints what was counted, and returns the status: 1 where anything failed. The figure `passed`
-    is in the last line."""
+    """Tries so many parts, prints what was counted, and returns the status: 1 where anything
+    failed. The figure `passed` is in the last line."""
     began, totals = time.monotonic(), Totals(chosen.totals, chosen.seed)
-    print(f"{script}: seed {chosen.seed}, from part {totals.next} on, {chosen.jobs} processes", flush=True)
+    print(
+        f"{script}: seed {chosen.seed}, from part {totals.next} on, {chosen.jobs} processes",
+        flush=True,
+    )
     counts, failures = try_parts(try_part, chosen, count, totals)
-    used = [sum(resource.getrusage(who)[:2]) for who in (resource.RUSAGE_SELF, resource.RUSAGE_CHILDREN)]
+    used = [
+        sum(resource.getrusage(who)[:2]) for who in (resource.RUSAGE_SELF, resource.RUSAGE_CHILDREN)
+    ]
     seconds = {"seconds": time.monotonic() - began, "seconds of processors": sum(used)}
     totals.add(seconds)
     print(f"{script}: {told(counts | seconds)}")

@@ -1,21 +1,24 @@
-"""Mutated arrays through the program `recorded_cases`, whose answers are compared with an account of its own.
+"""Mutated arrays through the program `recorded_cases`, whose answers are compared with an account
+of its own.
 
 usage: mutated_arrays.py [--number 1000000] [--seed 1] [--jobs 2] [--program PROGRAM] [--keep FILE]
 
-Good arrays at random of all 31 kinds, nested to depth 3, sliced, with junk under nulls and beside the rows, have one
-word changed, or a few (`array_text.py`): offsets, views, bytes, keys, validities, lengths, windows, kinds, widths,
-among them such whose product with the length wraps. Some hundreds go to the program in one run. `array_rules.py` says
-of the same words what they make, and of each is asked:
+Good arrays at random of all 31 kinds, nested to depth 3, sliced, with junk under nulls and beside
+the rows, have one word changed, or a few (`array_text.py`): offsets, views, bytes, keys,
+validities, lengths, windows, kinds, widths, among them such whose product with the length wraps.
+Some hundreds go to the program in one run. `array_rules.py` says of the same words what they make,
+and of each is asked:
 
 - whether the parts make an array, and else for which fault and row they don't;
 - of an array its rows, and of one row whether it is null; that it equals a copy or itself in every row, and the good
   array in the rows that are the same, in at most as many comparisons as it has leaf slots; and how many these are. Of
   one with very many rows (of nulls, or of strings and lists of width 0) only how many, and how many a validity masks.
 
-Some cases make structs of fields and columns that need not fit (`struct_try_new`). Beside these every 50th text has its
-words dropped, exchanged or replaced, or its bytes changed, and goes to the program in a run of its own, behind a good
-case: the run ends with status 1 and names the line if it can't be read, and else goes on. Last come arrays nested up to
-3,000 deep: those runs end with status 0 or 1, whatever the depth that can be read, and print only right answers.
+Some cases make structs of fields and columns that need not fit (`struct_try_new`). Beside these
+every 50th text has its words dropped, exchanged or replaced, or its bytes changed, and goes to the
+program in a run of its own, behind a good case: the run ends with status 1 and names the line if it
+can't be read, and else goes on. Last come arrays nested up to 3,000 deep: those runs end with
+status 0 or 1, whatever the depth that can be read, and print only right answers.
 
 Cases that fail are kept as recorded cases ask them. The status is 1 where any failed.
 """
@@ -54,9 +57,12 @@ def kind_of_fault(fault):
 
 
 def equality(left, right, names):
-    """The question which rows of two arrays are the same, null and null too, and how the answer begins."""
+    """The question which rows of two arrays are the same, null and null too, and how the answer
+    begins."""
     question = f"array_tot_eq_missing_kernel_counted {names}"
-    bits = "".join("1" if row == other else "0" for row, other in zip(left.rows(), right.rows(), strict=True))
+    bits = "".join(
+        "1" if row == other else "0" for row, other in zip(left.rows(), right.rows(), strict=True)
+    )
     return question, Counted(f"{question} -> b0:{bits} in ".encode(), left.all_slots())
 
 
@@ -65,23 +71,33 @@ def can_compare(left, right):
 
 
 def questions(chance, array, good):
-    """What is asked of an array that is named `a`, with the answers. `good` are the words that were changed to it."""
+    """What is asked of an array that is named `a`, with the answers. `good` are the words that were
+    changed to it."""
     if array.all_visits() > MOST_VISITS:
         counts = (("array_len a", array.n), ("null_count a", array.nulls()))
         return [(question, f"{question} -> {count}".encode()) for question, count in counts]
     asked = [("rows a", ("rows a -> " + " ".join(array.rows())).encode())]
     other, name = made(good)[0] if good else array, "a"
     if good and other and can_compare(array, other):
-        asked += [(f"g = {good}", None), equality(array, other, "a g"), equality(other, array, "g a")]
+        asked += [
+            (f"g = {good}", None),
+            equality(array, other, "a g"),
+            equality(other, array, "g a"),
+        ]
     elif chance.random() < 0.5:
         asked.append(("b = copy a", None))
         name = "b"
     slots = array.all_slots()
-    asked += [equality(array, array, f"a {name}"), (f"leaves a {name}", f"leaves a {name} -> {slots} {slots}".encode())]
+    asked += [
+        equality(array, array, f"a {name}"),
+        (f"leaves a {name}", f"leaves a {name} -> {slots} {slots}".encode()),
+    ]
     if array.n > 0:
         i = slots % array.n
         question = f"is_null_row a {i}"
-        asked.append((question, f"{question} -> {'true' if array.row(i) == 'null' else 'false'}".encode()))
+        asked.append(
+            (question, f"{question} -> {'true' if array.row(i) == 'null' else 'false'}".encode())
+        )
     return asked
 
 
@@ -90,7 +106,11 @@ def array_case(chance, words, good=None, heading="# array"):
     array, fault = made(words)
     line = f"a = shared {words}" if chance.random() < 0.3 else f"a = {words}"
     if array is None:
-        return Case([heading, line], [heading.encode(), f"a = refused: {fault}".encode()], kind_of_fault(fault))
+        return Case(
+            [heading, line],
+            [heading.encode(), f"a = refused: {fault}".encode()],
+            kind_of_fault(fault),
+        )
     asked = questions(chance, array, good)
     printed = [heading.encode(), *(answer for _, answer in asked if answer is not None)]
     counted = "accepted, and compared with the good array" if len(asked) > 5 else "accepted"
@@ -98,6 +118,7 @@ def array_case(chance, words, good=None, heading="# array"):
 
 
 # ---- structs of fields and columns
+
 
 def alike(chance, tokens):
     """An array whose type is nearly that of another one."""
@@ -124,14 +145,31 @@ def struct_question(chance, arrays):
     n = arrays[columns[0]].n if columns else 2
     n = chance.choice((n, n, n, n + 1, max(n - 1, 0))) if n <= MOST_VISITS else 1
     bits = n + chance.choice((0, 0, 0, 0, 1))
-    validity = "-" if chance.random() < 0.5 else "b0:" + "".join(chance.choice("01") for _ in range(bits))
+    validity = (
+        "-" if chance.random() < 0.5 else "b0:" + "".join(chance.choice("01") for _ in range(bits))
+    )
     fields = [word for k, name in enumerate(fields) for word in ("pqrs"[k], name)]
-    return " ".join(["struct_try_new", str(n), validity, str(len(fields) // 2), *fields, str(len(columns)), *columns])
+    return " ".join(
+        [
+            "struct_try_new",
+            str(n),
+            validity,
+            str(len(fields) // 2),
+            *fields,
+            str(len(columns)),
+            *columns,
+        ]
+    )
 
 
 def struct_case(chance):
     first = good_array(chance)
-    texts = dict(zip("abc", map(text_of, (first, alike(chance, first), chance.choice((first, good_array(chance)))))))
+    texts = dict(
+        zip(
+            "abc",
+            map(text_of, (first, alike(chance, first), chance.choice((first, good_array(chance))))),
+        )
+    )
     arrays = {name: made(text)[0] for name, text in texts.items()}
     question = struct_question(chance, arrays)
     try:
@@ -147,17 +185,24 @@ def struct_case(chance):
 
 # ---- mutated arrays
 
+
 def mutated(chance):
     """Cases without an end, and between them words that can't be read, as text."""
     mutation = Mutation(chance)
     while True:
         good = good_array(chance)
-        for times in [0] * (chance.random() < 0.3) + [chance.choice((1, 1, 1, 2, 3)) for _ in range(CHANGED)]:
+        for times in [0] * (chance.random() < 0.3) + [
+            chance.choice((1, 1, 1, 2, 3)) for _ in range(CHANGED)
+        ]:
             tokens = list(good)
             for _ in range(times):
                 mutation.change(tokens)
             try:
-                yield array_case(chance, text_of(tokens), text_of(good) if times and chance.random() < 0.7 else None)
+                yield array_case(
+                    chance,
+                    text_of(tokens),
+                    text_of(good) if times and chance.random() < 0.7 else None,
+                )
             except Unreadable:
                 yield text_of(tokens)
             if chance.random() < 0.05:
@@ -165,7 +210,8 @@ def mutated(chance):
 
 
 def case_that_ends(chance, given):
-    """A text behind a good case, in a run of its own; whether it can be read, and if so what is printed."""
+    """A text behind a good case, in a run of its own; whether it can be read, and if so what is
+    printed."""
     before = array_case(chance, text_of(good_array(chance)), heading="# before")
     data = given.replace(b"\n", b" ")
     given = "\n".join(before.lines).encode() + b"\n#\n" + data + b"\n# behind\n"
@@ -199,36 +245,71 @@ def outcome_of(line):
 # ---- deep arrays
 
 LEVELS = {
-    "list": ("list 2 0 1 -", "[]"), "largelist": ("largelist 2 0 1 -", "[]"), "fixedlist": ("fixedlist 1 1 -", "[]"),
-    "struct": ("struct 1 1 - p", "{}"), "dict": ("dict u8 1 0 -", "<>"),
+    "list": ("list 2 0 1 -", "[]"),
+    "largelist": ("largelist 2 0 1 -", "[]"),
+    "fixedlist": ("fixedlist 1 1 -", "[]"),
+    "struct": ("struct 1 1 - p", "{}"),
+    "dict": ("dict u8 1 0 -", "<>"),
 }
-DEEP = [(depth, kind, leaf) for depth in DEPTHS for kind in (*LEVELS, "all") for leaf in ("good", "faulty")]
+DEEP = [
+    (depth, kind, leaf)
+    for depth in DEPTHS
+    for kind in (*LEVELS, "all")
+    for leaf in ("good", "faulty")
+]
 
 
 def deep_run(depth, kind, leaf):
     """An input with an array so deep, and all lines that it may print."""
-    levels = [LEVELS[kind] if kind in LEVELS else list(LEVELS.values())[k % len(LEVELS)] for k in range(depth)]
-    words = " ".join([*(f"0 1 {words}" for words, _ in levels), "0 1 i32 1 7 " + ("-" if leaf == "good" else "b0:11")])
+    levels = [
+        LEVELS[kind] if kind in LEVELS else list(LEVELS.values())[k % len(LEVELS)]
+        for k in range(depth)
+    ]
+    words = " ".join(
+        [
+            *(f"0 1 {words}" for words, _ in levels),
+            "0 1 i32 1 7 " + ("-" if leaf == "good" else "b0:11"),
+        ]
+    )
     if leaf == "faulty":
         return f"# deep\na = {words}\n# behind\n", ["# deep", "# behind"]
-    row = "".join(ends[0] for _, ends in levels) + "7" + "".join(ends[1] for _, ends in reversed(levels))
-    answers = {"rows a": row, "array_slice a 0 1": row, "copy a": row, "b = copy a": None,
-               "array_tot_eq_missing_kernel_counted a b": "b0:1 in 1 comparisons", "leaves a b": "1 1"}
+    row = (
+        "".join(ends[0] for _, ends in levels)
+        + "7"
+        + "".join(ends[1] for _, ends in reversed(levels))
+    )
+    answers = {
+        "rows a": row,
+        "array_slice a 0 1": row,
+        "copy a": row,
+        "b = copy a": None,
+        "array_tot_eq_missing_kernel_counted a b": "b0:1 in 1 comparisons",
+        "leaves a b": "1 1",
+    }
     told = [f"{question} -> {answer}" for question, answer in answers.items()]
-    return "\n".join(["# deep", f"a = {words}", *answers, "# behind", ""]), ["# deep", *told, "# behind"]
+    return "\n".join(["# deep", f"a = {words}", *answers, "# behind", ""]), [
+        "# deep",
+        *told,
+        "# behind",
+    ]
 
 
 def deep_faults(program, depth, kind, leaf):
     given, right = deep_run(depth, kind, leaf)
     ran = runs.run([program, "--print"], given.encode())
     told = ran.printed.decode(errors="replace").splitlines()
-    wrong = [line[:200] for line in told if line not in right and not line.startswith("a = refused: ")]
+    wrong = [
+        line[:200] for line in told if line not in right and not line.startswith("a = refused: ")
+    ]
     if runs.is_ended(ran) and not wrong:
         return collections.Counter({f"deep: status {ran.status}": 1}), []
-    return collections.Counter(), [(f"depth {depth} of {kind}, {leaf}: {runs.ending(ran)}, {wrong}", given.encode())]
+    return collections.Counter(), [
+        (f"depth {depth} of {kind}, {leaf}: {runs.ending(ran)}, {wrong}", given.encode())
+    ]
 
 
 # ---- runs
+
 
 def input_of(cases):
     return "\n".join(line for case in cases for line in (*case.lines, "")).encode()
@@ -238,7 +319,12 @@ def is_right(line, wanted):
     if isinstance(wanted, bytes):
         return line == wanted
     count, _, unit = line.removeprefix(wanted.before).partition(b" ")
-    return line.startswith(wanted.before) and count.isdigit() and int(count) <= wanted.most and unit == b"comparisons"
+    return (
+        line.startswith(wanted.before)
+        and count.isdigit()
+        and int(count) <= wanted.most
+        and unit == b"comparisons"
+    )
 
 
 def wrong_answers(cases, printed):
@@ -247,7 +333,12 @@ def wrong_answers(cases, printed):
     for case in cases:
         told, at = printed[at : at + len(case.printed)], at + len(case.printed)
         if len(told) != len(case.printed) or not all(map(is_right, told, case.printed)):
-            found.append((f"{case.lines[-1][:300]}: {told!r:.600} and not {case.printed!r:.600}", input_of([case])))
+            found.append(
+                (
+                    f"{case.lines[-1][:300]}: {told!r:.600} and not {case.printed!r:.600}",
+                    input_of([case]),
+                )
+            )
     return found
 
 
@@ -266,12 +357,18 @@ def case_faults(program, cases):
 
 
 def broken_faults(program, given, printed, named):
-    """What a run over an input did wrong that may not be readable. `named` is the line that it ends at."""
+    """What a run over an input did wrong that may not be readable. `named` is the line that it ends
+    at."""
     ran = runs.run([program, "--print"], given)
     told = ran.printed.split(b"\n")[:-1]
     status = 0 if printed[-1:] == [b"# behind"] else 1
     is_named = ran.said.endswith(b": " + named + b"\n") if named is not None else not ran.said
-    if ran.status == status and is_named and len(told) == len(printed) and all(map(is_right, told, printed)):
+    if (
+        ran.status == status
+        and is_named
+        and len(told) == len(printed)
+        and all(map(is_right, told, printed))
+    ):
         return []
     how = f"{runs.ending(ran)} and not {status}, {told!r:.300} and not {printed!r:.300}, {ran.said[:300]!r}"
     return [(f"{given[-300:]!r}: {how}", given)]
@@ -282,7 +379,8 @@ def is_broken_turn(cases):
 
 
 def try_part(program, seed, part):
-    """Makes the cases of a part, and gives them to the program: readable ones in one run, each other one in its own."""
+    """Makes the cases of a part, and gives them to the program: readable ones in one run, each
+    other one in its own."""
     number, size = part
     if isinstance(size, tuple):
         return deep_faults(program, *size)
@@ -295,7 +393,9 @@ def try_part(program, seed, part):
         cases.append(case)
         counts[case.counted] += 1
         if is_broken_turn(cases):
-            words = last if last is not None and chance.random() < 0.3 else text_of(good_array(chance))
+            words = (
+                last if last is not None and chance.random() < 0.3 else text_of(good_array(chance))
+            )
             line = f"a = {words}".encode()
             *run, counted = case_that_ends(chance, line if words is last else broken(chance, line))
             counts[counted] += 1
@@ -309,7 +409,9 @@ def try_part(program, seed, part):
 def main():
     chosen = runs.options(__doc__, "recorded_cases")
     parts = list(enumerate([*runs.sizes(chosen.number, A_RUN), *DEEP]))
-    return runs.end("mutated_arrays", chosen, functools.partial(try_part, chosen.program, chosen.seed), parts)
+    return runs.end(
+        "mutated_arrays", chosen, functools.partial(try_part, chosen.program, chosen.seed), parts
+    )
 
 
 if __name__ == "__main__":

@@ -1,8 +1,9 @@
 """Pairs of small random files of JSON documents, one a line, with options to compare them by.
 
-A value is made as a tree (`document_reports.py`), in which differences are planted, and is then written in one of many
-ways: members in any order, blanks, numbers in any notation, characters as they are or escaped. Where lines that are no
-documents are passed over, some are put between the others.
+A value is made as a tree (`document_reports.py`), in which differences are planted, and is then
+written in one of many ways: members in any order, blanks, numbers in any notation, characters as
+they are or escaped. Where lines that are no documents are passed over, some are put between the
+others.
 """
 import collections
 import json
@@ -13,33 +14,125 @@ import runs
 from document_reports import ANY, MISSING, Number, Object
 
 # é as one character, and as two
-TEXTS = ("", "a", "b", "ab", "A", "null", "missing", "1", 'say "so"', "back\\slash", "a/b", "\0", "\b\f\n\r\t",
-         "\x1b[31m", "\x7f", "\x80", "\x9b31m", "\xa0", "é", "e\u0301", "Å", "A\u030a", "日本", "\ufffd", "\ufeff",
-         "\u2028", "😀", "\U0010ffff", "\ue000", "a,b=c", " ", "-" * 70, "\ud7ff")
-NAMES = ("n", "name", "x1", "_", "-", "0", "A-b_9", "", "a.b", "a[0]", "[0]", "x y", 'a"b', "\\", "\0", "\n", "\x1f",
-         "\x7f", "\x9b", "é", "e\u0301", "日本", "😀", "\ue000", "a,b", "a=b", "null", "\ufeff", "\u2028", "__proto__",
-         ".", "/")
+TEXTS = (
+    "",
+    "a",
+    "b",
+    "ab",
+    "A",
+    "null",
+    "missing",
+    "1",
+    'say "so"',
+    "back\\slash",
+    "a/b",
+    "\0",
+    "\b\f\n\r\t",
+    "\x1b[31m",
+    "\x7f",
+    "\x80",
+    "\x9b31m",
+    "\xa0",
+    "é",
+    "e\u0301",
+    "Å",
+    "A\u030a",
+    "日本",
+    "\ufffd",
+    "\ufeff",
+    "\u2028",
+    "😀",
+    "\U0010ffff",
+    "\ue000",
+    "a,b=c",
+    " ",
+    "-" * 70,
+    "\ud7ff",
+)
+NAMES = (
+    "n",
+    "name",
+    "x1",
+    "_",
+    "-",
+    "0",
+    "A-b_9",
+    "",
+    "a.b",
+    "a[0]",
+    "[0]",
+    "x y",
+    'a"b',
+    "\\",
+    "\0",
+    "\n",
+    "\x1f",
+    "\x7f",
+    "\x9b",
+    "é",
+    "e\u0301",
+    "日本",
+    "😀",
+    "\ue000",
+    "a,b",
+    "a=b",
+    "null",
+    "\ufeff",
+    "\u2028",
+    "__proto__",
+    ".",
+    "/",
+)
 # the words of a key, and the steps that they mean
-PATHS = (("id", ["id"]), (".id", ["id"]), ('."id"', ["id"]), ("order.id", ["order", "id"]), ("k[0]", ["k", 0]),
-         ("k[1].id", ["k", 1, "id"]), ('."a.b"', ["a.b"]), ('a."b c"', ["a", "b c"]), ('.""', [""]), ('."é"', ["é"]),
-         ('."e\u0301"', ["e\u0301"]), (r'."\u009b\"\\"', ['\x9b"\\']), (r'."\ud83d\ude00\n"', ["😀\n"]),
-         ('a[2]."[0]"', ["a", 2, "[0]"]), ("A-b_9._", ["A-b_9", "_"]), ("0[0][0]", ["0", 0, 0]))
+PATHS = (
+    ("id", ["id"]),
+    (".id", ["id"]),
+    ('."id"', ["id"]),
+    ("order.id", ["order", "id"]),
+    ("k[0]", ["k", 0]),
+    ("k[1].id", ["k", 1, "id"]),
+    ('."a.b"', ["a.b"]),
+    ('a."b c"', ["a", "b c"]),
+    ('.""', [""]),
+    ('."é"', ["é"]),
+    ('."e\u0301"', ["e\u0301"]),
+    (r'."\u009b\"\\"', ['\x9b"\\']),
+    (r'."\ud83d\ude00\n"', ["😀\n"]),
+    ('a[2]."[0]"', ["a", 2, "[0]"]),
+    ("A-b_9._", ["A-b_9", "_"]),
+    ("0[0][0]", ["0", 0, 0]),
+)
 FILES = ("left.ndjson", "right.ndjson", "le ft.jsonl", "a=b.jsonl", "Å.ndjson", "a.csv.jsonl")
 BIGGEST = 10**30 - 1000
 # characters that a name without quotes can't have in a word
 QUOTED = set('."[],\0')
 # lines that are no documents, whatever the keys
-BAD_LINES = (b"", b" \t", b"nul", b"{", b'{"id":1', b"{} {}", b"\xef\xbb\xbf{}", b'{"a":"\xff"}', b"[]", b'"id"',
-             b"-0.5", b'{"a":1,"a":1}', b'{"id":{"a":[{"b":1,"b":2}]}}', b'{"a":1e1%s}' % (b"0" * 30))
+BAD_LINES = (
+    b"",
+    b" \t",
+    b"nul",
+    b"{",
+    b'{"id":1',
+    b"{} {}",
+    b"\xef\xbb\xbf{}",
+    b'{"a":"\xff"}',
+    b"[]",
+    b'"id"',
+    b"-0.5",
+    b'{"a":1,"a":1}',
+    b'{"id":{"a":[{"b":1,"b":2}]}}',
+    b'{"a":1e1%s}' % (b"0" * 30),
+)
 # how deep the parts of a random value lie; chains are deeper
 DEEP = 4
 
-# `planted` counts the differences, each as the texts of its path and of both parts, and is None where keys may come
-# twice; `options` is a dict, the others are the bytes of the files
+# `planted` counts the differences, each as the texts of its path and of both parts, and is None
+# where keys may come twice; `options` is a dict, the others are the bytes of the files
 Pair = collections.namedtuple("Pair", "left_bytes right_bytes options planted")
 
 
 # ---- values
+
 
 def made_number(chance):
     """Makes a number, as its normal text."""
@@ -59,7 +152,9 @@ def made_scalar(chance):
 
 def made_chain(chance):
     """Makes a value that nests as deep as a member of a document may, or a little less."""
-    value, deepest = chance.choice(([], Object(()), made_scalar(chance))), chance.choice((110, 126, 127, 127))
+    value, deepest = chance.choice(([], Object(()), made_scalar(chance))), chance.choice(
+        (110, 126, 127, 127)
+    )
     while document_reports.depth_of(value) < deepest:
         value = [value] if chance.random() < 0.5 else Object(((chance.choice(NAMES), value),))
     return value
@@ -75,7 +170,9 @@ def made_value(chance, depth=0):
     count = chance.choice((0, 1, 2, 2, 3, 4))
     if way < 0.75:
         return [made_value(chance, depth + 1) for _ in range(count)]
-    return Object(tuple((name, made_value(chance, depth + 1)) for name in chance.sample(NAMES, count)))
+    return Object(
+        tuple((name, made_value(chance, depth + 1)) for name in chance.sample(NAMES, count))
+    )
 
 
 def placed(value, steps, part, chance):
@@ -93,6 +190,7 @@ def placed(value, steps, part, chance):
 
 # ---- planted differences
 
+
 def near(value, chance, is_deepest=False):
     """Returns another value that is much like one, and no deeper at the deepest place."""
     if isinstance(value, Number):
@@ -101,14 +199,27 @@ def near(value, chance, is_deepest=False):
         ways = [f"{sign}{digits[:-1]}{last}e{tens}", f"{sign}{digits}1e{tens}"]
         if chance.random() < 0.15:
             return value.text
-        ways += [f"{sign}{digits}e{tens + 1}", f"{'' if sign else '-'}{digits}e{tens}"] * (digits != "0")
+        ways += [f"{sign}{digits}e{tens + 1}", f"{'' if sign else '-'}{digits}e{tens}"] * (
+            digits != "0"
+        )
         return document_reports.normal(Number(chance.choice(ways)))
     if isinstance(value, str):
-        pairs = {"é": "e\u0301", "e\u0301": "é", "Å": "A\u030a", "A\u030a": "Å", "null": None, "1": Number("1")}
+        pairs = {
+            "é": "e\u0301",
+            "e\u0301": "é",
+            "Å": "A\u030a",
+            "A\u030a": "Å",
+            "null": None,
+            "1": Number("1"),
+        }
         return pairs.get(value, value + chance.choice(("a", " ", "\0", "é")))
     if isinstance(value, (Object, list)):
-        return chance.choice((None, "", Number("0"), [] if isinstance(value, Object) else Object(())))
-    others = [None, True, False, "null", "true", "", Number("0")] + [[], Object(())] * (not is_deepest)
+        return chance.choice(
+            (None, "", Number("0"), [] if isinstance(value, Object) else Object(()))
+        )
+    others = [None, True, False, "null", "true", "", Number("0")] + [[], Object(())] * (
+        not is_deepest
+    )
     return chance.choice([it for it in others if it is not value])
 
 
@@ -163,7 +274,9 @@ def altered_object(value, path, keys, chance, planted):
         if chance.random() < 0.1 and not is_on_key(at, keys):
             planted[planted_change(at, part, MISSING)] += 1
         else:
-            members.append((name, altered(part, at, keys, chance, planted) if chance.random() < 0.4 else part))
+            members.append(
+                (name, altered(part, at, keys, chance, planted) if chance.random() < 0.4 else part)
+            )
     if chance.random() < 0.15:
         name = chance.choice([name for name in NAMES if name not in dict(value.members)])
         members.append((name, part := made_value(chance, len(path) + 1)))
@@ -177,8 +290,10 @@ def altered_array(value, path, keys, chance, planted):
     if items and chance.random() < 0.2 and not is_on_key(at, keys):
         planted[planted_change(at, items.pop(), MISSING)] += 1
         return items
-    items = [altered(part, (*path, i), keys, chance, planted) if chance.random() < 0.4 else part
-             for i, part in enumerate(items)]
+    items = [
+        altered(part, (*path, i), keys, chance, planted) if chance.random() < 0.4 else part
+        for i, part in enumerate(items)
+    ]
     if chance.random() < 0.15:
         items.append(part := made_value(chance, len(path) + 1))
         planted[planted_change((*path, len(value)), MISSING, part)] += 1
@@ -187,11 +302,14 @@ def altered_array(value, path, keys, chance, planted):
 
 # ---- texts
 
+
 def written_number(value, chance):
     """Returns a number in one of its notations."""
     sign, digits, tens = document_reports.number_parts(value.text)
     if digits == "0":
-        sign, tens = chance.choice(("", "", "-")), chance.choice((0, 0, 0, chance.randrange(-40, 40), BIGGEST))
+        sign, tens = chance.choice(("", "", "-")), chance.choice(
+            (0, 0, 0, chance.randrange(-40, 40), BIGGEST)
+        )
     if chance.random() < 0.2:
         zeros = chance.choice((1, 2, 30))
         digits, tens = digits + "0" * zeros, tens - zeros
@@ -202,7 +320,10 @@ def written_number(value, chance):
     else:
         point = chance.choice((0, 0, chance.randrange(len(digits))))
     tens += point
-    whole, fraction = digits[: len(digits) - point].lstrip("0") or "0", digits[len(digits) - point :]
+    whole, fraction = (
+        digits[: len(digits) - point].lstrip("0") or "0",
+        digits[len(digits) - point :],
+    )
     text = f"{sign}{whole}.{fraction}" if fraction else f"{sign}{whole}"
     if tens == 0 and chance.random() < 0.8:
         return text
@@ -210,7 +331,16 @@ def written_number(value, chance):
     return f"{text}{chance.choice('eE')}{down}{'0' * chance.choice((0, 0, 0, 1, 40))}{abs(tens)}"
 
 
-SHORT = {'"': '\\"', "\\": "\\\\", "/": "\\/", "\b": "\\b", "\f": "\\f", "\n": "\\n", "\r": "\\r", "\t": "\\t"}
+SHORT = {
+    '"': '\\"',
+    "\\": "\\\\",
+    "/": "\\/",
+    "\b": "\\b",
+    "\f": "\\f",
+    "\n": "\\n",
+    "\r": "\\r",
+    "\t": "\\t",
+}
 
 
 def written_char(char, rate, chance):
@@ -226,8 +356,13 @@ def written_char(char, rate, chance):
 
 def written(value, chance, blanks, rate):
     """Returns a value as JSON, with these blanks at times, and characters escaped at this rate."""
+
     def blank():
-        return "".join(chance.choice(blanks) for _ in range(chance.choice((0, 0, 1, 2)))) if blanks else ""
+        return (
+            "".join(chance.choice(blanks) for _ in range(chance.choice((0, 0, 1, 2))))
+            if blanks
+            else ""
+        )
 
     def within(value):
         return f"{blank()}{written(value, chance, blanks, rate)}{blank()}"
@@ -240,7 +375,11 @@ def written(value, chance, blanks, rate):
         return f"[{','.join(map(within, value)) or blank()}]"
     if isinstance(value, Object):
         members = chance.sample(value.members, len(value.members)) if value.members else ()
-        return "{" + (",".join(f"{within(name)}:{within(part)}" for name, part in members) or blank()) + "}"
+        return (
+            "{"
+            + (",".join(f"{within(name)}:{within(part)}" for name, part in members) or blank())
+            + "}"
+        )
     return document_reports.compact(value)
 
 
@@ -260,12 +399,29 @@ def file_of(lines, chance):
 
 # ---- pairs
 
+
 def made_keys(steps, chance):
     """Makes a function of the keys that documents of a pair have."""
     members = ("a", Number("1")), ("b", Number("2"))
-    names = [Object(members), Object(members[::-1]), Object(()), Object((("\U0010ffff", None), ("\ue000", None))),
-             [Number("1"), "1"], Number("1"), "1", Number("-1"), Number("12e2"), Number("15e-1"), None, True, "é",
-             "e\u0301", "\x9b", "x, y", "\U0010ffff"]
+    names = [
+        Object(members),
+        Object(members[::-1]),
+        Object(()),
+        Object((("\U0010ffff", None), ("\ue000", None))),
+        [Number("1"), "1"],
+        Number("1"),
+        "1",
+        Number("-1"),
+        Number("12e2"),
+        Number("15e-1"),
+        None,
+        True,
+        "é",
+        "e\u0301",
+        "\x9b",
+        "x, y",
+        "\U0010ffff",
+    ]
     numbers = iter(range(1, 1_000_000))
     is_unique = chance.random() < 0.5
 
@@ -289,11 +445,15 @@ def made_document(steps, key, chance, lacking=0):
 
 
 def altered_rows(rows, steps, chance, planted):
-    """Returns documents of which some are changed and some are left out, and counts the differences."""
+    """Returns documents of which some are changed and some are left out, and counts the
+    differences."""
     if steps:
         rows = [value for value in rows if chance.random() < 0.88]
     keys = {tuple(path) for path in steps}
-    return [altered(value, (), keys, chance, planted) if chance.random() < 0.4 else value for value in rows]
+    return [
+        altered(value, (), keys, chance, planted) if chance.random() < 0.4 else value
+        for value in rows
+    ]
 
 
 def paths_in(value, chance):
@@ -342,23 +502,35 @@ def made_patterns(values, most, chance):
 
 def numbers_in(values):
     """Returns the numbers in values."""
-    return [part for value in values for part, _ in document_reports.parts(value) if isinstance(part, Number)]
+    return [
+        part
+        for value in values
+        for part, _ in document_reports.parts(value)
+        if isinstance(part, Number)
+    ]
 
 
 def made_bound(numbers, relative, chance):
     """Makes a bound, which is about as large as some differences that are planted."""
     if relative:
-        return chance.choice(("0", "1", "2", "0.9", "0.8999", "0.25", "0.1", "1e-1", "1E-2", "1.0e-9", "1.99", "10"))
-    sign, digits, tens = document_reports.number_parts(chance.choice(numbers).text if numbers else "1")
+        return chance.choice(
+            ("0", "1", "2", "0.9", "0.8999", "0.25", "0.1", "1e-1", "1E-2", "1.0e-9", "1.99", "10")
+        )
+    sign, digits, tens = document_reports.number_parts(
+        chance.choice(numbers).text if numbers else "1"
+    )
     tens = tens + chance.choice((0, 0, 0, -1, 1, len(digits), 400, -400))
     tens = max(min(tens, BIGGEST), -BIGGEST)
     return f"{chance.choice(('0', '1', '2', '3', '5', '8', '9.0', '0.9', '20', '999999999999999999'))}e{tens}"
 
 
 def made_tolerances(values, chance):
-    """Makes some tolerances: words of patterns, bounds, and whether these are parts of the larger number."""
+    """Makes some tolerances: words of patterns, bounds, and whether these are parts of the larger
+    number."""
     numbers, tolerances = numbers_in(values), []
-    words = made_patterns(values, 4, chance) + [step_word(it, True, chance) for it in chance.sample(NAMES, 6)]
+    words = made_patterns(values, 4, chance) + [
+        step_word(it, True, chance) for it in chance.sample(NAMES, 6)
+    ]
     for word in chance.sample(words, chance.randrange(1, len(words) + 1)):
         relative = chance.random() < 0.5
         tolerances.append((word, made_bound(numbers, relative, chance), relative))
@@ -366,22 +538,35 @@ def made_tolerances(values, chance):
 
 
 def made_rules(values, chance):
-    """Makes the rules that say which differences between values are told, which are none for many pairs."""
+    """Makes the rules that say which differences between values are told, which are none for many
+    pairs."""
     if chance.random() < 0.5:
         return {"ignored": [], "only": [], "missing_is_null": False, "tolerances": []}
     way = chance.random()
-    return {"ignored": made_patterns(values, 5, chance) if way < 0.6 else [],
-            "only": made_patterns(values, 5, chance) if way > 0.4 else [], "missing_is_null": chance.random() < 0.4,
-            "tolerances": made_tolerances(values, chance) if chance.random() < 0.6 else []}
+    return {
+        "ignored": made_patterns(values, 5, chance) if way < 0.6 else [],
+        "only": made_patterns(values, 5, chance) if way > 0.4 else [],
+        "missing_is_null": chance.random() < 0.4,
+        "tolerances": made_tolerances(values, chance) if chance.random() < 0.6 else [],
+    }
 
 
 def made_options(keys, chance):
     """Makes the options to compare files by these keys."""
-    options = {"keys": keys, "limit": chance.choice((None, None, 0, 1, 3)), "json": chance.random() < 0.5,
-               "colored": chance.random() < 0.2, "unique": bool(keys) and chance.random() < 0.2,
-               "null_keys": bool(keys) and chance.random() < 0.2, "skip_bad": chance.random() < 0.25,
-               "piped": chance.choice((None,) * 10 + (0, 1)), "files": chance.sample(FILES, 2),
-               "input": chance.random() < 0.1, "commas": chance.random() < 0.5, "summary": chance.random() < 0.05}
+    options = {
+        "keys": keys,
+        "limit": chance.choice((None, None, 0, 1, 3)),
+        "json": chance.random() < 0.5,
+        "colored": chance.random() < 0.2,
+        "unique": bool(keys) and chance.random() < 0.2,
+        "null_keys": bool(keys) and chance.random() < 0.2,
+        "skip_bad": chance.random() < 0.25,
+        "piped": chance.choice((None,) * 10 + (0, 1)),
+        "files": chance.sample(FILES, 2),
+        "input": chance.random() < 0.1,
+        "commas": chance.random() < 0.5,
+        "summary": chance.random() < 0.05,
+    }
     if chance.random() < 0.1:
         options.update(files=["left.txt", "right"], input=True)
     return options
@@ -398,7 +583,8 @@ def with_bad_lines(lines, options, chance):
 
 
 def made_pair(chance, most=8):
-    """Makes two files and the options to compare them by, the left one with so many documents at most."""
+    """Makes two files and the options to compare them by, the left one with so many documents at
+    most."""
     chosen = chance.sample(PATHS, chance.choice((0, 1, 1, 1, 2)))
     if len({path[0] for _, path in chosen}) < len(chosen):
         chosen = chosen[:1]
@@ -406,17 +592,23 @@ def made_pair(chance, most=8):
     made_key, is_unique = made_keys(steps, chance)
     options = made_options([word for word, _ in chosen], chance)
     lacking = 0.3 if options["null_keys"] else 0
-    left = [made_document(steps, made_key(), chance, lacking) for _ in range(chance.randrange(most + 1))]
+    left = [
+        made_document(steps, made_key(), chance, lacking) for _ in range(chance.randrange(most + 1))
+    ]
     if left and not is_unique and chance.random() < 0.3:
         left = chance.choices(left, k=len(left))
     is_same, planted = chance.random() < 0.15, collections.Counter()
     rows = left if is_same else altered_rows(left, steps, chance, planted)
     lines = {id(value): line_of(value, chance) for value in left}
-    right = [lines[id(value)] if id(value) in lines and chance.random() < 0.3 else line_of(value, chance)
-             for value in rows]
+    right = [
+        lines[id(value)] if id(value) in lines and chance.random() < 0.3 else line_of(value, chance)
+        for value in rows
+    ]
     if not is_same:
-        right += [line_of(made_document(steps, made_key(), chance, lacking), chance)
-                  for _ in range(chance.randrange(3))]
+        right += [
+            line_of(made_document(steps, made_key(), chance, lacking), chance)
+            for _ in range(chance.randrange(3))
+        ]
     if steps and chance.random() < 0.5:
         chance.shuffle(right)
     options |= made_rules([*left, *rows], chance)
@@ -424,10 +616,13 @@ def made_pair(chance, most=8):
     if options["skip_bad"]:
         left, right = (with_bad_lines(side, options, chance) for side in (left, right))
     is_known = is_unique and not lacking or not steps
-    return Pair(file_of(left, chance), file_of(right, chance), options, planted if is_known else None)
+    return Pair(
+        file_of(left, chance), file_of(right, chance), options, planted if is_known else None
+    )
 
 
 # ---- runs
+
 
 def arguments(options):
     """Returns the words of the program for these options."""
@@ -440,15 +635,24 @@ def arguments(options):
     words += ["--no-key-is-null"] * options["null_keys"] + ["--skip-bad"] * options["skip_bad"]
     words += ["--summary"] * options["summary"] + ["--markdown"] * options.get("markdown", False)
     for option in ("ignored", "only"):
-        patterns = [",".join(options[option])] if options[option] and options["commas"] else options[option]
-        words += [word for pattern in patterns for word in ({"ignored": "--ignore"}.get(option, "--only"), pattern)]
+        patterns = (
+            [",".join(options[option])]
+            if options[option] and options["commas"]
+            else options[option]
+        )
+        words += [
+            word
+            for pattern in patterns
+            for word in ({"ignored": "--ignore"}.get(option, "--only"), pattern)
+        ]
     for word, bound, relative in options["tolerances"]:
         words += ["--relative-tolerance" if relative else "--tolerance", f"{word}={bound}"]
     return words + ["--input", "ndjson"] * (options["input"] or options["piped"] is not None)
 
 
 def run_pair(program, pair, folder, run=runs.run):
-    """Runs the program over a pair in a folder, where one of its files may come by standard input."""
+    """Runs the program over a pair in a folder, where one of its files may come by standard
+    input."""
     piped, contents = pair.options["piped"], (pair.left_bytes, pair.right_bytes)
     for name, content in zip(pair.options["files"], contents):
         (pathlib.Path(folder) / name).write_bytes(content)

@@ -1,6 +1,7 @@
 """Pairs of small random tables as CSV texts, with options to compare them by.
 
-Texts are bytes here, a character for each (latin-1), since a CSV file can have bytes that are no UTF-8.
+Texts are bytes here, a character for each (latin-1), since a CSV file can have bytes that are no
+UTF-8.
 """
 import collections
 import csv
@@ -15,17 +16,92 @@ def as_bytes(text):
     return text.encode().decode("latin-1")
 
 
-CELLS = ("", "a", "b", "ab", "a,b", 'say "so"', "two\nlines", "x\r\ny", "tab\t", "\x1b[31m", as_bytes("Å"),
-         as_bytes("日本"), "\0", "null", "NULL", "0", "00", "1e5", " ", " a", "\\", "=", "\x7f", "-" * 40, "\xff",
-         "a;b|c", as_bytes("e\u0301"), "\xe6\x97", as_bytes("\u2028"), as_bytes("\x9b31m"), as_bytes("\xb0"), "\xc2")
-KEYS = ("1", "2", "3", "a", "bc", "ab", "c", "", "k 1", "x,y", "\xfe", as_bytes("\x9b"), as_bytes("é"))
+CELLS = (
+    "",
+    "a",
+    "b",
+    "ab",
+    "a,b",
+    'say "so"',
+    "two\nlines",
+    "x\r\ny",
+    "tab\t",
+    "\x1b[31m",
+    as_bytes("Å"),
+    as_bytes("日本"),
+    "\0",
+    "null",
+    "NULL",
+    "0",
+    "00",
+    "1e5",
+    " ",
+    " a",
+    "\\",
+    "=",
+    "\x7f",
+    "-" * 40,
+    "\xff",
+    "a;b|c",
+    as_bytes("e\u0301"),
+    "\xe6\x97",
+    as_bytes("\u2028"),
+    as_bytes("\x9b31m"),
+    as_bytes("\xb0"),
+    "\xc2",
+)
+KEYS = (
+    "1",
+    "2",
+    "3",
+    "a",
+    "bc",
+    "ab",
+    "c",
+    "",
+    "k 1",
+    "x,y",
+    "\xfe",
+    as_bytes("\x9b"),
+    as_bytes("é"),
+)
 # an option splits names at commas, so that none has one
 NAMES = ("id", "name", "city", "amount", "note", "x y", 'a"b', as_bytes("Å"))
 # numbers, each as its digits and the tens behind them
-NUMBERS = (("0", 0), ("1", 0), ("12", 0), ("125", -1), ("125", -4), ("7", 20), ("9007199254740993", 0))
+NUMBERS = (
+    ("0", 0),
+    ("1", 0),
+    ("12", 0),
+    ("125", -1),
+    ("125", -4),
+    ("7", 20),
+    ("9007199254740993", 0),
+)
 # what looks like a number and is none, as RFC 8259 writes numbers
-NO_NUMBERS = ("007", "+5", ".5", "5.", "0x1", "1e", "-", "1e5 ", " 5", "--1", "1_0", "0.", "-01", "1.e1", "NaN", "5\n",
-              "1e\xc2\xb2", "\xef\xbc\x91", "1,5", "e5", "1e+", "00")
+NO_NUMBERS = (
+    "007",
+    "+5",
+    ".5",
+    "5.",
+    "0x1",
+    "1e",
+    "-",
+    "1e5 ",
+    " 5",
+    "--1",
+    "1_0",
+    "0.",
+    "-01",
+    "1.e1",
+    "NaN",
+    "5\n",
+    "1e\xc2\xb2",
+    "\xef\xbc\x91",
+    "1,5",
+    "e5",
+    "1e+",
+    "00",
+)
 FILES = ("left.csv", "right.csv", "le ft.csv", "a=b.csv", "Å.csv")
 
 # `left` and `right` are Tables, `options` a dict, the others the bytes of the files
@@ -39,7 +115,9 @@ def written(names, rows, options, chance):
     end = chance.choice(("\n", "\r\n"))
     out, lines = io.StringIO(newline=""), []
     quoting = chance.choice((csv.QUOTE_MINIMAL, csv.QUOTE_ALL))
-    writer = csv.writer(out, lineterminator=end, quoting=quoting, delimiter=options["delimiter"] or ",")
+    writer = csv.writer(
+        out, lineterminator=end, quoting=quoting, delimiter=options["delimiter"] or ","
+    )
     records = [names, *rows]
     for record in records:
         lines.append(out.getvalue().count("\n") + 1)
@@ -68,7 +146,11 @@ def number_text(digits, tens, chance):
     sign = "-" if power < 0 else chance.choice(("", "+"))
     exponent = chance.choice("eE") + sign + "0" * chance.randrange(3) + str(abs(power))
     has_exponent = power or chance.random() < 0.2
-    return (whole.lstrip("0") or "0") + ("." + fraction if fraction else "") + (exponent if has_exponent else "")
+    return (
+        (whole.lstrip("0") or "0")
+        + ("." + fraction if fraction else "")
+        + (exponent if has_exponent else "")
+    )
 
 
 def numbers_of(chance):
@@ -83,10 +165,13 @@ def numbers_of(chance):
 
 def written_again(row, numbers, chance):
     """Returns a row with some of these numbers written in other ways."""
+
     def again(sign, digits, tens):
         return sign + number_text(digits, tens, chance)
 
-    return [again(*numbers[cell]) if cell in numbers and chance.random() < 0.5 else cell for cell in row]
+    return [
+        again(*numbers[cell]) if cell in numbers and chance.random() < 0.5 else cell for cell in row
+    ]
 
 
 def changed_row(row, keys, cells, chance):
@@ -103,15 +188,26 @@ def made_options(names, keys, chance):
     has_header = chance.random() < 0.85
     if not has_header:
         names = [str(c + 1) for c in range(len(names))]
-    options = {"keys": [names[c] for c in keys], "null": chance.choice((None, None, "null", "")),
-               "limit": chance.choice((None, None, 0, 1, 3)), "common": chance.random() < 0.15,
-               "delimiter": chance.choice((None, None, None, None, ";", "\t", "|")), "header": has_header,
-               "piped": chance.choice((None,) * 10 + (0, 1)), "files": chance.sample(FILES, 2),
-               "numbers": chance.random() < 0.4, "json": chance.random() < 0.5, "colored": chance.random() < 0.2,
-               "unique": bool(keys) and chance.random() < 0.2, "summary": chance.random() < 0.05}
+    options = {
+        "keys": [names[c] for c in keys],
+        "null": chance.choice((None, None, "null", "")),
+        "limit": chance.choice((None, None, 0, 1, 3)),
+        "common": chance.random() < 0.15,
+        "delimiter": chance.choice((None, None, None, None, ";", "\t", "|")),
+        "header": has_header,
+        "piped": chance.choice((None,) * 10 + (0, 1)),
+        "files": chance.sample(FILES, 2),
+        "numbers": chance.random() < 0.4,
+        "json": chance.random() < 0.5,
+        "colored": chance.random() < 0.2,
+        "unique": bool(keys) and chance.random() < 0.2,
+        "summary": chance.random() < 0.05,
+    }
     others = [name for name in names if name not in options["keys"]]
     if others and chance.random() < 0.3:
-        options[chance.choice(("ignored", "only"))] = chance.sample(others, chance.randrange(1, len(others) + 1))
+        options[chance.choice(("ignored", "only"))] = chance.sample(
+            others, chance.randrange(1, len(others) + 1)
+        )
     if options["numbers"] and chance.random() < 0.4:
         given = [*names, *["none"] * (chance.random() < 0.1)]
         options["texts"] = chance.sample(given, chance.randrange(1, len(given) + 1))
@@ -124,16 +220,23 @@ def made_pair(chance):
     names = chance.sample(NAMES, width)
     keys = sorted(chance.sample(range(width), chance.randrange(0, min(width, 2) + 1)))
     numbers = numbers_of(chance) if chance.random() < 0.5 else {}
-    cells = [*chance.sample(CELLS, 3), *chance.sample(NO_NUMBERS, 3), *numbers] if numbers else CELLS
+    cells = (
+        [*chance.sample(CELLS, 3), *chance.sample(NO_NUMBERS, 3), *numbers] if numbers else CELLS
+    )
     key_cells = [*chance.sample(KEYS, 2), chance.choice(NO_NUMBERS), *numbers] if numbers else KEYS
 
     def made_rows(most):
         count = chance.randrange(0, most)
-        return [[chance.choice(key_cells if c in keys else cells) for c in range(width)] for _ in range(count)]
+        return [
+            [chance.choice(key_cells if c in keys else cells) for c in range(width)]
+            for _ in range(count)
+        ]
 
     # at times more pairs than are compared at once
     left = made_rows(9 if chance.random() < 0.95 else 800)
-    right = [changed_row(row, keys, cells, chance) for row in left if chance.random() < 0.85] + made_rows(3)
+    right = [
+        changed_row(row, keys, cells, chance) for row in left if chance.random() < 0.85
+    ] + made_rows(3)
     right = [written_again(row, numbers, chance) for row in right]
     if chance.random() < 0.5:
         chance.shuffle(right)
@@ -154,7 +257,12 @@ def made_pair(chance):
 def arguments(options):
     """Returns the words of the program for these options, as bytes."""
     words = []
-    for name, word_of in (("keys", "--key"), ("ignored", "--ignore"), ("only", "--only"), ("texts", "--text")):
+    for name, word_of in (
+        ("keys", "--key"),
+        ("ignored", "--ignore"),
+        ("only", "--only"),
+        ("texts", "--text"),
+    ):
         for value in options.get(name, []):
             words += [word_of, value]
     for name in ("null", "limit"):
@@ -178,7 +286,8 @@ def named_files(options):
 
 
 def run_pair(program, pair, folder, run=runs.run):
-    """Runs the program over a pair in a folder, where one of its texts may come by standard input."""
+    """Runs the program over a pair in a folder, where one of its texts may come by standard
+    input."""
     piped, texts = pair.options["piped"], (pair.left_bytes, pair.right_bytes)
     for name, content in zip(pair.options["files"], texts):
         (pathlib.Path(folder) / name).write_bytes(content)

@@ -1,6 +1,8 @@
-"""Runs of a program that is refused what it asks of the system: requests for memory, reads and writes.
+"""Runs of a program that is refused what it asks of the system: requests for memory, reads and
+writes.
 
-A library that is loaded in front of the C library counts the requests, and refuses those that the environment names:
+A library that is loaded in front of the C library counts the requests, and refuses those that the
+environment names:
 
 | Variable | |
 |---|---|
@@ -142,11 +144,18 @@ def build(room):
 
 
 def run(command, file, library, folder=None, **environment):
-    """Runs a command on a file, and returns what it printed, its status and its complaints. Without an end within
-    `SECONDS` the status is None."""
+    """Runs a command on a file, and returns what it printed, its status and its complaints. Without
+    an end within `SECONDS` the status is None."""
     with open(file, "rb") as given:
         told = {**os.environ, "LD_PRELOAD": library, **environment}
-        how = {"stdin": given, "capture_output": True, "env": told, "cwd": folder, "timeout": SECONDS, "check": False}
+        how = {
+            "stdin": given,
+            "capture_output": True,
+            "env": told,
+            "cwd": folder,
+            "timeout": SECONDS,
+            "check": False,
+        }
         try:
             ran = subprocess.run(command, **how)
         except subprocess.TimeoutExpired:
@@ -157,4 +166,6 @@ def run(command, file, library, folder=None, **environment):
 def counts(complaints):
     """Returns the counts that the library told; of a run that it could not tell of they are 0."""
     told = {name: int(number) for name, number in re.findall(r"(\w+)=(\d+)", complaints)}
-    return {name: told.get(name, 0) for name in ("asked", "begun", "ended", "within", "reads", "writes")}
+    return {
+        name: told.get(name, 0) for name in ("asked", "begun", "ended", "within", "reads", "writes")
+    }

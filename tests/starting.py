@@ -3,8 +3,8 @@
 A library that is loaded in front of the C library has the program wait once it is linked. For each
 run it is told the words, forks, and the child goes on with what the program has before `main`. So a
 run has fresh memory, and the program is loaded and linked once, which takes longer than a small
-comparison. Standard output and standard error of the runs are files in memory, and standard input is
-a pipe or empty.
+comparison. Standard output and standard error of the runs are files in memory, and standard input
+is a pipe or empty.
 """
 import os
 import pathlib
@@ -119,7 +119,10 @@ class Starter:
         flags = os.O_RDWR | os.O_CREAT | os.O_APPEND
         self.outputs = [os.open(self.folder / name, flags) for name in (".printed", ".said")]
         (asked, self.ask), (self.tell, told) = os.pipe(), os.pipe()
-        streams = [(os.POSIX_SPAWN_DUP2, *it) for it in zip((*self.outputs, asked, told), (1, 2, ASKED, TOLD))]
+        streams = [
+            (os.POSIX_SPAWN_DUP2, *it)
+            for it in zip((*self.outputs, asked, told), (1, 2, ASKED, TOLD))
+        ]
         streams.append((os.POSIX_SPAWN_OPEN, 0, os.devnull, os.O_RDONLY, 0))
         how = {**os.environ, "LD_PRELOAD": library, "STARTS_IN": str(self.folder)}
         self.process = os.posix_spawn(program, [program], how, file_actions=streams)
@@ -131,14 +134,17 @@ class Starter:
         return self
 
     def run(self, command, given, _folder=None):
-        """Runs the program on the words of a command, the first of which is its name, in its own folder."""
+        """Runs the program on the words of a command, the first of which is its name, in its own
+        folder."""
         self.count += 1
         is_piped = "-" in command or b"-" in command
         if is_piped:
             (self.folder / "given").write_bytes(given)
         for output in self.outputs:
             os.ftruncate(output, 0)
-        text = (b"p" if is_piped else b"n") + b"".join(os.fsencode(word) + b"\0" for word in command)
+        text = (b"p" if is_piped else b"n") + b"".join(
+            os.fsencode(word) + b"\0" for word in command
+        )
         os.write(self.ask, struct.pack("I", len(text)) + text)
         told = os.read(self.tell, 4)
         if len(told) < 4:

@@ -1,4 +1,5 @@
-"""The reports that `dunkelva diff` has to print, worked out from the rows of two tables (`random_tables.py`)."""
+"""The reports that `dunkelva diff` has to print, worked out from the rows of two tables
+(`random_tables.py`)."""
 import collections
 import decimal
 import json
@@ -6,10 +7,12 @@ import re
 
 import random_tables
 
-# `sides` are the rows of both tables in the compared columns `names`, `compared` what their cells are compared by,
-# `keys` the places of the key among the columns, `lone` pairs of a side and the name of a column that it has alone,
-# `changed` the rows of partners and the places that differ
-Comparison = collections.namedtuple("Comparison", "names keys lone sides compared changed removed added same")
+# `sides` are the rows of both tables in the compared columns `names`, `compared` what their cells
+# are compared by, `keys` the places of the key among the columns, `lone` pairs of a side and the
+# name of a column that it has alone, `changed` the rows of partners and the places that differ
+Comparison = collections.namedtuple(
+    "Comparison", "names keys lone sides compared changed removed added same"
+)
 
 # a number as RFC 8259 writes it: what stands before its exponent, and the exponent
 NUMBER = re.compile(r"(-?(?:0|[1-9][0-9]*)(?:\.[0-9]+)?)(?:[eE]([+-]?[0-9]+))?")
@@ -17,7 +20,8 @@ MOST_DIGITS = 30
 
 
 def worth(cell):
-    """Returns what a cell is compared by where numbers count: its sign, digits and tens, or the text of no number."""
+    """Returns what a cell is compared by where numbers count: its sign, digits and tens, or the
+    text of no number."""
     found = NUMBER.fullmatch(cell)
     if not found:
         return cell
@@ -34,11 +38,14 @@ def is_wide(cell):
 
 
 def partners(left_keys, right_keys):
-    """Returns pairs of rows of one key, the first with the first, and the right rows that have none."""
+    """Returns pairs of rows of one key, the first with the first, and the right rows that have
+    none."""
     waiting = collections.defaultdict(collections.deque)
     for j, key in enumerate(right_keys):
         waiting[key].append(j)
-    pairs = [(i, waiting[key].popleft() if waiting[key] else None) for i, key in enumerate(left_keys)]
+    pairs = [
+        (i, waiting[key].popleft() if waiting[key] else None) for i, key in enumerate(left_keys)
+    ]
     return pairs, sorted(j for rows in waiting.values() for j in rows)
 
 
@@ -53,20 +60,43 @@ def comparison_of(pair):
     """Compares two tables that can be compared."""
     left, right, options = pair.left, pair.right, pair.options
     names = [name for name in left.names if name in right.names and is_chosen(name, options)]
-    lone = [(side, name) for side, table, other in ((0, left, right), (1, right, left))
-            for name in table.names if name not in other.names and is_chosen(name, options)]
+    lone = [
+        (side, name)
+        for side, table, other in ((0, left, right), (1, right, left))
+        for name in table.names
+        if name not in other.names and is_chosen(name, options)
+    ]
     places = [[table.names.index(name) for name in names] for table in (left, right)]
-    sides = [[[row[c] for c in columns] for row in table.rows] for table, columns in zip((left, right), places)]
+    sides = [
+        [[row[c] for c in columns] for row in table.rows]
+        for table, columns in zip((left, right), places)
+    ]
     counts = [options["numbers"] and name not in options.get("texts", []) for name in names]
-    compared = [[[worth(cell) if counts[c] else cell for c, cell in enumerate(row)] for row in rows] for rows in sides]
+    compared = [
+        [[worth(cell) if counts[c] else cell for c, cell in enumerate(row)] for row in rows]
+        for rows in sides
+    ]
     keys = [names.index(name) for name in options["keys"]]
     pairs, added = partners(*[[tuple(row[k] for k in keys) for row in rows] for rows in compared])
     removed = [i for i, j in pairs if j is None]
     matched = [(i, j) for i, j in pairs if j is not None]
-    changed = [(i, j, [c for c in range(len(names)) if compared[0][i][c] != compared[1][j][c]]) for i, j in matched]
+    changed = [
+        (i, j, [c for c in range(len(names)) if compared[0][i][c] != compared[1][j][c]])
+        for i, j in matched
+    ]
     changed = [it for it in changed if it[2]]
     same = len(matched) - len(changed)
-    return Comparison(names, keys, [] if options["common"] else lone, sides, compared, changed, removed, added, same)
+    return Comparison(
+        names,
+        keys,
+        [] if options["common"] else lone,
+        sides,
+        compared,
+        changed,
+        removed,
+        added,
+        same,
+    )
 
 
 def status_of(found):
@@ -98,6 +128,7 @@ RED, GREEN, YELLOW = 31, 32, 33
 
 def quoted(cell):
     """Returns a cell as the report quotes it."""
+
     def text(found):
         return "".join(NAMED.get(c, f"\\x{ord(c):02x}") for c in found[0])
 
@@ -117,7 +148,9 @@ def text_report(pair):
     left, right = found.sides
 
     def row_text(row, i):
-        return ",".join(f"{word(found.names[k])}={word(row[k])}" for k in found.keys) or f"row {i + 1}"
+        return (
+            ",".join(f"{word(found.names[k])}={word(row[k])}" for k in found.keys) or f"row {i + 1}"
+        )
 
     def painted(color, text):
         return f"\x1b[{color}m{text}\x1b[0m" if options["colored"] else text
@@ -126,18 +159,29 @@ def text_report(pair):
         return painted(color, "null" if cell == options["null"] else quoted(cell))
 
     def changed_text(i, j, places):
-        cells = ((word(found.names[c]), cell_text(RED, left[i][c]), cell_text(GREEN, right[j][c])) for c in places)
+        cells = (
+            (word(found.names[c]), cell_text(RED, left[i][c]), cell_text(GREEN, right[j][c]))
+            for c in places
+        )
         changes = ", ".join(f"{name} {before} -> {after}" for name, before, after in cells)
         return f"{painted(YELLOW, f'~ {row_text(left[i], i)}')}  {changes}"
 
     lines = [changed_text(*it) for it in found.changed]
-    lines += [painted(RED, f"- {row_text(left[i], i)}  {files[0]} line {pair.left.lines[i]}") for i in found.removed]
-    lines += [painted(GREEN, f"+ {row_text(right[j], j)}  {files[1]} line {pair.right.lines[j]}") for j in found.added]
+    lines += [
+        painted(RED, f"- {row_text(left[i], i)}  {files[0]} line {pair.left.lines[i]}")
+        for i in found.removed
+    ]
+    lines += [
+        painted(GREEN, f"+ {row_text(right[j], j)}  {files[1]} line {pair.right.lines[j]}")
+        for j in found.added
+    ]
     lines, rest = shown(lines, options)
     lines = [f"! column {word(name)} only in {files[side]}" for side, name in found.lone] + lines
     lines += [f".. and {rest} more"] * (rest > 0 and not options.get("summary"))
-    counts = (f"{len(found.changed)} changed, {len(found.removed)} removed, {len(found.added)} added, "
-              f"{found.same} the same.")
+    counts = (
+        f"{len(found.changed)} changed, {len(found.removed)} removed, {len(found.added)} added, "
+        f"{found.same} the same."
+    )
     columns = ", ".join(f"{word(name)} {count}" for name, count in column_counts(found))
     lines.append(f"{counts}  By column: {columns}." if columns else counts)
     return "".join(f"{line}\n" for line in lines).encode("latin-1")
@@ -145,13 +189,15 @@ def text_report(pair):
 
 # ---- the report as JSON
 
+
 def as_text(cell):
     """Returns a cell as a string of JSON: what is no UTF-8 in it is replaced."""
     return cell.encode("latin-1").decode("utf-8", errors="replace")
 
 
 def json_objects(pair):
-    """Returns the objects of the lines that the program has to print, each as pairs of a name and a value."""
+    """Returns the objects of the lines that the program has to print, each as pairs of a name and a
+    value."""
     found, options = comparison_of(pair), pair.options
     left, right = found.sides
     names = list(map(as_text, found.names))
@@ -163,9 +209,18 @@ def json_objects(pair):
         return None if cell == options["null"] else as_text(cell)
 
     def changed(i, j, places):
-        changes = tuple((names[c], (("left", value(left[i][c])), ("right", value(right[j][c])))) for c in places)
-        return (("kind", "changed"), ("key", key(left[i])), ("left_row", i + 1), ("right_row", j + 1),
-                ("left_line", pair.left.lines[i]), ("right_line", pair.right.lines[j]), ("changes", changes))
+        changes = tuple(
+            (names[c], (("left", value(left[i][c])), ("right", value(right[j][c])))) for c in places
+        )
+        return (
+            ("kind", "changed"),
+            ("key", key(left[i])),
+            ("left_row", i + 1),
+            ("right_row", j + 1),
+            ("left_line", pair.left.lines[i]),
+            ("right_line", pair.right.lines[j]),
+            ("changes", changes),
+        )
 
     def alone(kind, rows, table, i):
         return ("kind", kind), ("key", key(rows[i])), ("row", i + 1), ("line", table.lines[i])
@@ -174,16 +229,26 @@ def json_objects(pair):
     objects += [alone("removed", left, pair.left, i) for i in found.removed]
     objects += [alone("added", right, pair.right, j) for j in found.added]
     objects, rest = shown(objects, options)
-    lone = [(("kind", "column"), ("column", as_text(name)), ("only_in", ("left", "right")[side]))
-            for side, name in found.lone]
+    lone = [
+        (("kind", "column"), ("column", as_text(name)), ("only_in", ("left", "right")[side]))
+        for side, name in found.lone
+    ]
     columns = tuple((as_text(name), count) for name, count in column_counts(found))
-    counts = (("kind", "counts"), ("changed", len(found.changed)), ("removed", len(found.removed)),
-              ("added", len(found.added)), ("same", found.same), ("not_shown", rest), ("columns", columns))
+    counts = (
+        ("kind", "counts"),
+        ("changed", len(found.changed)),
+        ("removed", len(found.removed)),
+        ("added", len(found.added)),
+        ("same", found.same),
+        ("not_shown", rest),
+        ("columns", columns),
+    )
     return [*lone, *objects, counts]
 
 
 def objects_of(printed):
-    """Returns the objects of JSON lines. A line may have no blank outside of strings, and no control character."""
+    """Returns the objects of JSON lines. A line may have no blank outside of strings, and no
+    control character."""
     objects, text = [], printed.decode()
     if not text.endswith("\n"):
         raise ValueError("no end of the last line")
@@ -196,10 +261,14 @@ def objects_of(printed):
 
 # ---- what a run has to do
 
+
 def wide_number(pair):
-    """Returns what is said of the first number that counts and whose exponent is too wide, or None."""
+    """Returns what is said of the first number that counts and whose exponent is too wide, or
+    None."""
     found, options = comparison_of(pair), pair.options
-    for file, table, rows in zip(random_tables.named_files(options), (pair.left, pair.right), found.sides):
+    for file, table, rows in zip(
+        random_tables.named_files(options), (pair.left, pair.right), found.sides
+    ):
         for line, row in zip(table.lines, rows):
             for name, cell in zip(found.names, row):
                 if options["numbers"] and name not in options.get("texts", []) and is_wide(cell):
@@ -223,14 +292,19 @@ def key_twice(pair):
 
 
 def choice_fault(pair):
-    """Returns what is said of options that name unknown columns or leave none to compare, or None."""
+    """Returns what is said of options that name unknown columns or leave none to compare, or
+    None."""
     left, right, options = pair.left.names, pair.right.names, pair.options
     for option, names in (("only", "only"), ("ignore", "ignored"), ("text", "texts")):
         for name in options.get(names, []):
             if name not in left and name not in right:
                 return f'--{option}: neither file has a column named "{name}"'
     found = comparison_of(pair)
-    return "no column is left to compare" if (left or right) and not found.names and not found.lone else None
+    return (
+        "no column is left to compare"
+        if (left or right) and not found.names and not found.lone
+        else None
+    )
 
 
 LINES = re.compile(rb"(?m)^((?:\x1b\[3\dm)?[-+] .* line )\d+(?=(?:\x1b\[0m)?$)")
@@ -247,17 +321,24 @@ def members_without_lines(members):
 
 
 def is_report(printed, pair, has_lines):
-    """Returns whether this is the report of two tables, with its numbers of lines if these are known."""
+    """Returns whether this is the report of two tables, with its numbers of lines if these are
+    known."""
     if not pair.options["json"]:
         wanted_text = text_report(pair)
-        return printed == wanted_text or not has_lines and without_lines(printed) == without_lines(wanted_text)
+        return (
+            printed == wanted_text
+            or not has_lines
+            and without_lines(printed) == without_lines(wanted_text)
+        )
     try:
         objects = objects_of(printed)
     except ValueError:
         return False
     wanted_objects = json_objects(pair)
     if not has_lines:
-        objects, wanted_objects = ([members_without_lines(it) for it in each] for each in (objects, wanted_objects))
+        objects, wanted_objects = (
+            [members_without_lines(it) for it in each] for each in (objects, wanted_objects)
+        )
     return objects == wanted_objects
 
 
@@ -273,7 +354,11 @@ def is_right(ran, pair, has_lines=True):
         return ran == (2, b"", f"dunkelva: {said}\n".encode("latin-1"))
     if said:
         return ran.status == 2 and ran.said.endswith(b" have the same key\n") and not ran.printed
-    return not ran.said and ran.status == status_of(comparison_of(pair)) and is_report(ran.printed, pair, has_lines)
+    return (
+        not ran.said
+        and ran.status == status_of(comparison_of(pair))
+        and is_report(ran.printed, pair, has_lines)
+    )
 
 
 def wanted(pair):

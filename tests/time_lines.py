@@ -2,10 +2,11 @@
 
 usage: time_lines.py PROGRAM    (the built program, as crates/polars_tables/out/polars_tables)
 
-The lines are random, the same in each run: every operation on every type, and about one in eight is refused. `plain_lines.rs` answers them
-by std alone, from a file of its own of the same lines. Both run five times in turn, with what they print kept and compared. Printed are the best times and their
-ratio, and the most memory that the program had, beside its input and output together; then the same of ten million lines, for the program
-alone.
+The lines are random, the same in each run: every operation on every type, and about one in eight is
+refused. `plain_lines.rs` answers them by std alone, from a file of its own of the same lines. Both
+run five times in turn, with what they print kept and compared. Printed are the best times and their
+ratio, and the most memory that the program had, beside its input and output together; then the same
+of ten million lines, for the program alone.
 """
 import pathlib
 import random
@@ -28,9 +29,16 @@ KINDS_OF_LINES = 20_000
 def faulty(line, chance):
     """A line that is refused for one of the reasons."""
     words = line.split(" ")
-    return chance.choice((
-        "", words[0] + "x " + " ".join(words[1:]), words[0] + " i128", line + " x", line + " | 1",
-        line + " 99999999999999999999999"))
+    return chance.choice(
+        (
+            "",
+            words[0] + "x " + " ".join(words[1:]),
+            words[0] + " i128",
+            line + " x",
+            line + " | 1",
+            line + " 99999999999999999999999",
+        )
+    )
 
 
 def sample():
@@ -45,7 +53,8 @@ def sample():
     return lines
 
 
-# Runs a program in a process of its own, since a child's most memory counts that of the process that forked it, and prints seconds and KiB.
+# Runs a program in a process of its own, since a child's most memory counts that of the process
+# that forked it, and prints seconds and KiB.
 MEASURE = """
 import os, subprocess, sys, time
 began = time.perf_counter()
@@ -58,7 +67,13 @@ print(time.perf_counter() - began, used.ru_maxrss, file=sys.stderr)
 def run(program, given, printed):
     """The seconds that a run takes, and the most bytes of memory that it has."""
     with open(given, "rb") as source, open(printed, "wb") as target:
-        told = subprocess.run([sys.executable, "-c", MEASURE, program], stdin=source, stdout=target, stderr=subprocess.PIPE, check=True)
+        told = subprocess.run(
+            [sys.executable, "-c", MEASURE, program],
+            stdin=source,
+            stdout=target,
+            stderr=subprocess.PIPE,
+            check=True,
+        )
         seconds, kibibytes = told.stderr.split()[-2:]
         return float(seconds), int(kibibytes) * 1024
 
@@ -71,7 +86,20 @@ def main(program):
     with tempfile.TemporaryDirectory() as folder:
         folder = pathlib.Path(folder)
         plain = folder / "plain"
-        subprocess.run(["rustc", "--edition", "2024", "-O", "-C", "target-cpu=x86-64-v2", TESTS.parent / "bench" / "plain_lines.rs", "-o", plain], check=True)
+        subprocess.run(
+            [
+                "rustc",
+                "--edition",
+                "2024",
+                "-O",
+                "-C",
+                "target-cpu=x86-64-v2",
+                TESTS.parent / "bench" / "plain_lines.rs",
+                "-o",
+                plain,
+            ],
+            check=True,
+        )
         lines, chance = sample(), random.Random(1)
         text = "".join(line + "\n" for line in chance.choices(lines, k=LINES))
         (folder / "in").write_text(text, encoding="utf-8")
@@ -82,11 +110,17 @@ def main(program):
             assert (folder / "out").read_bytes() == (folder / "plain_out").read_bytes()
         both = sum((folder / name).stat().st_size for name in ("in", "out"))
         (our_time, memory), (their_time, _) = best(ours), best(theirs)
-        print(f"{LINES} lines, {both / 1e6:.0f} MB in and out: {our_time:.2f} s, plain Rust {their_time:.2f} s, ratio {our_time / their_time:.2f}; "
-              f"{memory / 1e6:.0f} MB, {memory / both:.2f} x in and out")
+        print(
+            f"{LINES} lines, {both / 1e6:.0f} MB in and out: {our_time:.2f} s, plain Rust {their_time:.2f} s, ratio {our_time / their_time:.2f}; "
+            f"{memory / 1e6:.0f} MB, {memory / both:.2f} x in and out"
+        )
         (folder / "many").write_text(10 * text, encoding="utf-8")
-        many_time, many_memory = best([run(program, folder / "many", folder / "out") for _ in range(MANY_RUNS)])
-        print(f"{10 * LINES} lines: {many_time:.2f} s, {many_time / our_time:.1f} x; {many_memory / 1e6:.0f} MB, {many_memory / memory:.1f} x")
+        many_time, many_memory = best(
+            [run(program, folder / "many", folder / "out") for _ in range(MANY_RUNS)]
+        )
+        print(
+            f"{10 * LINES} lines: {many_time:.2f} s, {many_time / our_time:.1f} x; {many_memory / 1e6:.0f} MB, {many_memory / memory:.1f} x"
+        )
 
 
 if __name__ == "__main__":

@@ -3,13 +3,15 @@
 
 usage: join_parts.py LEFT REPORT.. [-- OPTION..]
 
-LEFT is the left file, and an option is one that the parts were compared with. Of CSV the first record of LEFT says in which
-order the columns are. A report is a file of what `dunkelva diff LEFT RIGHT --partition I/N --format json --limit 0 OPTION..`
-printed, and all N of them are needed, the first part's first. Prints what a run without `--partition` prints.
+LEFT is the left file, and an option is one that the parts were compared with. Of CSV the first
+record of LEFT says in which order the columns are. A report is a file of what `dunkelva diff LEFT
+RIGHT --partition I/N --format json --limit 0 OPTION..` printed, and all N of them are needed, the
+first part's first. Prints what a run without `--partition` prints.
 
-Differences stand in the order of the whole: changed rows by their left row, then removed ones, then added ones by their
-row; documents by their lines. Each report has this order, so that no more than a line of each is in memory. Counts are
-added up, but for those of lines that are passed over, which each part has.
+Differences stand in the order of the whole: changed rows by their left row, then removed ones, then
+added ones by their row; documents by their lines. Each report has this order, so that no more than
+a line of each is in memory. Counts are added up, but for those of lines that are passed over, which
+each part has.
 """
 import csv
 import heapq
@@ -21,15 +23,20 @@ RANKS = {b"column": 0, b"changed": 1, b"removed": 2, b"added": 3, b"counts": 4}
 KIND = re.compile(rb'\{"kind":"(\w+)"')
 # cells and keys are texts or null, so that no other member with such a name is a number
 ROW = re.compile(rb'"(?:left_)?row":([0-9]+)')
-COUNTS = re.compile(rb'\{"kind":"counts","changed":(\d+),"removed":(\d+),"added":(\d+),"same":(\d+),"not_shown":(\d+),?'
-                    rb'(?:"columns":\{(.*)\})?("left_skipped":\d+,"right_skipped":\d+)?\}\n')
+COUNTS = re.compile(
+    rb'\{"kind":"counts","changed":(\d+),"removed":(\d+),"added":(\d+),"same":(\d+),"not_shown":(\d+),?'
+    rb'(?:"columns":\{(.*)\})?("left_skipped":\d+,"right_skipped":\d+)?\}\n'
+)
 COLUMN = re.compile(rb'("(?:[^"\\]|\\.)*"):(\d+)')
 
 
 def place_of(line):
     """Returns what lines are ordered by: their kind, and the number of their row."""
     kind = KIND.match(line)[1]
-    return RANKS[kind], int(ROW.search(line)[1]) if kind in (b"changed", b"removed", b"added") else 0
+    return (
+        RANKS[kind],
+        int(ROW.search(line)[1]) if kind in (b"changed", b"removed", b"added") else 0,
+    )
 
 
 def document_place_of(line):
@@ -58,7 +65,8 @@ def hold_documents(left, options):
 
 
 def names_of(left, options):
-    """Returns the names of the columns of a file as JSON has them, or None where they are numbers."""
+    """Returns the names of the columns of a file as JSON has them, or None where they are
+    numbers."""
     if "--no-header" in options:
         return None
     given = option_of(options, "--delimiter")
@@ -78,7 +86,10 @@ def counts_of(lines, names):
         totals = [total + int(count) for total, count in zip(totals, found.groups())]
         for name, count in COLUMN.findall(found[6] or b""):
             columns[name] = columns.get(name, 0) + int(count)
-    counts = b'{"kind":"counts","changed":%d,"removed":%d,"added":%d,"same":%d,"not_shown":%d' % tuple(totals)
+    counts = (
+        b'{"kind":"counts","changed":%d,"removed":%d,"added":%d,"same":%d,"not_shown":%d'
+        % tuple(totals)
+    )
     if found[6] is None:
         return counts + (b"," + found[7] if found[7] else b"") + b"}\n"
 
@@ -91,7 +102,8 @@ def counts_of(lines, names):
 
 
 def without_columns(report, number):
-    """Makes the lines of a report, but of the first one alone those of columns that one file has alone."""
+    """Makes the lines of a report, but of the first one alone those of columns that one file has
+    alone."""
     return (line for line in report if number == 0 or KIND.match(line)[1] != b"column")
 
 
@@ -111,7 +123,7 @@ def joined(reports, left, options):
 def main(words):
     """Prints the report of the whole."""
     end = words.index("--") if "--" in words else len(words)
-    left, reports, options = words[0], words[1:end], words[end + 1:]
+    left, reports, options = words[0], words[1:end], words[end + 1 :]
     files = [open(report, "rb") for report in reports]
     sys.stdout.buffer.writelines(joined(files, left, options))
 

@@ -1,35 +1,68 @@
-"""Writes two files of JSON documents, one a line: of the left documents one in a hundred is changed on the right, one
-in a thousand is missing there, as many are new, and the right documents lie in another order.
+"""Writes two files of JSON documents, one a line: of the left documents one in a hundred is changed
+on the right, one in a thousand is missing there, as many are new, and the right documents lie in
+another order.
 
 usage: make_documents.py DOCUMENTS FOLDER [rewritten]   (FOLDER/left.ndjson and right.ndjson, 281 MB each for 1,000,000)
 
-With `rewritten` the members of each right document stand in another order, so that no line is one of the left file.
+With `rewritten` the members of each right document stand in another order, so that no line is one
+of the left file.
 """
 import json
 import pathlib
 import random
 import sys
 
-CITIES = ("Oslo", "Bergen", "Trondheim", "Stavanger", "Tromsø", "Bodø", "Ålesund", "Drammen", "Molde", "Hamar")
-WORDS = ("birch", "ferry", "granite", "harvest", "island", "lantern", "meadow", "pebble", "saddle", "timber")
+CITIES = (
+    "Oslo",
+    "Bergen",
+    "Trondheim",
+    "Stavanger",
+    "Tromsø",
+    "Bodø",
+    "Ålesund",
+    "Drammen",
+    "Molde",
+    "Hamar",
+)
+WORDS = (
+    "birch",
+    "ferry",
+    "granite",
+    "harvest",
+    "island",
+    "lantern",
+    "meadow",
+    "pebble",
+    "saddle",
+    "timber",
+)
 STATES = ("open", "closed", "pending")
 
 
 def made_item(chance):
     """Returns an item of an order."""
-    return {"sku": f"{chance.choice(WORDS)}-{chance.randrange(1000)}", "quantity": chance.randrange(1, 20),
-            "price": chance.randrange(100_000) / 100}
+    return {
+        "sku": f"{chance.choice(WORDS)}-{chance.randrange(1000)}",
+        "quantity": chance.randrange(1, 20),
+        "price": chance.randrange(100_000) / 100,
+    }
 
 
 def made_document(number, chance):
     """Returns an order."""
     date = f"20{chance.randrange(10, 27)}-{chance.randrange(1, 13):02}-{chance.randrange(1, 29):02}"
     note = " ".join(chance.choice(WORDS) for _ in range(chance.randrange(5)))
-    return {"order": {"id": f"A-{number}", "date": date, "status": chance.choice(STATES)},
-            "customer": {"name": f"{chance.choice(WORDS)} {number % 977}", "city": chance.choice(CITIES)},
-            "items": [made_item(chance) for _ in range(chance.randrange(1, 4))],
-            "amount": chance.randrange(10_000_000) / 100, "is_paid": chance.random() < 0.5,
-            "note": f'{note}, "as agreed"' if number % 50 == 0 else note or None}
+    return {
+        "order": {"id": f"A-{number}", "date": date, "status": chance.choice(STATES)},
+        "customer": {
+            "name": f"{chance.choice(WORDS)} {number % 977}",
+            "city": chance.choice(CITIES),
+        },
+        "items": [made_item(chance) for _ in range(chance.randrange(1, 4))],
+        "amount": chance.randrange(10_000_000) / 100,
+        "is_paid": chance.random() < 0.5,
+        "note": f'{note}, "as agreed"' if number % 50 == 0 else note or None,
+    }
 
 
 def changed(document, chance):
@@ -38,7 +71,10 @@ def changed(document, chance):
     if way == 0:
         return {**document, "amount": document["amount"] + 0.25}
     if way == 1:
-        return {**document, "items": [*document["items"][:-1], {**document["items"][-1], "quantity": 20}]}
+        return {
+            **document,
+            "items": [*document["items"][:-1], {**document["items"][-1], "quantity": 20}],
+        }
     if way == 2:
         return {**document, "customer": {**document["customer"], "city": "Narvik"}}
     return {**document, "items": [*document["items"], made_item(chance)]}

@@ -1,5 +1,5 @@
-"""Writes two CSV files of the same columns: of the left rows one in a hundred is changed on the right, one in a thousand
-is missing there, as many are new, and the right rows lie in another order.
+"""Writes two CSV files of the same columns: of the left rows one in a hundred is changed on the
+right, one in a thousand is missing there, as many are new, and the right rows lie in another order.
 
 usage: make_tables.py ROWS FOLDER      (FOLDER/left.csv and FOLDER/right.csv, 106 MB each for 1,000,000 rows)
 """
@@ -9,8 +9,30 @@ import random
 import sys
 
 COLUMNS = ("id", "name", "city", "email", "amount", "quantity", "date", "status", "score", "note")
-CITIES = ("Oslo", "Bergen", "Trondheim", "Stavanger", "Tromsø", "Bodø", "Ålesund", "Drammen", "Molde", "Hamar")
-WORDS = ("birch", "ferry", "granite", "harvest", "island", "lantern", "meadow", "pebble", "saddle", "timber")
+CITIES = (
+    "Oslo",
+    "Bergen",
+    "Trondheim",
+    "Stavanger",
+    "Tromsø",
+    "Bodø",
+    "Ålesund",
+    "Drammen",
+    "Molde",
+    "Hamar",
+)
+WORDS = (
+    "birch",
+    "ferry",
+    "granite",
+    "harvest",
+    "island",
+    "lantern",
+    "meadow",
+    "pebble",
+    "saddle",
+    "timber",
+)
 STATES = ("open", "closed", "pending")
 
 
@@ -19,10 +41,18 @@ def made_row(number, chance):
     note = " ".join(chance.choice(WORDS) for _ in range(chance.randrange(5)))
     if number % 50 == 0:
         note = f'{note}, "as agreed"'
-    return [str(number), f"{chance.choice(WORDS)} {chance.choice(WORDS)} {number % 977}", chance.choice(CITIES),
-            f"user{number}@example.org", f"{chance.randrange(1_000_000) / 100:.2f}", str(chance.randrange(1000)),
-            f"20{chance.randrange(10, 27)}-{chance.randrange(1, 13):02}-{chance.randrange(1, 29):02}",
-            chance.choice(STATES), f"{chance.random():.6f}", note]
+    return [
+        str(number),
+        f"{chance.choice(WORDS)} {chance.choice(WORDS)} {number % 977}",
+        chance.choice(CITIES),
+        f"user{number}@example.org",
+        f"{chance.randrange(1_000_000) / 100:.2f}",
+        str(chance.randrange(1000)),
+        f"20{chance.randrange(10, 27)}-{chance.randrange(1, 13):02}-{chance.randrange(1, 29):02}",
+        chance.choice(STATES),
+        f"{chance.random():.6f}",
+        note,
+    ]
 
 
 def main(rows, folder):

@@ -1,4 +1,5 @@
-"""Compares two files of JSON documents by key with a dict. Numbers become floats where they are no integers.
+"""Compares two files of JSON documents by key with a dict. Numbers become floats where they are no
+integers.
 
 usage: with_json.py LEFT RIGHT KEY [orjson]      (KEY is names with dots between them)
 """

@@ -6,12 +6,18 @@ import pandas
 
 def main(left_file, right_file, key):
     """Joins the files by the key, and counts the rows that differ and the columns that do."""
-    left, right = (pandas.read_csv(file, dtype=str, keep_default_na=False) for file in (left_file, right_file))
+    left, right = (
+        pandas.read_csv(file, dtype=str, keep_default_na=False) for file in (left_file, right_file)
+    )
     joined = left.merge(right, on=key, how="outer", suffixes=("", "_right"), indicator=True)
     both = joined[joined["_merge"] == "both"]
-    differ = pandas.DataFrame({name: both[name] != both[f"{name}_right"] for name in left.columns if name != key})
+    differ = pandas.DataFrame(
+        {name: both[name] != both[f"{name}_right"] for name in left.columns if name != key}
+    )
     counts = joined["_merge"].value_counts()
-    print(f"{differ.any(axis=1).sum()} changed, {counts['left_only']} removed, {counts['right_only']} added")
+    print(
+        f"{differ.any(axis=1).sum()} changed, {counts['left_only']} removed, {counts['right_only']} added"
+    )
     print(differ.sum().to_dict())
 
 

@@ -15,9 +15,31 @@ buffers of views, odd addresses.
 """
 import ctypes
 
-NUMBERS = {"c": 1, "C": 1, "s": 2, "S": 2, "i": 4, "I": 4, "l": 8, "L": 8, "e": 2, "f": 4, "g": 8,
-           "tdD": 4, "tdm": 8, "tts": 4, "ttm": 4, "ttu": 8, "ttn": 8, "tDs": 8, "tDm": 8, "tDu": 8,
-           "tDn": 8, "tiM": 4, "tiD": 8}
+NUMBERS = {
+    "c": 1,
+    "C": 1,
+    "s": 2,
+    "S": 2,
+    "i": 4,
+    "I": 4,
+    "l": 8,
+    "L": 8,
+    "e": 2,
+    "f": 4,
+    "g": 8,
+    "tdD": 4,
+    "tdm": 8,
+    "tts": 4,
+    "ttm": 4,
+    "ttu": 8,
+    "ttn": 8,
+    "tDs": 8,
+    "tDm": 8,
+    "tDu": 8,
+    "tDn": 8,
+    "tiM": 4,
+    "tiD": 8,
+}
 UNSIGNED = "CSILefg"
 STRINGS = {"z": 4, "u": 4, "Z": 8, "U": 8}
 
@@ -31,11 +53,16 @@ class ArrowSchema(ctypes.Structure):
 
 
 ArrowSchema._fields_ = [
-    ("format", ctypes.c_char_p), ("name", ctypes.c_char_p), ("metadata", ctypes.c_void_p),
-    ("flags", ctypes.c_int64), ("n_children", ctypes.c_int64),
+    ("format", ctypes.c_char_p),
+    ("name", ctypes.c_char_p),
+    ("metadata", ctypes.c_void_p),
+    ("flags", ctypes.c_int64),
+    ("n_children", ctypes.c_int64),
     ("children", ctypes.POINTER(ctypes.POINTER(ArrowSchema))),
-    ("dictionary", ctypes.POINTER(ArrowSchema)), ("release", ctypes.c_void_p),
-    ("private_data", ctypes.c_void_p)]
+    ("dictionary", ctypes.POINTER(ArrowSchema)),
+    ("release", ctypes.c_void_p),
+    ("private_data", ctypes.c_void_p),
+]
 
 
 class ArrowArray(ctypes.Structure):
@@ -43,12 +70,17 @@ class ArrowArray(ctypes.Structure):
 
 
 ArrowArray._fields_ = [
-    ("length", ctypes.c_int64), ("null_count", ctypes.c_int64), ("offset", ctypes.c_int64),
-    ("n_buffers", ctypes.c_int64), ("n_children", ctypes.c_int64),
+    ("length", ctypes.c_int64),
+    ("null_count", ctypes.c_int64),
+    ("offset", ctypes.c_int64),
+    ("n_buffers", ctypes.c_int64),
+    ("n_children", ctypes.c_int64),
     ("buffers", ctypes.POINTER(ctypes.c_void_p)),
     ("children", ctypes.POINTER(ctypes.POINTER(ArrowArray))),
-    ("dictionary", ctypes.POINTER(ArrowArray)), ("release", ctypes.c_void_p),
-    ("private_data", ctypes.c_void_p)]
+    ("dictionary", ctypes.POINTER(ArrowArray)),
+    ("release", ctypes.c_void_p),
+    ("private_data", ctypes.c_void_p),
+]
 
 
 class Number(ctypes.Structure):
@@ -70,8 +102,13 @@ class Number(ctypes.Structure):
 class State(ctypes.Structure):
     """A state of distinct values."""
 
-    _fields_ = [("least", Number), ("greatest", Number), ("bits", ctypes.POINTER(ctypes.c_uint64)),
-                ("words", ctypes.c_size_t), ("has_null", ctypes.c_uint64)]
+    _fields_ = [
+        ("least", Number),
+        ("greatest", Number),
+        ("bits", ctypes.POINTER(ctypes.c_uint64)),
+        ("words", ctypes.c_size_t),
+        ("has_null", ctypes.c_uint64),
+    ]
 
 
 _release = ctypes.CFUNCTYPE(None, ctypes.c_void_p)(lambda _: None)
@@ -85,8 +122,15 @@ def load(path):
     column, place = [schema, array], ctypes.c_int64
     out = [ctypes.c_uint32, ctypes.c_void_p, ctypes.c_size_t]
     library.dunkelva_equal.argtypes = [*column, *column, *out]
-    library.dunkelva_equal_rows.argtypes = [*column, place, *column, place, place, *out,
-                                            ctypes.c_void_p]
+    library.dunkelva_equal_rows.argtypes = [
+        *column,
+        place,
+        *column,
+        place,
+        place,
+        *out,
+        ctypes.c_void_p,
+    ]
     library.dunkelva_compare.argtypes = [ctypes.c_uint32, *column, *column, *out[1:]]
     library.dunkelva_is_null.argtypes = [*column, *out[1:], ctypes.c_void_p]
     library.dunkelva_sum.argtypes = [*column, ctypes.POINTER(Number)]
@@ -97,8 +141,13 @@ def load(path):
     library.dunkelva_count_bits.argtypes = [ctypes.c_uint32, *column, *out[1:]]
     results = [ctypes.c_void_p, ctypes.c_size_t, *out[1:], ctypes.c_void_p]
     library.dunkelva_arithmetic.argtypes = [ctypes.c_uint32, *column, *column, *results]
-    library.dunkelva_arithmetic_number.argtypes = [ctypes.c_uint32, ctypes.c_uint32, number,
-                                                   *column, *results]
+    library.dunkelva_arithmetic_number.argtypes = [
+        ctypes.c_uint32,
+        ctypes.c_uint32,
+        number,
+        *column,
+        *results,
+    ]
     library.dunkelva_sign.argtypes = [ctypes.c_uint32, *column, *results]
     state, whole = ctypes.POINTER(State), ctypes.POINTER(ctypes.c_uint64)
     library.dunkelva_unique_words.argtypes = [number, number]
@@ -195,7 +244,7 @@ def some_value(kind, chance, null=0.2):
             width = 16 if kind == "tin" else int(kind[2:])
             return bytes(chance.randrange(2) if place < 3 else 7 for place in range(width))
         if kind.startswith("d:"):
-            return chance.choice((-1, 0, 10 ** 9))
+            return chance.choice((-1, 0, 10**9))
         return chance.randrange(3)
     if kind[0] == "dict":
         return some_value(kind[2], chance, null / 2)
@@ -288,7 +337,7 @@ def make_array(kind, rows, chance):
     through = [kind[0] == "dict" and row is None and chance.random() < 0.5 for row in rows]
     if kind != "n":
         present = [row is not None or is_through for row, is_through in zip(rows, through)]
-        is_bare = all(present[before:before + array.length]) and chance.random() < 0.5
+        is_bare = all(present[before : before + array.length]) and chance.random() < 0.5
         buffers.add(bits(present), is_missing=is_bare)
     if kind[0] == "dict":
         dictionary = add_keys(buffers, kind, rows, through, chance)
@@ -299,7 +348,7 @@ def make_array(kind, rows, chance):
     array.n_buffers = len(buffers.pointers)
     array.n_children = len(children)
     inside = (ctypes.POINTER(ArrowArray) * (len(children) or 1))()
-    inside[:len(children)] = [ctypes.pointer(child) for child, _ in children]
+    inside[: len(children)] = [ctypes.pointer(child) for child, _ in children]
     array.children = ctypes.cast(inside, ctypes.POINTER(ctypes.POINTER(ArrowArray)))
     if dictionary:
         array.dictionary = ctypes.pointer(dictionary[0])

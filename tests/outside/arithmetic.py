@@ -3,8 +3,9 @@
 usage: arithmetic.py             prints the file data/arithmetic_sweeps.txt: questions, and their answers
        arithmetic.py FILE..      prints the files, with the answers that are found here
 
-A row is null where an operand is null or a divisor is 0. Else it is the exact answer in whole numbers, and of those
-that are congruent to it the one that the type has. Of single numbers a quotient by 0, and what it leaves, is 0.
+A row is null where an operand is null or a divisor is 0. Else it is the exact answer in whole
+numbers, and of those that are congruent to it the one that the type has. Of single numbers a
+quotient by 0, and what it leaves, is 0.
 """
 import random
 
@@ -79,7 +80,9 @@ class Array:
         self.kind, self.values, self.present = kind, values, present
 
     def rows(self):
-        return [value if there else None for value, there in zip(self.values, self.present, strict=True)]
+        return [
+            value if there else None for value, there in zip(self.values, self.present, strict=True)
+        ]
 
     def cut(self, at, n):
         assert at + n <= len(self.values)
@@ -117,7 +120,8 @@ def written(rows):
 
 
 def answer_rows(kind, function, *columns):
-    """The rows of a function's answers, each wrapped to a type; None where a row or the answer is none."""
+    """The rows of a function's answers, each wrapped to a type; None where a row or the answer is
+    none."""
     rows = []
     for row in zip(*columns, strict=True):
         answer = None if None in row else function(*row)
@@ -206,7 +210,9 @@ def sum_of_values(case):
 
 def sum_of_masked(case):
     array, bits = case.array(), case.bits()
-    return wrapped(array.kind, sum(value for value, bit in zip(array.values, bits, strict=True) if bit))
+    return wrapped(
+        array.kind, sum(value for value, bit in zip(array.values, bits, strict=True) if bit)
+    )
 
 
 def sum_of_two(case):
@@ -296,7 +302,12 @@ def end_cases(kind):
     for a in numbers:
         for name in FUNCTIONS:
             yield f"pl_num {name} {kind} {a}"
-    singles = [(numbers[0], numbers[-1]), (numbers[-1], numbers[0]), (numbers[0], numbers[0]), (numbers[-1], numbers[-1])]
+    singles = [
+        (numbers[0], numbers[-1]),
+        (numbers[-1], numbers[0]),
+        (numbers[0], numbers[0]),
+        (numbers[-1], numbers[-1]),
+    ]
     singles += [(a, b) for a in (7, wrapped(kind, -7)) for b in (0, 2, wrapped(kind, -2))]
     if lowest(kind) < 0:
         singles += [(lowest(kind), -1), (highest(kind), -1)]
@@ -364,7 +375,9 @@ def random_cases(kind, chance):
 def zero_and_one_cases(kind):
     low, high = lowest(kind), highest(kind)
     yield f"# {kind}: single numbers, the ends of the type beside 0 and 1"
-    pairs = [(0, 0)] + [pair for end in (low, high) if end != 0 for pair in ((end, 0), (end, 1), (0, end), (1, end))]
+    pairs = [(0, 0)] + [
+        pair for end in (low, high) if end != 0 for pair in ((end, 0), (end, 1), (0, end), (1, end))
+    ]
     for a, b in pairs:
         for name in OPERATIONS:
             yield f"pl_num {name} {kind} {a} {b}"

@@ -1,4 +1,5 @@
-"""The answers to questions on numbers, bits and buffers, found from lists of truth values and numbers.
+"""The answers to questions on numbers, bits and buffers, found from lists of truth values and
+numbers.
 
 usage: bits.py FILE..    prints the files, with the answers that are found here
 """
@@ -66,7 +67,7 @@ class Words:
     def bits(self):
         at, digits = self.word().split(":")
         assert at[0] == "b" and int(at[1:]) <= len(digits)
-        return [digit == "1" for digit in digits][int(at[1:]):]
+        return [digit == "1" for digit in digits][int(at[1:]) :]
 
     def mask(self):
         return window(self.bits(), self.number(), self.number())
@@ -132,7 +133,9 @@ def builder(words):
 
 def mutable(words):
     begin = words.word()
-    bits = words.bits() if begin == "of" else words.number() * [{"zeroed": False, "set": True}[begin]]
+    bits = (
+        words.bits() if begin == "of" else words.number() * [{"zeroed": False, "set": True}[begin]]
+    )
     told = []
     while True:
         operation = words.word()
@@ -143,9 +146,15 @@ def mutable(words):
         elif operation in ("and_values", "and_wide_values"):
             bits = [a and b for a, b in zip(bits, words.bits(), strict=True)]
         elif operation in ("or", "and", "and_mask", "or_not_mask"):
-            bits = [OPERATORS[operation.removesuffix("_mask")](a, b) for a, b in zip(bits, words.bits(), strict=True)]
+            bits = [
+                OPERATORS[operation.removesuffix("_mask")](a, b)
+                for a, b in zip(bits, words.bits(), strict=True)
+            ]
         elif operation in ("merge_eq", "merge_ne"):
-            bits = [MERGES[operation](*each) for each in zip(bits, words.bits(), words.bits(), strict=True)]
+            bits = [
+                MERGES[operation](*each)
+                for each in zip(bits, words.bits(), words.bits(), strict=True)
+            ]
         elif operation == "get":
             told.append(bits[words.number()])
         elif operation == "len":
@@ -274,7 +283,9 @@ CALLS = {
     "default_steps": saturated,
     "compare": lambda w: compare(w, lambda passes, kind: passes(w.number(), w.number())),
     "packs_by_bit": lambda w: compare(w, lambda passes, kind: TYPES[kind][1] > 64),
-    "compare_pairs": lambda w: compare(w, lambda passes, kind: each(passes, w.numbers(), w.numbers())),
+    "compare_pairs": lambda w: compare(
+        w, lambda passes, kind: each(passes, w.numbers(), w.numbers())
+    ),
     "compare_windows": lambda w: compare(w, lambda passes, kind: windows(w, passes)),
     "compare_constant": lambda w: compare(w, lambda passes, kind: constant(w, passes)),
     "not": lambda w: each(lambda a: not a, w.bits()),
@@ -282,7 +293,9 @@ CALLS = {
     "set_bits": lambda w: sum(w.bits()),
     "unset_bits": lambda w: w.bits().count(False),
     "bitmap_len": lambda w: len(w.bits()),
-    "num_intersections_with": lambda w: sum(a and b for a, b in zip(w.bits(), w.bits(), strict=True)),
+    "num_intersections_with": lambda w: sum(
+        a and b for a, b in zip(w.bits(), w.bits(), strict=True)
+    ),
     "get_bit": lambda w: w.bits()[w.number()],
     "bitmap_get": lambda w: dict(enumerate(w.bits())).get(w.number()),
     "bitmap_slice": lambda w: shown(window(w.bits(), w.number(), w.number())),

@@ -1,13 +1,15 @@
-"""Arrays that hold arrays many levels deep, and wide ones: questions, and their answers from what the rows are.
+"""Arrays that hold arrays many levels deep, and wide ones: questions, and their answers from what
+the rows are.
 
 usage: deep.py                  prints the file data/deep_mixed.txt: questions, and their answers
        deep.py --all PROGRAM    asks a built program those questions, and those that are too large for the gate: 5,000
                                 levels, structs of 10,000 fields, and 10,000,000 items. Prints the time of each case, and
                                 ends with status 1 where an answer differs
 
-A level has one row for each row of the array that it holds: a list of that row alone, between offsets or of width 1, a
-struct whose one field `f` has it, or a key that names it. A row of the whole is thus a leaf in so many levels, or null
-at some level; where keys name it, it is null at the level of the first of these.
+A level has one row for each row of the array that it holds: a list of that row alone, between
+offsets or of width 1, a struct whose one field `f` has it, or a key that names it. A row of the
+whole is thus a leaf in so many levels, or null at some level; where keys name it, it is null at the
+level of the first of these.
 """
 import resource
 import subprocess
@@ -19,8 +21,14 @@ import recorded
 MIXED = ("list", "struct", "dict")
 SHAPES = (MIXED, ("list",), ("fixedlist",), ("struct",), ("dict",))
 BRACKETS = {"list": "[]", "fixedlist": "[]", "struct": "{}", "dict": "<>"}
-TYPE_NAMES = {"list": "list(", "fixedlist": "fixedlist(1 ", "struct": "struct(f ", "dict": "dict(i32 "}
-# how deep arrays lie in others at the most: in words, where they are wrapped, and where the stack is said to be larger
+TYPE_NAMES = {
+    "list": "list(",
+    "fixedlist": "fixedlist(1 ",
+    "struct": "struct(f ",
+    "dict": "dict(i32 ",
+}
+# how deep arrays lie in others at the most: in words, where they are wrapped, and where the stack
+# is said to be larger
 READ_DEPTH = 500
 WRAPPED_DEPTH = 1000
 FAR_DEPTH = 100_000
@@ -41,8 +49,8 @@ def numbers(values):
 
 
 class Deep:
-    """Rows in so many levels of these kinds: each is a number, None for a null leaf, or a pair of the level at which the
-    row is null and the number that lies under it."""
+    """Rows in so many levels of these kinds: each is a number, None for a null leaf, or a pair of
+    the level at which the row is null and the number that lies under it."""
 
     def __init__(self, levels, kinds, rows, leaf="i32"):
         self.levels, self.kinds, self.rows, self.leaf = levels, kinds, rows, leaf
@@ -55,7 +63,8 @@ class Deep:
         return row[0] if isinstance(row, tuple) else self.levels
 
     def row_level(self, row):
-        """The level at which a row is null: that of the first key of those which name it. Else as `null_level`."""
+        """The level at which a row is null: that of the first key of those which name it. Else as
+        `null_level`."""
         level = self.null_level(row)
         while level > 0 and self.kind(level - 1) == "dict" and self.is_null(row):
             level -= 1
@@ -83,7 +92,9 @@ class Deep:
         }[kind]
 
     def leaf_words(self):
-        stored = [row[1] if isinstance(row, tuple) else 7 if row is None else row for row in self.rows]
+        stored = [
+            row[1] if isinstance(row, tuple) else 7 if row is None else row for row in self.rows
+        ]
         present = validity([row is not None for row in self.rows])
         return f"0 {len(stored)} {self.leaf} {numbers(stored)} {present}"
 
@@ -97,7 +108,11 @@ class Deep:
         depth = self.row_level(row)
         held = "null" if self.is_null(row) else str(row)
         brackets = [BRACKETS[self.kind(level)] for level in range(depth)]
-        return "".join(pair[0] for pair in brackets) + held + "".join(pair[1] for pair in reversed(brackets))
+        return (
+            "".join(pair[0] for pair in brackets)
+            + held
+            + "".join(pair[1] for pair in reversed(brackets))
+        )
 
     def text(self, at=0, n=None):
         rows = self.rows[at:] if n is None else self.rows[at : at + n]
@@ -117,7 +132,8 @@ class Deep:
         return (self.row_level(row),) if self.is_null(row) else row
 
     def is_compared(self, row):
-        """Whether a comparison goes on to the leaf: not under null keys and null lists between offsets."""
+        """Whether a comparison goes on to the leaf: not under null keys and null lists between
+        offsets."""
         depth = self.null_level(row)
         return depth == self.levels or self.kind(depth) not in ("dict", "list")
 
@@ -139,8 +155,11 @@ def true_word(truth):
 
 
 def pair_answers(left, right, other):
-    """Each question on `l` and `r`, which are of one type, and `o`, which is of another, and its answer."""
-    equal, unequal = bits_of(equal_rows(left, right)), bits_of([not it for it in equal_rows(left, right)])
+    """Each question on `l` and `r`, which are of one type, and `o`, which is of another, and its
+    answer."""
+    equal, unequal = bits_of(equal_rows(left, right)), bits_of(
+        [not it for it in equal_rows(left, right)]
+    )
     count = f"in {comparisons(left, right)} comparisons"
     yield "array_tot_eq_missing_kernel l r", equal
     yield "array_tot_ne_missing_kernel l r", unequal
@@ -169,19 +188,49 @@ def deep_case(levels, kinds):
     right = Deep(levels, kinds, [5, None, 6])
     other = Deep(levels, kinds, [5, None, -6], "i64")
     names = {"l": left.words(), "r": right.wrapped(), "o": other.wrapped()}
-    return asked(f"{levels} levels of {', '.join(kinds)}", names, list(pair_answers(left, right, other)))
+    return asked(
+        f"{levels} levels of {', '.join(kinds)}", names, list(pair_answers(left, right, other))
+    )
 
 
 def null_case(levels, kinds):
-    """Rows that are null at some level, over other numbers: both at one level, the left one alone, and neither; and one
-    that is null at a key on the right, and below it on the left."""
+    """Rows that are null at some level, over other numbers: both at one level, the left one alone,
+    and neither; and one that is null at a key on the right, and below it on the left."""
     middle, last = levels // 2, levels - 1
     assert kinds[(middle + 1) % len(kinds)] == "dict"
-    rows = [(middle, 1), (middle + 1, 2), (middle + 2, 3), (last, 4), 5, None, (middle, 6), 7, (middle + 2, 8)]
-    others = [(middle, 8), (middle + 1, 9), (middle + 2, 1), (last - 1, 2), (last, 5), None, 6, 7, (middle + 1, 3)]
-    left, right, other = Deep(levels, kinds, rows), Deep(levels, kinds, others), Deep(levels - 1, kinds, [5] * len(rows))
+    rows = [
+        (middle, 1),
+        (middle + 1, 2),
+        (middle + 2, 3),
+        (last, 4),
+        5,
+        None,
+        (middle, 6),
+        7,
+        (middle + 2, 8),
+    ]
+    others = [
+        (middle, 8),
+        (middle + 1, 9),
+        (middle + 2, 1),
+        (last - 1, 2),
+        (last, 5),
+        None,
+        6,
+        7,
+        (middle + 1, 3),
+    ]
+    left, right, other = (
+        Deep(levels, kinds, rows),
+        Deep(levels, kinds, others),
+        Deep(levels - 1, kinds, [5] * len(rows)),
+    )
     names = {"l": left.words(), "r": right.words(), "o": other.wrapped()}
-    return asked(f"{levels} levels of {', '.join(kinds)}, with nulls", names, list(pair_answers(left, right, other)))
+    return asked(
+        f"{levels} levels of {', '.join(kinds)}, with nulls",
+        names,
+        list(pair_answers(left, right, other)),
+    )
 
 
 def refused_case():
@@ -194,7 +243,13 @@ def refused_case():
         "most": Deep(2**63, ("struct",), [1]).wrapped("wrapped"),
         "far": Deep(FAR_DEPTH + 1, ("dict",), [1]).wrapped(),
     }
-    depths = {"words": READ_DEPTH, "mixed": READ_DEPTH, "wrapped": WRAPPED_DEPTH, "most": WRAPPED_DEPTH, "far": FAR_DEPTH}
+    depths = {
+        "words": READ_DEPTH,
+        "mixed": READ_DEPTH,
+        "wrapped": WRAPPED_DEPTH,
+        "most": WRAPPED_DEPTH,
+        "far": FAR_DEPTH,
+    }
     refusals = (
         f"{name} = {words} -> refused: arrays hold arrays more than {depths[name]} levels deep"
         for name, words in arrays.items()
@@ -203,22 +258,28 @@ def refused_case():
 
 
 def entries_case():
-    """Dictionaries of 2^32 entries and more, which are nulls: keys name the last, and states hold 2^32 at the most."""
+    """Dictionaries of 2^32 entries and more, which are nulls: keys name the last, and states hold
+    2^32 at the most."""
     names, pairs = {}, []
     for name, count in (("most", 2**32), ("more", 2**32 + 1)):
         names[name] = f"0 {count} null {count}"
         names[f"l_{name}"] = f"0 3 dict u64 3 0 {count - 1} 5 b0:110 {names[name]}"
         names[f"r_{name}"] = f"0 3 dict u64 3 1 {count - 2} {2**64 - 1} b0:110 {names[name]}"
-        names[f"beyond_{name}"] = f"0 3 dict u64 3 0 {count} 5 b0:110 {names[name]} -> refused: key 1 is out of range"
+        names[
+            f"beyond_{name}"
+        ] = f"0 3 dict u64 3 0 {count} 5 b0:110 {names[name]} -> refused: key 1 is out of range"
         pairs.append((f"keys_fit {name}", true_word(count <= 2**32)))
         pairs.append((f"rows l_{name}", "null null null"))
         pairs.append((f"copy r_{name}", "null null null"))
-        pairs.append((f"array_tot_eq_missing_kernel_counted l_{name} r_{name}", "b0:111 in 0 comparisons"))
+        pairs.append(
+            (f"array_tot_eq_missing_kernel_counted l_{name} r_{name}", "b0:111 in 0 comparisons")
+        )
     return asked("dictionaries of 2^32 nulls and of one more", names, pairs)
 
 
 def wide_case(width):
     """Structs of so many fields, that differ in the last one's name, type or row alone."""
+
     def words(last_name, last):
         fields = [f"n{i} 0 2 i32 2 {i} {-i} -" for i in range(width - 1)]
         return " ".join([f"0 2 struct 2 {width} -", *fields, last_name, last])
@@ -232,7 +293,11 @@ def wide_case(width):
     rows = [[*range(width - 1), 0], [*range(0, 1 - width, -1), 0]]
     text = ["{" + ",".join(map(str, row)) + "}" for row in rows]
     dtype = "struct(" + "".join(f"n{i} i32, " for i in range(width - 1)) + "z i32)"
-    tests = [(f"{call} l {to}", true_word(to == "r")) for call in ("same_type", "has_type", "type_eq") for to in "rnt"]
+    tests = [
+        (f"{call} l {to}", true_word(to == "r"))
+        for call in ("same_type", "has_type", "type_eq")
+        for to in "rnt"
+    ]
     pairs = [
         *tests,
         ("array_tot_eq_missing_kernel_counted l r", f"b0:10 in {2 * width} comparisons"),
@@ -269,7 +334,8 @@ def long_list_case(items):
 
 
 def many_lists_case(lists):
-    """So many lists of ten items, of which the last list alone differs; as large lists too, by the numbers of another."""
+    """So many lists of ten items, of which the last list alone differs; as large lists too, by the
+    numbers of another."""
     items = 10 * lists
     offsets = " ".join(str(10 * i) for i in range(lists + 1))
     values = " ".join(str(i % 7) for i in range(items - 1))
@@ -281,7 +347,10 @@ def many_lists_case(lists):
     names["n"] = f"0 {lists} list {lists + 1} {offsets} - 0 {items} null {items}"
     last_row = [*(str(i % 7) for i in range(items - 10, items - 1)), "1"]
     pairs = [
-        ("array_tot_eq_missing_kernel_counted l r", f"{bits_of([1] * (lists - 1) + [0])} in {items} comparisons"),
+        (
+            "array_tot_eq_missing_kernel_counted l r",
+            f"{bits_of([1] * (lists - 1) + [0])} in {items} comparisons",
+        ),
         ("array_tot_eq_missing_kernel_counted n n", f"{bits_of([1] * lists)} in 0 comparisons"),
         ("leaves l n", f"{items} 0"),
         ("same_type l r", "true"),
@@ -292,11 +361,14 @@ def many_lists_case(lists):
 
 
 def one_width_case(width, lists, kind, last):
-    """So many lists of one length behind three items that no list has, but the last list has `last` items more. Every eleventh item
-    differs on the right. The same of lists from the sixth on."""
+    """So many lists of one length behind three items that no list has, but the last list has `last`
+    items more. Every eleventh item differs on the right. The same of lists from the sixth on."""
     places = [3 + width * i for i in range(lists)] + [3 + width * lists + last]
     count = places[-1]
-    items = {"l": [i * 7 % 5 for i in range(count)], "r": [i * 7 % 5 + (i % 11 == 0) for i in range(count)]}
+    items = {
+        "l": [i * 7 % 5 for i in range(count)],
+        "r": [i * 7 % 5 + (i % 11 == 0) for i in range(count)],
+    }
     same = [items["l"][a:b] == items["r"][a:b] for a, b in zip(places, places[1:])]
     leaves = {
         "i32": lambda numbers: f"i32 {count} {' '.join(map(str, numbers))} -",
@@ -306,11 +378,13 @@ def one_width_case(width, lists, kind, last):
     for at in (0, 5):
         for leaf, words in leaves.items():
             for side, numbers in items.items():
-                names[f"{side}_{leaf}_{at}"] = (
-                    f"{at} {lists - at} {kind} {lists + 1} {' '.join(map(str, places))} - 0 {count} {words(numbers)}"
-                )
+                names[
+                    f"{side}_{leaf}_{at}"
+                ] = f"{at} {lists - at} {kind} {lists + 1} {' '.join(map(str, places))} - 0 {count} {words(numbers)}"
             counted = f"{bits_of(same[at:])} in {count - places[at]} comparisons"
-            pairs.append((f"array_tot_eq_missing_kernel_counted l_{leaf}_{at} r_{leaf}_{at}", counted))
+            pairs.append(
+                (f"array_tot_eq_missing_kernel_counted l_{leaf}_{at} r_{leaf}_{at}", counted)
+            )
     behind = f", and {last} items more in the last" if last else ""
     return asked(f"{lists} {kind}s of {width} items{behind}", names, pairs)
 
@@ -350,13 +424,19 @@ def wrapped_case(levels, kinds):
     right = Deep(levels, kinds, [5, None, 6])
     other = Deep(levels, kinds, [5, None, -6], "i64")
     names = {"l": left.wrapped(), "r": right.wrapped(), "o": other.wrapped()}
-    return asked(f"{levels} levels of {', '.join(kinds)}", names, list(pair_answers(left, right, other)))
+    return asked(
+        f"{levels} levels of {', '.join(kinds)}", names, list(pair_answers(left, right, other))
+    )
 
 
 def run(command, lines, stack=LARGE_STACK):
-    """Runs a command on lines with so large a stack, and returns its status, what it printed, and its time."""
+    """Runs a command on lines with so large a stack, and returns its status, what it printed, and
+    its time."""
+
     def limit():
-        resource.setrlimit(resource.RLIMIT_STACK, (stack, resource.getrlimit(resource.RLIMIT_STACK)[1]))
+        resource.setrlimit(
+            resource.RLIMIT_STACK, (stack, resource.getrlimit(resource.RLIMIT_STACK)[1])
+        )
         resource.setrlimit(resource.RLIMIT_CORE, (0, 0))
 
     begun = time.monotonic()
@@ -366,14 +446,18 @@ def run(command, lines, stack=LARGE_STACK):
 
 
 def run_all(program):
-    """Asks the program all cases, each in a run of its own, and says whether every answer is the expected one."""
+    """Asks the program all cases, each in a run of its own, and says whether every answer is the
+    expected one."""
     well = True
     for lines in all_cases():
         status, printed, seconds = run([program], lines)
         asked = sum(recorded.ARROW in line for line in lines)
         is_well = status == 0 and printed == f"standard input: {asked} as recorded\n"
         well = well and is_well
-        print(f"{lines[0]}: {'as expected' if is_well else f'NOT as expected, status {status}'}, {seconds:.2f} s", flush=True)
+        print(
+            f"{lines[0]}: {'as expected' if is_well else f'NOT as expected, status {status}'}, {seconds:.2f} s",
+            flush=True,
+        )
     return well
 
 

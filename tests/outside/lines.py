@@ -3,9 +3,9 @@
 usage: lines.py             prints the file data/lines_sweeps.txt: questions, and their answers
        lines.py FILE..      prints the files, with the answers that are found here
 
-A line is an operation, a type and lists of rows, which bars part. It is refused for the first of these reasons: the
-operation, the type, a row, the length of a list or how many there are, a scalar or a range. A row is a whole number, a
-truth value or null.
+A line is an operation, a type and lists of rows, which bars part. It is refused for the first of
+these reasons: the operation, the type, a row, the length of a list or how many there are, a scalar
+or a range. A row is a whole number, a truth value or null.
 """
 import random
 
@@ -98,11 +98,15 @@ def scalar_of(rows):
 
 
 def compared(test, left, right):
-    return words_of(None if None in (a, b) else test(a, b) for a, b in zip(left, right, strict=True))
+    return words_of(
+        None if None in (a, b) else test(a, b) for a, b in zip(left, right, strict=True)
+    )
 
 
 def compared_missing(wanted, left, right):
-    return words_of((a is b if None in (a, b) else a == b) == wanted for a, b in zip(left, right, strict=True))
+    return words_of(
+        (a is b if None in (a, b) else a == b) == wanted for a, b in zip(left, right, strict=True)
+    )
 
 
 def comparison(answer):
@@ -110,6 +114,7 @@ def comparison(answer):
         left, right = many(lists, 2)
         same_length(left, right)
         return answer(left, right)
+
     return answered
 
 
@@ -117,6 +122,7 @@ def broadcast(answer):
     def answered(_kind, lists):
         rows, scalars = many(lists, 2)
         return answer(rows, len(rows) * [scalar_of(scalars)])
+
     return answered
 
 
@@ -124,6 +130,7 @@ def calculated(kind, operation, left, right):
     def row(a, b):
         answer = None if None in (a, b) else operation(a, b)
         return None if answer is None else wrapped(kind, answer)
+
     return words_of(row(a, b) for a, b in zip(left, right, strict=True))
 
 
@@ -132,6 +139,7 @@ def calculation(operation):
         left, right = many(lists, 2)
         same_length(left, right)
         return calculated(kind, operation, left, right)
+
     return answered
 
 
@@ -139,6 +147,7 @@ def with_scalar(operation):
     def answered(kind, lists):
         rows, scalars = many(lists, 2)
         return calculated(kind, operation, rows, len(rows) * [scalar_of(scalars)])
+
     return answered
 
 
@@ -146,6 +155,7 @@ def from_scalar(operation):
     def answered(kind, lists):
         scalars, rows = many(lists, 2)
         return calculated(kind, operation, len(rows) * [scalar_of(scalars)], rows)
+
     return answered
 
 
@@ -154,11 +164,19 @@ def of_one(answer):
 
 
 def changed(change):
-    return of_one(lambda kind, rows: words_of(None if row is None else wrapped(kind, change(row)) for row in rows))
+    return of_one(
+        lambda kind, rows: words_of(
+            None if row is None else wrapped(kind, change(row)) for row in rows
+        )
+    )
 
 
 def counted(count):
-    return of_one(lambda kind, rows: words_of(None if row is None else count(bits_of(kind, row)) for row in rows))
+    return of_one(
+        lambda kind, rows: words_of(
+            None if row is None else count(bits_of(kind, row)) for row in rows
+        )
+    )
 
 
 def found(rows):
@@ -169,6 +187,7 @@ def reduction(join):
     def answered(kind, rows):
         row = reduced(join, kind, [row for row in rows if row is not None])
         return found(None if row is None else [row])
+
     return of_one(answered)
 
 
@@ -176,6 +195,7 @@ def extreme(*choices):
     def answered(_kind, rows):
         present = [row for row in rows if row is not None]
         return found([choose(present) for choose in choices] if present else None)
+
     return of_one(answered)
 
 
@@ -197,6 +217,7 @@ def in_range(answer):
         if any(row is not None and not first <= row <= last for row in rows):
             raise Refused("range")
         return answer(last - first + 1, rows)
+
     return answered
 
 
@@ -204,10 +225,16 @@ def answers():
     """For each name of an operation its types, and what it answers to lists of rows of a type."""
     for name, test in TESTS.items():
         yield name, TYPES, comparison(lambda left, right, test=test: compared(test, left, right))
-        yield name + "_broadcast", TYPES, broadcast(lambda left, right, test=test: compared(test, left, right))
+        yield name + "_broadcast", TYPES, broadcast(
+            lambda left, right, test=test: compared(test, left, right)
+        )
     for name, wanted in (("eq_missing", True), ("ne_missing", False)):
-        yield name, TYPES, comparison(lambda left, right, wanted=wanted: compared_missing(wanted, left, right))
-        yield name + "_broadcast", TYPES, broadcast(lambda left, right, wanted=wanted: compared_missing(wanted, left, right))
+        yield name, TYPES, comparison(
+            lambda left, right, wanted=wanted: compared_missing(wanted, left, right)
+        )
+        yield name + "_broadcast", TYPES, broadcast(
+            lambda left, right, wanted=wanted: compared_missing(wanted, left, right)
+        )
     yield "abs", KINDS, changed(abs)
     yield "neg", KINDS, changed(lambda a: -a)
     for name, operation in CALCULATIONS.items():
@@ -222,7 +249,9 @@ def answers():
     yield "min", TYPES, extreme(min)
     yield "max", TYPES, extreme(max)
     yield "min_max", TYPES, extreme(min, max)
-    yield "sum", KINDS, of_one(lambda kind, rows: word_of(wrapped(kind, sum(row for row in rows if row is not None))))
+    yield "sum", KINDS, of_one(
+        lambda kind, rows: word_of(wrapped(kind, sum(row for row in rows if row is not None)))
+    )
     yield "unique", ("bool",), of_one(lambda kind, rows: listed(rows))
     yield "n_unique", ("bool",), of_one(lambda kind, rows: str(len(set(rows))))
     yield "n_unique_non_null", ("bool",), of_one(lambda kind, rows: str(len(distinct(rows)[0])))
@@ -269,7 +298,8 @@ def output_of(data):
     return f"lines {len(lines)} refused {refused} x{output.hex()}"
 
 
-# rows that are the same, null equal to null alone, and how many leaves are compared until that is known
+# rows that are the same, null equal to null alone, and how many leaves are compared until that is
+# known
 DEMO = """\
 struct: true false; 2 comparisons
 two fields: true true true; 6 comparisons
@@ -329,7 +359,18 @@ def is_scalar(name):
 
 
 def takes_one(name):
-    return name in ("abs", "neg", "min", "max", "min_max", "sum", "unique", "n_unique", "n_unique_non_null", *COUNTS) or name.startswith("reduce_")
+    return name in (
+        "abs",
+        "neg",
+        "min",
+        "max",
+        "min_max",
+        "sum",
+        "unique",
+        "n_unique",
+        "n_unique_non_null",
+        *COUNTS,
+    ) or name.startswith("reduce_")
 
 
 def ends(kind):
@@ -369,7 +410,11 @@ def fault_lines(name, kind):
     yield f"line {name} i128 1"
     yield f"line {name} {kind} null x | null | null"
     lists = 1 if takes_one(name) else 2
-    good = "null" if takes_one(name) or name in TESTS or name in CALCULATIONS or name.endswith("_missing") else word_of(ends(kind)[0])
+    good = (
+        "null"
+        if takes_one(name) or name in TESTS or name in CALCULATIONS or name.endswith("_missing")
+        else word_of(ends(kind)[0])
+    )
     yield f"line {name} {kind} " + " | ".join((lists + 1) * [good])
     if lists == 2:
         yield f"line {name} {kind} {good}"
@@ -406,7 +451,9 @@ class Chance:
         return min(max(near + self.random.randint(-4, 4), low), high)
 
     def rows(self, kind, n, nulls=True):
-        return [None if nulls and self.random.random() < 0.2 else self.number(kind) for _ in range(n)]
+        return [
+            None if nulls and self.random.random() < 0.2 else self.number(kind) for _ in range(n)
+        ]
 
     def word(self, row):
         """One of the words of a row."""
@@ -423,7 +470,10 @@ class Chance:
         elif name.endswith("_range"):
             first = self.number(kind)
             last = min(first + self.random.choice((0, 1, 5, 200)), highest(kind))
-            lists = [[first, last], [self.random.choice((None, self.random.randint(first, last))) for _ in range(n)]]
+            lists = [
+                [first, last],
+                [self.random.choice((None, self.random.randint(first, last))) for _ in range(n)],
+            ]
         elif is_scalar(name):
             lists = [self.rows(kind, n), self.rows(kind, 1, nulls=False)]
             if name.endswith("_lhs"):

@@ -1,12 +1,13 @@
-"""The answers to questions on dictionaries, and on other arrays that recorded cases write, found from their rows.
+"""The answers to questions on dictionaries, and on other arrays that recorded cases write, found
+from their rows.
 
 usage: nested.py FILE..    prints the files, with the answers that are found here
        nested.py --check   finds the answers anew to all questions of data/ on arrays in which a dictionary lies, and on
                            states of keys, and compares them with those that stand there; status 1 where one differs
 
-What the calls mean, and which rows are null, is said by `slices_arrays.py`, `slices_answers.py` and `states.py`; here are
-the arrays that words make, and the calls that no slice is asked. Arrays that lie `wrapped` in many levels are those of
-`deep.py`.
+What the calls mean, and which rows are null, is said by `slices_arrays.py`, `slices_answers.py` and
+`states.py`; here are the arrays that words make, and the calls that no slice is asked. Arrays that
+lie `wrapped` in many levels are those of `deep.py`.
 """
 import sys
 
@@ -15,14 +16,51 @@ import reductions
 import slices_answers
 import states
 from slices_answers import by_script, texts
-from slices_arrays import Entry, Fields, FixedLists, Keyed, Leaves, Lists, Nulls, Rows, Structs, is_null
+from slices_arrays import (
+    Entry,
+    Fields,
+    FixedLists,
+    Keyed,
+    Leaves,
+    Lists,
+    Nulls,
+    Rows,
+    Structs,
+    is_null,
+)
 
 # those whose answer is no matter of rows, or that answer bits at null rows too
-OTHERS = ("dtype", "clone_type", "has_type", "is_struct_of", "same_field", "same_fields", "same_kind", "same_type", "type_eq",
-          "field_eq", "can_broadcast", "can_compare", "keys", "keys_fit", "list_broadcast", "fixed_size_list_broadcast")
-STATES = ("accepts_keys", "append_all_keys", "ended_keys", "key_state", "key_state_accepts",
-          "merge_tree_keys", "one_range_keys", "same_range_keys", "state_keys", "state_keys_rows",
-          "stored_keys")
+OTHERS = (
+    "dtype",
+    "clone_type",
+    "has_type",
+    "is_struct_of",
+    "same_field",
+    "same_fields",
+    "same_kind",
+    "same_type",
+    "type_eq",
+    "field_eq",
+    "can_broadcast",
+    "can_compare",
+    "keys",
+    "keys_fit",
+    "list_broadcast",
+    "fixed_size_list_broadcast",
+)
+STATES = (
+    "accepts_keys",
+    "append_all_keys",
+    "ended_keys",
+    "key_state",
+    "key_state_accepts",
+    "merge_tree_keys",
+    "one_range_keys",
+    "same_range_keys",
+    "state_keys",
+    "state_keys_rows",
+    "stored_keys",
+)
 
 # what is made by a loop, or has more entries than a list holds: `deep.py` answers these
 ELSEWHERE = ("deep_mixed.txt",)
@@ -36,8 +74,14 @@ class Parts(reductions.Case):
         return self.stored_rows(kind).cut(at, n)
 
     def stored_rows(self, kind):
-        readers = {"null": self.nulls, "list": self.lists, "largelist": self.lists, "fixedlist": self.fixed_lists,
-                   "struct": self.structs, "dict": self.keyed}
+        readers = {
+            "null": self.nulls,
+            "list": self.lists,
+            "largelist": self.lists,
+            "fixedlist": self.fixed_lists,
+            "struct": self.structs,
+            "dict": self.keyed,
+        }
         return readers[kind](kind) if kind in readers else self.leaves(kind)
 
     def validity(self, n):
@@ -74,7 +118,9 @@ class Parts(reductions.Case):
         n, count = self.number(), self.number()
         validity, present = self.validity(n)
         fields = [(self.word(), self.made()) for _ in range(count)]
-        return Structs([name for name, _ in fields], [column for _, column in fields], present, validity)
+        return Structs(
+            [name for name, _ in fields], [column for _, column in fields], present, validity
+        )
 
     def keyed(self, _):
         kind, keys = self.word(), self.numbers()
@@ -97,7 +143,9 @@ def type_of(array):
     if isinstance(array, FixedLists):
         return array.kind, array.width, type_of(array.items)
     if isinstance(array, Structs):
-        return array.kind, *((name, type_of(column)) for name, column in zip(array.names, array.columns, strict=True))
+        return array.kind, *(
+            (name, type_of(column)) for name, column in zip(array.names, array.columns, strict=True)
+        )
     if isinstance(array, Keyed):
         return array.kind, array.key_kind, type_of(array.entries)
     return array.kind, array.words.split(" ")[0] if array.kind == "fixedbinary" else None
@@ -113,14 +161,19 @@ def same_by(agree, a, b):
     if is_null(a) or is_null(b):
         return is_null(a) and is_null(b)
     if isinstance(a, (Rows, Fields)):
-        return len(a.rows) == len(b.rows) and all(same_by(agree, *pair) for pair in zip(a.rows, b.rows, strict=True))
+        return len(a.rows) == len(b.rows) and all(
+            same_by(agree, *pair) for pair in zip(a.rows, b.rows, strict=True)
+        )
     return same_by(agree, a.row, b.row) if isinstance(a, Entry) else agree(a, b)
 
 
 def digits(left, right, agree, wanted, is_raw):
     """A digit for each pair of rows, or an `x` where no raw bit is promised."""
+
     def digit(a, b):
-        return "x" if is_raw and (is_null(a) or is_null(b)) else "01"[same_by(agree, a, b) == wanted]
+        return (
+            "x" if is_raw and (is_null(a) or is_null(b)) else "01"[same_by(agree, a, b) == wanted]
+        )
 
     return "b0:" + "".join(map(digit, left, right))
 
@@ -155,8 +208,15 @@ def kernel(name, arrays, left, right):
     is_raw, wanted = "missing" not in name and left.kind != "null", "_eq_" in name
     if type_of(left) == type_of(right):
         return digits(left.rows(), right.rows(), AGREE[""], wanted, is_raw)
-    return digits(*([row if is_null(row) else Rows((of,)) for row in array.rows()]
-                    for of, array in enumerate((left, right))), AGREE[""], wanted, is_raw)
+    return digits(
+        *(
+            [row if is_null(row) else Rows((of,)) for row in array.rows()]
+            for of, array in enumerate((left, right))
+        ),
+        AGREE[""],
+        wanted,
+        is_raw,
+    )
 
 
 def stored(arrays, name):
@@ -184,13 +244,17 @@ def struct_made(arrays, *words):
     validity, present = parts.validity(n)
     fields = [(parts.word(), arrays[parts.word()]) for _ in range(parts.number())]
     columns = [arrays[parts.word()] for _ in range(parts.number())]
-    assert [type_of(of) for _, of in fields] == list(map(type_of, columns)) and all(of.n == n for of in columns)
+    assert [type_of(of) for _, of in fields] == list(map(type_of, columns)) and all(
+        of.n == n for of in columns
+    )
     return texts(Structs([name for name, _ in fields], columns, present, validity).rows())
 
 
 def of_states(name, arrays, *words):
     """What the script of states answers."""
-    return by_script(states, {word: arrays[word] for word in arrays.names_in(words)}, [name, *words])
+    return by_script(
+        states, {word: arrays[word] for word in arrays.names_in(words)}, [name, *words]
+    )
 
 
 CALLS = {
@@ -207,7 +271,10 @@ CALLS = {
 for relation in ("eq", "ne"):
     for called in (f"tot_{relation}_kernel", f"tot_{relation}_missing_kernel"):
         CALLS[called] = lambda *words, name=called: kernel(name, *words)
-    for called in (f"array_tot_{relation}_missing_kernel", f"array_tot_{relation}_missing_kernel_counted"):
+    for called in (
+        f"array_tot_{relation}_missing_kernel",
+        f"array_tot_{relation}_missing_kernel_counted",
+    ):
         CALLS[called] = lambda *words, name=called: dispatched(name, *words)
 for called in STATES:
     CALLS[called] = lambda *words, name=called: of_states(name, *words)
@@ -261,7 +328,9 @@ def asked(path):
 
 def has_keys(arrays, words):
     """Whether a question is on states of keys, or on arrays in one of which a dictionary lies."""
-    return words[0] in STATES or any("dict" in arrays.words[name] for name in arrays.names_in(words[1:]))
+    return words[0] in STATES or any(
+        "dict" in arrays.words[name] for name in arrays.names_in(words[1:])
+    )
 
 
 def is_asked_here(call):
@@ -269,7 +338,8 @@ def is_asked_here(call):
 
 
 def check_file(path):
-    """Finds the answers anew to a file's questions on dictionaries. Returns how many were compared, and how many differ."""
+    """Finds the answers anew to a file's questions on dictionaries. Returns how many were compared,
+    and how many differ."""
     compared = differing = 0
     for arrays, words, line in asked(path):
         if not has_keys(arrays, words) or not is_asked_here(words[0]):

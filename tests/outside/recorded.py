@@ -1,7 +1,8 @@
 """The data files of recorded cases: questions, and the answers that stand beside them.
 
-A line is empty, a heading `# TEXT`, an array `NAME = WORDS`, an array that is refused `NAME = WORDS -> refused: WHY`, or
-a question and its answer `CALL OPERAND.. -> ANSWER`. A script finds the answers anew from the questions alone.
+A line is empty, a heading `# TEXT`, an array `NAME = WORDS`, an array that is refused `NAME = WORDS
+-> refused: WHY`, or a question and its answer `CALL OPERAND.. -> ANSWER`. A script finds the
+answers anew from the questions alone.
 """
 import pathlib
 import sys
@@ -38,7 +39,8 @@ def is_refused(line):
 
 
 def main(doc, answered, made=None):
-    """Prints files with the answers that `answered` finds to their lines, or the file that `made` yields the lines of."""
+    """Prints files with the answers that `answered` finds to their lines, or the file that `made`
+    yields the lines of."""
     paths = sys.argv[1:]
     if not paths and made is None:
         sys.exit(doc)

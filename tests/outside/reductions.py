@@ -1,16 +1,28 @@
-"""The answers to questions on counts of bits, reductions, sums and extremes, found from lists of rows.
+"""The answers to questions on counts of bits, reductions, sums and extremes, found from lists of
+rows.
 
 usage: reductions.py             prints the file data/reductions_sweeps.txt: questions, and their answers
        reductions.py FILE..      prints the files, with the answers that are found here
 
-A row is a whole number, a truth value, a byte string or null. The bits of a number are those of the number modulo 2 to
-its width, the lowest first; a truth value is one bit. A reduction takes each place of the present rows by itself. The least
-row is the present one that no present row is less than; texts are compared by their bytes.
+A row is a whole number, a truth value, a byte string or null. The bits of a number are those of the
+number modulo 2 to its width, the lowest first; a truth value is one bit. A reduction takes each
+place of the present rows by itself. The least row is the present one that no present row is less
+than; texts are compared by their bytes.
 """
 import itertools
 
 import recorded
-from arithmetic import KINDS, Chance, array_line, sum_of_masked, sum_of_rows, sum_of_two, sum_of_values, wrapped, written
+from arithmetic import (
+    KINDS,
+    Chance,
+    array_line,
+    sum_of_masked,
+    sum_of_rows,
+    sum_of_two,
+    sum_of_values,
+    wrapped,
+    written,
+)
 from bits import TYPES, Words, highest, lowest, text
 
 STRINGS = ("binary", "largebinary", "utf8", "largeutf8")
@@ -18,8 +30,14 @@ VIEWS = ("binaryview", "utf8view")
 HOLDERS = ("null", "list", "largelist", "fixedlist", "struct", "dict")
 WITHOUT_ORDER = ("fixedbinary", *HOLDERS)
 
-NAMES = ("min_ignore_nan", "max_ignore_nan", "min_max_ignore_nan",
-         "min_propagate_nan", "max_propagate_nan", "min_max_propagate_nan")
+NAMES = (
+    "min_ignore_nan",
+    "max_ignore_nan",
+    "min_max_ignore_nan",
+    "min_propagate_nan",
+    "max_propagate_nan",
+    "min_max_propagate_nan",
+)
 # there is no call of an array of any kind that has this name
 NOT_DISPATCHED = "min_max_ignore_nan"
 
@@ -61,7 +79,9 @@ def reduced(join, kind, rows):
     """What present rows reduce to, each place by itself."""
     if not rows:
         return None
-    return row_of(kind, [join(column) for column in zip(*(bits_of(kind, row) for row in rows), strict=True)])
+    return row_of(
+        kind, [join(column) for column in zip(*(bits_of(kind, row) for row in rows), strict=True)]
+    )
 
 
 def shown(row):
@@ -88,7 +108,9 @@ class Array:
         self.kind, self.values, self.present = kind, values, present
 
     def rows(self):
-        return [value if there else None for value, there in zip(self.values, self.present, strict=True)]
+        return [
+            value if there else None for value, there in zip(self.values, self.present, strict=True)
+        ]
 
     def present_rows(self):
         return [value for value, there in zip(self.values, self.present, strict=True) if there]
@@ -153,7 +175,8 @@ class Case(Words):
 
 
 def string_of(view, buffers):
-    """The byte string of a view: its length, then up to twelve bytes; or four bytes, a buffer and a place in it."""
+    """The byte string of a view: its length, then up to twelve bytes; or four bytes, a buffer and a
+    place in it."""
     parts = [int.from_bytes(view[at : at + 4], "little") for at in (0, 4, 8, 12)]
     if parts[0] <= 12:
         assert not any(view[4 + parts[0] :])
@@ -165,7 +188,9 @@ def string_of(view, buffers):
 
 def count(name, case):
     array = case.array()
-    return written(None if row is None else COUNTS[name](bits_of(array.kind, row)) for row in array.rows())
+    return written(
+        None if row is None else COUNTS[name](bits_of(array.kind, row)) for row in array.rows()
+    )
 
 
 def reduction(name, case):
@@ -192,10 +217,13 @@ def of_stored(name, case):
 
 
 def best(case):
-    """The first place at which a best present row stands, and the row; None without a present one."""
+    """The first place at which a best present row stands, and the row; None without a present
+    one."""
     preference, array = case.word(), case.array()
     assert array.kind in (*STRINGS, *VIEWS, "fixedbinary")
-    found = extremes({"less": "min_", "greater": "max_"}[preference] + "ignore_nan", array.present_rows())
+    found = extremes(
+        {"less": "min_", "greater": "max_"}[preference] + "ignore_nan", array.present_rows()
+    )
     return None if found is None else (array.rows().index(found), found)
 
 
@@ -225,8 +253,12 @@ for called in JOINS:
 for called in NAMES:
     CALLS[called + "_kernel"] = lambda case, name=called: of_kinds(name, case, (*TYPES, "bool"))
     CALLS[f"slice_{called}_kernel"] = lambda case, name=called: of_stored(name, case)
-    CALLS[f"bytes_{called}_kernel"] = lambda case, name=called: of_kinds(name, case, ("binary", "largebinary", "binaryview"))
-    CALLS[f"text_{called}_kernel"] = lambda case, name=called: of_kinds(name, case, ("utf8", "largeutf8", "utf8view"))
+    CALLS[f"bytes_{called}_kernel"] = lambda case, name=called: of_kinds(
+        name, case, ("binary", "largebinary", "binaryview")
+    )
+    CALLS[f"text_{called}_kernel"] = lambda case, name=called: of_kinds(
+        name, case, ("utf8", "largeutf8", "utf8view")
+    )
     if called != NOT_DISPATCHED:
         CALLS["dyn_array_" + called] = lambda case, name=called: of_any(name, case)
 
@@ -253,7 +285,8 @@ LENGTHS = {"no null": (0, 1, 64, 130), "nulls": (1, 63, 64, 65, 130), "nulls alo
 
 
 class Columns(Chance):
-    """Arrays at random, the same in each run, whose rows begin behind others and whose validity begins in mid-word."""
+    """Arrays at random, the same in each run, whose rows begin behind others and whose validity
+    begins in mid-word."""
 
     def presences(self, nulls, n):
         """Which of n rows are present, at least one of them where there are not nulls alone."""
@@ -264,7 +297,8 @@ class Columns(Chance):
         return present
 
     def column(self, nulls, n, present_value, other_value):
-        """The stored values and a validity: of n rows, of some in front of them, the first place, and some behind."""
+        """The stored values and a validity: of n rows, of some in front of them, the first place,
+        and some behind."""
         before, behind = self.random.choice((0, 1, 3, 5, 7)), self.random.randint(0, 3)
         if nulls == "no null":
             values = [other_value() for _ in range(before)]
@@ -279,16 +313,27 @@ class Columns(Chance):
 
     def bits(self, bits):
         cut = self.random.randint(0, 70)
-        return f"b{cut}:" + "".join(self.random.choice("01") for _ in range(cut)) + "".join("01"[bit] for bit in bits)
+        return (
+            f"b{cut}:"
+            + "".join(self.random.choice("01") for _ in range(cut))
+            + "".join("01"[bit] for bit in bits)
+        )
 
     def validity(self, present):
         return "-" if present is None else self.bits(present)
 
     def numbers(self, name, kind, nulls, n):
         """Numbers of which the present ones have some bits alike, over any numbers."""
-        ones, zeros = (self.random.getrandbits(width(kind)) & self.random.getrandbits(width(kind)) for _ in range(2))
+        ones, zeros = (
+            self.random.getrandbits(width(kind)) & self.random.getrandbits(width(kind))
+            for _ in range(2)
+        )
         values, present, at = self.column(
-            nulls, n, lambda: wrapped(kind, self.number(kind) & ~zeros | ones), lambda: self.other(kind))
+            nulls,
+            n,
+            lambda: wrapped(kind, self.number(kind) & ~zeros | ones),
+            lambda: self.other(kind),
+        )
         return array_line(name, kind, values, self.validity(present), at, n)
 
     def other(self, kind):
@@ -298,7 +343,8 @@ class Columns(Chance):
         """Truth values of which none, few or all present ones are true, over others."""
         share = self.random.choice((0, 0.03, 0.5, 0.97, 1))
         values, present, at = self.column(
-            nulls, n, lambda: self.random.random() < share, lambda: self.random.random() >= share)
+            nulls, n, lambda: self.random.random() < share, lambda: self.random.random() >= share
+        )
         return f"{name} = {at} {n} bool {self.bits(values)} {self.validity(present)}"
 
     def string(self, kind, letters, sizes):
@@ -316,7 +362,8 @@ class Columns(Chance):
         letters = "ab\0\xe9\xff" if "binary" in kind else "ab\0\xe9\u20ac\U0001f600"
         sizes = (1, 2, 5, 9) if kind in VIEWS else (1, 2, 3)
         values, present, at = self.column(
-            nulls, n, lambda: self.string(kind, letters, sizes), lambda: self.any_string(kind))
+            nulls, n, lambda: self.string(kind, letters, sizes), lambda: self.any_string(kind)
+        )
         stored = self.viewed(values) if kind in VIEWS else self.offset(values)
         return f"{name} = {at} {n} {kind} {stored} {self.validity(present)}"
 
@@ -336,13 +383,29 @@ class Columns(Chance):
                 to = self.random.randrange(2)
                 place = len(buffers[to])
                 buffers[to] += value
-                views.append(len(value).to_bytes(4, "little") + value[:4] + to.to_bytes(4, "little") + place.to_bytes(4, "little"))
-        return " ".join([str(len(views)), *("x" + view.hex() for view in views), "2", *("x" + each.hex() for each in buffers)])
+                views.append(
+                    len(value).to_bytes(4, "little")
+                    + value[:4]
+                    + to.to_bytes(4, "little")
+                    + place.to_bytes(4, "little")
+                )
+        return " ".join(
+            [
+                str(len(views)),
+                *("x" + view.hex() for view in views),
+                "2",
+                *("x" + each.hex() for each in buffers),
+            ]
+        )
 
 
 def named_extremes(before, nulls):
     """The names of the extremes; fewer of them where all rows are null."""
-    names = NAMES if nulls != "nulls alone" else ("min_max_ignore_nan", "min_propagate_nan", "max_propagate_nan")
+    names = (
+        NAMES
+        if nulls != "nulls alone"
+        else ("min_max_ignore_nan", "min_propagate_nan", "max_propagate_nan")
+    )
     for name in names:
         yield f"{before}{name}_kernel a"
 
@@ -350,7 +413,11 @@ def named_extremes(before, nulls):
 def dispatched(nulls):
     yield from ("dyn_array_min_max_propagate_nan a", "dyn_array_min_ignore_nan a")
     if nulls == "nulls":
-        yield from ("dyn_array_max_ignore_nan a", "dyn_array_min_propagate_nan a", "dyn_array_max_propagate_nan a")
+        yield from (
+            "dyn_array_max_ignore_nan a",
+            "dyn_array_min_propagate_nan a",
+            "dyn_array_max_propagate_nan a",
+        )
 
 
 def bitwise(nulls):

@@ -1,17 +1,20 @@
-"""Slices of arrays with junk under their nulls, beside arrays that are built afresh from the same rows.
+"""Slices of arrays with junk under their nulls, beside arrays that are built afresh from the same
+rows.
 
 usage: slices.py --part              prints the file data/slices.txt: questions, and their answers
        slices.py --all PROGRAM       asks a built program of all slices; status 1 where an answer is another one
 
-Of each kind there is an array of 70 rows, of which every third is null (of null arrays each), over stored values that
-are no row of it. It is sliced at each place from 0 to 70, with the lengths 0, 1, 63, 64, 65 and all that are left, where
-they fit.
+Of each kind there is an array of 70 rows, of which every third is null (of null arrays each), over
+stored values that are no row of it. It is sliced at each place from 0 to 70, with the lengths 0, 1,
+63, 64, 65 and all that are left, where they fit.
 
-`w` is the whole array, `a0` a slice, `b0` an array that is built afresh from its rows, and `c0` one that differs in a
-row; `a1`, `b1` and `c1` are those of the next length. `d` are divisors, `v` has as many rows as `w` has entries, some of them
-null, and `s0` are the items of a list. Answers are found from rows, so a slice has those of the array built afresh. A null row
-of a dictionary is a masked key or one to a null entry, in `a0`, `b0` and `c0` by chance, so that `c0` may have the same rows.
-All is drawn at random and the same in each run: each seed is the name of the kind, with the place.
+`w` is the whole array, `a0` a slice, `b0` an array that is built afresh from its rows, and `c0` one
+that differs in a row; `a1`, `b1` and `c1` are those of the next length. `d` are divisors, `v` has
+as many rows as `w` has entries, some of them null, and `s0` are the items of a list. Answers are
+found from rows, so a slice has those of the array built afresh. A null row of a dictionary is a
+masked key or one to a null entry, in `a0`, `b0` and `c0` by chance, so that `c0` may have the same
+rows. All is drawn at random and the same in each run: each seed is the name of the kind, with the
+place.
 """
 import subprocess
 import sys
@@ -53,7 +56,11 @@ class Case:
     def text(self):
         """The lines of the case, without arrays that nothing is asked of."""
         used = {word for question in self.asked for word in question.split(" ")}
-        return [f"# {self.heading}", *(line for name, line in self.lines.items() if name in used), *self.answers()]
+        return [
+            f"# {self.heading}",
+            *(line for name, line in self.lines.items() if name in used),
+            *self.answers(),
+        ]
 
 
 class Subject:
@@ -77,7 +84,12 @@ class Subject:
             case.add("d", self.divisors)
         if isinstance(self.kind, DictKind):
             entries = range(self.whole.entries.n)
-            case.add("v", Numbers("u8").kept(keeper, [None if keeper.chance(0.3) else place for place in entries]))
+            case.add(
+                "v",
+                Numbers("u8").kept(
+                    keeper, [None if keeper.chance(0.3) else place for place in entries]
+                ),
+            )
         for k, n in enumerate(sizes):
             self.add_slice(case, keeper, str(k), at, n)
         return case
@@ -100,10 +112,13 @@ class Subject:
         if part.key_kind == "u32":
             return self.kind.with_keys_of(keeper, part)
         nulls = (None, Entry(None))
-        return self.kind.kept(keeper, [keeper.random.choice(nulls) if is_null(row) else row for row in part.rows()])
+        return self.kind.kept(
+            keeper, [keeper.random.choice(nulls) if is_null(row) else row for row in part.rows()]
+        )
 
     def with_change(self, keeper, part):
-        """The rows of a slice with one of them another one, null or present; what was stored there may stay there."""
+        """The rows of a slice with one of them another one, null or present; what was stored there
+        may stay there."""
         rows = part.rows()
         if not rows:
             return self.kind.kept(keeper, rows)
@@ -114,16 +129,22 @@ class Subject:
             rows[i] = stored
         elif before is not None and keeper.chance(0.4):
             rows[i] = None
-        return self.kind.kept(keeper, rows, {i: before} if rows[i] is None and before is not None else None)
+        return self.kind.kept(
+            keeper, rows, {i: before} if rows[i] is None and before is not None else None
+        )
 
     def has_span(self):
         return isinstance(self.kind, Numbers) and self.kind.span is not None
 
     def ask(self, case, at, sizes, share):
-        """Asks some questions of each slice, and of the others those whose turn it is among so many."""
+        """Asks some questions of each slice, and of the others those whose turn it is among so
+        many."""
         for k, n in enumerate(sizes):
-            always = [f"rows a{k}", f"array_tot_eq_missing_kernel_counted a{k} b{k}",
-                      f"array_tot_ne_missing_kernel_counted a{k} c{k}"]
+            always = [
+                f"rows a{k}",
+                f"array_tot_eq_missing_kernel_counted a{k} b{k}",
+                f"array_tot_ne_missing_kernel_counted a{k} c{k}",
+            ]
             others = [question.format(k=k, at=at, n=n) for question in self.templates(at, n)]
             turn = (self.slices + self.number) % share
             case.asked += always + others[turn::share]
@@ -149,7 +170,8 @@ class Subject:
         yield from asked_of_nulls(keeper, n)
 
     def broadcasts(self, keeper):
-        """Comparisons with one scalar: a row of the array, the items of a list, or what is not supported."""
+        """Comparisons with one scalar: a row of the array, the items of a list, or what is not
+        supported."""
         kind, scalar = self.whole.kind, "s{k}" if "list" in self.whole.kind else "b{k}"
         if isinstance(self.whole, Leaves):
             scalar = shown(keeper.random.choice([row for row in self.rows if row is not None]))
@@ -216,14 +238,21 @@ def asked_of_bits():
 
 def asked_of_numbers(kind, keeper):
     """Arithmetic with divisors that are sliced too, among them 0, and with a scalar."""
-    scalar = keeper.random.choice((0, 1, 2, 8, wrapped(kind, -1), wrapped(kind, -3), keeper.number(kind)))
+    scalar = keeper.random.choice(
+        (0, 1, 2, 8, wrapped(kind, -1), wrapped(kind, -3), keeper.number(kind))
+    )
     for name in OPERATIONS:
         yield f"{name} a{{k}} slice d {{at}} {{n}}"
         yield f"{name}_scalar a{{k}} {scalar}"
     for name in FROM_NUMBERS:
         yield f"{name}_scalar_lhs {scalar} a{{k}}"
     yield from ("wrapping_floor_div c{k} a{k}", "wrapping_mod slice w {at} {n} slice d {at} {n}")
-    yield from ("wrapping_abs a{k}", "wrapping_neg a{k}", "wrapping_sum_arr a{k}", "wrapping_sum_arr b{k}")
+    yield from (
+        "wrapping_abs a{k}",
+        "wrapping_neg a{k}",
+        "wrapping_sum_arr a{k}",
+        "wrapping_sum_arr b{k}",
+    )
     for name in UNARY_IN_PLACE:
         yield f"prim_unary_in_place {name} a{{k}}"
     for name in BINARY_IN_PLACE:
@@ -284,7 +313,8 @@ def subjects():
 
 
 def compare(subject, program):
-    """Asks a program of all slices of a kind, and returns how many answers it compared, and its complaints."""
+    """Asks a program of all slices of a kind, and returns how many answers it compared, and its
+    complaints."""
     texts = [case.text() for case in all_cases(subject)]
     asked = sum(recorded.ARROW in line for text in texts for line in text)
     given = "".join(line + "\n" for text in texts for line in text)
@@ -303,7 +333,9 @@ def check_all(program):
         lines, slices, differing = lines + compared, slices + subject.slices, differing + len(wrong)
         for line in wrong[:5]:
             print(f"{subject.kind.name}: {line}")
-    print(f"{slices} slices of {len(ALL_KINDS)} arrays: {lines} answers compared, {differing} differ")
+    print(
+        f"{slices} slices of {len(ALL_KINDS)} arrays: {lines} answers compared, {differing} differ"
+    )
     return 1 if differing else 0
 
 

@@ -1,4 +1,5 @@
-"""The answers to questions on the arrays of a case, found from their rows and, for counts, from how they are kept."""
+"""The answers to questions on the arrays of a case, found from their rows and, for counts, from how
+they are kept."""
 import arithmetic
 import reductions
 import states
@@ -18,7 +19,8 @@ EQUALITIES = {"eq": same, "ne": lambda a, b: not same(a, b)}
 
 
 def compared(name, kind, left, right):
-    """The bits of `eq`, `lt_kernel`, `eq_missing_kernel` and so on. A null array says the same at each row."""
+    """The bits of `eq`, `lt_kernel`, `eq_missing_kernel` and so on. A null array says the same at
+    each row."""
     relation = name.split("_")[0]
     if "missing" in name or kind == "null":
         return missing_bits(left, right, relation == "eq")
@@ -65,7 +67,10 @@ def followed(arrays, left, right):
     """How many pairs of stored rows are looked up in buffers, by equality and by order."""
     pairs = list(zip(arrays[left].window(), arrays[right].window(), strict=True))
     equal = sum(len(a) == len(b) > 12 and a[:4] == b[:4] for a, b in pairs)
-    less = sum(max(len(a), len(b)) > 12 and a[:4].ljust(4, b"\0") == b[:4].ljust(4, b"\0") for a, b in pairs)
+    less = sum(
+        max(len(a), len(b)) > 12 and a[:4].ljust(4, b"\0") == b[:4].ljust(4, b"\0")
+        for a, b in pairs
+    )
     return f"{equal} {less}"
 
 
@@ -101,7 +106,9 @@ def texts(rows):
 OWN = {
     "rows": lambda arrays, name: texts(arrays[name].rows()),
     "copy": lambda arrays, name: texts(arrays[name].rows()),
-    "array_slice": lambda arrays, name, at, n: texts(arrays[name].rows()[int(at) : int(at) + int(n)]),
+    "array_slice": lambda arrays, name, at, n: texts(
+        arrays[name].rows()[int(at) : int(at) + int(n)]
+    ),
     "null_count": lambda arrays, name: str(arrays[name].null_count()),
     "validity": lambda arrays, name: arrays[name].validity_bits(),
     "missing_mask": missing_mask,
@@ -114,7 +121,11 @@ OWN = {
     "followed": followed,
     "equal_windows": windows,
 }
-for called in ("eq_missing_kernel", "ne_missing_kernel", *(f"{relation}_kernel" for relation in (*EQUALITIES, *ORDERS))):
+for called in (
+    "eq_missing_kernel",
+    "ne_missing_kernel",
+    *(f"{relation}_kernel" for relation in (*EQUALITIES, *ORDERS)),
+):
     OWN["tot_" + called] = lambda *words, name=called: of_two(name, *words)
     for before in ("", "bytes_", "text_"):
         OWN[f"{before}tot_{called}_broadcast"] = lambda *words, name=called: broadcast(name, *words)
@@ -123,8 +134,8 @@ for called in ("eq_missing_kernel", "ne_missing_kernel", *(f"{relation}_kernel" 
 
 
 def flat(array):
-    """What the other scripts take for an array: stored values and which are present, of dictionaries the keys; or rows as
-    texts."""
+    """What the other scripts take for an array: stored values and which are present, of
+    dictionaries the keys; or rows as texts."""
     present = [array.is_present(i) for i in range(array.n)]
     if isinstance(array, Leaves):
         return states.Rows(array.kind, array.window(), present)

@@ -1,8 +1,9 @@
-"""Arrays of any kind, as the words of a line keep them, and what is said of their rows by the Arrow layout.
+"""Arrays of any kind, as the words of a line keep them, and what is said of their rows by the Arrow
+layout.
 
-A row is null (None), a truth value, a whole number, a byte string, the rows of a list, the fields of a struct, or what
-the key of a dictionary names. A row whose validity bit is 0 is null, whatever is stored there, and so is one whose key
-names an entry that is null.
+A row is null (None), a truth value, a whole number, a byte string, the rows of a list, the fields
+of a struct, or what the key of a dictionary names. A row whose validity bit is 0 is null, whatever
+is stored there, and so is one whose key names an entry that is null.
 """
 import copy
 from typing import NamedTuple
@@ -30,7 +31,8 @@ class Entry(NamedTuple):
 
 
 def is_null(row):
-    """Whether a row is null, as one is whose key names a null entry. Nothing else in these scripts decides that."""
+    """Whether a row is null, as one is whose key names a null entry. Nothing else in these scripts
+    decides that."""
     return is_null(row.row) if isinstance(row, Entry) else row is None
 
 
@@ -56,7 +58,9 @@ def row_text(row):
 def raw_bits(left, right, passes):
     """Where two rows pass, with `x` where one of them is null."""
     pairs = zip(left, right, strict=True)
-    return "b0:" + "".join("x" if is_null(a) or is_null(b) else "01"[passes(a, b)] for a, b in pairs)
+    return "b0:" + "".join(
+        "x" if is_null(a) or is_null(b) else "01"[passes(a, b)] for a, b in pairs
+    )
 
 
 def missing_bits(left, right, wanted):
@@ -65,7 +69,8 @@ def missing_bits(left, right, wanted):
 
 
 class Array:
-    """Stored rows, of which there is a window: `n` from place `at` on, and whether each stored row is present."""
+    """Stored rows, of which there is a window: `n` from place `at` on, and whether each stored row
+    is present."""
 
     def __init__(self, kind, present, validity):
         self.kind, self.present, self.validity = kind, present, validity
@@ -216,7 +221,10 @@ class Structs(Array):
         return Fields(tuple(column.row(self.at + i) for column in self.columns))
 
     def parts(self):
-        fields = "".join(f" {name} {column.text()}" for name, column in zip(self.names, self.columns, strict=True))
+        fields = "".join(
+            f" {name} {column.text()}"
+            for name, column in zip(self.names, self.columns, strict=True)
+        )
         return f"{len(self.present)} {len(self.names)} {self.validity}{fields}"
 
     def leaves(self, at, n):
@@ -254,9 +262,13 @@ class Keyed(Array):
         return f"{self.key_kind} {numbers} {self.validity} {self.entries.text()}"
 
     def leaves(self, at, n):
-        return sum(self.entries.leaves(self.key(i), 1) for i in range(at, at + n) if self.is_present(i))
+        return sum(
+            self.entries.leaves(self.key(i), 1) for i in range(at, at + n) if self.is_present(i)
+        )
 
     def tally(self, other, a, b, n):
         """Those of the two entries of each row whose keys are both present."""
         places = (i for i in range(n) if self.is_present(a + i) and other.is_present(b + i))
-        return sum(self.entries.tally(other.entries, self.key(a + i), other.key(b + i), 1) for i in places)
+        return sum(
+            self.entries.tally(other.entries, self.key(a + i), other.key(b + i), 1) for i in places
+        )

@@ -1,8 +1,8 @@
 """Kinds of arrays: how rows are drawn, and how they are kept, with junk under nulls or without.
 
-A keeper with junk puts rows between others, begins validity in mid-word, spreads long strings over buffers, begins
-offsets past 0, and stores under each null what no row of the array is, where the kind has so many rows. One without
-begins at 0, and keeps no more than it must.
+A keeper with junk puts rows between others, begins validity in mid-word, spreads long strings over
+buffers, begins offsets past 0, and stores under each null what no row of the array is, where the
+kind has so many rows. One without begins at 0, and keeps no more than it must.
 """
 import itertools
 
@@ -16,7 +16,8 @@ TRIES = 60
 
 
 class Keeper(Columns):
-    """Ways to keep rows, at random and the same in each run. No junk is one of the rows that are taken."""
+    """Ways to keep rows, at random and the same in each run. No junk is one of the rows that are
+    taken."""
 
     def __init__(self, seed, has_junk):
         super().__init__(seed)
@@ -34,7 +35,9 @@ class Keeper(Columns):
 
     def edge(self, kind, most):
         """Rows that no array has, to stand beside those that it has."""
-        return [kind.some(self) for _ in range(self.random.randint(1, most))] if self.has_junk else []
+        return (
+            [kind.some(self) for _ in range(self.random.randint(1, most))] if self.has_junk else []
+        )
 
     def held(self, kind, rows):
         """The array of these rows that another one holds: a slice, where there is junk."""
@@ -42,7 +45,8 @@ class Keeper(Columns):
         return kind.kept(self, [*front, *rows, *behind]).cut(len(front), len(rows))
 
     def under(self, kind, rows, under):
-        """The rows, with what is stored under each null in its place: as told, or no row of the array."""
+        """The rows, with what is stored under each null in its place: as told, or no row of the
+        array."""
         taken, stored = {*rows, *under.values(), *self.taken}, list(rows)
         for i in (i for i, row in enumerate(rows) if row is None):
             stored[i] = under[i] if i in under else self.junk_beside(kind, taken)
@@ -62,7 +66,8 @@ class Keeper(Columns):
         return f"{len(offsets)} {' '.join(map(str, offsets))} x{b''.join(values).hex()}"
 
     def viewed(self, values):
-        """Byte strings by views, the long ones in one of three buffers, or one behind the other, the last one first."""
+        """Byte strings by views, the long ones in one of three buffers, or one behind the other,
+        the last one first."""
         if self.has_junk:
             return self.spread(values, [b"\xffz", b"", b"abcdz"], values)
         return self.spread(values, [b""], values[::-1])
@@ -88,7 +93,11 @@ def view_of(value, place):
 
 def few_bits(chance, width):
     """Ones in about an eighth of the places."""
-    return chance.random.getrandbits(width) & chance.random.getrandbits(width) & chance.random.getrandbits(width)
+    return (
+        chance.random.getrandbits(width)
+        & chance.random.getrandbits(width)
+        & chance.random.getrandbits(width)
+    )
 
 
 class Kind:
@@ -102,7 +111,9 @@ class Kind:
 
     def other(self, chance, row):
         """A row that differs from this one, where the kind has one."""
-        drawn = ((self.row(chance) if row is None else self.changed(chance, row)) for _ in range(TRIES))
+        drawn = (
+            (self.row(chance) if row is None else self.changed(chance, row)) for _ in range(TRIES)
+        )
         return next((other for other in drawn if other != row), None)
 
     def changed(self, chance, _):
@@ -125,7 +136,9 @@ class LeafKind(Kind):
     def kept(self, keeper, rows, under=None):
         stored = keeper.under(self, rows, under or {})
         present = [row is not None for row in rows]
-        return Leaves(self.kind, stored, self.words(keeper, stored), present, keeper.validity(present))
+        return Leaves(
+            self.kind, stored, self.words(keeper, stored), present, keeper.validity(present)
+        )
 
 
 class Numbers(LeafKind):
@@ -141,13 +154,21 @@ class Numbers(LeafKind):
 
     def row(self, chance):
         if self.span:
-            return chance.random.choice((self.span[0], self.span[-1], *chance.random.choices(self.span, k=9)))
+            return chance.random.choice(
+                (self.span[0], self.span[-1], *chance.random.choices(self.span, k=9))
+            )
         return wrapped(self.kind, chance.number(self.kind) & ~self.zeros | self.ones)
 
     def junk(self, chance):
         """A number outside of the range, or any."""
         low, high = lowest(self.kind), highest(self.kind)
-        numbers = [low, high, 0, chance.number(self.kind), *(chance.random.randint(low, high) for _ in range(TRIES))]
+        numbers = [
+            low,
+            high,
+            0,
+            chance.number(self.kind),
+            *(chance.random.randint(low, high) for _ in range(TRIES)),
+        ]
         others = [number for number in numbers if not self.span or number not in self.span]
         return chance.random.choice(others[:5])
 
@@ -185,13 +206,17 @@ class Strings(LeafKind):
     def row(self, chance):
         letters = "ab\0\xe9\xff" if "binary" in self.kind else "ab\0\xe9\u20ac"
         if chance.chance(0.1):
-            return chance.random.choice((b"", b"a", b"a\0", b"abcd", b"abcdefghijkl", b"abcdefghijklm"))
+            return chance.random.choice(
+                (b"", b"a", b"a\0", b"abcd", b"abcdefghijkl", b"abcdefghijklm")
+            )
         return chance.string(self.kind, letters, (1, 2, 4, 9) if self.kind in VIEWS else (1, 2, 3))
 
     def junk(self, chance):
         greatest = b"\xff" if "binary" in self.kind else "\U0010ffff".encode()
         begun = chance.random.choice((b"", b"", greatest, b"abcd", b"abcdefghijkl"))
-        return begun + (b"" if chance.chance(0.1) else str(chance.random.randrange(10**4)).encode())
+        return begun + (
+            b"" if chance.chance(0.1) else str(chance.random.randrange(10**4)).encode()
+        )
 
     def words(self, keeper, stored):
         return keeper.viewed(stored) if self.kind in VIEWS else keeper.offset(stored)
@@ -228,12 +253,18 @@ class ListKind(Kind):
         self.kind, self.item, self.name = kind, item, f"{kind}({item.name})"
 
     def row(self, chance):
-        return Rows(tuple(self.item.some(chance) for _ in range(chance.random.choice((0, 1, 1, 2, 3)))))
+        return Rows(
+            tuple(self.item.some(chance) for _ in range(chance.random.choice((0, 1, 1, 2, 3))))
+        )
 
     def changed(self, chance, row):
         if row.rows and chance.chance(0.7):
             return Rows(changed_part(chance, row.rows, len(row.rows) * [self.item]))
-        return Rows(row.rows[:-1]) if row.rows and chance.chance(0.5) else Rows((*row.rows, self.item.some(chance)))
+        return (
+            Rows(row.rows[:-1])
+            if row.rows and chance.chance(0.5)
+            else Rows((*row.rows, self.item.some(chance)))
+        )
 
     def kept(self, keeper, rows, under=None):
         if not keeper.has_junk:
@@ -243,7 +274,9 @@ class ListKind(Kind):
         offsets = list(itertools.accumulate((len(row.rows) for row in stored), initial=len(front)))
         items = [*front, *(item for row in stored for item in row.rows), *behind]
         present = [row is not None for row in rows]
-        return Lists(self.kind, offsets, keeper.held(self.item, items), present, keeper.validity(present))
+        return Lists(
+            self.kind, offsets, keeper.held(self.item, items), present, keeper.validity(present)
+        )
 
 
 class FixedListKind(Kind):
@@ -276,12 +309,19 @@ class StructKind(Kind):
         return Fields(tuple(kind.some(chance) for kind in self.fields.values()))
 
     def changed(self, chance, row):
-        return Fields(changed_part(chance, row.rows, list(self.fields.values()))) if self.fields else row
+        return (
+            Fields(changed_part(chance, row.rows, list(self.fields.values())))
+            if self.fields
+            else row
+        )
 
     def kept(self, keeper, rows, under=None):
         stored = keeper.under(self, rows, under or {})
         present = [row is not None for row in rows]
-        columns = [keeper.held(kind, [row.rows[k] for row in stored]) for k, kind in enumerate(self.fields.values())]
+        columns = [
+            keeper.held(kind, [row.rows[k] for row in stored])
+            for k, kind in enumerate(self.fields.values())
+        ]
         return Structs(list(self.fields), columns, present, keeper.validity(present))
 
 
@@ -297,16 +337,26 @@ class DictKind(Kind):
         return Entry(chance.random.choice(self.pool))
 
     def other(self, chance, row):
-        """Another row; in place of a null one often a key to a null entry, which is the same row kept in another way."""
+        """Another row; in place of a null one often a key to a null entry, which is the same row
+        kept in another way."""
         return Entry(None) if row is None and chance.chance(0.5) else super().other(chance, row)
 
     def junk_key(self, keeper, entries):
         """A key that may name no entry."""
-        return keeper.random.choice((lowest(self.keys), highest(self.keys), len(entries), 0, max(len(entries) - 1, 0),
-                                     keeper.random.randint(lowest(self.keys), highest(self.keys))))
+        return keeper.random.choice(
+            (
+                lowest(self.keys),
+                highest(self.keys),
+                len(entries),
+                0,
+                max(len(entries) - 1, 0),
+                keeper.random.randint(lowest(self.keys), highest(self.keys)),
+            )
+        )
 
     def entries(self, keeper, rows):
-        """The entries that rows name; where there is junk, in any order, with some twice and some that none names."""
+        """The entries that rows name; where there is junk, in any order, with some twice and some
+        that none names."""
         entries = list(dict.fromkeys(row.row for row in rows if row is not None))
         if keeper.has_junk:
             entries += [keeper.random.choice(self.pool) for _ in range(3)]
@@ -316,7 +366,10 @@ class DictKind(Kind):
     def kept(self, keeper, rows, under=None):
         stored = [(under or {}).get(i) if row is None else row for i, row in enumerate(rows)]
         entries = self.entries(keeper, stored)
-        keys = [self.junk_key(keeper, entries) if row is None else self.key_of(keeper, row, entries) for row in stored]
+        keys = [
+            self.junk_key(keeper, entries) if row is None else self.key_of(keeper, row, entries)
+            for row in stored
+        ]
         return self.keyed(keeper, keys, entries, rows)
 
     def key_of(self, keeper, row, entries):
@@ -324,12 +377,17 @@ class DictKind(Kind):
 
     def keyed(self, keeper, keys, entries, rows):
         present = [row is not None for row in rows]
-        return Keyed(self.keys, keys, keeper.held(self.entry, entries), present, keeper.validity(present))
+        return Keyed(
+            self.keys, keys, keeper.held(self.entry, entries), present, keeper.validity(present)
+        )
 
     def with_keys_of(self, keeper, array):
         """The same present keys over the same entries, kept anew."""
         rows, entries = array.rows(), array.entries.rows()
-        keys = [self.junk_key(keeper, entries) if row is None else array.key(i) for i, row in enumerate(rows)]
+        keys = [
+            self.junk_key(keeper, entries) if row is None else array.key(i)
+            for i, row in enumerate(rows)
+        ]
         return self.keyed(keeper, keys, entries, rows)
 
 
@@ -358,7 +416,9 @@ NESTED = [
     FixedListKind(1, StructKind(a=Sized(2), b=Truths())),
     FixedListKind(0, Numbers("i32")),
     StructKind(a=Numbers("i64"), b=Strings("utf8")),
-    StructKind(a=Truths(), b=ListKind("list", Numbers("i8")), c=DictKind("u8", Strings("largebinary"))),
+    StructKind(
+        a=Truths(), b=ListKind("list", Numbers("i8")), c=DictKind("u8", Strings("largebinary"))
+    ),
     StructKind(a=StructKind(b=Numbers("i128")), c=FixedListKind(2, Strings("utf8view"))),
     StructKind(),
     DictKind("i8", Strings("utf8")),

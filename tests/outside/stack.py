@@ -2,9 +2,10 @@
 
 usage: stack.py PROGRAM..     prints a table for each built program (as out/recorded_cases)
 
-A run makes arrays of so many levels, asks one question, and drops the arrays. The least stack with which it ends well is
-searched at two numbers of levels; what a level takes is the difference, and from it follows how many levels 8 MiB hold.
-Where that is at most as many as a line may ask for, runs just below and just above it are tried with 8 MiB too.
+A run makes arrays of so many levels, asks one question, and drops the arrays. The least stack with
+which it ends well is searched at two numbers of levels; what a level takes is the difference, and
+from it follows how many levels 8 MiB hold. Where that is at most as many as a line may ask for,
+runs just below and just above it are tried with 8 MiB too.
 """
 import functools
 import sys
@@ -15,7 +16,8 @@ STACK = 8 << 20
 PAGE = 4096
 SMALLEST, LARGEST = 32 << 10, 256 << 20
 FEW, MANY = 250, 500
-# structs keep the types of all that they hold, so that arrays of far more levels of them would take too much memory
+# structs keep the types of all that they hold, so that arrays of far more levels of them would take
+# too much memory
 MOST_STRUCTS = 6000
 QUESTIONS = {
     "make and drop": None,
@@ -68,10 +70,13 @@ def held(program, lines_at):
 
 
 def tried(program, lines_at, levels, most):
-    """What runs just below and just above a number of levels say with 8 MiB, where lines may ask for so many."""
+    """What runs just below and just above a number of levels say with 8 MiB, where lines may ask
+    for so many."""
     if levels is None or levels * 1.05 > most:
         return ""
-    below, above = (ends_well(program, lines_at(int(levels * share)), STACK) for share in (0.95, 1.05))
+    below, above = (
+        ends_well(program, lines_at(int(levels * share)), STACK) for share in (0.95, 1.05)
+    )
     return "tried" if below and not above else f"NOT so: {below} {above}"
 
 
@@ -80,7 +85,10 @@ def print_row(program, kinds, name, question, is_read):
     level, levels = held(program, lines_at)
     most = READ_DEPTH if is_read else MOST_STRUCTS if "struct" in kinds else FAR_DEPTH
     said = "no end" if levels is None else f"{levels} levels"
-    print(f"{', '.join(kinds):20} {name:26} {level:8.0f} {said:>16} {tried(program, lines_at, levels, most)}", flush=True)
+    print(
+        f"{', '.join(kinds):20} {name:26} {level:8.0f} {said:>16} {tried(program, lines_at, levels, most)}",
+        flush=True,
+    )
 
 
 def main(programs):

@@ -2,10 +2,11 @@
 
 usage: states.py FILE..      prints the files, with the answers that are found here
 
-A state is a range, a set of values of it, and whether there was a null. An array adds its present rows to the set, and a
-state adds its set; the rows of a state are its set in order, and a null behind it. The values of a dictionary's rows are
-the keys, whatever they name; what was seen is told by the dictionary of the state, in which a key that names a null entry
-is null: it is no value of the range, and where it was seen there was a null. A key without an entry is a value.
+A state is a range, a set of values of it, and whether there was a null. An array adds its present
+rows to the set, and a state adds its set; the rows of a state are its set in order, and a null
+behind it. The values of a dictionary's rows are the keys, whatever they name; what was seen is told
+by the dictionary of the state, in which a key that names a null entry is null: it is no value of
+the range, and where it was seen there was a null. A key without an entry is a value.
 """
 import itertools
 
@@ -95,7 +96,8 @@ def type_text(array):
 
 
 class State:
-    """A range, the values of it that were seen, and whether a null was. Of the range some values may stand for null."""
+    """A range, the values of it that were seen, and whether a null was. Of the range some values
+    may stand for null."""
 
     def __init__(self, span, nulls=()):
         self.span, self.seen, self.has_null = span, set(), False
@@ -217,7 +219,11 @@ class Case(reductions.Case):
         offsets = self.numbers()
         present = self.presence(len(offsets) - 1)
         items = texts(self.built())
-        return Rows("list", [f"[{','.join(items[at:end])}]" for at, end in itertools.pairwise(offsets)], present)
+        return Rows(
+            "list",
+            [f"[{','.join(items[at:end])}]" for at, end in itertools.pairwise(offsets)],
+            present,
+        )
 
     def presence(self, n):
         if self.words[0] != "-":
@@ -264,7 +270,9 @@ def two_counted(case, kind, span):
     first, steps = counted(State(span), case.lists(kind))
     case.bar()
     second, other_steps = counted(State(span), case.lists(kind))
-    return " | ".join([steps, other_steps, first.shown(), second.shown(), first.merged(second).shown()])
+    return " | ".join(
+        [steps, other_steps, first.shown(), second.shown(), first.merged(second).shown()]
+    )
 
 
 def state_numbers(case):
@@ -293,8 +301,12 @@ def two_keyed(case):
 
 def state_keys(case):
     (first, entries), (second, others) = two_keyed(case)
-    read = (first.read_by(entries), second.read_by(others),
-            first.merged(second).read_by(entries), second.merged(first).read_by(others))
+    read = (
+        first.read_by(entries),
+        second.read_by(others),
+        first.merged(second).read_by(entries),
+        second.merged(first).read_by(others),
+    )
     return " | ".join(state.shown() for state in read)
 
 
@@ -445,7 +457,9 @@ CALLS = {
     "stored_keys": stored_keys,
     "ended_keys": ended_keys,
     "merge_tree_numbers": merge_tree_numbers,
-    "merge_tree_truths": lambda case: merge_tree(case, lambda: State(TRUTHS).fed(case.rows("bool"))),
+    "merge_tree_truths": lambda case: merge_tree(
+        case, lambda: State(TRUTHS).fed(case.rows("bool"))
+    ),
     "merge_tree_keys": merge_tree_keys,
     "one_range_numbers": one_range_numbers,
     "one_range_keys": lambda case: one_range(case, lambda: key_span(case.array())),

@@ -2,10 +2,11 @@
 
 usage: states_questions.py    prints the file data/states_sweeps.txt: questions, and the answers of `states.py`
 
-A state has a slot for each value of its range and one for null; up to 128 stand in one word, and more in a bitmap. In a
-chunk without nulls it is asked before each 512 rows whether all values were seen. So many ranges have about 127 values,
-and some chunks about 512 rows. The dictionaries of states have null entries or none, are of nulls alone, or name entries of
-further dictionaries; those of the arrays that are appended are of nulls alone.
+A state has a slot for each value of its range and one for null; up to 128 stand in one word, and
+more in a bitmap. In a chunk without nulls it is asked before each 512 rows whether all values were
+seen. So many ranges have about 127 values, and some chunks about 512 rows. The dictionaries of
+states have null entries or none, are of nulls alone, or name entries of further dictionaries; those
+of the arrays that are appended are of nulls alone.
 """
 import itertools
 
@@ -18,9 +19,20 @@ SMALL = (0, 1, 2, 5, 9, 33, 65)
 SIZES = (1, 2, 3, 126, 127, 128, 129, 200)
 ENTRIES = (0, 1, 2, 5, 126, 127, 128, 130)
 # of ranges of a few values: how many rows, and in which of them the last value comes
-PLACES = ((511, 0), (512, 511), (513, 512), (513, 511), (1024, 512), (1024, 1023), (1500, 511), (1500, 1499), (1500, 1024))
+PLACES = (
+    (511, 0),
+    (512, 511),
+    (513, 512),
+    (513, 511),
+    (1024, 512),
+    (1024, 1023),
+    (1500, 511),
+    (1500, 1499),
+    (1500, 1024),
+)
 ENTRY_KINDS = ("i32", "utf8", "utf8view", "largebinary", "bool")
-# pairs of entries that are null where no validity of their own says so: nulls, and dictionaries so many levels deep
+# pairs of entries that are null where no validity of their own says so: nulls, and dictionaries so
+# many levels deep
 NULL_ENTRIES = (("null", 1), (1, "utf8"), (1, 2), (3, "null"), ("bool", 2))
 
 
@@ -54,7 +66,9 @@ class Chunks(Columns):
         """Rows in any order that hold all values of a range, one of them in the last row alone."""
         values = list(span)
         self.random.shuffle(values)
-        rows = [self.random.choice(values[:-1] or values) for _ in range(n - len(values))] + values[:-1]
+        rows = [self.random.choice(values[:-1] or values) for _ in range(n - len(values))] + values[
+            :-1
+        ]
         self.random.shuffle(rows)
         return [*rows, values[-1]]
 
@@ -69,18 +83,28 @@ class Chunks(Columns):
 
     def junk(self, kind, span):
         """A number that no row has to be."""
-        return self.random.choice((lowest(kind), highest(kind), span[0], span[-1], self.random.randrange(100)))
+        return self.random.choice(
+            (lowest(kind), highest(kind), span[0], span[-1], self.random.randrange(100))
+        )
 
     def parts(self, kind, span, rows, may_stand):
-        """Rows between others, of which those that may stand can be present: the first one, how many, and the array."""
-        edges = [[self.junk(kind, span) for _ in range(self.random.choice((0, 0, 1, 3)))] for _ in range(2)]
+        """Rows between others, of which those that may stand can be present: the first one, how
+        many, and the array."""
+        edges = [
+            [self.junk(kind, span) for _ in range(self.random.choice((0, 0, 1, 3)))]
+            for _ in range(2)
+        ]
         middle = [self.junk(kind, span) if row is None else row for row in rows]
         values = [*edges[0], *middle, *edges[1]]
         validity = "-"
         if None in rows or not all(map(may_stand, values)) or self.chance(0.25):
             sides = [[may_stand(value) and self.chance(0.5) for value in edge] for edge in edges]
             validity = self.bits([*sides[0], *(row is not None for row in rows), *sides[1]])
-        return len(edges[0]), len(rows), f"{kind} {' '.join(map(str, [len(values), *values]))} {validity}"
+        return (
+            len(edges[0]),
+            len(rows),
+            f"{kind} {' '.join(map(str, [len(values), *values]))} {validity}",
+        )
 
     def numbers(self, name, kind, span, rows):
         at, n, parts = self.parts(kind, span, rows, lambda _: True)
@@ -111,7 +135,11 @@ class Chunks(Columns):
         nulls = self.random.choice(("no null", "nulls"))
         if kind == "bool":
             return self.truths(name, nulls, n)
-        return super().numbers(name, kind, nulls, n) if kind in TYPES else self.strings(name, kind, nulls, n)
+        return (
+            super().numbers(name, kind, nulls, n)
+            if kind in TYPES
+            else self.strings(name, kind, nulls, n)
+        )
 
     def tree(self, words):
         """A tree in postfix with these leaves, of any shape."""
@@ -188,7 +216,12 @@ def range_cases(kind, chance):
     """Whether ends make a range, and ranges are one."""
     yield f"# {kind}: ranges"
     low, high = lowest(kind), highest(kind)
-    ends = [*itertools.product((low, low + 1, low + 2), (high - 2, high - 1, high)), (low, low), (high, high), (1, 1)]
+    ends = [
+        *itertools.product((low, low + 1, low + 2), (high - 2, high - 1, high)),
+        (low, low),
+        (high, high),
+        (1, 1),
+    ]
     for least, greatest in (*ends, (1, 0), (high, low), (high, high - 1), (low + 1, low)):
         yield f"range_fits {kind} {least} {greatest}"
     words = [f"{at} {at + size}" for at in (low, 0, high - 9) for size in (0, 1, 9)]
@@ -198,10 +231,14 @@ def range_cases(kind, chance):
 
 
 def truth_cases(chance):
-    for nulls, n in itertools.product(("no null", "nulls", "nulls alone"), (0, 1, 2, 63, 64, 65, 130, 513)):
+    for nulls, n in itertools.product(
+        ("no null", "nulls", "nulls alone"), (0, 1, 2, 63, 64, 65, 130, 513)
+    ):
         yield f"# truth values: {n} rows with {nulls}"
         yield chance.truths("a", nulls, n)
-        yield chance.truths("b", chance.random.choice(("no null", "nulls")), chance.random.choice((0, 1, 2, 9)))
+        yield chance.truths(
+            "b", chance.random.choice(("no null", "nulls")), chance.random.choice((0, 1, 2, 9))
+        )
         yield chance.truths("c", "nulls alone", chance.random.choice((0, 1)))
         for name in ("unique", "n_unique", "n_unique_non_null", "accepts_truths"):
             yield f"{name} a"
@@ -248,7 +285,13 @@ def replaced_case(n, chance, kind="utf8"):
     """Key states whose range goes beyond the entries, or ends before."""
     yield f"# a range written over that of {n} keys{'' if kind == 'utf8' else f' of {named(kind)}'}"
     yield chance.entries("v", kind, n)
-    ends = ((0, n + 9), (n, n + 200), (0, max(n - 1, 0)), (max(n - 3, 0), n), (highest("u32") - 5, highest("u32")))
+    ends = (
+        (0, n + 9),
+        (n, n + 200),
+        (0, max(n - 1, 0)),
+        (max(n - 3, 0), n),
+        (highest("u32") - 5, highest("u32")),
+    )
     for name, (least, greatest) in zip("abcde", ends):
         span = range(least, greatest + 1)
         yield chance.numbers(name, "u32", span, chance.small(span))
@@ -262,7 +305,11 @@ def cases():
         for span in spans(kind):
             yield from number_case(kind, span, chance)
         for size in (127, 128, 256):
-            least = chance.random.choice((lowest(kind), highest(kind) - size + 1)) if TYPES[kind][1] < 32 else 0
+            least = (
+                chance.random.choice((lowest(kind), highest(kind) - size + 1))
+                if TYPES[kind][1] < 32
+                else 0
+            )
             yield from full_case(kind, range(least, least + size), 300, chance)
         yield from late_cases(kind, chance)
         yield from empty_case(kind, chance)
