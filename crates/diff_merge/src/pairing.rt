@@ -42,6 +42,7 @@ impl Sink for Pairing {
     ghost keeps = { λ a b. ⊤ };
 
     ghost keeps_self = { λ a. tt };
+
     ghost keeps_on = { λ a b c first second. tt };
 
     fn pair(&mut self, left: &Row<'_>, right: &Row<'_>) -> Result<(), AllocError> {

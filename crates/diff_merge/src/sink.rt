@@ -19,6 +19,7 @@ pub trait Sink {
 
     // What is kept at first, and by each call, is kept in the end.
     ghost keeps_self: { (a : Self) → keeps a a };
+
     ghost keeps_on: { (a b c : Self) → keeps a b → keeps b c → keeps a c };
 
     /// Receives the next rows of both texts, which are partners.

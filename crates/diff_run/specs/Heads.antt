@@ -29,7 +29,7 @@ pub record AreHeadsOf (options : Options) (left_text right_text : List ℕ) (h :
 pub record AreChosen (options : Options) (h : Heads) : Type 0 where
   pub known :
       AreKnown options (offset_strings (λ x. x) h.left_names)
-          (offset_strings (λ x. x) h.right_names)
+      (offset_strings (λ x. x) h.right_names)
   pub some_left :
       nothing_left options (offset_strings (λ x. x) h.left_names)
       (offset_strings (λ x. x) h.right_names) h.layout ≡ false

@@ -126,6 +126,7 @@ impl<'a> Sink for SortedReport<'a> {
     ghost keeps = { IsAlike };
 
     ghost keeps_self = { alike_self };
+
     ghost keeps_on = { alike_on };
 
     fn pair(&mut self, left: &Row<'_>, right: &Row<'_>) -> Result<(), AllocError> {
