@@ -5,9 +5,12 @@
  * https://arrow.apache.org/docs/format/CDataInterface.html
  *
  * - Columns are borrowed. A call reads them while it runs and releases nothing.
- * - A call returns 0 (DUNKELVA_OK) or another status. It writes to `out` where the status is 0
- *   alone.
- * - There is no state: calls can run in many threads at once.
+ * - A call returns 0 (DUNKELVA_OK) or another status, which leaves all that the call writes as it
+ *   was.
+ * - What a call writes must not overlap what it reads, nor anything else that it writes. So no
+ *   state is merged with itself, and `least` and `greatest` are two numbers.
+ * - Nothing is kept between calls. A call runs in its caller's thread, and calls can run in many
+ *   threads at once.
  * - A result depends on the rows alone: never on what is stored under a null, on offsets, on
  *   buffers, or on whether there is a validity. `null_count` is never read.
  * - Buffers must have the lengths that the interface asks of them. It does not say how long a
@@ -67,16 +70,18 @@ enum dunkelva_status {
   DUNKELVA_BAD_ARRAY = 1,
   /* The columns differ in type or length. */
   DUNKELVA_TYPES_DIFFER = 2,
-  /* `out` is too small. */
+  /* The memory for results is too small: `out`, `values`, `present`, `counts` or `bits`. */
   DUNKELVA_NO_ROOM = 3,
   /* An allocation failed. */
   DUNKELVA_NO_MEMORY = 4,
-  /* The call does not serve this type. */
+  /* The call does not serve this type, or there is no operation of this number. */
   DUNKELVA_NOT_SERVED = 5,
-  /* The structs break the interface: counts, null pointers, structs that were released. */
+  /* The structs break the interface (counts, null pointers, structs that were released), or have
+   * more types than are served. */
   DUNKELVA_BAD_STRUCTS = 6,
-  /* A flag that does not exist, rows outside of a column, a null pointer in place of `out`, a range
-   * whose ends are not in order. */
+  /* A flag or a number that does not exist; rows outside of a column; a null pointer for results, a
+   * number or a state; `values` that is not at a multiple of its numbers' size, or overlaps a
+   * column; a range whose ends are not in order or too far apart. */
   DUNKELVA_BAD_ARGUMENT = 7,
   /* A row lies outside of the range of a state. */
   DUNKELVA_OUT_OF_RANGE = 8
@@ -113,8 +118,8 @@ int32_t dunkelva_equal_rows(const struct ArrowSchema *left_type, const struct Ar
                             uint32_t flags, uint8_t *out, size_t out_bytes, uint64_t *comparisons);
 
 /* Writes which rows of a column are null: bit i of `out`, as in `dunkelva_equal`, is 1 where row i
- * is null. Where `count` is not null, it gets how many they are. Serves all types but dictionaries.
- */
+ * is null. Where `count` is not null, it gets how many they are. Serves the types of
+ * `dunkelva_equal` but dictionaries. Floats need no flag. */
 int32_t dunkelva_is_null(const struct ArrowSchema *type, const struct ArrowArray *array,
                          uint8_t *out, size_t out_bytes, uint64_t *count);
 

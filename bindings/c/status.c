@@ -19,11 +19,12 @@ const char *dunkelva_status_text(int32_t status) {
   case DUNKELVA_NO_MEMORY:
     return "an allocation failed";
   case DUNKELVA_NOT_SERVED:
-    return "the type is not served";
+    return "the type is not served, or there is no such operation";
   case DUNKELVA_BAD_STRUCTS:
-    return "the structs break the Arrow C data interface";
+    return "the structs break the Arrow C data interface, or are too many";
   case DUNKELVA_BAD_ARGUMENT:
-    return "an argument is wrong: a flag, the rows, a range, or a null pointer";
+    return "an argument is wrong: a flag, the rows, a number, a range, a null pointer, or where "
+           "values lie";
   case DUNKELVA_OUT_OF_RANGE:
     return "a row lies outside of the range";
   default:

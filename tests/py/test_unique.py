@@ -135,6 +135,15 @@ def test_states() -> None:
     assert listed(days.finish()) == [datetime.date(2024, 2, 29), None]
 
 
+def test_merged_with_itself(monkeypatch: pytest.MonkeyPatch) -> None:
+    """The state stays as it is, and the library is not called."""
+    state = dunkelva.Unique(0, 9)
+    state.append([3, None])
+    monkeypatch.setattr("dunkelva._unique._merge", None)
+    state.merge(state)
+    assert listed(state.finish()) == [3, None]
+
+
 def test_random_states() -> None:
     """Parts of columns, appended to states that are pickled and merged in any order."""
     chance = random.Random("states")

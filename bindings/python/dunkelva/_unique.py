@@ -158,6 +158,8 @@ class Unique:
 
         Raises TypesDiffer where the two have another range or type.
         """
+        if other is self:  # what the library writes must not overlap what it reads
+            return
         if self._type != other._type:
             raise TypesDiffer(f"a state of {other._type}, merged into one of {self._type}")
         status = _merge(self._state, other._state)
@@ -282,7 +284,7 @@ def unique(column: object) -> Masked:
 
     Serves the columns that `compare` serves. A state has a bit for each number from the least row
     to the greatest one. Where these are more than 64 times the rows and more than 524,288, numpy
-    sorts the rows instead.
+    sorts the rows instead, which is not proved.
 
     >>> unique([3, None, 1, 3]).tolist()
     [1, 3, None]
