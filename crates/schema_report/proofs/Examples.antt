@@ -1,4 +1,5 @@
 -- Worked examples of the definitions.
+use Rattle.std.specs.Fmt.{digits}
 use Rattle.std.specs.Prelude.{◌≡◌, [], ◌∷◌, Some, None, codes, refl}
 use Rattle.diff_words.specs.Quoted.{byte_text, quoted}
 use Rattle.diff_words.specs.Words.{word_text}
@@ -26,7 +27,7 @@ none-shown = refl
 
 -- a file with one row and two columns
 one-row : head_line (codes "one.csv") 1 2 ≡ codes "one.csv: 1 row, 2 columns\n"
-unfolding head_line word_text
+unfolding head_line word_text digits
 one-row = refl
 
 -- a column whose kinds differ
