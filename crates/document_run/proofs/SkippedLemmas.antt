@@ -1,10 +1,10 @@
 -- Texts of which every line is skipped.
 use Rattle.std.proofs.Common.{◌≡◌, ◌∙◌, ◌<◌, ◌-◌, ℕ, suc, false, true, List, [], ◌∷◌, None, length, get_or, arith, sym, refl, subst}
+use Rattle.std.proofs.lemmas.Bool.Decides.{nat_tests}
 use Rattle.std.proofs.lemmas.List.{get_or_default}
 use Rattle.std.specs.List.{Contains}
 use Rattle.std.specs.Prelude.{◌≢◌, ◌==◌, ◌&&◌, All, not}
 use Rattle.diff_columns.specs.declared.error.Side.{Side}
-use Rattle.diff_columns.specs.declared.error.Side.TheVariants.{Left, Right}
 use Rattle.diff_run.specs.Faults.{text_on}
 use Rattle.document_rows.specs.Documents.{IsDocument, tree_of}
 use Rattle.document_rows.specs.Lines.{lines_of}
@@ -15,7 +15,6 @@ use Rattle.document_run.specs.Faults.{IsDocumentFault}
 use Rattle.document_run.specs.Run.{HasNoDocument, IsSideOf, paths_of}
 use Rattle.document_run.specs.Skipped.{IsSkippedFault, none_kept}
 use Rattle.document_run.specs.declared.error.DocumentError.{DocumentError}
-use Rattle.document_run.specs.declared.error.DocumentError.TheVariants as error
 use Rattle.document_run.specs.declared.inputs.ReadSide.{ReadSide}
 use Rattle.document_run.specs.declared.options.DocumentOptions.{DocumentOptions}
 use Rattle.json_paths.specs.Paths.{Path}
@@ -36,8 +35,8 @@ no_numbers : (reading : Reading) (keys : List Path) (lines : List (List ℕ)) (n
 no_numbers reading keys lines [] skipped h none = refl
 no_numbers reading keys lines (n ∷ ns) skipped h none =
     let there : Contains (n ∷ ns) n = (0, omega arith, refl) in
-    let (low, some, wanted) = (h.documents.all n).0 there in
-    absurd (none (n - 1) [] (omega (arith, low, some)) wanted.document)
+    let (low, is) = (h.documents.all n).0 there in
+    absurd (none (n - 1) [] (omega (arith, low, is.0)) is.1.document)
 
 -- of lines that are no documents the first one is skipped
 some_skipped : (reading : Reading) (keys : List Path) (lines : List (List ℕ)) (numbers skipped : List ℕ) → AreNumbered reading keys lines numbers skipped
@@ -48,28 +47,35 @@ some_skipped reading keys (line ∷ lines) numbers skipped h none some e =
     let (j, inside, is) = subst (λ ns. Contains ns 1) e there in
     omega (arith, inside)
 
+not_none : (n : ℕ) → 0 < n → (n == 0) ≡ false
+not_none n h = grind (arith, nat_tests)
+
 -- no numbers and some that are skipped
 kept_none : (numbers skipped : List ℕ) → numbers ≡ [] → skipped ≢ [] → none_kept numbers skipped ≡ true
 kept_none numbers [] e some = absurd (some refl)
-kept_none numbers (s ∷ skipped) e some = rw e refl
+kept_none numbers (s ∷ skipped) e some = rw (e, not_none (suc (length skipped)) (omega arith)) refl
 
 none_from : (numbers skipped : List ℕ) → none_kept numbers skipped ≡ true → numbers ≡ []
 none_from [] skipped e = refl
-none_from (n ∷ numbers) skipped e = absurd (cc e)
+none_from (n ∷ numbers) skipped e =
+    let clash : false ≡ true = subst (λ b. (b && not (length skipped == 0)) ≡ true) (not_none (suc (length numbers)) (omega arith)) e in
+    absurd (cc clash)
 
 some_from : (numbers skipped : List ℕ) → none_kept numbers skipped ≡ true → 0 < length skipped
 some_from [] [] e = absurd (cc e)
 some_from [] (s ∷ skipped) e = omega arith
-some_from (n ∷ numbers) skipped e = absurd (cc e)
+some_from (n ∷ numbers) skipped e =
+    let clash : false ≡ true = subst (λ b. (b && not (length skipped == 0)) ≡ true) (not_none (suc (length numbers)) (omega arith)) e in
+    absurd (cc clash)
 
 -- a text with a line of some number has lines
 has_lines : (reading : Reading) (keys : List Path) (lines : List (List ℕ)) (numbers skipped : List ℕ) → AreNumbered reading keys lines numbers skipped → 0 < length skipped → lines ≢ []
 has_lines reading keys lines numbers [] h some e = omega (arith, some)
 has_lines reading keys lines numbers (n ∷ skipped) h some e =
     let there : Contains (n ∷ skipped) n = (0, omega arith, refl) in
-    let (low, positive, is) = (h.others.all n).0 there in
+    let (low, is) = (h.others.all n).0 there in
     let none : length lines ≡ 0 = rw e refl in
-    omega (arith, low, positive, none)
+    omega (arith, low, is.0, none)
 
 -- a side of which a document is kept, or no line is skipped, is that of a text with a document, or without lines
 pub side_some : (options : DocumentOptions) (text name : List ℕ) (read : ReadSide) → IsSideOf options text name read.table read.skipped.items

@@ -11,7 +11,7 @@
 -- last line more:
 -- Skipped 1 line of old.ndjson (line 1).
 use Rattle.std.specs.List.{range_with_len}
-use Rattle.std.specs.Prelude.{◌≡◌, ◌≢◌, ◌==◌, ◌&&◌, ℕ, Bool, true, if◌then◌else◌, All, List, []}
+use Rattle.std.specs.Prelude.{◌≡◌, ◌≢◌, ℕ, true, All, List, []}
 use Rattle.std.specs.Prelude.{None, get_or, length, map, slice_index}
 use Rattle.diff_columns.specs.Names.{names_of}
 use Rattle.diff_keys.specs.Matching.{IsMatching}

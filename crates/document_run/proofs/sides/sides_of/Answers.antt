@@ -38,3 +38,8 @@ pub returns-in_err-test_kept-clause-texts : goal.returns-in_err-test_kept-clause
 returns-in_err-test_kept-clause-texts g c =
     let p = err_from_is_err_and c.from_residual-in_err-test_kept.result c.from_residual-in_err-test_kept.ensures.1 in
     rw (p.1, p.2) (λ left_text right_text el er. skipped_fault c.args.options.now left_text right_text c.args.left.name.now c.in_ok-left.left Left _ (c.in_ok-left.ensures.texts left_text el) c.in_err-test_kept.ensures)
+
+pub returns-in_err-test_kept-2-clause-texts : goal.returns-in_err-test_kept-2-clause-texts
+returns-in_err-test_kept-2-clause-texts g c =
+    let p = err_from_is_err_and c.from_residual-in_err-test_kept-2.result c.from_residual-in_err-test_kept-2.ensures.1 in
+    rw (p.1, p.2) (λ left_text right_text el er. skipped_fault c.args.options.now left_text right_text c.args.right.name.now c.in_ok-right.right Right _ (c.in_ok-right.ensures.texts right_text er) c.in_err-test_kept-2.ensures)
