@@ -2,11 +2,11 @@
 -- each.
 use Rattle.std.proofs.Common.{◌≡◌, ◌≢◌, ◌∙◌, ◌<◌, ℕ, zero, suc, Bool, false, List, [], ◌∷◌}
 use Rattle.std.proofs.Common.{◌++◌, map, get_or, arith, ap, subst, sym, refl}
-use Rattle.std.proofs.lemmas.List.Elements.{All-cons, All-nil}
+use Rattle.std.proofs.lemmas.List.Elements.{All-cons, All-head, All-nil}
 use Rattle.std.specs.Borrow.{Bor}
 use Rattle.std.specs.Fmt.{digits}
 use Rattle.std.specs.List.{range_with_len}
-use Rattle.std.specs.Prelude.{IsSome, None, Some, codes, slice_index}
+use Rattle.std.specs.Prelude.{All, IsSome, None, Some, codes, slice_index}
 use Rattle.diff_keys.specs.Matching.{IsAdded, IsMatching, IsRemoved}
 use Rattle.diff_keys.specs.NthLaws.{found_partners}
 use Rattle.diff_keys.specs.Partners.{Keys, ArePartners, count_of}
@@ -40,8 +40,8 @@ use Rattle.document_run.proofs.ExampleDocuments.{new_text as three_new, old_text
 use Rattle.document_run.proofs.ExampleLines as example_lines
 use Rattle.document_run.proofs.ExampleReport.{grown, lost, report_under}
 use Rattle.document_run.proofs.ExampleSides.{AreById, one_key, told_one}
-use Rattle.document_run.specs.Run.{HasOthers, IsDocumentReportOf, document_keys, key_columns}
-use Rattle.document_run.specs.Run.{paths_of, rules_of, tree_at}
+use Rattle.document_run.specs.Run.{HasNoDocument, HasOthers, IsDocumentReportOf}
+use Rattle.document_run.specs.Run.{document_keys, key_columns, paths_of, rules_of, tree_at}
 use Rattle.document_run.specs.declared.options.DocumentOptions.{DocumentOptions}
 use Rattle.document_words.specs.Changes.{change_text, part_text}
 use Rattle.document_words.specs.Counts.{totals_text}
@@ -274,8 +274,8 @@ told-grown = refl
 
 -- the report where these differences are told
 abbrev text_with : List Told → List ℕ
-text_with changes = (pair_text false (codes "id=1") changes ++ [])
-    ++ codes "1 changed, 0 removed, 0 added, 0 the same.\n"
+text_with changes = (pair_text false (codes "id=1") changes ++ []) ++ [] ++ codes
+    "1 changed, 0 removed, 0 added, 0 the same.\n" ++ []
 
 text-of : (rules : Bor Rules) (skip_bad : Bool)
     → document_report_text (sides_under rules skip_bad) matching (0 ∷ []) 20
@@ -310,6 +310,8 @@ old-new-report options by = record {
           documents new_one (new-document options.reading)
           (row-is new_one new_one_tree new_one_is cells-new) new_text lines-new;
     };
+    left_some = λ whole. some-document old_text old_one lines-old (old-document options.reading);
+    right_some = λ whole. some-document new_text new_one lines-new (new-document options.reading);
     skip_bad = refl;
     names = sym by.names;
     colored = sym by.colored;
@@ -334,6 +336,14 @@ old-new-report options by = record {
   where
     sides : DocumentSides
     sides = sides_under options.rules options.reading.skip_bad
+
+    some-document : (text line : List ℕ) → lines_of text ≡ line ∷ []
+        → IsDocument options.reading by_id line → ¬ (HasNoDocument options text)
+    some-document text line lines is none =
+        let P : List ℕ → Type 0 = λ l. ¬ (IsDocument options.reading (paths_of options) l) in
+        let all : All P (line ∷ []) = subst (λ ls. All P ls) lines none.1 in
+        All-head P line [] all
+        (subst (λ keys. IsDocument options.reading keys line) (sym by.keys) is)
 
     documents : (line : List ℕ) → IsDocument options.reading by_id line → document_row by_id line
         ≡ codes "1" ∷ line ∷ []

@@ -2,7 +2,8 @@
 use Rattle.std.proofs.Common.{◌≡◌, ◌∙◌, ℕ, true, false, List, [], ◌∷◌, ◌++◌, get_or, map}
 use Rattle.std.proofs.Common.{arith, ap, subst, sym, refl}
 use Rattle.std.specs.Fmt.{digits}
-use Rattle.std.specs.Prelude.{codes}
+use Rattle.std.specs.List.{concat}
+use Rattle.std.specs.Prelude.{codes, length, take}
 use Rattle.csv.specs.Machine.{next_record}
 use Rattle.csv.specs.Reading.{Reached, strip_bom}
 use Rattle.csv.specs.declared.parser.State.TheVariants as st
@@ -12,13 +13,14 @@ use Rattle.diff_columns.specs.declared.layout.Layout.{Layout}
 use Rattle.diff_csv.specs.RecordLaws.{one_reading}
 use Rattle.diff_csv.specs.Records.{AreRecordsOf, data_rows}
 use Rattle.diff_csv.specs.Records as csv
+use Rattle.diff_keys.specs.declared.matching.Matching.{Matching}
 use Rattle.diff_keys.specs.declared.outcome.Outcome.{Outcome}
 use Rattle.diff_keys.specs.declared.outcome.Outcome.TheVariants.{Same, Different}
 use Rattle.diff_report.specs.Counts.{column_counts}
 use Rattle.diff_report.specs.Lines.{changed_line, side_line, side_text}
-use Rattle.diff_report.specs.Report.{report_text}
+use Rattle.diff_report.specs.Report.{difference_lines, report_text}
 use Rattle.diff_report.specs.Rows.{row_text}
-use Rattle.diff_report.specs.Sides.{compared_left, compared_right}
+use Rattle.diff_report.specs.Sides.{compared_left, compared_right, naming_of}
 use Rattle.diff_report.specs.Summary.{by_column, rest_text, summary_text, totals_text}
 use Rattle.diff_report.specs.declared.sides.Sides.{Sides}
 use Rattle.diff_run.proofs.ExampleColumns.{IsExampleLayout, by_id, example_layout, new_names}
@@ -207,11 +209,23 @@ docs-report written outcome r = record {
         (subst (λ keys. IsComparison keys (compared_left r.sides) (compared_right r.sides)
         r.comparison) (are.keys ∙ laid.keys) r.compared)))
 
+-- lines of which the first is that of a changed pair begin with ~
+starts : (s : Sides) (m : Matching) (changed : List ℕ) (removed added : List (List ℕ))
+    (rest summary : List ℕ) → changed ≡ 0 ∷ [] → s.colored ≡ false
+    → get_or (concat (take 20 (map (changed_line s m) changed ++ removed ++ added)) ++ rest
+    ++ summary) 0 0 ≡ 126
+unfolding changed_line painted color_text
+starts s m changed removed added rest summary one plain = rw (one, plain) refl
+
 -- a report of a changed pair begins with ~
 begins : (s : Sides) (c : Comparison) (counts : List ℕ) → c.changed.items ≡ 0 ∷ [] → s.colored
     ≡ false → get_or (report_text s c counts 20) 0 0 ≡ 126
-unfolding report_text changed_line painted color_text
-begins s c counts changed plain = rw (changed, plain) refl
+unfolding report_text
+begins s c counts changed plain = starts s c.matching c.changed.items
+    (map (side_line 45 (naming_of s) s.left) c.matching.removed.items)
+    (map (side_line 43 (naming_of s) s.right) c.matching.added.items)
+    (rest_text 20 (length (difference_lines s c))) (summary_text (naming_of s) c counts) changed
+    plain
 
 -- so the text that all rows are the same is not their report, whatever is said of the outcome
 docs-not_the_same : (outcome : Outcome)

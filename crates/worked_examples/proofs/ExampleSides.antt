@@ -2,6 +2,7 @@
 -- rows.
 use Rattle.std.proofs.Common.{◌≡◌, ℕ, pos, Bool, false, List, [], ◌∷◌, length, map, arith, refl}
 use Rattle.std.proofs.Common.{Global}
+use Rattle.std.proofs.lemmas.List.Elements.{All-nil}
 use Rattle.std.specs.Prelude.{None, Vec, codes}
 use Rattle.csv.specs.Machine.{next_record}
 use Rattle.csv.specs.Reading.{Reached, strip_bom}
@@ -130,6 +131,8 @@ are_sides unique left_text right_text left right left_lines right_lines left_all
       right_closed = right_closed;
       matchable = matchable;
       laid_out = laid_out;
+      known = record { only = All-nil _; ignored = All-nil _; texts = All-nil _ };
+      some_left = refl;
       left = record
           { named = refl; width = refl; rows = left_cells; lines = left_many; numbers = refl };
       right = record

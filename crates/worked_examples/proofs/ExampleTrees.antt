@@ -5,9 +5,8 @@ use Rattle.std.proofs.Common.{arith}
 use Rattle.polars_arrays_flat.specs.Row.{Null, Int, Rows, no_rows, more_rows}
 use Rattle.polars_arrays_nested.specs.AnyRows.{row}
 use Rattle.polars_arrays_nested.specs.Lengths.{len_of}
-use Rattle.polars_arrays_nested.specs.declared.any_array.AnyArray.{AnyArray, List', Struct'}
-use Rattle.polars_arrays_nested.specs.declared.any_array.AnyArray.{Dictionary', end_of-AnyArray}
-use Rattle.polars_arrays_nested.specs.declared.any_array.AnyArray.{more_of-AnyArray}
+use Rattle.polars_arrays_nested.specs.declared.any_array.AnyArray.{AnyArray, List'}
+use Rattle.polars_arrays_nested.specs.declared.any_array.AnyArray.{Dictionary'}
 use Rattle.polars_compare_nested.specs.Headline.{SameTrees}
 use Rattle.worked_examples.proofs.ExampleArrays.{keys, numbers, offsets}
 
@@ -113,19 +112,6 @@ empty-not_null : (p q : _)
     (List' (offsets (pos 0 ∷ pos 0 ∷ [])) q left_items (Some (false ∷ []))) (true ∷ []))
 empty-not_null p q h =
     let same : Rows no_rows ≡ Null = (h.at_each 0 (omega arith)).0 refl in cc
-
--- structs of the columns 1, null, 3 and 1, null, 3 or 1, null, 4: the last row of both is masked
-structs-equal : (fields others p q : _)
-    → SameTrees true
-    (Struct' fields 3 p
-    (more_of-AnyArray one_null_three (more_of-AnyArray one_null_three end_of-AnyArray))
-    (Some (true ∷ true ∷ false ∷ [])))
-    (Struct' others 3 q
-    (more_of-AnyArray one_null_three (more_of-AnyArray one_null_four end_of-AnyArray))
-    (Some (true ∷ true ∷ false ∷ [])))
-    (true ∷ true ∷ true ∷ [])
-structs-equal fields others p q = three_rows true _ _ true true true refl
-    (both refl refl) (both refl refl) (both refl refl)
 
 -- The rows of a dictionary are the entries that its keys name: here 3, a key that names a null
 -- entry, and a masked key, against 3 and two masked keys.

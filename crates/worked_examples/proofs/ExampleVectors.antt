@@ -1,5 +1,5 @@
 -- Vectors and loans of the worked examples. They lie nowhere: no definition looks at an address.
-use Rattle.std.proofs.Common.{◌<◌, ◌^◌, ℕ, List, length, arith, refl, Global}
+use Rattle.std.proofs.Common.{◌<◌, ◌^◌, List, length, arith, refl, Global}
 use Rattle.std.specs.Borrow.{Bor}
 use Rattle.std.specs.Prelude.{Vec}
 use denote.RawPtr.{null_ptr}

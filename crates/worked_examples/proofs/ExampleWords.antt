@@ -1,5 +1,5 @@
 -- Worked examples of the small definitions behind a report: keys, words, quotes and lines.
-use Rattle.std.proofs.Common.{◌≡◌, ℕ, true, false, List, [], ◌∷◌, ◌++◌, arith, refl}
+use Rattle.std.proofs.Common.{◌≡◌, true, false, [], ◌∷◌, ◌++◌, arith, refl}
 use Rattle.std.specs.Char.{encode_utf8}
 use Rattle.std.specs.Fmt.{digits}
 use Rattle.std.specs.Prelude.{None, Some, codes}
@@ -30,8 +30,9 @@ use Rattle.diff_report.specs.Sides.{naming_of, number_in, number_of}
 use Rattle.diff_report.specs.Summary.{count_text, is_counted, totals_text}
 use Rattle.diff_run.proofs.ExampleColumns.{by_id}
 use Rattle.diff_run.proofs.ExampleReport.{commas}
+use Rattle.diff_run.specs.Chosen.{no_columns}
 use Rattle.diff_run.specs.Inputs.{rows_of}
-use Rattle.diff_run.specs.Run.{differences_text, no_columns}
+use Rattle.diff_run.specs.Run.{differences_text}
 use Rattle.diff_tables.specs.Keys.{escaped, marked}
 use Rattle.diff_words.specs.Cells.{cell_text, is_null}
 use Rattle.diff_words.specs.Colors.{color_code, color_text, painted}
