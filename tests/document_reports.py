@@ -324,7 +324,9 @@ def faults_of(value, keys):
     if any(is_wide(part.text) for part in held if isinstance(part, Number)):
         said.append(WIDE)
     return said + [
-        f'the key "{key}" is missing' for key in keys if part_at(value, steps_of(key)) is MISSING
+        f"the key {table_reports.in_quotes(key)} is missing"
+        for key in keys
+        if part_at(value, steps_of(key)) is MISSING
     ]
 
 

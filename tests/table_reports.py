@@ -4,6 +4,7 @@ import collections
 import decimal
 import json
 import re
+import unicodedata
 
 import random_tables
 
@@ -291,6 +292,20 @@ def key_twice(pair):
     return None
 
 
+def in_message(char):
+    """Returns how a message writes a character of a name: as it is, or by an escape of Rust."""
+    short = {"\\": "\\\\", '"': '\\"', "\n": "\\n", "\r": "\\r", "\t": "\\t", "\0": "\\0"}
+    is_plain = char.isprintable() and unicodedata.category(char) not in ("Mn", "Me")
+    return short.get(char) or (char if is_plain else f"\\u{{{ord(char):x}}}")
+
+
+def in_quotes(name, encoding="utf-8"):
+    """Returns a name between quotes, as messages write it. Names of CSV files are bytes, kept as
+    characters of Latin-1."""
+    text = "".join(map(in_message, name.encode(encoding).decode("utf-8")))
+    return f'"{text.encode().decode(encoding)}"'
+
+
 def choice_fault(pair):
     """Returns what is said of options that name unknown columns or leave none to compare, or
     None."""
@@ -298,7 +313,7 @@ def choice_fault(pair):
     for option, names in (("only", "only"), ("ignore", "ignored"), ("text", "texts")):
         for name in options.get(names, []):
             if name not in left and name not in right:
-                return f'--{option}: neither file has a column named "{name}"'
+                return f"--{option}: neither file has a column named {in_quotes(name, 'latin-1')}"
     found = comparison_of(pair)
     return (
         "no column is left to compare"
