@@ -1,0 +1,4 @@
+pub mod BeginLemmas
+mod Examples
+pub mod LineLemmas
+pub mod ToldLemmas

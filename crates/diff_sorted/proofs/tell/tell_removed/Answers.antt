@@ -1,0 +1,14 @@
+use Rattle.std.proofs.Common.{arith, refl}
+use Rattle.diff_report.specs.Sides.{naming_of}
+use Rattle.diff_report.specs.declared.lines.Alone.TheVariants.{Removed}
+use Rattle.diff_run.specs.Lines.{row_alone}
+use Rattle.diff_sorted.proofs.LineLemmas.{line_kept, line_passed}
+use Rattle.diff_sorted.proofs.tell.tell_removed.Goals as goal
+
+pub returns-then-is_full : goal.returns-then-is_full
+returns-then-is_full g c = λ s i all frame row h.
+    line_passed c.args.limit all (row_alone c.args.frame.now.format Removed (naming_of s) s.left i) c.args.lines.now c.pass.new.self (omega arith) h c.in_ok-pass.ensures
+
+pub returns : goal.returns
+returns g c = λ s i all frame row h.
+    line_kept c.args.limit all (row_alone c.args.frame.now.format Removed (naming_of s) s.left i) c.args.lines.now _ c.close.new.self (omega arith) h (c.in_ok-push_removed.ensures s i frame row) refl refl c.in_ok-close.ensures

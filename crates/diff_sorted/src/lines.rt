@@ -1,0 +1,67 @@
+//! The lines of the first differences of a kind.
+
+ghost use Rattle.std.specs.List.{concat};
+ghost use Rattle.std.specs.Prelude.{◌≡◌, ◌≤◌, [], ℕ, List, take, OnOk};
+ghost use Rattle.diff_sorted.specs.Lines.{HasLines, IsClosed, IsPassed};
+
+use std::alloc::{AllocError, Global};
+
+/// The lines of the first differences of a kind, and how many differences of it there are.
+#[derive(Drop)]
+pub struct Lines {
+    /// The lines, one behind another.
+    pub(crate) text: Vec<u8>,
+    /// Where each of them ends.
+    pub(crate) ends: Vec<usize>,
+    /// How many differences there are, with those that have no line.
+    pub(crate) count: usize,
+}
+
+impl Lines {
+    /// Returns the lines of no differences.
+    pub fn new(alloc: Global) -> Lines
+        ensures { (limit : ℕ) → HasLines limit [] result }
+    {
+        Lines {
+            text: Vec::new(alloc),
+            ends: Vec::new(alloc),
+            count: 0,
+        }
+    }
+
+    /// Counts one difference more, which has no line.
+    pub(crate) fn pass(&mut self) -> Result<(), AllocError>
+        ensures { OnOk result (IsPassed self.old self.new) }
+    {
+        let Some(count) = self.count.checked_add(1) else {
+            return Err(AllocError);
+        };
+        self.count = count;
+        Ok(())
+    }
+
+    /// Counts one difference more, whose line is written behind the others.
+    pub(crate) fn close(&mut self) -> Result<(), AllocError>
+        ensures { OnOk result (IsClosed self.old self.new) }
+    {
+        let end = self.text.len();
+        self.ends.push(end)?;
+        self.pass()?;
+        Ok(())
+    }
+
+    /// Returns the first `room` lines, where at least as many may be shown.
+    pub fn first(&self, room: usize) -> &[u8]
+        ensures { (limit : ℕ) (all : List (List ℕ)) → room ≤ limit → HasLines limit all self.now
+            → result.now ≡ concat (take room all) }
+    {
+        if room == 0 {
+            return &[];
+        }
+        if room > self.ends.len() {
+            return &self.text;
+        }
+        let end = self.ends[room - 1];
+        &self.text[..self.text.len().min(end)]
+    }
+}

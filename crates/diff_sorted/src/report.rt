@@ -1,0 +1,172 @@
+//! The report of two sorted texts, as far as it was told of their rows.
+
+ghost use Rattle.std.specs.Prelude.{◌≡◌, ◌<◌, ◌-◌, ◌^◌, [], suc, All, IfOk, IsTrue, OnOk};
+ghost use Rattle.diff_keys.specs.declared.matching.Matching.{Matching};
+ghost use Rattle.diff_merge.specs.Merging.{IsEmpty};
+ghost use Rattle.diff_sorted.specs.Told.{IsFit, IsTold};
+
+use crate::lines::Lines;
+use crate::tell::{tell_added, tell_changed, tell_removed};
+use diff_merge::row::Row;
+use diff_merge::sink::Sink;
+use diff_single::changes::count_changes;
+use diff_single::frame::Frame;
+use diff_single::row;
+use diff_tables::string_list::StringList;
+use polars_arrays_flat::byte_rows::ByteRows;
+use std::alloc::{AllocError, Global};
+
+/// The most rows that a report is told of.
+const MOST_ROWS: u64 = 1 << 62;
+
+/// The report of two sorted texts: the lines of the first differences, and the counts.
+#[derive(Drop)]
+pub struct SortedReport<'a> {
+    pub(crate) alloc: Global,
+    /// What the differences share.
+    pub(crate) frame: Frame<'a>,
+    /// The most differences of a kind that have a line.
+    pub(crate) limit: usize,
+    /// The pairs of partners that differ, in the order of their keys.
+    pub(crate) changed: Lines,
+    /// The left rows that have no partner.
+    pub(crate) removed: Lines,
+    /// The right rows that have no partner.
+    pub(crate) added: Lines,
+    /// How many pairs of partners are the same.
+    pub(crate) same: usize,
+    /// How often each column differs.
+    pub(crate) counts: Vec<usize>,
+}
+
+/// Returns whether each of some numbers is below a bound.
+fn are_below(numbers: &[usize], bound: usize) -> bool
+    ensures { IsTrue result → All (λ n. n < bound) numbers.now }
+{
+    for k in 0..numbers.len() {
+        if numbers[k] >= bound {
+            return false;
+        }
+    }
+    true
+}
+
+/// Returns the number behind `n`.
+fn one_more(n: usize) -> Result<usize, AllocError>
+    ensures { IfOk result (λ m. m ≡ suc n) }
+{
+    match n.checked_add(1) {
+        Some(more) => Ok(more),
+        None => Err(AllocError),
+    }
+}
+
+impl<'a> SortedReport<'a> {
+    /// Returns the report of no rows.
+    pub fn new(
+        alloc: Global,
+        frame: Frame<'a>,
+        limit: usize,
+    ) -> Result<SortedReport<'a>, AllocError>
+        ensures frame { IfOk result (λ r. r.frame ≡ frame.entry) }
+        ensures limit { IfOk result (λ r. r.limit ≡ limit) }
+        ensures told { IfOk result (λ r. (m : Matching) → IsEmpty m → IsTold r [] [] m) }
+    {
+        let width = frame.names.count();
+        let counts: Vec<usize> = vec![in alloc; 0; width]?;
+        Ok(SortedReport {
+            alloc,
+            frame,
+            limit,
+            changed: Lines::new(alloc),
+            removed: Lines::new(alloc),
+            added: Lines::new(alloc),
+            same: 0,
+            counts,
+        })
+    }
+
+    /// Tests that a row has the columns of the report, and that there are not too many rows.
+    fn test_row(&self, row: &Row<'_>) -> Result<(), AllocError>
+        ensures { OnOk result (IsFit self.now row.now) }
+    {
+        let width = self.frame.names.count();
+        if row.count() != width {
+            return Err(AllocError);
+        }
+        if self.counts.len() != width {
+            return Err(AllocError);
+        }
+        if row.number >= MOST_ROWS {
+            return Err(AllocError);
+        }
+        let has_keys = are_below(self.frame.keys, width);
+        if !has_keys {
+            return Err(AllocError);
+        }
+        Ok(())
+    }
+
+    /// Tests that each count can be raised.
+    fn test_counts(&self) -> Result<(), AllocError>
+        ensures { OnOk result (All (λ n. n < 2 ^ 64 - 1) self.now.counts.items) }
+    {
+        let have_room = are_below(&self.counts, usize::MAX);
+        if !have_room {
+            return Err(AllocError);
+        }
+        Ok(())
+    }
+}
+
+impl<'a> Sink for SortedReport<'a> {
+    ghost holds = { IsTold };
+
+    fn pair(&mut self, left: &Row<'_>, right: &Row<'_>) -> Result<(), AllocError> {
+        self.test_row(left)?;
+        self.test_row(right)?;
+        self.test_counts()?;
+        let is_changed = count_changes(left, right, &mut self.counts);
+        if !is_changed {
+            self.same = one_more(self.same)?;
+            return Ok(());
+        }
+        let left = row::Row {
+            cells: left,
+            number: left.number,
+            line: left.line,
+        };
+        let right = row::Row {
+            cells: right,
+            number: right.number,
+            line: right.line,
+        };
+        let (frame, limit) = (&self.frame, self.limit);
+        tell_changed(self.alloc, &mut self.changed, frame, limit, &left, &right)?;
+        Ok(())
+    }
+
+    fn removed(&mut self, row: &Row<'_>) -> Result<(), AllocError> {
+        self.test_row(row)?;
+        let row = row::Row {
+            cells: row,
+            number: row.number,
+            line: row.line,
+        };
+        let (frame, limit) = (&self.frame, self.limit);
+        tell_removed(self.alloc, &mut self.removed, frame, limit, &row)?;
+        Ok(())
+    }
+
+    fn added(&mut self, row: &Row<'_>) -> Result<(), AllocError> {
+        self.test_row(row)?;
+        let row = row::Row {
+            cells: row,
+            number: row.number,
+            line: row.line,
+        };
+        let (frame, limit) = (&self.frame, self.limit);
+        tell_added(self.alloc, &mut self.added, frame, limit, &row)?;
+        Ok(())
+    }
+}
