@@ -89,11 +89,12 @@ merge_begin left_rem right_rem holds options left_text right_text left right sin
 
 -- a merge goes on
 pub record IsMergeProgress {L R S : Type 0} (left_rem : L → Option (List ℕ)) (right_rem : R → Option (List ℕ)) (holds : S → List Seen → List Seen → Matching → Type 0)
-    (old_left left : Cursor L) (old_right right : Cursor R) (old_sink sink : S) (n : ℕ) : Type 0 where
+    (keeps : S → S → Type 0) (old_left left : Cursor L) (old_right right : Cursor R) (old_sink sink : S) (n : ℕ) : Type 0 where
   pub at : (options : CsvOptions) (left_text right_text : List ℕ) → IsAt left_rem options left_text [] old_left → IsAt right_rem options right_text [] old_right
       → ((m : Matching) → IsEmpty m → holds old_sink [] [] m) → IsMergeAt left_rem right_rem holds options left_text right_text n left right sink
   pub left_alike : IsAlike old_left left
   pub right_alike : IsAlike old_right right
+  pub kept : keeps old_sink sink
 
 -- no row is next
 none_there : (o : Option ℕ) (k : List ℕ) → option_map (λ _. k) o ≡ None → o ≡ None

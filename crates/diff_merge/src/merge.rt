@@ -68,6 +68,7 @@ fn take_pair<L: Read + Drop, R: Read + Drop, S: Sink>(
         → IsMergeAt L.remaining R.remaining S.holds options left_text right_text n left.old
         right.old sink.old
         → IsMergeFault options left_text right_text left.old right.old error) }
+    ensures kept { OnOk result (S.keeps sink.old sink.new) }
     ensures left_alike { OnOk result (IsAlike left.old left.new) }
     ensures right_alike { OnOk result (IsAlike right.old right.new) }
 {
@@ -98,6 +99,7 @@ fn take_removed<L: Read + Drop, R: Read + Drop, S: Sink>(
         → IsMergeAt L.remaining R.remaining S.holds options left_text right_text n left.old
         right.now sink.old
         → IsMergeFault options left_text right_text left.old right.now error) }
+    ensures kept { OnOk result (S.keeps sink.old sink.new) }
     ensures left_alike { OnOk result (IsAlike left.old left.new) }
 {
     let row = left.row();
@@ -125,6 +127,7 @@ fn take_added<L: Read + Drop, R: Read + Drop, S: Sink>(
         → IsMergeAt L.remaining R.remaining S.holds options left_text right_text n left.now
         right.old sink.old
         → IsMergeFault options left_text right_text left.now right.old error) }
+    ensures kept { OnOk result (S.keeps sink.old sink.new) }
     ensures right_alike { OnOk result (IsAlike right.old right.new) }
 {
     let row = right.row();
@@ -151,6 +154,7 @@ fn take_step<L: Read + Drop, R: Read + Drop, S: Sink>(
         → IsMergeAt L.remaining R.remaining S.holds options left_text right_text n left.old
         right.old sink.old
         → IsMergeFault options left_text right_text left.old right.old error) }
+    ensures kept { OnOk result (S.keeps sink.old sink.new) }
     ensures left_alike { OnOk result (IsAlike left.old left.new) }
     ensures right_alike { OnOk result (IsAlike right.old right.new) }
     ensures end { IfOk result
@@ -183,7 +187,7 @@ pub fn merge<L: Read + Drop, R: Read + Drop, S: Sink>(
 ) -> Result<(), MergeError>
     requires left_side { left.old.side ≡ Left }
     requires right_side { right.old.side ≡ Right }
-    ensures { MatchResult result
+    ensures merged { MatchResult result
         (λ _. (options : CsvOptions) (left_text right_text : List ℕ)
         → IsAt L.remaining options left_text [] left.old
         → IsAt R.remaining options right_text [] right.old
@@ -194,6 +198,7 @@ pub fn merge<L: Read + Drop, R: Read + Drop, S: Sink>(
         → IsAt R.remaining options right_text [] right.old
         → ((m : Matching) → IsEmpty m → S.holds sink.old [] [] m)
         → IsMergeFault options left_text right_text left.old right.old error) }
+    ensures kept { OnOk result (S.keeps sink.old sink.new) }
 {
     for number in 0..MOST_STEPS {
         if !take_step(left, right, sink)? {

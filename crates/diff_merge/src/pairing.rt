@@ -1,6 +1,6 @@
 //! The rows of two sorted texts, matched by key.
 
-ghost use Rattle.std.specs.Prelude.{◌≡◌, [], ℕ, suc, List, MatchResult};
+ghost use Rattle.std.specs.Prelude.{◌≡◌, [], ℕ, suc, ⊤, List, MatchResult};
 ghost use Rattle.diff_columns.specs.declared.error.Side.TheVariants.{Left, Right};
 ghost use Rattle.diff_csv.specs.declared.options.CsvOptions.{CsvOptions};
 ghost use Rattle.diff_merge.specs.Cursors.{IsAt};
@@ -38,6 +38,11 @@ fn place(row: &Row<'_>) -> u64
 
 impl Sink for Pairing {
     ghost holds = { λ pairing left_rows right_rows m. ListsSame pairing m };
+
+    ghost keeps = { λ a b. ⊤ };
+
+    ghost keeps_self = { λ a. tt };
+    ghost keeps_on = { λ a b c first second. tt };
 
     fn pair(&mut self, left: &Row<'_>, right: &Row<'_>) -> Result<(), AllocError> {
         self.left_rows.push(place(left))?;

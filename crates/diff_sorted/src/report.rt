@@ -3,6 +3,7 @@
 ghost use Rattle.std.specs.Prelude.{◌≡◌, ◌<◌, ◌-◌, ◌^◌, [], suc, All, IfOk, IsTrue, OnOk};
 ghost use Rattle.diff_keys.specs.declared.matching.Matching.{Matching};
 ghost use Rattle.diff_merge.specs.Merging.{IsEmpty};
+ghost use Rattle.diff_sorted.specs.KeptLaws.{IsAlike, alike_on, alike_self};
 ghost use Rattle.diff_sorted.specs.Told.{IsFit, IsTold};
 
 use crate::lines::Lines;
@@ -121,6 +122,11 @@ impl<'a> SortedReport<'a> {
 
 impl<'a> Sink for SortedReport<'a> {
     ghost holds = { IsTold };
+
+    ghost keeps = { IsAlike };
+
+    ghost keeps_self = { alike_self };
+    ghost keeps_on = { alike_on };
 
     fn pair(&mut self, left: &Row<'_>, right: &Row<'_>) -> Result<(), AllocError> {
         self.test_row(left)?;

@@ -41,4 +41,4 @@ returns-clause-step g c = λ options left_text right_text n small h.
     (record { on = c.in_ok-advance-2.ensures.on; rises = c.in_ok-advance-2.ensures.rises; alike = c.in_ok-advance-2.ensures.alike })
     (λ left_rows right_rows before after left_next right_next held pair.
     rw (← c.row-left_row.ensures.row, ← c.row-right_row.ensures.row)
-    (c.in_ok-pair.ensures left_rows right_rows before after (c.row-left_row.ensures.number ∙ left_next) (c.row-right_row.ensures.number ∙ right_next) held pair))
+    (c.in_ok-pair.ensures.told left_rows right_rows before after (c.row-left_row.ensures.number ∙ left_next) (c.row-right_row.ensures.number ∙ right_next) held pair))

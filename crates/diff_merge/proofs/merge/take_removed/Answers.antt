@@ -26,4 +26,4 @@ returns-clause-step g c = λ options left_text right_text n small h.
     removed_on g.L.Read.remaining g.R.Read.remaining g.S.Sink.holds options left_text right_text n small c.args.left.now c.advance.new.self c.args.right.now c.args.right.now c.args.sink.now c.removed.new.self c.requires.lesser.0 h
     c.requires.lesser.1 c.requires.lesser.2
     (record { on = c.in_ok-advance.ensures.on; rises = c.in_ok-advance.ensures.rises; alike = c.in_ok-advance.ensures.alike })
-    (λ left_rows right_rows before after next held gone. rw (← c.row-row.ensures.row) (c.in_ok-removed.ensures left_rows right_rows before after (c.row-row.ensures.number ∙ next) held gone))
+    (λ left_rows right_rows before after next held gone. rw (← c.row-row.ensures.row) (c.in_ok-removed.ensures.told left_rows right_rows before after (c.row-row.ensures.number ∙ next) held gone))

@@ -8,8 +8,8 @@ use Rattle.diff_run.specs.Lines.{pair_at, row_alone}
 use Rattle.diff_sorted.proofs.ToldLemmas.{begins_pair, counts_after, counts_same, fewer, lines_after, lines_same, listed_changed, listed_same, pairs_pair, place_left, place_right, row_next}
 use Rattle.diff_sorted.proofs.report.SortedReportSink.pair.Goals as goal
 
-pub returns-then-not-is_changed : goal.returns-then-not-is_changed
-returns-then-not-is_changed c = λ left_rows right_rows before after left_next right_next held pair.
+pub returns-then-not-is_changed-clause-told : goal.returns-then-not-is_changed-clause-told
+returns-then-not-is_changed-clause-told c = λ left_rows right_rows before after left_next right_next held pair.
     let a = seen_of c.args.left.now in
     let b = seen_of c.args.right.now in
     let f = c.args.self.now.frame in
@@ -39,8 +39,8 @@ returns-then-not-is_changed c = λ left_rows right_rows before after left_next r
           };
     }
 
-pub returns : goal.returns
-returns c = λ left_rows right_rows before after left_next right_next held pair.
+pub returns-clause-told : goal.returns-clause-told
+returns-clause-told c = λ left_rows right_rows before after left_next right_next held pair.
     let a = seen_of c.args.left.now in
     let b = seen_of c.args.right.now in
     let f = c.args.self.now.frame in

@@ -7,8 +7,8 @@ use Rattle.diff_run.specs.Lines.{row_alone}
 use Rattle.diff_sorted.proofs.ToldLemmas.{begins_same, fewer, lines_after, lines_same, listed_removed, pairs_removed, row_next}
 use Rattle.diff_sorted.proofs.report.SortedReportSink.removed.Goals as goal
 
-pub returns : goal.returns
-returns c = λ left_rows right_rows before after next held gone.
+pub returns-clause-told : goal.returns-clause-told
+returns-clause-told c = λ left_rows right_rows before after next held gone.
     let a = seen_of c.args.row.now in
     let f = c.args.self.now.frame in
     let grown = ap length gone.left_rows in
