@@ -17,10 +17,10 @@ use std::alloc::Global;
 use std::io::Read;
 
 /// The names of the columns of two inputs, and how they are matched.
-pub(crate) struct Heads {
-    pub(crate) left_names: BinaryArray<i64>,
-    pub(crate) right_names: BinaryArray<i64>,
-    pub(crate) layout: Layout,
+pub struct Heads {
+    pub left_names: BinaryArray<i64>,
+    pub right_names: BinaryArray<i64>,
+    pub layout: Layout,
 }
 
 // By hand, so that each place where heads go out of scope is one call.
@@ -48,7 +48,7 @@ fn fault_of(error: ColumnError) -> RunError
 }
 
 /// Matches the columns of two inputs by their names.
-pub(crate) fn heads_of<L: Read + Drop, R: Read + Drop>(
+pub fn heads_of<L: Read + Drop, R: Read + Drop>(
     alloc: Global,
     left: &Source<L>,
     right: &Source<R>,
