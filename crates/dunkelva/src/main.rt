@@ -23,7 +23,7 @@ use crate::config::{Config, config_for, joined, named_file};
 use crate::keys::keys_of;
 use crate::kinds::{hold_documents, refuse_document_options, refuse_table_options};
 use crate::outputs::refuse_own_target;
-use crate::parts::{part_of, part_of_rows};
+use crate::parts::{part_of, part_of_rows, refuse_unsorted};
 use crate::rules::rules_of;
 use crate::schema::{compare_schemas, show_schema};
 use crate::tasks::{Target, Task, compare_named};
@@ -69,6 +69,10 @@ fn diff_tables(
         format: format_of(matches),
         colored: is_colored(rt, matches),
     };
+    if matches.get_flag("sorted") {
+        refuse_unsorted(matches)?;
+        return compare_named(rt, left, right, Task::Sorted(&options), target);
+    }
     compare_named(rt, left, right, Task::Tables(&options), target)
 }
 
