@@ -1,0 +1,5 @@
+use Rattle.std.proofs.Common.{rules}
+use Rattle.diff_csv.proofs.row_reader.first_row.Goals as goal
+
+pub returns-then-has_header : goal.returns-then-has_header
+returns-then-has_header c = search rules
