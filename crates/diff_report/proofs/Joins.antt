@@ -1,6 +1,15 @@
 -- Texts that are written one after another.
-use Rattle.std.proofs.Common.{◌≡◌, ℕ, List, ◌++◌}
+use Rattle.std.proofs.Common.{◌≡◌, ℕ, Bool, true, List, [], ◌++◌, ap, ◌∙◌}
 use Rattle.std.proofs.lemmas.List.{append_assoc}
+use Rattle.std.specs.Prelude.{if◌then◌else◌}
+
+-- one text more behind what was written
+pub appended : (old a b y z : List ℕ) → y ≡ old ++ a → z ≡ y ++ b → z ≡ old ++ (a ++ b)
+appended old a b y z e f = f ∙ (ap (λ l. l ++ b) e ∙ append_assoc old a b)
+
+-- a text that is not left out
+pub written_if : (is : Bool) (old text after : List ℕ) → is ≡ true → after ≡ old ++ text → after ≡ old ++ (if is then text else [])
+written_if is old text after e more = rw e more
 
 pub joined_three : (old a b c : List ℕ) → ((old ++ a) ++ b) ++ c ≡ old ++ ((a ++ b) ++ c)
 joined_three old a b c = simp append_assoc
