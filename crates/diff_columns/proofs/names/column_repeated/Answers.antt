@@ -11,3 +11,6 @@ loop-column-preserved g c =
 
 pub returns : goal.returns
 returns g c = are_distinct (g.N.ByteRows.strings c.args.names.now) c.loop-column.column (search rules) c.loop-column.invariant
+
+pub returns-then-is_repeated : goal.returns-then-is_repeated
+returns-then-is_repeated g c = c.is_repeated.ensures.0 c.if-is_repeated.true
