@@ -275,6 +275,12 @@ static const char *fault_of(const ran *it) {
     return at ? at : it->said;
 }
 
+/* Says whether a run ended because of the columns that the options choose, which depend on both files. */
+static int is_choice(const ran *it) {
+    return it->status == 2 &&
+           (begins(it->said, "dunkelva: --") || begins(it->said, "dunkelva: no column is left to compare"));
+}
+
 /* Runs the program over a pair in four ways, and returns what is wrong, or NULL. */
 static const char *wrong_with(const pair *of, ran *done) {
     for (int it = 0; it < 2; it++) write_file(of->names[it].at, of->files[it]);
@@ -289,10 +295,12 @@ static const char *wrong_with(const pair *of, ran *done) {
     unsigned long *ours = done[0].counts, *theirs = done[1].counts, *left = done[2].counts, *right = done[3].counts;
     int is_bad[2] = {done[2].status == 2, done[3].status == 2};
     /* with --numbers a column that one file has alone may have a number that can't be compared */
-    int is_certain = of->is_documents || !of->is_numbers;
+    int is_certain = (of->is_documents || !of->is_numbers) && !is_choice(done + 2) && !is_choice(done + 3);
     if (done[2].status == 1 || done[3].status == 1) return "a file that differs from itself";
     if (done[0].status != done[1].status) return "another status with the sides exchanged";
     if (done[0].status == 2) {
+        if (is_choice(done) != is_choice(done + 1)) return "another fault with the sides exchanged";
+        if (is_choice(done)) return NULL;
         if (!is_bad[0] && !is_bad[1]) return "a fault in none of the files";
         for (int it = 0; it < 2 && is_certain; it++)
             if (!(is_bad[0] && strcmp(fault_of(done + it), fault_of(done + 2)) == 0) &&
