@@ -2,7 +2,9 @@
 on the right, one in a thousand is missing there, as many are new, and the right documents lie in
 another order.
 
-usage: make_documents.py DOCUMENTS FOLDER [rewritten]   (FOLDER/left.ndjson and right.ndjson, 281 MB each for 1,000,000)
+usage: make_documents.py DOCUMENTS FOLDER [rewritten]
+
+The files are FOLDER/left.ndjson and right.ndjson, of 281 MB each for 1,000,000 documents.
 
 With `rewritten` the members of each right document stand in another order, so that no line is one
 of the left file.

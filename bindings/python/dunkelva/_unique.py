@@ -18,7 +18,7 @@ from ._values import named, numbers_of, present_rows
 
 __all__ = ["Unique", "unique", "n_unique"]
 
-# The most words of 64 bits that `unique` takes for a state: as many as there are rows, or these.
+# The most words of 64 bits that `unique` takes for a state: one for each row, but at least these.
 # Where the range of a column needs more, its rows are sorted.
 _FEW_WORDS = 1 << 13
 

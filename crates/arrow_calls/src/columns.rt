@@ -12,7 +12,7 @@ use polars_arrays_numbers::native_type::NativeType;
 use std::alloc::Global;
 
 /// Borrows the numbers of a part as a column, with a validity made of the part's bits. The error is
-/// `Parts` if there is not a number and a bit for each row, or `Memory`.
+/// `Parts` if there is not one number for each row, or if there are bits but too few; or `Memory`.
 pub fn column<'a, T: NativeType>(
     alloc: Global,
     part: &Part<'_>,
