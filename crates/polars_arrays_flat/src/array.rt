@@ -13,8 +13,8 @@ use polars_arrays_bits::bitmap::Bitmap;
 use polars_arrays_bits::error::ComputeError;
 use std::alloc::Global;
 
-/// An array: stored rows and a mask. The rows of an array are its stored rows, with Null in place
-/// of those that are masked.
+/// A column of rows, kept as stored rows and a mask. A row is Null if it is masked, and the stored
+/// row otherwise.
 ///
 /// The validity is what an array stores, bit by bit. The mask says which rows are null, and kernels
 /// use the mask alone.

@@ -88,7 +88,7 @@ impl ListArray {
         &self.offsets
     }
 
-    /// Returns the items, including those of no list.
+    /// Returns all stored items. Some of them may lie in no list.
     pub fn values(&self) -> &AnyArray
         ensures values { result.now ≡ list_values self.now }
         ensures smaller { size-AnyArray result.now < size-ListArray self.now }

@@ -13,8 +13,8 @@ pub trait NativeType: Copy + Ord + Bounded + FixedWidth + 'static {
     fn width() -> u32
         ensures { result ≡ bit_len Self.width };
 
-    /// Returns whether the type has negative numbers. Sign and width determine the numbers of a
-    /// type.
+    /// Returns whether the type is signed. Sign and width determine its least and its greatest
+    /// number.
     fn is_signed() -> bool
         ensures below_zero { IsTrue result ↔ (Self.low <ℤ pos 0) }
         ensures least { Self.low ≡ least_of result (bit_len Self.width) }

@@ -72,9 +72,10 @@ pub trait BytesEqKernel: ByteRows + Sized {
     }
 }
 
-/// Equality of the rows of an array of texts with a borrowed text, called by path beside
-/// `TotalEqKernel`. Two texts are equal if their UTF-8 is. The raw kernels ignore validities; in
-/// the missing ones null is equal to null alone. All allocate: the error is `Memory`.
+/// Equality of the rows of an array of texts with a borrowed text. `TotalEqKernel` has methods of
+/// the same names, so these are called by path. Two texts are equal if their UTF-8 is. The raw
+/// kernels ignore validities; in the missing ones null is equal to null alone. All allocate: the
+/// error is `Memory`.
 pub trait TextEqKernel: ByteRows + Sized {
     /// Returns for each stored row whether it is equal to the text.
     fn tot_eq_kernel_broadcast(&self, alloc: Global, other: &str) -> Result<Bitmap, ComputeError>

@@ -53,7 +53,7 @@ pub trait TotalEqKernel: Sized + Array {
         requires good_other { good_scalar other.now }
         ensures { IsTrue result ↔ fits self.now other.now };
 
-    /// Returns for each place whether the stored rows are equal.
+    /// Compares the stored rows place by place. A bit is set where the rows are equal.
     fn tot_eq_kernel(&self, alloc: Global, other: &Self) -> Result<Bitmap, ComputeError>
         requires good { Self.good self.now }
         requires good_other { Self.good other.now }
@@ -63,7 +63,7 @@ pub trait TotalEqKernel: Sized + Array {
             (Self.mask other.now) (Self.slots self.now) (Self.slots other.now))
             IsMemory };
 
-    /// Returns for each place whether the stored rows differ.
+    /// Compares the stored rows place by place. A bit is set where the rows differ.
     fn tot_ne_kernel(&self, alloc: Global, other: &Self) -> Result<Bitmap, ComputeError>
         requires good { Self.good self.now }
         requires good_other { Self.good other.now }

@@ -7,8 +7,9 @@ ghost use Rattle.polars_compare_extremes.specs.Extremes.{IsGreatest, IsLeast, No
 
 use polars_arrays_flat::byte_rows::ByteRows;
 
-/// The extremes of an array of byte strings, called by path beside `MinMaxKernel`. No row is NaN,
-/// so `ignore_nan` and `propagate_nan` mean the same. Does not allocate.
+/// The extremes of an array of byte strings, returned as borrowed bytes. `MinMaxKernel` has methods
+/// of the same names, so these are called by path. No row is NaN: `ignore_nan` and `propagate_nan`
+/// mean the same. Does not allocate.
 pub trait BytesMinMaxKernel: ByteRows {
     /// Returns the least present row, or `None` if no row is present.
     fn min_ignore_nan_kernel(&self) -> Option<&[u8]>
@@ -71,8 +72,9 @@ pub trait BytesMinMaxKernel: ByteRows {
     }
 }
 
-/// The extremes of an array of texts, called by path beside `MinMaxKernel`. No row is NaN, so
-/// `ignore_nan` and `propagate_nan` mean the same. Does not allocate.
+/// The extremes of an array of texts, returned as borrowed texts. `MinMaxKernel` has methods of the
+/// same names, so these are called by path. No row is NaN: `ignore_nan` and `propagate_nan` mean
+/// the same. Does not allocate.
 pub trait TextMinMaxKernel: ByteRows {
     /// Returns the least present row, or `None` if no row is present.
     fn min_ignore_nan_kernel(&self) -> Option<&str>

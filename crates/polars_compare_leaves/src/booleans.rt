@@ -20,9 +20,9 @@ use polars_arrays_numbers::comparison::{
 };
 use std::alloc::Global;
 
-/// A comparison of two truth values that is a comparison of their rows.
+/// A comparison operator of booleans, such as equality or "less than".
 pub trait TruthComparison {
-    // The comparison of rows.
+    // Its meaning: the comparison of two rows.
     ghost rows: { Row → Row → Bool };
 
     /// Compares two truth values.

@@ -23,8 +23,8 @@ use polars_arrays_numbers::native_type::NativeType;
 use polars_compare_leaves::numbers::compare_few_numbers;
 use std::alloc::Global;
 
-// Compares windows of two arrays of one kind of leaf: by the function named before the kinds for
-// those kinds, and by a bitmap for all others.
+// Compares windows of two arrays of one kind of leaf. The kinds that are listed are compared by the
+// function `$word`, which returns a word of bits, and all others by a bitmap.
 macro_rules! compare_few_leaves {
     (($alloc:expr, $left:expr, $a:expr, $right:expr, $b:expr, $n:expr), $word:ident:
         $($kind:ident)+) => {
@@ -35,9 +35,9 @@ macro_rules! compare_few_leaves {
     };
 }
 
-/// Returns whether the leaves of two windows are equal, place by place: at most 64 rows from row
-/// `a` on of the left array and from row `b` on of the right one. If a row is masked on either
-/// side, the bit is arbitrary. The error is `Memory`; numbers need no memory.
+/// Compares up to 64 leaves, from row `a` of the left array and from row `b` of the right one.
+/// Bit i of the word is set if the i-th leaves are equal. If one of them is masked, the bit is
+/// arbitrary. The error is `Memory`; numbers need no memory.
 #[tactic(auto, using(crate::proofs::Strings::counts, crate::proofs::Cases::cases))]
 #[inline]
 pub(crate) fn leaf_word(

@@ -13,8 +13,9 @@ use polars_arrays_numbers::comparison::{Greater, GreaterOrEqual, Less, LessOrEqu
 use polars_compare_leaves::bytes::compare_bytes;
 use std::alloc::Global;
 
-/// Order of the rows of an array of byte strings and a borrowed byte string, called by path beside
-/// `TotalOrdKernel`. Validities are ignored. The error is `Memory`.
+/// Order of the rows of an array of byte strings and a borrowed byte string. `TotalOrdKernel` has
+/// methods of the same names, so these are called by path. Validities are ignored. The error is
+/// `Memory`.
 pub trait BytesOrdKernel: ByteRows + Sized {
     /// Returns for each row whether it is less than the byte string.
     fn tot_lt_kernel_broadcast(&self, alloc: Global, other: &[u8]) -> Result<Bitmap, ComputeError>
@@ -57,9 +58,9 @@ pub trait BytesOrdKernel: ByteRows + Sized {
     }
 }
 
-/// Order of the rows of an array of texts and a borrowed text, called by path beside
-/// `TotalOrdKernel`. Texts are ordered by their UTF-8. Validities are ignored. The error is
-/// `Memory`.
+/// Order of the rows of an array of texts and a borrowed text. `TotalOrdKernel` has methods of the
+/// same names, so these are called by path. Texts are ordered by their UTF-8. Validities are
+/// ignored. The error is `Memory`.
 pub trait TextOrdKernel: ByteRows + Sized {
     /// Returns for each row whether it is less than the text.
     fn tot_lt_kernel_broadcast(&self, alloc: Global, other: &str) -> Result<Bitmap, ComputeError>

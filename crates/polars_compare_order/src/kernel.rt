@@ -11,7 +11,8 @@ use polars_arrays_bits::error::ComputeError;
 use polars_arrays_flat::array::Array;
 use std::alloc::Global;
 
-/// Order of the rows of two arrays of one kind: numbers as whole numbers, false before true.
+/// Order of the rows of two arrays of one kind: numbers as whole numbers, byte strings byte by
+/// byte, texts by their UTF-8, false before true.
 ///
 /// Validities are ignored; the bits are right where both rows are present. A broadcast compares
 /// each row with one scalar. The error is `Memory`.

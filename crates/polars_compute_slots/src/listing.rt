@@ -106,8 +106,8 @@ pub(crate) fn with_null<T: UniqueNumber>(
     Ok(PrimitiveArray::from_vec(numbers).with_validity(Some(validity)))
 }
 
-/// Lists the values whose slots are set, ascending, and a null if its slot is. The error is
-/// `Memory`.
+/// Lists the numbers whose slots are set, in ascending order, and then a null if the slot of null
+/// is set. The error is `Memory`.
 pub fn list_set<T: UniqueNumber, S: Slots>(
     alloc: Global,
     slots: &S,

@@ -1,4 +1,4 @@
-//! Ranges of states of numbers.
+//! Ranges of numbers: a state of distinct numbers has a slot for each number of its range.
 
 ghost use Rattle.std.specs.Prelude.{◌≡◌, ◌<◌, ◌^◌, ◌+ℤ◌, ◌-ℤ◌, ◌≤ℤ◌, ◌<ℤ◌, ◌↔◌, pos, unsigned_abs};
 ghost use Rattle.std.specs.Prelude.{IsTrue};
@@ -78,7 +78,7 @@ impl<T: UniqueNumber> Span<T> {
         distance(self.least, number)
     }
 
-    /// Returns the number of a slot.
+    /// Returns the number that a slot stands for.
     #[inline(always)]
     pub fn number(&self, slot: usize) -> T
         requires numbers { AreNumbers T.low T.high (T.value self.now.least) self.now.count }

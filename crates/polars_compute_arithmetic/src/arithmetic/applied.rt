@@ -46,7 +46,8 @@ pub(crate) fn apply_right<T: NativeType, O: NumberOperation<T>>(
     prim_unary_in_place(alloc, lhs, |x| O::apply(x, rhs))
 }
 
-// Applies an operation to a number and each stored value. Nulls stay null. The error is `Memory`.
+// Applies an operation to `lhs` and each stored value on its right. Nulls stay null. The error is
+// `Memory`.
 pub(crate) fn apply_left<T: NativeType, O: NumberOperation<T>>(
     alloc: Global,
     lhs: T,
