@@ -25,7 +25,9 @@ fn taking<'a>(arg: Arg<'a>, takes: Takes) -> Arg<'a> {
     match takes {
         Takes::Nothing => arg.action(ArgAction::SetTrue),
         Takes::Text => arg,
-        Takes::Number => arg.value_parser(value_parser!(usize)),
+        Takes::Number => arg
+            .value_parser(value_parser!(usize))
+            .allow_negative_numbers(true),
         Takes::Word(words) => arg.value_parser(words),
         Takes::Texts | Takes::List => arg.action(ArgAction::Append),
     }

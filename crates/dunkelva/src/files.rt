@@ -15,7 +15,7 @@ pub(crate) enum Source {
 
 impl Source {
     /// Returns the number of bytes of the source, or `None` if it is not an ordinary file.
-    fn size(&self) -> Option<u64> {
+    pub(crate) fn size(&self) -> Option<u64> {
         let Source::File(file) = self else {
             return None;
         };

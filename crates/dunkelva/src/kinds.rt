@@ -4,15 +4,30 @@ use crate::options::{GoesWith, Takes, options};
 use anyhow::{Result, anyhow};
 use clap::ArgMatches;
 
+/// Returns whether the name of a file has this extension, in letters of any case.
+fn has_extension(name: &str, extension: &str) -> bool {
+    let (name, extension) = (name.as_bytes(), extension.as_bytes());
+    if name.len() < extension.len() {
+        return false;
+    }
+    let end = &name[name.len() - extension.len()..];
+    end.eq_ignore_ascii_case(extension)
+}
+
+/// Returns whether a file of this name holds documents, one a line.
+fn names_lines(name: &str) -> bool {
+    has_extension(name, ".ndjson") || has_extension(name, ".jsonl")
+}
+
 /// Returns whether a file of this name holds documents.
 pub(crate) fn names_documents(name: &str) -> bool {
-    name.ends_with(".ndjson") || name.ends_with(".jsonl")
+    names_lines(name) || has_extension(name, ".json")
 }
 
 /// Refuses a file whose name does not say whether each of its lines is a document, or all of them
 /// are one.
 fn refuse_json(name: &str) -> Result<()> {
-    if name.ends_with(".json") {
+    if has_extension(name, ".json") {
         return Err(anyhow!(
             "give --input ndjson where each line is a JSON document, as jq -c makes them"
         ).context(name));
@@ -28,7 +43,7 @@ pub(crate) fn hold_documents(matches: &ArgMatches<'_>, left: &str, right: &str) 
     }
     refuse_json(left)?;
     refuse_json(right)?;
-    let (in_left, in_right) = (names_documents(left), names_documents(right));
+    let (in_left, in_right) = (names_lines(left), names_lines(right));
     if in_left != in_right && left != "-" && right != "-" {
         return Err(anyhow!("{left:?} and {right:?} have two formats by their names: give --input"));
     }
@@ -71,7 +86,7 @@ pub(crate) fn refuse_document_options(matches: &ArgMatches<'_>) -> Result<()> {
 /// Returns the byte between fields if no word gives one: a tab in files whose names end in `.tsv`,
 /// and otherwise a comma. Standard input has the byte of the other file.
 pub(crate) fn usual_delimiter(left: &str, right: &str) -> Result<u8> {
-    let (in_left, in_right) = (left.ends_with(".tsv"), right.ends_with(".tsv"));
+    let (in_left, in_right) = (has_extension(left, ".tsv"), has_extension(right, ".tsv"));
     if in_left != in_right && left != "-" && right != "-" {
         return Err(anyhow!(
             "{left:?} and {right:?} have two delimiters by their names: give --delimiter"

@@ -8,6 +8,7 @@ mod config;
 mod files;
 mod keys;
 mod kinds;
+mod names;
 mod options;
 mod outputs;
 mod parts;

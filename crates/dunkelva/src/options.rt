@@ -181,7 +181,7 @@ static OPTIONS: [CliOption; 26] = [
         takes: Takes::Number,
         value: "N",
         default: Some("20"),
-        help: "Print at most N differences; 0 prints all",
+        help: "Print at most N differences, in JSON too; 0 prints all",
         ..SWITCH
     },
     CliOption {

@@ -99,7 +99,7 @@ fn null_in<'m>(matches: &'m ArgMatches<'_>) -> Option<&'m [u8]> {
 
 /// Refuses a file whose name says that it has JSON.
 fn refuse_documents(file: &str) -> Result<()> {
-    if names_documents(file) || file.ends_with(".json") {
+    if names_documents(file) {
         return Err(anyhow!("only CSV files have a schema").context(file));
     }
     Ok(())

@@ -92,6 +92,7 @@ fn unwritten(cause: io::Error) -> Result<Ending> {
 
 /// Returns the end of a comparison of tables with this result.
 fn tables_ending(
+    rt: &HostRuntime,
     came_to: Result<Outcome, RunError>,
     files: (&[u8], &[u8]),
     options: &Options<'_>,
@@ -99,7 +100,7 @@ fn tables_ending(
     match came_to {
         Ok(outcome) => Ok(Ending::from(outcome)),
         Err(RunError::Write { cause }) => unwritten(cause),
-        Err(error) => Err(table_trouble(error, files, options)),
+        Err(error) => Err(table_trouble(rt, error, files, options)),
     }
 }
 
@@ -130,7 +131,8 @@ fn report_to<W: Write>(
     let right = counted(right, progress);
     match task {
         Task::Tables(options) => {
-            tables_ending(run(rt.alloc(), left, right, out, options), files, options)
+            let came_to = run(rt.alloc(), left, right, out, options);
+            tables_ending(rt, came_to, files, options)
         }
         Task::Documents(options) => {
             let came_to = run_documents(rt.alloc(), left, right, out, options);

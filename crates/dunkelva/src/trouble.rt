@@ -1,5 +1,6 @@
 //! Errors for files that can't be compared.
 
+use crate::names::columns_of;
 use anyhow::{Error, anyhow};
 use diff_columns::error::{ColumnError, Side};
 use diff_csv::error::CsvError;
@@ -47,11 +48,15 @@ fn text_of(name: &[u8]) -> &str {
     str::from_utf8(name).unwrap_or("-")
 }
 
-/// Returns the error for a key that is not the name of a column.
-fn no_key(key: usize, options: &Options<'_>) -> Error {
-    match options.choice.keys.get(key) {
-        Some(name) => anyhow!("no column is named {:?}", text_of(name)),
-        None => anyhow!("a key column is missing"),
+/// Returns the error for a key that is not the name of a column of this file.
+fn no_key(rt: &HostRuntime, file: &str, key: usize, options: &Options<'_>) -> Error {
+    let name = match options.choice.keys.get(key) {
+        Some(name) => text_of(name),
+        None => return anyhow!("a key column is missing"),
+    };
+    match columns_of(rt, file, options.csv) {
+        Some(names) => anyhow!("no column is named {name:?}: the columns are {names}"),
+        None => anyhow!("no column is named {name:?}"),
     }
 }
 
@@ -90,20 +95,29 @@ fn wide_exponent(line: u64, name: &[u8]) -> Error {
 }
 
 /// Returns the error for columns that can't be matched, with the file as context.
-fn columns_trouble(cause: ColumnError, files: (&[u8], &[u8]), options: &Options<'_>) -> Error {
+fn columns_trouble(
+    rt: &HostRuntime,
+    cause: ColumnError,
+    files: (&[u8], &[u8]),
+    options: &Options<'_>,
+) -> Error {
     match cause {
         ColumnError::NameTwice { side, column } => anyhow!(
             "column {} has the name of an earlier column",
             column.saturating_add(1)
         )
         .context(file_of(files, side)),
-        ColumnError::NoKey { side, key } => no_key(key, options).context(file_of(files, side)),
+        ColumnError::NoKey { side, key } => {
+            let file = file_of(files, side);
+            no_key(rt, file, key, options).context(file)
+        }
         ColumnError::Memory => anyhow!("out of memory"),
     }
 }
 
 /// Returns the error that is printed for one of a comparison of tables, with the file as context.
 pub(crate) fn table_trouble(
+    rt: &HostRuntime,
     error: RunError,
     files: (&[u8], &[u8]),
     options: &Options<'_>,
@@ -118,7 +132,7 @@ pub(crate) fn table_trouble(
         RunError::WideExponent { side, line, name } => {
             wide_exponent(line, &name).context(file_of(files, side))
         }
-        RunError::Columns { cause } => columns_trouble(cause, files, options),
+        RunError::Columns { cause } => columns_trouble(rt, cause, files, options),
         RunError::Choice {
             cause: ChoiceError::NoColumn { list, name },
         } => no_column(list, name, options),

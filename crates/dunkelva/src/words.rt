@@ -8,6 +8,7 @@ use clap::ArgMatches;
 use clap::parser::ValueSource;
 use diff_csv::options::{CsvOptions, is_delimiter};
 use diff_run::options::Format;
+use dunkelva_options::lists::split_lists;
 use std::alloc::{AllocError, Global};
 use std::env;
 use std::env::VarError;
@@ -22,16 +23,50 @@ pub(crate) struct Names<'a> {
     pub(crate) texts: Vec<&'a [u8]>,
 }
 
+/// Returns a name without the quotes around it, if there are some.
+fn unquoted(name: &str) -> &str {
+    match name.strip_prefix('"') {
+        Some(rest) => rest.strip_suffix('"').unwrap_or(name),
+        None => name,
+    }
+}
+
+/// Appends the names in a list in which some stand in quotes. A comma in quotes is part of a name.
+fn push_quoted<'a>(
+    names: &mut Vec<&'a [u8]>,
+    alloc: Global,
+    list: &'a str,
+) -> Result<(), AllocError> {
+    for name in &split_lists(alloc, &[list])? {
+        names.push(unquoted(name).as_bytes())?;
+    }
+    Ok(())
+}
+
+/// Appends the names in a list with commas between them.
+fn push_list<'a>(
+    names: &mut Vec<&'a [u8]>,
+    alloc: Global,
+    list: &'a str,
+) -> Result<(), AllocError> {
+    if list.starts_with('"') || list.contains(",\"") {
+        return push_quoted(names, alloc, list);
+    }
+    for name in list.split(',') {
+        names.push(name.as_bytes())?;
+    }
+    Ok(())
+}
+
 /// Appends the names in the lists that an option takes.
 fn push_names<'a>(
     names: &mut Vec<&'a [u8]>,
+    alloc: Global,
     matches: &ArgMatches<'a>,
     option: &str,
 ) -> Result<(), AllocError> {
     for list in matches.get_strs(option).unwrap_or(&[]) {
-        for name in list.split(',') {
-            names.push(name.as_bytes())?;
-        }
+        push_list(names, alloc, *list)?;
     }
     Ok(())
 }
@@ -45,10 +80,10 @@ impl<'a> Names<'a> {
             ignored: Vec::new(alloc),
             texts: Vec::new(alloc),
         };
-        push_names(&mut names.keys, matches, "key")?;
-        push_names(&mut names.only, matches, "only")?;
-        push_names(&mut names.ignored, matches, "ignore")?;
-        push_names(&mut names.texts, matches, "text")?;
+        push_names(&mut names.keys, alloc, matches, "key")?;
+        push_names(&mut names.only, alloc, matches, "only")?;
+        push_names(&mut names.ignored, alloc, matches, "ignore")?;
+        push_names(&mut names.texts, alloc, matches, "text")?;
         refuse_repeated(&names.keys)?;
         Ok(names)
     }
