@@ -1,7 +1,7 @@
 //! Arithmetic, row by row.
 #![forbid(unsafe_code)]
 
-use crate::format::Key;
+use crate::format::Integer;
 use crate::mask::zeros;
 use crate::sys::{self, Wide};
 use crate::{Array, Error, Mask};
@@ -33,7 +33,7 @@ pub struct Numbers<T> {
     present: Mask,
 }
 
-impl<T: Key> Numbers<T> {
+impl<T: Integer> Numbers<T> {
     /// Makes numbers that a call writes, with a bit for each that is present.
     fn written(rows: usize, call: impl FnOnce(&mut [T], &mut [u8]) -> i32) -> Result<Self, Error> {
         let mut values = zeros(rows)?;
@@ -113,7 +113,7 @@ impl<T: Key> Numbers<T> {
 /// assert_eq!(sum(&each.array())?, Some(-1));
 /// # Ok::<(), Error>(())
 /// ```
-pub fn arithmetic<T: Key>(
+pub fn arithmetic<T: Integer>(
     left: &Array<'_>,
     operation: Operation,
     right: &Array<'_>,
@@ -142,7 +142,7 @@ pub fn arithmetic<T: Key>(
 /// assert_eq!(rests.values(), [1_i64, 3]);
 /// # Ok::<(), Error>(())
 /// ```
-pub fn arithmetic_number<T: Key>(
+pub fn arithmetic_number<T: Integer>(
     array: &Array<'_>,
     operation: Operation,
     number: T,
@@ -165,7 +165,7 @@ pub fn arithmetic_number<T: Key>(
 /// assert_eq!(left.values(), [9_u8, 246]); // -10 is wrapped to 246
 /// # Ok::<(), Error>(())
 /// ```
-pub fn number_arithmetic<T: Key>(
+pub fn number_arithmetic<T: Integer>(
     number: T,
     operation: Operation,
     array: &Array<'_>,
@@ -179,7 +179,7 @@ enum Side {
     Right = 1,
 }
 
-fn with_number<T: Key>(
+fn with_number<T: Integer>(
     array: &Array<'_>,
     (operation, side): (Operation, Side),
     number: T,
@@ -207,7 +207,7 @@ fn with_number<T: Key>(
 /// assert_eq!(negative.values(), [-5, -128]);
 /// # Ok::<(), Error>(())
 /// ```
-pub fn negate<T: Key>(array: &Array<'_>) -> Result<Numbers<T>, Error> {
+pub fn negate<T: Integer>(array: &Array<'_>) -> Result<Numbers<T>, Error> {
     signed(0, array)
 }
 
@@ -216,11 +216,11 @@ pub fn negate<T: Key>(array: &Array<'_>) -> Result<Numbers<T>, Error> {
 /// # Errors
 ///
 /// Those of [`arithmetic`].
-pub fn absolute<T: Key>(array: &Array<'_>) -> Result<Numbers<T>, Error> {
+pub fn absolute<T: Integer>(array: &Array<'_>) -> Result<Numbers<T>, Error> {
     signed(1, array)
 }
 
-fn signed<T: Key>(sign: c_uint, array: &Array<'_>) -> Result<Numbers<T>, Error> {
+fn signed<T: Integer>(sign: c_uint, array: &Array<'_>) -> Result<Numbers<T>, Error> {
     let typed = array.numbers_of::<T>()?;
     Numbers::written(array.len(), |values, present| {
         sys::sign(sign, &typed, values, present)
@@ -236,7 +236,7 @@ macro_rules! operations {
             /// # Errors
             ///
             /// Those of [`arithmetic`].
-            pub fn $name<T: Key>(
+            pub fn $name<T: Integer>(
                 left: &Array<'_>,
                 right: &Array<'_>,
             ) -> Result<Numbers<T>, Error> {

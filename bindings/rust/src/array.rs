@@ -1,7 +1,7 @@
 //! Columns that are lent to the library.
 #![forbid(unsafe_code)]
 
-use crate::format::{is_kept_as, numbers_of, Key, Number, Offset};
+use crate::format::{is_kept_as, numbers_of, Integer, Number, Offset};
 use crate::lent::{Buffer, Content, Field, Lent};
 use crate::structs::{Structs, Typed};
 #[cfg(feature = "ffi")]
@@ -18,7 +18,9 @@ const MOST_TYPES: usize = 1 << 20;
 
 /// A column: rows of one type, in the layout of Arrow, in slices that are borrowed.
 ///
-/// Nothing is copied, except a validity that begins at another bit of its byte than the rows do.
+/// Making an array copies nothing, except a validity that begins at another bit of its byte than the
+/// rows do. The calls that compare rows read numbers where they lie, and copy rows of other types, in
+/// blocks of about 16,384.
 /// What a call would read is checked when an array is made, so that no call reads behind the end of
 /// a slice: offsets rise and end within their bytes or items, a validity has a bit for each row,
 /// the fields of a struct have its rows.
@@ -226,7 +228,7 @@ impl<'a> Array<'a> {
     /// # Errors
     ///
     /// Only those of all arrays of arrays.
-    pub fn dictionary<K: Key>(keys: &'a [K], entries: Array<'a>) -> Result<Self, Error> {
+    pub fn dictionary<K: Integer>(keys: &'a [K], entries: Array<'a>) -> Result<Self, Error> {
         let buffers: Vec<Buffer<'a>> = vec![Arc::new(keys)];
         Array::nested(
             keys.len(),
@@ -369,7 +371,7 @@ impl<'a> Array<'a> {
     }
 
     /// Returns the structs of the array, if its rows are numbers of type `T`.
-    pub(crate) fn numbers_of<T: Key>(&self) -> Result<Typed<'_, T>, Error> {
+    pub(crate) fn numbers_of<T: Integer>(&self) -> Result<Typed<'_, T>, Error> {
         let plain = match &self.content {
             Content::Lent(lent) if lent.entries.is_some() => None,
             Content::Lent(lent) => numbers_of(lent.format.split_last().map_or(&[], |it| it.1)),

@@ -24,9 +24,9 @@ impl Options {
     }
 }
 
-/// A comparison of two numbers.
+/// A comparison operator of numbers.
 #[derive(Clone, Copy, Debug, PartialEq, Eq, Hash)]
-pub enum Test {
+pub enum Comparison {
     /// Both are the same number, or both are null.
     Equal = 0,
     /// They differ, or one of them is null.
@@ -41,9 +41,9 @@ pub enum Test {
     GreaterOrEqual = 5,
 }
 
-/// A way to join the bits of numbers, place by place.
+/// An operation on the bits of numbers, place by place.
 #[derive(Clone, Copy, Debug, PartialEq, Eq, Hash)]
-pub enum Join {
+pub enum BitOperation {
     /// A bit is 1 where it is 1 in all numbers.
     And = 0,
     /// A bit is 1 where it is 1 in a number.
@@ -180,17 +180,17 @@ pub fn is_null(array: &Array<'_>) -> Result<Mask, Error> {
 /// # Examples
 ///
 /// ```
-/// use dunkelva::{compare, Array, Error, Test};
+/// use dunkelva::{compare, Array, Error, Comparison};
 ///
 /// let old: Array = [Some(1), Some(2), None].into_iter().collect();
-/// let less = compare(&old, Test::Less, &Array::numbers(&[2, 2, 2]))?;
+/// let less = compare(&old, Comparison::Less, &Array::numbers(&[2, 2, 2]))?;
 /// assert_eq!(less.iter().collect::<Vec<_>>(), [true, false, false]);
 /// # Ok::<(), Error>(())
 /// ```
-pub fn compare(left: &Array<'_>, test: Test, right: &Array<'_>) -> Result<Mask, Error> {
+pub fn compare(left: &Array<'_>, comparison: Comparison, right: &Array<'_>) -> Result<Mask, Error> {
     let (one, other) = (Structs::of(left), Structs::of(right));
     Mask::written(left.len(), |out| {
-        sys::compare(test as c_uint, &one, &other, out)
+        sys::compare(comparison as c_uint, &one, &other, out)
     })
 }
 
@@ -204,22 +204,22 @@ pub fn compare(left: &Array<'_>, test: Test, right: &Array<'_>) -> Result<Mask, 
 /// # Examples
 ///
 /// ```
-/// use dunkelva::{compare_number, Array, Error, Test};
+/// use dunkelva::{compare_number, Array, Error, Comparison};
 ///
 /// let bytes = Array::numbers(&[7_u8, 200]);
-/// assert_eq!(compare_number(&bytes, Test::Greater, 100)?.places().collect::<Vec<_>>(), [1]);
-/// assert_eq!(compare_number(&bytes, Test::Greater, 256), Err(Error::TypesDiffer));
+/// assert_eq!(compare_number(&bytes, Comparison::Greater, 100)?.places().collect::<Vec<_>>(), [1]);
+/// assert_eq!(compare_number(&bytes, Comparison::Greater, 256), Err(Error::TypesDiffer));
 /// # Ok::<(), Error>(())
 /// ```
 pub fn compare_number(
     array: &Array<'_>,
-    test: Test,
+    comparison: Comparison,
     number: impl Into<i128>,
 ) -> Result<Mask, Error> {
     let structs = Structs::of(array);
     let number = Wide::of(number.into());
     Mask::written(array.len(), |out| {
-        sys::compare_number(test as c_uint, &structs, &number, out)
+        sys::compare_number(comparison as c_uint, &structs, &number, out)
     })
 }
 
@@ -294,18 +294,18 @@ pub fn max(array: &Array<'_>) -> Result<Option<i128>, Error> {
 /// # Examples
 ///
 /// ```
-/// use dunkelva::{reduce, Array, Error, Join};
+/// use dunkelva::{reduce, Array, Error, BitOperation};
 ///
 /// let rows = Array::numbers(&[0b1100_u8, 0b0110]);
-/// assert_eq!(reduce(Join::And, &rows)?, Some(0b0100));
-/// assert_eq!(reduce(Join::Or, &rows)?, Some(0b1110));
-/// assert_eq!(reduce(Join::Xor, &rows)?, Some(0b1010));
+/// assert_eq!(reduce(&rows, BitOperation::And)?, Some(0b0100));
+/// assert_eq!(reduce(&rows, BitOperation::Or)?, Some(0b1110));
+/// assert_eq!(reduce(&rows, BitOperation::Xor)?, Some(0b1010));
 /// # Ok::<(), Error>(())
 /// ```
-pub fn reduce(join: Join, array: &Array<'_>) -> Result<Option<i128>, Error> {
+pub fn reduce(array: &Array<'_>, operation: BitOperation) -> Result<Option<i128>, Error> {
     let mut result = Wide::default();
     Error::check(sys::reduce_bits(
-        join as c_uint,
+        operation as c_uint,
         &Structs::of(array),
         &mut result,
     ))?;

@@ -61,7 +61,7 @@ impl fmt::Display for Error {
     fn fmt(&self, f: &mut fmt::Formatter<'_>) -> fmt::Result {
         f.write_str(match self {
             Error::BadArray => "the buffers make no array: offsets, keys, or texts",
-            Error::TypesDiffer => "the arrays differ in type or length",
+            Error::TypesDiffer => "types, lengths or ranges differ, or the type has no such number",
             Error::NoRoom => "the result has no room",
             Error::NoMemory => "an allocation failed",
             Error::NotServed => "the type is not served by this call",

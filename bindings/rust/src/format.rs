@@ -16,8 +16,9 @@ pub trait Number: sealed::Sealed + Copy + Default + Send + Sync + 'static {
     const FORMAT: &'static [u8];
 }
 
-/// A type of keys of a dictionary: `i8` to `i64`, `u8` to `u64`.
-pub trait Key: Number + Into<i128> {}
+/// An integer type: `i8` to `i64`, `u8` to `u64`. Arithmetic serves these, and dictionaries have keys
+/// of one of them.
+pub trait Integer: Number + Into<i128> {}
 
 /// A type of offsets of texts, byte strings and lists: `i32` or `i64`.
 pub trait Offset: Number + Ord {
@@ -45,7 +46,7 @@ macro_rules! numbers {
 macro_rules! keys {
     ($($number:ty = $format:literal),*) => {
         numbers!($($number = $format),*);
-        $(impl Key for $number {})*
+        $(impl Integer for $number {})*
     };
 }
 

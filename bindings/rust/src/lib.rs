@@ -25,10 +25,10 @@ pub use crate::bitmap::Bitmap;
 pub use crate::calls::{
     compare, compare_number, count_ones, count_zeros, equal, equal_counted, equal_with, is_null,
     leading_ones, leading_zeros, max, min, min_max, not_equal, reduce, sum, trailing_ones,
-    trailing_zeros, version, Join, Options, Test,
+    trailing_zeros, version, BitOperation, Comparison, Options,
 };
 pub use crate::error::Error;
-pub use crate::format::{Key, Number, Offset};
+pub use crate::format::{Integer, Number, Offset};
 pub use crate::mask::Mask;
 pub use crate::unique::Unique;
 

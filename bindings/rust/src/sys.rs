@@ -4,7 +4,7 @@
 //! ([`Structs`]). It writes to what it is lent for results alone, no more than their length, and
 //! keeps nothing. So the functions of this module are safe, except `from_raw`.
 
-use crate::format::Key;
+use crate::format::Integer;
 use crate::structs::{ArrowArray, ArrowSchema, Structs, Typed};
 use std::ffi::CStr;
 use std::marker::PhantomData;
@@ -161,7 +161,7 @@ pub(crate) fn count_bits(bits: c_uint, a: &Structs<'_>, counts: &mut [u32]) -> i
     unsafe { dunkelva_count_bits(bits, &a.schema, &a.array, at, len) }
 }
 
-pub(crate) fn arithmetic<T: Key>(
+pub(crate) fn arithmetic<T: Integer>(
     operation: c_uint,
     l: &Typed<'_, T>,
     r: &Typed<'_, T>,
@@ -179,7 +179,7 @@ pub(crate) fn arithmetic<T: Key>(
     unsafe { dunkelva_arithmetic(operation, ls, la, rs, ra, to, len, bits, bytes, nulls) }
 }
 
-pub(crate) fn arithmetic_number<T: Key>(
+pub(crate) fn arithmetic_number<T: Integer>(
     (operation, side): (c_uint, c_uint),
     number: &Wide,
     a: &Typed<'_, T>,
@@ -194,7 +194,7 @@ pub(crate) fn arithmetic_number<T: Key>(
     }
 }
 
-pub(crate) fn sign<T: Key>(
+pub(crate) fn sign<T: Integer>(
     sign: c_uint,
     a: &Typed<'_, T>,
     values: &mut [T],
@@ -275,8 +275,8 @@ impl<'a> Foreign<'a> {
 /// Arrays of other crates.
 #[cfg(feature = "ffi")]
 impl<'a> crate::Array<'a> {
-    /// Lends a column that another crate has exported, such as an `FFI_ArrowSchema` and an
-    /// `FFI_ArrowArray` of arrow-rs, whose pointers are cast.
+    /// Borrows a column that another crate has exported, such as an `FFI_ArrowArray` and an
+    /// `FFI_ArrowSchema` of arrow-rs, whose pointers are cast.
     ///
     /// Nothing is released. Types that the library does not serve are refused by its calls.
     ///
@@ -292,8 +292,8 @@ impl<'a> crate::Array<'a> {
     /// [`Error::BadStructs`](crate::Error::BadStructs), if a pointer is null, or if the length or
     /// the offset is below 0.
     pub unsafe fn from_raw(
-        schema: *const ArrowSchema,
         array: *const ArrowArray,
+        schema: *const ArrowSchema,
     ) -> Result<Self, crate::Error> {
         // SAFETY: the caller promises it.
         let structs = unsafe { schema.as_ref().zip(array.as_ref()) };

@@ -8,7 +8,7 @@ use common::number_from;
 use common::row::{Int, Row, Type, INTS};
 use dunkelva::{
     absolute, add, arithmetic, arithmetic_number, floor_divide, modulo, multiply, negate,
-    number_arithmetic, subtract, sum, truncating_divide, Array, Bitmap, Error, Key, Numbers,
+    number_arithmetic, subtract, sum, truncating_divide, Array, Bitmap, Error, Integer, Numbers,
     Operation,
 };
 
@@ -21,7 +21,7 @@ const OPERATIONS: [Operation; 6] = [
     Operation::Modulo,
 ];
 
-fn rows<T: Key>(numbers: &Numbers<T>) -> Vec<Option<i128>> {
+fn rows<T: Integer>(numbers: &Numbers<T>) -> Vec<Option<i128>> {
     numbers.iter().map(|row| row.map(Into::into)).collect()
 }
 
@@ -149,7 +149,7 @@ impl Side {
     }
 }
 
-fn try_all<T: Key + TryFrom<i128>>(int: Int, chance: &mut Chance, case: u64) {
+fn try_all<T: Integer + TryFrom<i128>>(int: Int, chance: &mut Chance, case: u64) {
     let count = *chance.one_of(&[0, 1, 7, 8, 63, 64, 65, 200]);
     let (left, right) = (
         Side::some(int, count, chance),

@@ -11,17 +11,17 @@ use common::row::{some_row, some_rows, some_type, Int, Row, Type, INTS};
 use dunkelva::{
     compare, compare_number, count_ones, count_zeros, equal, equal_counted, is_null, leading_ones,
     leading_zeros, max, min, min_max, not_equal, reduce, sum, trailing_ones, trailing_zeros, Array,
-    Error, Join, Mask, Options, Test,
+    BitOperation, Comparison, Error, Mask, Options,
 };
 
 const LENGTHS: [usize; 9] = [0, 1, 7, 8, 9, 63, 64, 65, 200];
-const TESTS: [Test; 6] = [
-    Test::Equal,
-    Test::Unequal,
-    Test::Less,
-    Test::LessOrEqual,
-    Test::Greater,
-    Test::GreaterOrEqual,
+const TESTS: [Comparison; 6] = [
+    Comparison::Equal,
+    Comparison::Unequal,
+    Comparison::Less,
+    Comparison::LessOrEqual,
+    Comparison::Greater,
+    Comparison::GreaterOrEqual,
 ];
 
 /// Runs a test for `cases` cases, or for the number in the environment variable `CASES`.
@@ -174,14 +174,14 @@ impl Numbers {
 }
 
 /// Says whether a test holds of two rows.
-fn holds(test: Test, left: Option<i128>, right: Option<i128>) -> bool {
+fn holds(test: Comparison, left: Option<i128>, right: Option<i128>) -> bool {
     match test {
-        Test::Equal => left == right,
-        Test::Unequal => left != right,
+        Comparison::Equal => left == right,
+        Comparison::Unequal => left != right,
         _ => left.zip(right).map_or(false, |(l, r)| match test {
-            Test::Less => l < r,
-            Test::LessOrEqual => l <= r,
-            Test::Greater => l > r,
+            Comparison::Less => l < r,
+            Comparison::LessOrEqual => l <= r,
+            Comparison::Greater => l > r,
             _ => l >= r,
         }),
     }
@@ -247,9 +247,21 @@ fn numbers_are_reduced_as_in_rust() {
             "{case}"
         );
         let joined = |join: fn(i128, i128) -> i128| Ok(present.iter().copied().reduce(join));
-        assert_eq!(reduce(Join::And, &array), joined(|l, r| l & r), "{case}");
-        assert_eq!(reduce(Join::Or, &array), joined(|l, r| l | r), "{case}");
-        assert_eq!(reduce(Join::Xor, &array), joined(|l, r| l ^ r), "{case}");
+        assert_eq!(
+            reduce(&array, BitOperation::And),
+            joined(|l, r| l & r),
+            "{case}"
+        );
+        assert_eq!(
+            reduce(&array, BitOperation::Or),
+            joined(|l, r| l | r),
+            "{case}"
+        );
+        assert_eq!(
+            reduce(&array, BitOperation::Xor),
+            joined(|l, r| l ^ r),
+            "{case}"
+        );
     });
 }
 

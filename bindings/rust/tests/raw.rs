@@ -5,7 +5,9 @@ mod common;
 
 use common::digits;
 use dunkelva::ffi::{ArrowArray, ArrowSchema};
-use dunkelva::{compare_number, equal, is_null, negate, sum, Array, Bitmap, Error, Numbers, Test};
+use dunkelva::{
+    compare_number, equal, is_null, negate, sum, Array, Bitmap, Comparison, Error, Numbers,
+};
 use std::os::raw::{c_char, c_void};
 use std::ptr;
 
@@ -90,7 +92,7 @@ impl Exported {
         let schema: *const ArrowSchema = ptr::addr_of!(self.schema).cast();
         let array: *const ArrowArray = ptr::addr_of!(self.array).cast();
         // SAFETY: the structs are good, and are borrowed as long as the array lives.
-        unsafe { Array::from_raw(schema, array) }
+        unsafe { Array::from_raw(array, schema) }
     }
 }
 
@@ -107,7 +109,10 @@ fn a_column_of_another_crate() -> Result<(), Error> {
     assert_eq!(digits(&is_null(&array)?), "0010");
     assert_eq!(sum(&array)?, Some(7));
     let window = array.slice(1, 3)?; // 2 null 4
-    assert_eq!(digits(&compare_number(&window, Test::Greater, 2)?), "001");
+    assert_eq!(
+        digits(&compare_number(&window, Comparison::Greater, 2)?),
+        "001"
+    );
     assert_eq!(array.slice(1, 4).map(drop), Err(Error::BadArgument));
     let negative: Numbers<i32> = negate(&array)?;
     assert!(negative.iter().eq([Some(-1), Some(-2), None, Some(-4)]));

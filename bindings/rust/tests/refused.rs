@@ -3,8 +3,8 @@
 mod common;
 
 use dunkelva::{
-    compare, compare_number, equal, equal_counted, is_null, min_max, sum, Array, Bitmap, Error,
-    Options, Test,
+    compare, compare_number, equal, equal_counted, is_null, min_max, sum, Array, Bitmap,
+    Comparison, Error, Options,
 };
 
 /// Returns the message of an error.
@@ -163,7 +163,10 @@ fn types_and_lengths_that_differ() {
     for other in [&long, &wide] {
         assert_eq!(equal(&short, other), Err(Error::TypesDiffer));
         assert_eq!(equal(other, &short), Err(Error::TypesDiffer));
-        assert_eq!(compare(&short, Test::Less, other), Err(Error::TypesDiffer));
+        assert_eq!(
+            compare(&short, Comparison::Less, other),
+            Err(Error::TypesDiffer)
+        );
         let counted = equal_counted(&short, other, Options::default());
         assert_eq!(counted, Err(Error::TypesDiffer));
     }
@@ -174,9 +177,15 @@ fn types_that_a_call_does_not_take() {
     let bytes = Array::binary(&[0, 1], b"a").unwrap();
     assert_eq!(sum(&bytes), Err(Error::NotServed));
     assert_eq!(min_max(&Array::numbers(&[1.5])), Err(Error::NotServed));
-    assert_eq!(compare_number(&bytes, Test::Less, 1), Err(Error::NotServed));
+    assert_eq!(
+        compare_number(&bytes, Comparison::Less, 1),
+        Err(Error::NotServed)
+    );
     assert_eq!(sum(&Array::decimals(&[1], 38, 0)), Err(Error::NotServed));
-    assert_eq!(compare(&bytes, Test::Less, &bytes), Err(Error::NotServed));
+    assert_eq!(
+        compare(&bytes, Comparison::Less, &bytes),
+        Err(Error::NotServed)
+    );
 }
 
 #[test]

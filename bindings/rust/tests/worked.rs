@@ -5,8 +5,8 @@ mod common;
 use common::digits;
 use dunkelva::{
     compare, compare_number, count_ones, equal, equal_counted, equal_with, is_null, leading_zeros,
-    max, min, min_max, not_equal, reduce, sum, trailing_ones, version, Array, Bitmap, Error, Join,
-    Options, Test,
+    max, min, min_max, not_equal, reduce, sum, trailing_ones, version, Array, BitOperation, Bitmap,
+    Comparison, Error, Options,
 };
 
 const FLOATS: Options = Options {
@@ -255,12 +255,12 @@ fn comparisons_of_numbers() -> Result<(), Error> {
         .into_iter()
         .collect();
     let by_arrays = [
-        (Test::Equal, "01001", "01000"),
-        (Test::Unequal, "10110", "10111"),
-        (Test::Less, "10000", "10000"),
-        (Test::LessOrEqual, "11000", "11000"),
-        (Test::Greater, "00100", "00100"),
-        (Test::GreaterOrEqual, "01100", "01100"),
+        (Comparison::Equal, "01001", "01000"),
+        (Comparison::Unequal, "10110", "10111"),
+        (Comparison::Less, "10000", "10000"),
+        (Comparison::LessOrEqual, "11000", "11000"),
+        (Comparison::Greater, "00100", "00100"),
+        (Comparison::GreaterOrEqual, "01100", "01100"),
     ];
     for (test, with_array, with_number) in by_arrays {
         assert_eq!(
@@ -275,7 +275,10 @@ fn comparisons_of_numbers() -> Result<(), Error> {
         );
     }
     let days = Array::numbers(&[19_000, 19_001]).with_format("tdD")?;
-    assert_eq!(digits(&compare_number(&days, Test::Less, 19_001)?), "10");
+    assert_eq!(
+        digits(&compare_number(&days, Comparison::Less, 19_001)?),
+        "10"
+    );
     Ok(())
 }
 
@@ -287,15 +290,19 @@ fn reductions() -> Result<(), Error> {
     assert_eq!(sum(&rows)?, Some(-59)); // 197 - 256
     assert_eq!(min_max(&rows)?, Some((-3, 100)));
     assert_eq!((min(&rows)?, max(&rows)?), (Some(-3), Some(100)));
-    assert_eq!(reduce(Join::And, &rows)?, Some(100)); // 100 is 0b0110_0100, -3 is 0b1111_1101
-    assert_eq!(reduce(Join::Or, &rows)?, Some(-3));
-    assert_eq!(reduce(Join::Xor, &rows)?, Some(-3));
+    assert_eq!(reduce(&rows, BitOperation::And)?, Some(100)); // 100 is 0b0110_0100, -3 is 0b1111_1101
+    assert_eq!(reduce(&rows, BitOperation::Or)?, Some(-3));
+    assert_eq!(reduce(&rows, BitOperation::Xor)?, Some(-3));
     let greatest = Array::numbers(&[u64::MAX, 0]);
     assert_eq!(sum(&greatest)?, Some(i128::from(u64::MAX)));
     assert_eq!(min_max(&greatest)?, Some((0, i128::from(u64::MAX))));
     let none: Array<'_> = [None::<i64>, None].into_iter().collect();
     assert_eq!(
-        (sum(&none)?, min_max(&none)?, reduce(Join::Or, &none)?),
+        (
+            sum(&none)?,
+            min_max(&none)?,
+            reduce(&none, BitOperation::Or)?
+        ),
         (None, None, None)
     );
     assert_eq!((min(&none)?, max(&none)?), (None, None));
@@ -331,7 +338,7 @@ fn no_rows() -> Result<(), Error> {
 #[test]
 fn masks() -> Result<(), Error> {
     let numbers: Vec<u16> = (0..20).collect();
-    let big = compare_number(&Array::numbers(&numbers), Test::GreaterOrEqual, 17)?;
+    let big = compare_number(&Array::numbers(&numbers), Comparison::GreaterOrEqual, 17)?;
     assert_eq!(
         (big.len(), big.count(), big.any(), big.all()),
         (20, 3, true, false)
