@@ -481,5 +481,9 @@ GOOD_WORDS = (["good.ndjson", "good.jsonl"], ["--input", "ndjson", "good.ndjson"
               ["--tolerance", "id=0.1", "--relative-tolerance=[].a=1E-9", "good.ndjson", "good.jsonl"],
               ["--only", "id", "table.csv", "table.csv"],
               ["--key", "id", "--unique", "good.jsonl", "good.jsonl"], ["--key=.id", "good.jsonl", "good.jsonl"])
+# what is said of the paths of --only above that no document has
+WARNED = b'''dunkelva: warning: --only: no document has a part at "[].a"
+dunkelva: warning: --only: no document has a part at "x[1]"
+'''
 NAMED = {"good.ndjson": b'{"id":1}\n', "good.jsonl": b'{"id":1.0}', "good.txt": b'{"id":1}\n', "table.csv": b"id\n1\n",
          "table.ndjson": b"id\n1\n"}

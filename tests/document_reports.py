@@ -685,6 +685,39 @@ def wanted(pair):
     return status_of(found), report
 
 
+def has_part(value, pattern):
+    """Returns whether a value has a part that a pattern names."""
+    parts_here = [value]
+    for step in pattern:
+        if step is ANY:
+            parts_here = [item for part in parts_here if isinstance(part, list) for item in part]
+        else:
+            inner = [part_at(part, [step]) for part in parts_here]
+            parts_here = [part for part in inner if part is not MISSING]
+    return bool(parts_here)
+
+
+def warnings(words, left, right):
+    """Returns the lines that a run over two files which ends well says of paths of --only at which
+    no document has a part. Nothing is said of files that are not UTF-8."""
+    content = left + b"\n" + right
+    try:
+        content.decode()
+    except UnicodeDecodeError:
+        return b""
+    trees = [tree_of(line) for line in content.split(b"\n")]
+    documents = [tree for tree, is_json in trees if is_json and isinstance(tree, Object)]
+    lacking = [
+        word
+        for word in words
+        if documents and not any(has_part(it, steps_of(word)) for it in documents)
+    ]
+    return b"".join(
+        f"dunkelva: warning: --only: no document has a part at {table_reports.in_quotes(word)}\n".encode()
+        for word in lacking
+    )
+
+
 def is_right(ran, pair):
     """Returns whether a run over a pair did as it has to."""
     status, report = wanted(pair)
@@ -696,4 +729,7 @@ def is_right(ran, pair):
         printed = objects_of(ran.printed) if pair.options["json"] else ran.printed
     except (ValueError, RecursionError):
         return False
-    return not ran.said and printed == report
+    warned = b""
+    if pair.options["piped"] is None:
+        warned = warnings(pair.options.get("only", ()), pair.left_bytes, pair.right_bytes)
+    return ran.said == warned and printed == report

@@ -9,6 +9,7 @@ mod files;
 mod keys;
 mod kinds;
 mod names;
+mod only;
 mod options;
 mod outputs;
 mod parts;
@@ -23,6 +24,7 @@ use crate::command::command;
 use crate::config::{Config, config_for, joined, named_files};
 use crate::keys::keys_of;
 use crate::kinds::{hold_documents, refuse_document_options, refuse_table_options};
+use crate::only::warn_of_unknown;
 use crate::outputs::refuse_own_target;
 use crate::parts::{part_of, part_of_rows};
 use crate::rules::rules_of;
@@ -98,7 +100,9 @@ fn diff_documents(
         format: format_of(matches),
         colored: is_colored(rt, matches),
     };
-    compare_named(rt, left, right, Task::Documents(&options), target)
+    let status = compare_named(rt, left, right, Task::Documents(&options), target)?;
+    warn_of_unknown(rt, matches, &rules.only, left, right);
+    Ok(status)
 }
 
 /// Compares the two files that the words name.

@@ -15,9 +15,12 @@ const MOST_BYTES: usize = 60;
 
 /// Appends a name, with a comma before it unless it is the first one.
 fn push_name(text: &mut String, alloc: Global, name: &[u8], is_first: bool) -> Result<()> {
-    let name = str::from_utf8(name).unwrap_or("-");
     let comma = if is_first { "" } else { ", " };
-    text.push_str(&format!(in alloc; "{comma}{name:?}")?)?;
+    text.push_str(comma)?;
+    match str::from_utf8(name) {
+        Ok(name) => text.push_str(&format!(in alloc; "{name:?}")?)?,
+        Err(_) => text.push_str("one that is not UTF-8")?,
+    }
     Ok(())
 }
 

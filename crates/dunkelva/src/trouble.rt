@@ -56,6 +56,9 @@ fn no_key(rt: &HostRuntime, file: &str, key: usize, options: &Options<'_>) -> Er
     };
     match columns_of(rt, file, options.csv) {
         Some(names) => anyhow!("no column is named {name:?}: the columns are {names}"),
+        None if file == "-" => {
+            anyhow!("no column is named {name:?}: for JSON lines give --input ndjson")
+        }
         None => anyhow!("no column is named {name:?}"),
     }
 }

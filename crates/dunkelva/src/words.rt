@@ -95,7 +95,7 @@ fn delimiter_of(text: &str) -> Result<u8> {
     let byte = match text.as_bytes() {
         b"\\t" => b'\t',
         [byte] => *byte,
-        _ => return Err(anyhow!("--delimiter takes one byte, not {text:?}")),
+        _ => return Err(anyhow!("--delimiter takes one byte, or \\t for a tab, not {text:?}")),
     };
     if !is_delimiter(byte) {
         return Err(anyhow!(
