@@ -130,7 +130,9 @@ fn is_known(name: &str) -> bool {
 fn refuse_unknown(table: &Table) -> Result<()> {
     for (name, _) in table {
         if !is_known(name) {
-            return Err(anyhow!("a file of options can't set {name:?}"));
+            return Err(anyhow!(
+                "a file of options can't set {name:?}: it sets options by their names, as schema-only"
+            ));
         }
     }
     Ok(())

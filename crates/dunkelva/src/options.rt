@@ -139,7 +139,7 @@ static OPTIONS: [CliOption; 26] = [
         takes: Takes::Text,
         value: "WORD",
         goes_with: GoesWith::Tables,
-        help: "Print a field that is WORD as null; what is compared stays",
+        help: "A field that is WORD is null; diff still compares its text",
         ..SWITCH
     },
     CliOption {
