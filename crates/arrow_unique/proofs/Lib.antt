@@ -2,3 +2,4 @@ mod Examples
 mod Joined
 mod Listed
 mod Marked
+mod Within

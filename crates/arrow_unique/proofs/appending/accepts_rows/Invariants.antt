@@ -2,7 +2,7 @@ use Rattle.std.proofs.Common.{◌≡◌, take, true}
 use Rattle.std.specs.Option.{option_copied}
 use Rattle.polars_arrays_flat.specs.StoredRows.{number_slots, rows_under}
 use Rattle.polars_compute_slots.specs.State.{are_within, numbers_from}
-use Rattle.arrow_unique.proofs.appending.accepts.Given as goal
+use Rattle.arrow_unique.proofs.appending.accepts_rows.Given as goal
 
 abbrev pub invariant-loop-i : goal.invariant-loop-i
 invariant-loop-i g l =
