@@ -51,8 +51,8 @@ fn put_if(out: &mut [u64], n: usize, in_set: bool, number: u64) -> usize
     }
 }
 
-/// Writes the numbers that were seen, of `count` from `least` on, ascending. A number is written as
-/// the lower 64 bits of its two's complement.
+/// Writes to `out`, ascending, those of the `count` numbers from `least` on that were seen. A number
+/// is written as the lower 64 bits of its two's complement.
 pub fn list(least: i128, count: usize, words: &[u64], out: &mut [u64])
     requires numbers { (least +ℤ pos count) ≤ℤ pos (2 ^ 127) }
     requires bits { count ≤ 64 * length words.now }
