@@ -1,7 +1,8 @@
 //! Times the kernels of the library beside plain Rust, in one run and at one processor level, and
 //! prints a line for each: nanoseconds a row (a bit, where the rows are bits) on either side, their
 //! ratio, and what is asked for. Arguments: words of the names of the kernels to run. The variable
-//! ROUNDS says in how many rounds all but arithmetic are timed, if not in four.
+//! ROUNDS says in how many rounds all but arithmetic are timed, if not in four; with QUICK=1 it is
+//! one, of rough figures. JSON names a file that gets the final lines too.
 //!
 //! To add a kernel: its entry and its arm in `crates/bench_kernels`, the same entry of the enum
 //! here, its peer in the file `plain*.rs` of its shape, and a line where its group hands out its
@@ -20,6 +21,7 @@ mod plain_reductions;
 mod plain_states;
 mod plain_strings;
 mod reductions;
+mod report;
 mod slices;
 mod states;
 mod string_rows;
@@ -29,7 +31,7 @@ mod timing;
 use nested_rows::Nested;
 use operands::Data;
 use string_rows::Strings;
-use timing::{Bench, Kernel, RUNS, rounds};
+use timing::{Bench, Kernel, RUNS, Settings};
 
 /// Hands each kernel on rows to `each`, on `count` of them.
 fn for_each_on_rows(count: usize, each: &mut dyn FnMut(&Kernel)) {
@@ -66,15 +68,13 @@ fn rows_agree(bench: &Bench) {
 }
 
 fn main() {
-    let mut bench = Bench::new(std::env::args().skip(1).collect());
+    let settings = Settings::read();
+    let rounds = settings.rounds;
+    let mut bench = Bench::new(settings);
     rows_agree(&bench);
     bitmaps::agree();
     arithmetic::agree();
-    println!(
-        "{:40} {:>9} {:>9} {:>9} {:>7} {:>8}",
-        "kernel", "rows", "ns here", "ns beside", "ratio", "asked"
-    );
-    bench.in_rounds(rounds(), |bench| {
+    bench.in_rounds(rounds, |bench| {
         for run in 0..RUNS.len() {
             for_each_on_rows(RUNS[run].count, &mut |kernel| {
                 bench.compare(run, kernel);
@@ -89,5 +89,5 @@ fn main() {
             arithmetic::compare(bench, run);
         }
     });
-    println!("{} over what is asked for", bench.over());
+    bench.end();
 }

@@ -76,15 +76,15 @@ impl Comparison<'_> {
     fn hand_beside(
         &self,
         strings: &str,
-        beside: &dyn Fn() -> Vec<u64>,
+        other_plain: &dyn Fn() -> Vec<u64>,
         each: &mut dyn FnMut(&Kernel),
     ) {
         each(&Kernel {
             name: &format!("{} {strings}", self.name),
             asked: Asked::Ratio([1.0, 1.0]),
             ours: self.arrays.ours,
-            plain: &|repeats| plain_rows(self.count, repeats, self.arrays.plain),
-            beside: Some(&|repeats| plain_rows(self.count, repeats, beside)),
+            plain: &|repeats| plain_rows(self.count, repeats, other_plain),
+            beside: None,
         });
     }
 

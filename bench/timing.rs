@@ -1,16 +1,9 @@
-//! Times the two sides of a kernel, and prints the line.
+//! Times the two sides of a kernel.
 
+use crate::report::{Limit, Line, Peer, Report};
 use std::collections::HashMap;
 use std::hint::black_box;
 use std::time::{Duration, Instant};
-
-/// Returns the number of rounds in which the kernels are timed, one after the other. The best times
-/// of all rounds count: other work on the machine lasts for seconds, and then all measurements of a
-/// kernel in one round are slow.
-pub fn rounds() -> usize {
-    let told = std::env::var("ROUNDS").ok().and_then(|rounds| rounds.parse().ok());
-    told.filter(|rounds| *rounds > 0).unwrap_or(4)
-}
 
 /// The value that a side returns for a bit past the end.
 pub const NO_BIT: u64 = 2;
@@ -40,6 +33,7 @@ pub fn plain_rows(count: usize, repeats: usize, make: impl Fn() -> Vec<u64>) -> 
 
 /// A number of rows, how many times each side is measured there, and how long one measurement lasts
 /// at least beside the making of the operands, so that the clock's own time is small in it.
+#[derive(Clone, Copy)]
 pub struct Run {
     pub count: usize,
     times: usize,
@@ -82,6 +76,15 @@ impl Run {
             least: Duration::from_millis(5),
         }
     }
+
+    /// Returns the run that gives rough figures in a small part of the time.
+    fn quick(self) -> Run {
+        Run {
+            count: self.count,
+            times: 3,
+            least: self.least / 8,
+        }
+    }
 }
 
 /// The most that is accepted in each run, as the numbers of rows stand in `RUNS`.
@@ -94,6 +97,17 @@ pub enum Asked {
     Nanoseconds([f64; 2]),
 }
 
+impl Asked {
+    /// Returns what is accepted in one run.
+    fn at(self, run: usize) -> Limit {
+        match self {
+            Asked::Nothing => Limit::Nothing,
+            Asked::Ratio(most) => Limit::Ratio(most[run]),
+            Asked::Nanoseconds(most) => Limit::Nanoseconds(most[run]),
+        }
+    }
+}
+
 /// A side of a kernel: runs it a number of times, and returns the checksum.
 pub type Side<'a> = &'a dyn Fn(usize) -> u64;
 
@@ -104,7 +118,7 @@ pub struct Kernel<'a> {
     pub ours: Side<'a>,
     /// Plain Rust that returns the same.
     pub plain: Side<'a>,
-    /// The call that is timed in place of the plain Rust.
+    /// The call of the library that is timed in place of the plain Rust.
     pub beside: Option<Side<'a>>,
 }
 
@@ -149,9 +163,36 @@ impl Best {
     }
 }
 
+/// What a run of the program is told.
+pub struct Settings {
+    /// Words of the names of the kernels to run. Without words all are.
+    pub words: Vec<String>,
+    /// The file that gets the final lines as JSON.
+    pub json: Option<String>,
+    pub rounds: usize,
+    /// Whether rough figures do.
+    pub quick: bool,
+}
+
+impl Settings {
+    /// Reads the arguments, which are words, and the variables JSON, QUICK and ROUNDS.
+    pub fn read() -> Settings {
+        let told = |name: &str| std::env::var(name).ok().filter(|value| !value.is_empty());
+        let quick = told("QUICK").is_some_and(|value| value == "1");
+        let rounds = told("ROUNDS").and_then(|rounds| rounds.parse().ok());
+        Settings {
+            words: std::env::args().skip(1).collect(),
+            json: told("JSON"),
+            rounds: rounds.unwrap_or(if quick { 1 } else { 4 }).max(1),
+            quick,
+        }
+    }
+}
+
 pub struct Bench {
     words: Vec<String>,
-    over: usize,
+    quick: bool,
+    report: Report,
     rounds_left: usize,
     /// The best nanoseconds a row of both sides so far, by the kernel's name and the number of
     /// rows.
@@ -159,20 +200,29 @@ pub struct Bench {
 }
 
 impl Bench {
-    /// Creates a bench of the kernels whose names hold one of the words, or of all without words.
-    pub fn new(words: Vec<String>) -> Bench {
+    pub fn new(settings: Settings) -> Bench {
+        let Settings {
+            words,
+            json,
+            rounds,
+            quick,
+        } = settings;
         Bench {
             words,
-            over: 0,
+            quick,
+            report: Report::new(json, rounds, quick),
             rounds_left: 0,
             best: HashMap::new(),
         }
     }
 
-    /// Times kernels in `rounds` rounds. The lines are printed in the last one.
+    /// Times kernels in `rounds` rounds, one kernel after the other. The best times of all rounds
+    /// count: other work on the machine lasts for seconds, and then all measurements of a kernel in
+    /// one round are slow. The lines of the last round are final.
     pub fn in_rounds(&mut self, rounds: usize, mut each: impl FnMut(&mut Bench)) {
-        for left in (0..rounds).rev() {
-            self.rounds_left = left;
+        for round in 1..=rounds {
+            self.rounds_left = rounds - round;
+            self.report.begin_round(round, rounds);
             each(self);
         }
     }
@@ -182,13 +232,12 @@ impl Bench {
         self.words.is_empty() || self.words.iter().any(|word| name.contains(word.as_str()))
     }
 
-    /// Returns how many kernels miss what is asked for.
-    pub fn over(&self) -> usize {
-        self.over
+    /// Ends the report.
+    pub fn end(&self) {
+        self.report.end();
     }
 
-    /// Times both sides in turn, and in the last round prints the line. `run` says which of `RUNS`
-    /// it is.
+    /// Times both sides in turn, and prints the line. `run` says which of `RUNS` it is.
     pub fn compare(&mut self, run: usize, kernel: &Kernel) {
         self.time(&RUNS[run], run, kernel);
     }
@@ -196,16 +245,29 @@ impl Bench {
     /// Times a kernel at any number of rows, where `run` says which of the numbers that are asked
     /// counts. Returns the nanoseconds a row of the library, if the kernel is one of those to run.
     pub fn time(&mut self, rows: &Run, run: usize, kernel: &Kernel) -> Option<f64> {
-        let name = kernel.name;
-        if !self.runs(name) {
+        if !self.runs(kernel.name) {
             return None;
         }
+        let (here, beside) = self.measure(rows, kernel);
+        self.hand_in(&Line {
+            kernel: kernel.name,
+            rows: Some(rows.count),
+            here,
+            beside,
+            asked: kernel.asked.at(run),
+            peer: kernel.beside.map_or(Peer::PlainRust, |_| Peer::Library),
+        });
+        Some(here)
+    }
+
+    /// Measures both sides in turn. Returns the best nanoseconds a row of all rounds so far.
+    fn measure(&mut self, rows: &Run, kernel: &Kernel) -> (f64, f64) {
         let Run {
             count,
             times,
             least,
-        } = *rows;
-        let ours = kernel.ours;
+        } = if self.quick { rows.quick() } else { *rows };
+        let (name, ours) = (kernel.name, kernel.ours);
         assert_eq!(
             ours(9),
             (kernel.plain)(9),
@@ -222,24 +284,16 @@ impl Bench {
         let best = best.or_insert((f64::MAX, f64::MAX));
         best.0 = best.0.min(our_best.each(repeats * count));
         best.1 = best.1.min(other_best.each(repeats * count));
-        let (our_time, other_time) = *best;
+        *best
+    }
+
+    /// Hands a line to the report: as a final one in the last round.
+    fn hand_in(&mut self, line: &Line) {
         if self.rounds_left > 0 {
-            return Some(our_time);
+            self.report.show(line);
+        } else {
+            self.report.finish(line);
         }
-        let ratio = our_time / other_time;
-        let (over, limit) = match kernel.asked {
-            Asked::Nothing => (false, "-".to_string()),
-            Asked::Ratio(limits) => (ratio > limits[run], format!("{:.2}", limits[run])),
-            Asked::Nanoseconds(limits) => {
-                (our_time > limits[run], format!("{:.2} ns", limits[run]))
-            }
-        };
-        self.over += usize::from(over);
-        println!(
-            "{name:40} {count:9} {our_time:9.4} {other_time:9.4} {ratio:7.2} {limit:>8}  {}",
-            if over { "OVER" } else { "ok" },
-        );
-        Some(our_time)
     }
 
     /// Prints by how much the time of a row grows from the first number of rows to the last one.
@@ -247,17 +301,13 @@ impl Bench {
         let (Some(first), Some(last)) = (times.first(), times.last()) else {
             return;
         };
-        if self.rounds_left > 0 {
-            return;
-        }
-        let ratio = last / first;
-        let over = ratio > limit;
-        self.over += usize::from(over);
-        println!(
-            "{:40} {:9} {last:9.4} {first:9.4} {ratio:7.2} {limit:>8.2}  {}",
-            format!("{name}, growth"),
-            "",
-            if over { "OVER" } else { "ok" },
-        );
+        self.hand_in(&Line {
+            kernel: &format!("{name}, growth"),
+            rows: None,
+            here: *last,
+            beside: *first,
+            asked: Limit::Ratio(limit),
+            peer: Peer::Library,
+        });
     }
 }
