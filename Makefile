@@ -30,7 +30,7 @@ prove: ## Prove everything and run all tests (the gate; an hour or more)
 test: ## Run most stored inputs without a proof (minutes)
 	tests/quick
 
-bench: ## Time the kernels beside plain Rust (proves them first; then 15 minutes)
+bench: ## Time the kernels beside plain Rust (15 minutes once they are proved; QUICK=1: one)
 	bench/run.sh
 
 site: ## Make the pages as a site (out/site; needs mkdocs)
