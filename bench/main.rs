@@ -71,6 +71,7 @@ fn main() {
     let settings = Settings::read();
     let rounds = settings.rounds;
     let mut bench = Bench::new(settings);
+    eprintln!("comparing what both sides return, and then timing");
     rows_agree(&bench);
     bitmaps::agree();
     arithmetic::agree();

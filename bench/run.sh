@@ -82,7 +82,9 @@ is_proved() {
 build_library() {
     local archive="$built/libbench_kernels.a" cpu="--cpu=x86-64-$level"
     [ -f "$archive" ] && [ -z "$(newer "$archive" "$crates")" ] && return
+    echo "building the library, for x86-64-$level" >&2
     if ! is_proved || ! "$here/../packaging/build_archive" bench_kernels "$cpu"; then
+        echo "proving what it is made of first, which takes half an hour or more" >&2
         (cd "$crates/bench_kernels" && rt lib "$cpu" | tail -n 1)
     fi
     mv "$crates/bench_kernels/out/libbench_kernels.a" "$archive"
@@ -93,6 +95,7 @@ build_library() {
 build_program() {
     local program="$built/bench"
     [ -f "$program" ] && [ -z "$(newer "$program" "$here"/*.rs "$0" "$built")" ] && return
+    echo "building the program" >&2
     rustc --edition 2024 -O -C "target-cpu=x86-64-$level" \
         -C llvm-args=--x86-branches-within-32B-boundaries "$here/main.rs" -L "$built" \
         -l static=bench_kernels -C link-arg="$(dirname "$(rt doc)")/c/liblibc_c.a" -o "$program"
