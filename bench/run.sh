@@ -81,7 +81,7 @@ is_proved() {
 # else all is proved first.
 build_library() {
     local archive="$built/libbench_kernels.a" cpu="--cpu=x86-64-$level"
-    [ -f "$archive" ] && [ -z "$(newer "$archive" "$crates")" ] && return
+    [ -f "$archive" ] && [ -z "$(newer "$archive" "$crates" "$crates.txt")" ] && return
     echo "building the library, for x86-64-$level" >&2
     if ! is_proved || ! "$here/../packaging/build_archive" bench_kernels "$cpu"; then
         echo "proving what it is made of first, which takes half an hour or more" >&2
