@@ -48,8 +48,8 @@ fn has_part(alloc: Global, pattern: &Pattern, document: &Value<'_>) -> Result<bo
     parts.push(document)?;
     for step in &pattern.steps {
         let mut inner = Vec::new(alloc);
-        for part in &parts {
-            push_inside(&mut inner, step, *part)?;
+        for i in 0..parts.len() {
+            push_inside(&mut inner, step, parts[i])?;
         }
         parts = inner;
     }
