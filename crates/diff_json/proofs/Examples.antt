@@ -64,6 +64,6 @@ totals : totals_members 1 2 3 40 0 ≡ codes "\"changed\":1,\"removed\":2,\"adde
 unfolding totals_members digits
 totals = refl
 
-one-column-counted : column_members by_id (0 ∷ 5 ∷ []) ≡ codes "\"city\":5"
+one-column-counted : column_members by_id.names (0 ∷ 5 ∷ []) ≡ codes "\"city\":5"
 unfolding listed json_string char_text encode_utf8 computing digits
 one-column-counted = refl

@@ -285,7 +285,7 @@ unfolding column_object
 column_law Left name = column_reads name (codes "left") left_word
 column_law Right name = column_reads name (codes "right") right_word
 
-columns_read : (n : Naming) (counts : List ℕ) → ((column : ℕ) → slice_index counts column < 2 ^ 64) → Reads (123 ∷ column_members n counts ++ 125 ∷ []) (columns_value n counts)
+columns_read : (n : Naming) (counts : List ℕ) → ((column : ℕ) → slice_index counts column < 2 ^ 64) → Reads (123 ∷ column_members n.names counts ++ 125 ∷ []) (columns_value n counts)
 columns_read n counts low =
     object_reads (λ column. get_or n.names column []) (λ column. decimal (slice_index counts column)) (λ column. number (decimal (slice_index counts column)))
     (λ column. number_reads (slice_index counts column) (low column)) (columns_counted counts)
@@ -300,4 +300,4 @@ pub counts_law : (n : Naming) (c : Comparison) (counts : List ℕ) (limit : ℕ)
 unfolding counts_object totals_members
 counts_law n c counts limit few low_rows low =
     counts_read (length c.changed.items) (length c.matching.removed.items) (length c.matching.added.items) (length c.matching.left_rows.items - length c.changed.items) (difference_count c - limit)
-    (column_members n counts) (columns_value n counts) (omega arith) (omega arith) (omega arith) (omega arith) (omega arith) (columns_read n counts low) (columns_shallow n counts)
+    (column_members n.names counts) (columns_value n counts) (omega arith) (omega arith) (omega arith) (omega arith) (omega arith) (columns_read n counts low) (columns_shallow n counts)

@@ -169,9 +169,9 @@ key_part n cells = record { all = key_plain n cells }
 changes_part : (n : Naming) (columns : List ℕ) (left right : List (List ℕ)) → Plain (change_members n columns left right)
 changes_part n columns left right = record { all = changes_plain n columns left right }
 
-columns_part : (n : Naming) (counts : List ℕ) → ((column : ℕ) → slice_index counts column < 2 ^ 64) → Plain (column_members n counts)
+columns_part : (n : Naming) (counts : List ℕ) → ((column : ℕ) → slice_index counts column < 2 ^ 64) → Plain (column_members n.names counts)
 columns_part n counts low = record {
-  all = list_plain (column_member n counts)
+  all = list_plain (column_member n.names counts)
       (λ column. both_plain (json_string (get_or n.names column [])) (58 ∷ decimal (slice_index counts column)) (string_plain (get_or n.names column []))
       (one_plain 58 (decimal (slice_index counts column)) refl (decimal_plain (slice_index counts column) (low column)))) (columns_counted counts);
 }

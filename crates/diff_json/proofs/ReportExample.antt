@@ -93,7 +93,7 @@ lines_of p = map (pair_of p) p.changed ++ map (λ i. row_object (codes "removed"
 -- the line with the counts
 abbrev last_of : Parts → List ℕ → ℕ → List ℕ
 last_of p counts limit = codes "{\"kind\":\"counts\"," ++ totals_members (length p.changed) (length p.removed) (length p.added) (length p.left_partners - length p.changed) ((length p.changed + length p.removed + length p.added) - limit)
-    ++ codes ",\"columns\":{" ++ column_members p.naming counts ++ codes "}}\n"
+    ++ codes ",\"columns\":{" ++ column_members p.naming.names counts ++ codes "}}\n"
 
 -- the whole report
 abbrev text_of : Parts → List ℕ → ℕ → List ℕ

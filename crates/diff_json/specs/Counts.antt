@@ -30,15 +30,16 @@ totals_of c limit =
     (difference_count c - limit)
 
 -- the name of a column, and its count
-abbrev pub column_member : Naming → List ℕ → ℕ → List ℕ
-column_member n counts column = json_string (get_or n.names column [])
+abbrev pub column_member : List (List ℕ) → List ℕ → ℕ → List ℕ
+column_member names counts column = json_string (get_or names column [])
     ++ 58 ∷ decimal (slice_index counts column)
 
 -- the columns with a count that is not 0, and their counts
-abbrev pub column_members : Naming → List ℕ → List ℕ
-column_members n counts = listed (codes ",") (map (column_member n counts) (columns_counted counts))
+abbrev pub column_members : List (List ℕ) → List ℕ → List ℕ
+column_members names counts =
+    listed (codes ",") (map (column_member names counts) (columns_counted counts))
 
 -- the last line: the totals, and the columns in which rows differ
 unfoldable pub counts_object : Naming → Comparison → List ℕ → ℕ → List ℕ
 counts_object n c counts limit = codes "{\"kind\":\"counts\"," ++ totals_of c limit
-    ++ codes ",\"columns\":{" ++ column_members n counts ++ codes "}}\n"
+    ++ codes ",\"columns\":{" ++ column_members n.names counts ++ codes "}}\n"

@@ -1,19 +1,20 @@
 //! The line with the counts.
 
-ghost use Rattle.std.specs.Prelude.{◌≡◌, ◌<◌, ◌≤◌, ◌+◌, ◌++◌, [], if◌then◌else◌, length, codes};
+ghost use Rattle.std.specs.Prelude.{◌≡◌, ◌<◌, ◌+◌, ◌++◌, [], if◌then◌else◌, length, codes};
 ghost use Rattle.std.specs.Prelude.{IfOk, OnOk};
+ghost use Rattle.polars_arrays_bytes.specs.OffsetStrings.{offset_strings};
 ghost use Rattle.diff_words.specs.Lists.{gap};
-ghost use Rattle.diff_report.specs.Sides.{naming_of};
-ghost use Rattle.diff_report.specs.Summary.{is_counted};
+ghost use Rattle.diff_report.specs.Naming.{Naming};
+ghost use Rattle.diff_report.specs.Summary.{AreTotalsOf, is_counted};
 ghost use Rattle.diff_json.specs.Counts.{column_member, column_members, counts_object};
 ghost use Rattle.diff_json.specs.Counts.{totals_members};
+ghost use Rattle.diff_tables.specs.declared.compare.Comparison.{Comparison};
 
 use crate::numbers::push_number;
 use crate::strings::push_string;
-use diff_report::sides::Sides;
-use diff_report::summary::difference_count;
-use diff_tables::compare::Comparison;
+use diff_report::summary::Totals;
 use diff_words::lists::push_gap;
+use polars_arrays_bytes::binary::BinaryArray;
 use polars_arrays_flat::byte_rows::ByteRows;
 use std::alloc::AllocError;
 
@@ -21,38 +22,43 @@ use std::alloc::AllocError;
 /// that has `written` elements already. Returns how many it has then.
 fn push_if_counted(
     out: &mut Vec<u8>,
-    sides: &Sides,
+    names: &BinaryArray<i64>,
     counts: &[usize],
     column: usize,
     written: usize,
 ) -> Result<usize, AllocError>
-    requires names { column < length (naming_of sides.now).names }
+    requires names { column < length (offset_strings (λ x. x) names.now) }
     requires counts { column < length counts.now }
     requires room { written < usize.MAX }
     ensures text { OnOk result
         (out.new.items ≡ out.old.items
         ++ (if is_counted counts.now column then gap (codes ",") written
-        ++ column_member (naming_of sides.now) counts.now column else [])) }
+        ++ column_member (offset_strings (λ x. x) names.now) counts.now column else [])) }
     ensures count { IfOk result (λ n. n ≡ written + (if is_counted counts.now column then 1 else 0)) }
 {
     if counts[column] == 0 {
         return Ok(written);
     }
     push_gap(out, b",", written)?;
-    push_string(out, sides.names.bytes(column))?;
+    push_string(out, names.bytes(column))?;
     push_number(out, b":", counts[column])?;
     Ok(written + 1)
 }
 
 /// Appends the columns that differ, each with its count.
-fn push_by_column(out: &mut Vec<u8>, sides: &Sides, counts: &[usize]) -> Result<(), AllocError>
-    requires { length counts.now ≡ length (naming_of sides.now).names }
+fn push_by_column(
+    out: &mut Vec<u8>,
+    names: &BinaryArray<i64>,
+    counts: &[usize],
+) -> Result<(), AllocError>
+    requires { length counts.now ≡ length (offset_strings (λ x. x) names.now) }
     ensures { OnOk result
-        (out.new.items ≡ out.old.items ++ column_members (naming_of sides.now) counts.now) }
+        (out.new.items ≡ out.old.items
+        ++ column_members (offset_strings (λ x. x) names.now) counts.now) }
 {
     let mut written = 0;
     for column in 0..counts.len() {
-        written = push_if_counted(out, sides, counts, column, written)?;
+        written = push_if_counted(out, names, counts, column, written)?;
     }
     Ok(())
 }
@@ -80,29 +86,26 @@ pub fn push_totals(
 }
 
 /// Appends the last line: how many rows differ, and in which columns. `counts` says how often each
-/// column differs.
+/// column of these names differs.
 pub fn push_counts(
     out: &mut Vec<u8>,
-    sides: &Sides,
-    comparison: &Comparison,
+    names: &BinaryArray<i64>,
+    totals: &Totals,
     counts: &[usize],
     limit: usize,
 ) -> Result<(), AllocError>
-    requires few { length comparison.now.changed.items ≤ length
-        comparison.now.matching.left_rows.items }
-    requires counts { length counts.now ≡ length (naming_of sides.now).names }
+    requires { length counts.now ≡ length (offset_strings (λ x. x) names.now) }
     ensures { OnOk result
-        (out.new.items ≡ out.old.items
-        ++ counts_object (naming_of sides.now) comparison.now counts.now limit) }
+        ((n : Naming) (c : Comparison) → n.names ≡ offset_strings (λ x. x) names.now
+        → AreTotalsOf c totals.now
+        → out.new.items ≡ out.old.items ++ counts_object n c counts.now limit) }
 {
-    let (matching, changed) = (&comparison.matching, comparison.changed.len());
-    let (removed, added) = (matching.removed.len(), matching.added.len());
-    let same = matching.left_rows.len() - changed;
-    let not_shown = difference_count(matching, changed).saturating_sub(limit as u128);
+    let not_shown = totals.differences().saturating_sub(limit as u128);
     out.extend_from_slice(br#"{"kind":"counts","#)?;
-    push_totals(out, changed, removed, added, same, not_shown)?;
+    let (changed, same) = (totals.changed, totals.same);
+    push_totals(out, changed, totals.removed, totals.added, same, not_shown)?;
     out.extend_from_slice(br#","columns":{"#)?;
-    push_by_column(out, sides, counts)?;
+    push_by_column(out, names, counts)?;
     out.extend_from_slice(b"}}\n")?;
     Ok(())
 }

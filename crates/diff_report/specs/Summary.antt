@@ -3,17 +3,25 @@
 -- 2 changed, 1 removed, 1 added, 998999 the same.  By column: city 1, amount 2.
 use Rattle.std.specs.Fmt.{decimal}
 use Rattle.std.specs.List.{range_with_len}
-use Rattle.std.specs.Prelude.{ℕ, ◌+◌, ◌-◌, ◌==◌, nat_lt, Bool, not, ◌&&◌, if◌then◌else◌, List, []}
-use Rattle.std.specs.Prelude.{◌∷◌, ◌++◌, length, map, filter, get_or, slice_index, codes}
+use Rattle.std.specs.Prelude.{◌≡◌, ℕ, ◌+◌, ◌-◌, ◌==◌, nat_lt, Bool, not, ◌&&◌, if◌then◌else◌, List}
+use Rattle.std.specs.Prelude.{[], ◌∷◌, ◌++◌, length, map, filter, get_or, slice_index, codes}
 use Rattle.diff_keys.specs.declared.matching.Matching.{Matching}
 use Rattle.diff_tables.specs.declared.compare.Comparison.{Comparison}
 use Rattle.diff_words.specs.Lists.{listed}
 use Rattle.diff_words.specs.Words.{word_text}
 use Rattle.diff_report.specs.Naming.{Naming}
+use Rattle.diff_report.specs.declared.summary.Totals.{Totals}
 
 -- the number of differences, if this many of the matched rows are changed
 abbrev pub difference_count : Matching → ℕ → ℕ
 difference_count m changed = changed + length m.removed.items + length m.added.items
+
+-- the numbers of a comparison's rows of each kind
+pub record AreTotalsOf (c : Comparison) (t : Totals) : Type 0 where
+  pub changed : t.changed ≡ length c.changed.items
+  pub removed : t.removed ≡ length c.matching.removed.items
+  pub added : t.added ≡ length c.matching.added.items
+  pub same : t.same ≡ length c.matching.left_rows.items - length c.changed.items
 
 -- the text that says how many differences have no line, if some have a line and others do not
 unfoldable pub rest_text : ℕ → ℕ → List ℕ
@@ -37,16 +45,16 @@ abbrev pub columns_counted : List ℕ → List ℕ
 columns_counted counts = filter (is_counted counts) (range_with_len 0 (length counts))
 
 -- the name of a column, and its count
-abbrev pub count_text : Naming → List ℕ → ℕ → List ℕ
-count_text n counts column = word_text (get_or n.names column []) ++ 32 ∷ []
+abbrev pub count_text : List (List ℕ) → List ℕ → ℕ → List ℕ
+count_text names counts column = word_text (get_or names column []) ++ 32 ∷ []
     ++ decimal (slice_index counts column)
 
--- the counts of the columns
-unfoldable pub by_column : Naming → List ℕ → List ℕ
-by_column n counts = codes "  By column: "
-    ++ listed (codes ", ") (map (count_text n counts) (columns_counted counts)) ++ codes "."
+-- the counts of the columns of these names
+unfoldable pub by_column : List (List ℕ) → List ℕ → List ℕ
+by_column names counts = codes "  By column: "
+    ++ listed (codes ", ") (map (count_text names counts) (columns_counted counts)) ++ codes "."
 
 -- the last line: the totals, and the columns where something is changed
 unfoldable pub summary_text : Naming → Comparison → List ℕ → List ℕ
 summary_text n c counts = totals_text c
-    ++ (if length c.changed.items == 0 then [] else by_column n counts) ++ 10 ∷ []
+    ++ (if length c.changed.items == 0 then [] else by_column n.names counts) ++ 10 ∷ []

@@ -1,21 +1,61 @@
 //! The summary behind the lines.
 
 ghost use Rattle.std.specs.Fmt.{decimal};
-ghost use Rattle.std.specs.Prelude.{◌≡◌, ◌<◌, ◌≤◌, ◌+◌, ◌++◌, [], if◌then◌else◌, length, map};
-ghost use Rattle.std.specs.Prelude.{codes, IfOk, OnOk};
+ghost use Rattle.std.specs.Prelude.{◌≡◌, ◌==◌, ◌<◌, ◌≤◌, ◌+◌, ◌++◌, [], if◌then◌else◌, length};
+ghost use Rattle.std.specs.Prelude.{map, codes, IfOk, OnOk};
 ghost use Rattle.diff_words.specs.Lists.{gap, listed};
-ghost use Rattle.diff_report.specs.Sides.{naming_of};
-ghost use Rattle.diff_report.specs.Summary.{by_column, count_text, difference_count, is_counted};
-ghost use Rattle.diff_report.specs.Summary.{rest_text, summary_text, totals_text};
+ghost use Rattle.polars_arrays_bytes.specs.OffsetStrings.{offset_strings};
+ghost use Rattle.diff_report.specs.Naming.{Naming};
+ghost use Rattle.diff_report.specs.Summary.{AreTotalsOf, by_column, count_text, difference_count};
+ghost use Rattle.diff_report.specs.Summary.{is_counted, rest_text, summary_text, totals_text};
+ghost use Rattle.diff_tables.specs.declared.compare.Comparison.{Comparison};
 
-use crate::sides::Sides;
 use diff_keys::matching::Matching;
 use diff_tables::compare::Comparison;
 use diff_words::decimals::push_decimal;
 use diff_words::lists::push_gap;
 use diff_words::words::push_word;
+use polars_arrays_bytes::binary::BinaryArray;
 use polars_arrays_flat::byte_rows::ByteRows;
 use std::alloc::AllocError;
+
+/// How many rows of each kind a comparison has.
+#[derive(Clone, Copy)]
+pub struct Totals {
+    /// The pairs of partners that differ.
+    pub changed: usize,
+    /// The left rows that have no partner.
+    pub removed: usize,
+    /// The right rows that have no partner.
+    pub added: usize,
+    /// The pairs of partners that are the same.
+    pub same: usize,
+}
+
+impl Totals {
+    /// Returns the totals of a comparison.
+    pub fn of(comparison: &Comparison) -> Totals
+        requires { length comparison.now.changed.items ≤ length
+            comparison.now.matching.left_rows.items }
+        ensures { AreTotalsOf comparison.now result }
+    {
+        let changed = comparison.changed.len();
+        Totals {
+            changed,
+            removed: comparison.matching.removed.len(),
+            added: comparison.matching.added.len(),
+            same: comparison.matching.left_rows.len() - changed,
+        }
+    }
+
+    /// Returns how many differences there are.
+    pub fn differences(&self) -> u128
+        ensures { (c : Comparison) → AreTotalsOf c self.now
+            → result ≡ difference_count c.matching (length c.changed.items) }
+    {
+        self.changed as u128 + self.removed as u128 + self.added as u128
+    }
+}
 
 /// Returns how many differences there are, where `changed` of the matched rows differ.
 pub fn difference_count(matching: &Matching, changed: usize) -> u128
@@ -48,17 +88,15 @@ fn push_count(out: &mut Vec<u8>, count: usize, what: &[u8]) -> Result<(), AllocE
 }
 
 /// Appends how many rows are changed, removed, added, and the same.
-#[tactic(auto, unfolding(crate::specs::Summary::totals_text))]
-fn push_totals(out: &mut Vec<u8>, comparison: &Comparison) -> Result<(), AllocError>
-    requires { length comparison.now.changed.items ≤ length
-        comparison.now.matching.left_rows.items }
-    ensures { OnOk result (out.new.items ≡ out.old.items ++ totals_text comparison.now) }
+fn push_totals(out: &mut Vec<u8>, totals: &Totals) -> Result<(), AllocError>
+    ensures { OnOk result
+        ((c : Comparison) → AreTotalsOf c totals.now
+        → out.new.items ≡ out.old.items ++ totals_text c) }
 {
-    let same = comparison.matching.left_rows.len() - comparison.changed.len();
-    push_count(out, comparison.changed.len(), b" changed, ")?;
-    push_count(out, comparison.matching.removed.len(), b" removed, ")?;
-    push_count(out, comparison.matching.added.len(), b" added, ")?;
-    push_count(out, same, b" the same.")?;
+    push_count(out, totals.changed, b" changed, ")?;
+    push_count(out, totals.removed, b" removed, ")?;
+    push_count(out, totals.added, b" added, ")?;
+    push_count(out, totals.same, b" the same.")?;
     Ok(())
 }
 
@@ -66,65 +104,84 @@ fn push_totals(out: &mut Vec<u8>, comparison: &Comparison) -> Result<(), AllocEr
 /// that has `written` elements already. Returns how many it has then.
 fn push_if_counted(
     out: &mut Vec<u8>,
-    sides: &Sides,
+    names: &BinaryArray<i64>,
     counts: &[usize],
     column: usize,
     written: usize,
 ) -> Result<usize, AllocError>
-    requires names { column < length (naming_of sides.now).names }
+    requires names { column < length (offset_strings (λ x. x) names.now) }
     requires counts { column < length counts.now }
     requires room { written < usize.MAX }
     ensures text { OnOk result
         (out.new.items ≡ out.old.items
         ++ (if is_counted counts.now column then gap (codes ", ") written
-        ++ count_text (naming_of sides.now) counts.now column else [])) }
+        ++ count_text (offset_strings (λ x. x) names.now) counts.now column else [])) }
     ensures count { IfOk result (λ n. n ≡ written + (if is_counted counts.now column then 1 else 0)) }
 {
     if counts[column] == 0 {
         return Ok(written);
     }
     push_gap(out, b", ", written)?;
-    push_word(out, sides.names.bytes(column))?;
+    push_word(out, names.bytes(column))?;
     out.push(b' ')?;
     push_decimal(out, counts[column])?;
     Ok(written + 1)
 }
 
 /// Appends the columns that differ, each with its count.
-fn push_by_column(out: &mut Vec<u8>, sides: &Sides, counts: &[usize]) -> Result<(), AllocError>
-    requires { length counts.now ≡ length (naming_of sides.now).names }
+fn push_by_column(
+    out: &mut Vec<u8>,
+    names: &BinaryArray<i64>,
+    counts: &[usize],
+) -> Result<(), AllocError>
+    requires { length counts.now ≡ length (offset_strings (λ x. x) names.now) }
     ensures { OnOk result
-        (out.new.items ≡ out.old.items ++ by_column (naming_of sides.now) counts.now) }
+        (out.new.items ≡ out.old.items
+        ++ by_column (offset_strings (λ x. x) names.now) counts.now) }
 {
     out.extend_from_slice(b"  By column: ")?;
     let mut written = 0;
     for column in 0..counts.len() {
-        written = push_if_counted(out, sides, counts, column, written)?;
+        written = push_if_counted(out, names, counts, column, written)?;
     }
     out.push(b'.')?;
     Ok(())
 }
 
-/// Appends the last line: how many rows differ, and in which columns. `counts` says how often each
-/// column differs.
-#[tactic(auto, unfolding(crate::specs::Summary::summary_text))]
-pub fn push_summary(
+/// Appends the columns that differ, where some rows do.
+fn push_columns(
     out: &mut Vec<u8>,
-    sides: &Sides,
-    comparison: &Comparison,
+    names: &BinaryArray<i64>,
+    changed: usize,
     counts: &[usize],
 ) -> Result<(), AllocError>
-    requires few { length comparison.now.changed.items ≤ length
-        comparison.now.matching.left_rows.items }
-    requires counts { length counts.now ≡ length (naming_of sides.now).names }
-    ensures { OnOk result
-        (out.new.items ≡ out.old.items
-        ++ summary_text (naming_of sides.now) comparison.now counts.now) }
+    requires { length counts.now ≡ length (offset_strings (λ x. x) names.now) }
+    ensures { OnOk result (out.new.items ≡ out.old.items ++ (if changed
+        == 0 then [] else by_column (offset_strings (λ x. x) names.now) counts.now)) }
 {
-    push_totals(out, comparison)?;
-    if !comparison.changed.is_empty() {
-        push_by_column(out, sides, counts)?;
+    if changed == 0 {
+        return Ok(());
     }
+    push_by_column(out, names, counts)?;
+    Ok(())
+}
+
+/// Appends the last line: how many rows differ, and in which columns. `counts` says how often each
+/// column of these names differs.
+pub fn push_summary(
+    out: &mut Vec<u8>,
+    names: &BinaryArray<i64>,
+    totals: &Totals,
+    counts: &[usize],
+) -> Result<(), AllocError>
+    requires { length counts.now ≡ length (offset_strings (λ x. x) names.now) }
+    ensures { OnOk result
+        ((n : Naming) (c : Comparison) → n.names ≡ offset_strings (λ x. x) names.now
+        → AreTotalsOf c totals.now
+        → out.new.items ≡ out.old.items ++ summary_text n c counts.now) }
+{
+    push_totals(out, totals)?;
+    push_columns(out, names, totals.changed, counts)?;
     out.push(b'\n')?;
     Ok(())
 }

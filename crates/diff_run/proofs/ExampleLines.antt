@@ -86,7 +86,7 @@ counts_of p = map
 -- the last line
 abbrev last_of : Parts → List ℕ → List ℕ
 last_of p counts = (decimal (length p.changed) ++ codes " changed, " ++ decimal (length p.removed) ++ codes " removed, " ++ decimal (length p.added) ++ codes " added, "
-    ++ decimal (length p.left_partners - length p.changed) ++ codes " the same.") ++ (if length p.changed == 0 then [] else by_column p.naming counts) ++ 10 ∷ []
+    ++ decimal (length p.left_partners - length p.changed) ++ codes " the same.") ++ (if length p.changed == 0 then [] else by_column p.naming.names counts) ++ 10 ∷ []
 
 -- the lines of all differences
 abbrev lines_of : Parts → List (List ℕ)

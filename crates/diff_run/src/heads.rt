@@ -18,10 +18,10 @@ use std::alloc::Global;
 use std::io::Read;
 
 /// The names of the columns of two inputs, and how they are matched.
-pub(crate) struct Heads {
-    pub(crate) left_names: BinaryArray<i64>,
-    pub(crate) right_names: BinaryArray<i64>,
-    pub(crate) layout: Layout,
+pub struct Heads {
+    pub left_names: BinaryArray<i64>,
+    pub right_names: BinaryArray<i64>,
+    pub layout: Layout,
 }
 
 // By hand, so that each place where heads go out of scope is one call.
@@ -88,7 +88,7 @@ fn matched<L: Read + Drop, R: Read + Drop>(
 }
 
 /// Matches the columns of two inputs by their names, of which the options choose some.
-pub(crate) fn heads_of<L: Read + Drop, R: Read + Drop>(
+pub fn heads_of<L: Read + Drop, R: Read + Drop>(
     alloc: Global,
     left: &Source<L>,
     right: &Source<R>,

@@ -23,7 +23,7 @@ pub(crate) struct Both {
 }
 
 /// Reads the first record of an input.
-pub(crate) fn opened<R: Read + Drop>(
+pub fn opened<R: Read + Drop>(
     alloc: Global,
     reader: R,
     options: &Options<'_>,

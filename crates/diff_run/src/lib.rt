@@ -4,13 +4,13 @@
 mod chosen;
 mod comparables;
 pub mod error;
-mod heads;
-mod inputs;
-mod lines;
+pub mod heads;
+pub mod inputs;
+pub mod lines;
 mod lone;
 mod names;
 pub mod options;
 pub mod report;
 pub mod run;
-mod sides;
+pub mod sides;
 mod unique;

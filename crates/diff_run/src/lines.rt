@@ -1,19 +1,24 @@
 //! The lines of differences, in the form that is asked for.
 
 ghost use Rattle.std.specs.List.{concat, flat_map};
-ghost use Rattle.std.specs.Prelude.{◌≡◌, ◌<◌, ◌≤◌, ◌++◌, All, length, take, OnOk};
+ghost use Rattle.std.specs.Prelude.{◌≡◌, ◌<◌, ◌++◌, All, length, take, OnOk};
+ghost use Rattle.polars_arrays_bytes.specs.OffsetStrings.{offset_strings};
 ghost use Rattle.diff_report.specs.Sides.{AreSides, IsSide, NamesRows, naming_of};
+ghost use Rattle.diff_report.specs.Summary.{AreTotalsOf};
+ghost use Rattle.diff_report.specs.declared.sides.Sides.{Sides};
 ghost use Rattle.diff_run.specs.Lines.{all_lines, end_text, pair_at, row_alone};
 ghost use Rattle.diff_tables.specs.Comparison.{ArePairs};
+ghost use Rattle.diff_tables.specs.declared.compare.Comparison.{Comparison};
 
 use diff_json::counts::push_counts;
 use diff_json::lines::{push_alone, push_pair};
 use diff_keys::matching::Matching;
 use diff_report::lines::{Alone, push_pair_line, push_side_line};
 use diff_report::sides::{Side, Sides};
-use diff_report::summary::{difference_count, push_rest, push_summary};
+use diff_report::summary::{Totals, push_rest, push_summary};
 use diff_tables::compare::Comparison;
 use diff_words::formats::Format;
+use polars_arrays_bytes::binary::BinaryArray;
 use std::alloc::AllocError;
 
 /// Appends the line of the pair at place `k` of the matched rows.
@@ -133,29 +138,28 @@ pub(crate) fn push_lines(
 }
 
 /// Appends the end of a report. In text it is the number of differences without a line, and the
-/// summary. In JSON it is the line with the counts. `counts` says how often each column differs.
-pub(crate) fn push_end(
+/// summary. In JSON it is the line with the counts. `counts` says how often each column of these
+/// names differs.
+pub fn push_end(
     out: &mut Vec<u8>,
     format: Format,
-    sides: &Sides,
-    comparison: &Comparison,
+    names: &BinaryArray<i64>,
+    totals: &Totals,
     counts: &[usize],
     limit: usize,
 ) -> Result<(), AllocError>
-    requires few { length comparison.now.changed.items ≤ length
-        comparison.now.matching.left_rows.items }
-    requires counts { length counts.now ≡ length (naming_of sides.now).names }
+    requires { length counts.now ≡ length (offset_strings (λ x. x) names.now) }
     ensures { OnOk result
-        (out.new.items ≡ out.old.items
-        ++ end_text format sides.now comparison.now counts.now limit) }
+        ((s : Sides) (c : Comparison) → (naming_of s).names ≡ offset_strings (λ x. x) names.now
+        → AreTotalsOf c totals.now
+        → out.new.items ≡ out.old.items ++ end_text format s c counts.now limit) }
 {
     match format {
         Format::Text => {
-            let count = difference_count(&comparison.matching, comparison.changed.len());
-            push_rest(out, count, limit)?;
-            push_summary(out, sides, comparison, counts)?;
+            push_rest(out, totals.differences(), limit)?;
+            push_summary(out, names, totals, counts)?;
             Ok(())
         }
-        Format::Json => push_counts(out, sides, comparison, counts, limit),
+        Format::Json => push_counts(out, names, totals, counts, limit),
     }
 }

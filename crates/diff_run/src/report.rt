@@ -25,18 +25,19 @@ use diff_keys::error::MatchError;
 use diff_keys::outcome::{self, Outcome};
 use diff_report::counts::count_by_column;
 use diff_report::sides::Sides;
+use diff_report::summary::Totals;
 use diff_tables::compare::{Comparison, compare_tables};
 use std::alloc::{AllocError, Global};
 
 /// The report of two inputs, and its outcome.
 #[derive(Drop)]
-pub(crate) struct Report {
-    pub(crate) text: Vec<u8>,
-    pub(crate) outcome: Outcome,
+pub struct Report {
+    pub text: Vec<u8>,
+    pub outcome: Outcome,
 }
 
 /// Returns the lines of the columns that only one input has.
-fn columns_text(
+pub fn columns_text(
     alloc: Global,
     heads: &Heads,
     files: Files<'_>,
@@ -109,7 +110,8 @@ fn push_all(
     let counts = count_by_column(alloc, sides, comparison)?;
     let (format, limit) = (options.format, options.limit);
     push_lines(out, format, sides, comparison, limit)?;
-    push_end(out, format, sides, comparison, &counts, limit)?;
+    let totals = Totals::of(comparison);
+    push_end(out, format, &sides.names, &totals, &counts, limit)?;
     Ok(())
 }
 

@@ -24,20 +24,20 @@ use std::io::Read;
 
 /// The names that the report has for two inputs.
 #[derive(Clone, Copy)]
-pub(crate) struct Files<'a> {
-    pub(crate) left: &'a [u8],
-    pub(crate) right: &'a [u8],
+pub struct Files<'a> {
+    pub left: &'a [u8],
+    pub right: &'a [u8],
 }
 
 /// The things that a report has beside the rows: the names of the inputs and of the columns, the
 /// places of the keys among these, and the cell that stands for no value, where there is one.
 #[derive(Drop)]
-pub(crate) struct Frame {
-    pub(crate) left: Vec<u8>,
-    pub(crate) right: Vec<u8>,
-    pub(crate) names: BinaryArray<i64>,
-    pub(crate) keys: Vec<usize>,
-    pub(crate) null: Option<Vec<u8>>,
+pub struct Frame {
+    pub left: Vec<u8>,
+    pub right: Vec<u8>,
+    pub names: BinaryArray<i64>,
+    pub keys: Vec<usize>,
+    pub null: Option<Vec<u8>>,
 }
 
 /// Copies a text, where there is one.
@@ -52,7 +52,7 @@ fn copied(alloc: Global, text: Option<&[u8]>) -> Result<Option<Vec<u8>>, AllocEr
 }
 
 /// Returns the things that a report has beside the rows. The one error is `Memory`.
-fn frame_of(
+pub fn frame_of(
     alloc: Global,
     heads: &Heads,
     files: Files<'_>,

@@ -4,7 +4,7 @@ use Rattle.std.specs.List.{filter, range_with_len}
 use Rattle.std.specs.Prelude.{codes}
 use Rattle.diff_words.specs.Lists.{listed}
 use Rattle.diff_words.proofs.ListLemmas.{kept_count, kept_within, kept_written}
-use Rattle.diff_report.specs.Sides.{naming_of}
+use Rattle.polars_arrays_bytes.specs.OffsetStrings.{offset_strings}
 use Rattle.diff_report.specs.Summary.{by_column, columns_counted, count_text, is_counted}
 use Rattle.diff_report.proofs.Joins.{joined_three}
 use Rattle.diff_report.proofs.summary.push_by_column.Goals as goal
@@ -18,7 +18,7 @@ push_if_counted-requires-clause-room c = omega (arith, kept_within (is_counted c
 
 pub loop-column-preserved : goal.loop-column-preserved
 loop-column-preserved c = record {
-  text = kept_written (codes ", ") (count_text (naming_of c.args.sides.now) c.args.counts.now) (is_counted c.args.counts.now) (c.args.out.now.items ++ codes "  By column: ") _ _ c.loop-column.column _
+  text = kept_written (codes ", ") (count_text (offset_strings (λ x. x) c.args.names.now) c.args.counts.now) (is_counted c.args.counts.now) (c.args.out.now.items ++ codes "  By column: ") _ _ c.loop-column.column _
       c.loop-column.invariant.count c.loop-column.invariant.text c.in_ok-written.ensures.text;
   count = c.in_ok-written.ensures.count
       ∙ (ap (λ n. n + cond (is_counted c.args.counts.now c.loop-column.column) 1 0) c.loop-column.invariant.count ∙ sym (kept_count (is_counted c.args.counts.now) c.loop-column.column));
@@ -30,5 +30,5 @@ returns c =
     let all : c.loop-column.column ≡ length c.args.counts.now = omega arith in
     c.in_ok-push.ensures.items
     ∙ (ap (λ l. l ++ codes ".") (c.loop-column.invariant.text
-    ∙ ap (λ n. (c.args.out.now.items ++ codes "  By column: ") ++ listed (codes ", ") (map (count_text (naming_of c.args.sides.now) c.args.counts.now) (filter (is_counted c.args.counts.now) (range_with_len 0 n)))) all)
-    ∙ joined_three c.args.out.now.items (codes "  By column: ") (listed (codes ", ") (map (count_text (naming_of c.args.sides.now) c.args.counts.now) (columns_counted c.args.counts.now))) (codes "."))
+    ∙ ap (λ n. (c.args.out.now.items ++ codes "  By column: ") ++ listed (codes ", ") (map (count_text (offset_strings (λ x. x) c.args.names.now) c.args.counts.now) (filter (is_counted c.args.counts.now) (range_with_len 0 n)))) all)
+    ∙ joined_three c.args.out.now.items (codes "  By column: ") (listed (codes ", ") (map (count_text (offset_strings (λ x. x) c.args.names.now) c.args.counts.now) (columns_counted c.args.counts.now))) (codes "."))

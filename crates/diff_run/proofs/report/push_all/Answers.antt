@@ -1,4 +1,4 @@
-use Rattle.std.proofs.Common.{◌≡◌, ◌∙◌, ◌++◌, take, ap}
+use Rattle.std.proofs.Common.{◌≡◌, ◌∙◌, ◌++◌, take, ap, refl}
 use Rattle.std.proofs.lemmas.List.{append_assoc}
 use Rattle.std.specs.List.{concat}
 use Rattle.diff_report.proofs.NamedLemmas.{rows_named}
@@ -11,8 +11,8 @@ use Rattle.diff_run.proofs.report.push_all.Goals as goal
 pub push_lines-requires-clause-rows : goal.push_lines-requires-clause-rows
 push_lines-requires-clause-rows c = rows_named c.args.sides.now c.args.comparison.now c.requires.sides c.requires.comparison
 
-pub push_end-requires-clause-few : goal.push_end-requires-clause-few
-push_end-requires-clause-few c = let named : NamesRows c.args.sides.now c.args.comparison.now = rows_named c.args.sides.now c.args.comparison.now c.requires.sides c.requires.comparison in named.few
+pub of-totals-requires : goal.of-totals-requires
+of-totals-requires c = let named : NamesRows c.args.sides.now c.args.comparison.now = rows_named c.args.sides.now c.args.comparison.now c.requires.sides c.requires.comparison in named.few
 
 pub returns : goal.returns
 returns c =
@@ -23,7 +23,7 @@ returns c =
     let limit = c.args.options.now.limit in
     let counts = column_counts s d.matching d.changed.items in
     let counted : c.deref.result.now ≡ counts = c.deref.ensures.value ∙ c.in_ok-counts.ensures.counts in
-    let ended : c.push_end.new.out.items ≡ c.push_lines.new.out.items ++ end_text format s d counts limit = rw (← counted) c.in_ok-push_end.ensures in
+    let ended : c.push_end.new.out.items ≡ c.push_lines.new.out.items ++ end_text format s d counts limit = rw (← counted) (c.in_ok-push_end.ensures s d refl c.of-totals.ensures) in
     ended
     ∙ (ap (λ l. l ++ end_text format s d counts limit) c.in_ok-push_lines.ensures
     ∙ (append_assoc old (concat (take limit (all_lines format s d))) (end_text format s d counts limit) ∙ ap (λ l. old ++ l) (in_form format s d counts limit)))
