@@ -1,0 +1,64 @@
+//! Why two sorted inputs are not compared.
+
+ghost use Rattle.diff_sorted.specs.Faults.{IsFaultOf, IsMemory, IsRunCause};
+
+use diff_columns::error::Side;
+use diff_merge::error::MergeError;
+use diff_run::error::RunError;
+use std::alloc::AllocError;
+use thiserror::Error;
+
+/// The reason why two sorted inputs are not compared. Nothing was written, unless a write failed.
+#[derive(Debug, Drop, Error)]
+pub enum SortedError {
+    /// There is no key, or numbers or a part are asked for.
+    #[error("sorted inputs are compared by a key, as texts, and whole")]
+    Refused,
+    /// A row has a key that is less than that of the row before it. `line` is where it begins.
+    #[error("the row at line {line} has a lesser key than the row before it")]
+    Falls { side: Side, line: u64 },
+    /// Two adjacent rows have one key, where keys have to be unique. `first` and `again` are the
+    /// lines at which they begin.
+    #[error("the rows at lines {first} and {again} have one key")]
+    KeyTwice { side: Side, first: u64, again: u64 },
+    /// A reason that is not about the order of rows.
+    #[error("{cause}")]
+    Run { cause: RunError },
+}
+
+impl From<AllocError> for SortedError {
+    ghost from_gives = { λ _ r. IsMemory r };
+
+    fn from(_failed: AllocError) -> SortedError {
+        SortedError::Run {
+            cause: RunError::Memory,
+        }
+    }
+}
+
+impl From<RunError> for SortedError {
+    ghost from_gives = { IsRunCause };
+
+    fn from(cause: RunError) -> SortedError {
+        SortedError::Run { cause }
+    }
+}
+
+impl From<MergeError> for SortedError {
+    ghost from_gives = { IsFaultOf };
+
+    fn from(error: MergeError) -> SortedError {
+        match error {
+            MergeError::Memory => SortedError::Run {
+                cause: RunError::Memory,
+            },
+            MergeError::Csv { side, cause } => SortedError::Run {
+                cause: RunError::Csv { side, cause },
+            },
+            MergeError::Falls { side, line } => SortedError::Falls { side, line },
+            MergeError::KeyTwice { side, first, again } => {
+                SortedError::KeyTwice { side, first, again }
+            }
+        }
+    }
+}
