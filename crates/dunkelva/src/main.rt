@@ -26,7 +26,7 @@ use crate::keys::keys_of;
 use crate::kinds::{hold_documents, refuse_document_options, refuse_table_options};
 use crate::only::warn_of_unknown;
 use crate::outputs::refuse_own_target;
-use crate::parts::{part_of, part_of_rows};
+use crate::parts::{part_of, part_of_rows, refuse_unsorted};
 use crate::rules::rules_of;
 use crate::schema::{compare_schemas, show_schema};
 use crate::tasks::{Target, Task, compare_named};
@@ -72,6 +72,10 @@ fn diff_tables(
         format: format_of(matches),
         colored: is_colored(rt, matches),
     };
+    if matches.get_flag("sorted") {
+        refuse_unsorted(matches)?;
+        return compare_named(rt, left, right, Task::Sorted(&options), target);
+    }
     compare_named(rt, left, right, Task::Tables(&options), target)
 }
 

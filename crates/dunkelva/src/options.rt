@@ -56,7 +56,7 @@ const SWITCH: CliOption = CliOption {
 };
 
 /// The options of the command.
-static OPTIONS: [CliOption; 26] = [
+static OPTIONS: [CliOption; 27] = [
     CliOption {
         id: "key",
         takes: Takes::List,
@@ -174,6 +174,13 @@ static OPTIONS: [CliOption; 26] = [
         value: "I/N",
         needs: Some("key"),
         help: "Compare part I of N of the rows or documents, by key; all N parts are the whole",
+        ..SWITCH
+    },
+    CliOption {
+        id: "sorted",
+        needs: Some("key"),
+        goes_with: GoesWith::Tables,
+        help: "Both files are sorted by key, byte by byte: keep a few rows of each in memory",
         ..SWITCH
     },
     CliOption {

@@ -30,6 +30,17 @@ fn refuse_numbers(matches: &ArgMatches<'_>, names: &Names<'_>) -> Result<()> {
     Ok(())
 }
 
+/// Refuses the options that do not go with sorted files, whose rows are merged as they are written.
+pub(crate) fn refuse_unsorted(matches: &ArgMatches<'_>) -> Result<()> {
+    if matches.get_flag("numbers") {
+        return Err(anyhow!("--sorted does not go with --numbers"));
+    }
+    if matches.contains_id("partition") {
+        return Err(anyhow!("--sorted does not go with --partition"));
+    }
+    Ok(())
+}
+
 /// Returns the part of the rows that is compared, where one is asked for.
 pub(crate) fn part_of_rows(matches: &ArgMatches<'_>, names: &Names<'_>) -> Result<Option<Part>> {
     if matches.contains_id("partition") {

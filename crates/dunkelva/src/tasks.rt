@@ -2,7 +2,7 @@
 
 use crate::files::{Source, open, total_of};
 use crate::progress::{Cleared, Counted, Progress};
-use crate::trouble::{document_trouble, table_trouble};
+use crate::trouble::{document_trouble, sorted_trouble, table_trouble};
 use anyhow::{Result, anyhow};
 use diff_aligned::aligned::{Sheet, push_aligned};
 use diff_keys::outcome::Outcome;
@@ -11,6 +11,8 @@ use diff_page::page::push_page;
 use diff_run::error::RunError;
 use diff_run::options::Options;
 use diff_run::run::{Input, run};
+use diff_sorted::error::SortedError;
+use diff_sorted::run::run_sorted;
 use document_run::error::DocumentError;
 use document_run::options::DocumentOptions;
 use document_run::run::run_documents;
@@ -65,6 +67,8 @@ pub(crate) enum Target<'a> {
 pub(crate) enum Task<'a> {
     /// Tables, as CSV.
     Tables(&'a Options<'a>),
+    /// Tables that are sorted by key.
+    Sorted(&'a Options<'a>),
     /// Documents of JSON, one a line.
     Documents(&'a DocumentOptions<'a>),
 }
@@ -104,6 +108,19 @@ fn tables_ending(
     }
 }
 
+/// Returns the end of a comparison of sorted tables with this result.
+fn sorted_ending(
+    came_to: Result<Outcome, SortedError>,
+    files: (&[u8], &[u8]),
+    options: &Options<'_>,
+) -> Result<Ending> {
+    match came_to {
+        Ok(outcome) => Ok(Ending::from(outcome)),
+        Err(SortedError::Run { cause }) => tables_ending(Err(cause), files, options),
+        Err(error) => Err(sorted_trouble(error, files)),
+    }
+}
+
 /// Returns the end of a comparison of documents with this result.
 fn documents_ending(
     came_to: Result<Outcome, DocumentError>,
@@ -133,6 +150,10 @@ fn report_to<W: Write>(
         Task::Tables(options) => {
             let came_to = run(rt.alloc(), left, right, out, options);
             tables_ending(rt, came_to, files, options)
+        }
+        Task::Sorted(options) => {
+            let came_to = run_sorted(rt.alloc(), left, right, out, options);
+            sorted_ending(came_to, files, options)
         }
         Task::Documents(options) => {
             let came_to = run_documents(rt.alloc(), left, right, out, options);

@@ -7,6 +7,7 @@ use diff_csv::error::CsvError;
 use diff_csv::options::CsvOptions;
 use diff_run::error::{ChoiceError, NameList, RunError};
 use diff_run::options::Options;
+use diff_sorted::error::SortedError;
 use document_rows::error::{LineFault, ReadError};
 use document_run::error::DocumentError;
 use document_run::options::DocumentOptions;
@@ -139,6 +140,21 @@ pub(crate) fn table_trouble(
         RunError::Choice {
             cause: ChoiceError::NoColumn { list, name },
         } => no_column(list, name, options),
+        other => anyhow!("{other}"),
+    }
+}
+
+/// Returns the error that is printed for one of a comparison of sorted tables, with the file as
+/// context.
+pub(crate) fn sorted_trouble(error: SortedError, files: (&[u8], &[u8])) -> Error {
+    match error {
+        SortedError::Falls { side, line } => {
+            anyhow!("the row at line {line} has a lesser key than the row before it")
+                .context(file_of(files, side))
+        }
+        SortedError::KeyTwice { side, first, again } => {
+            one_key(first, again).context(file_of(files, side))
+        }
         other => anyhow!("{other}"),
     }
 }

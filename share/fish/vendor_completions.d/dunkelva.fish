@@ -22,6 +22,7 @@ complete -c dunkelva -n '__fish_seen_subcommand_from diff' -l no-header -d 'The 
 complete -c dunkelva -n '__fish_seen_subcommand_from diff' -l no-key-is-null -d 'A document without a part at a key path has the key null there'
 complete -c dunkelva -n '__fish_seen_subcommand_from diff' -l skip-bad -d 'Skip lines that are no documents, and say how many there are'
 complete -c dunkelva -n '__fish_seen_subcommand_from diff' -l partition -x -d 'Compare part I of N of the rows or documents, by key; all N parts are the whole'
+complete -c dunkelva -n '__fish_seen_subcommand_from diff' -l sorted -d 'Both files are sorted by key, byte by byte: keep a few rows of each in memory'
 complete -c dunkelva -n '__fish_seen_subcommand_from diff' -l limit -x -d 'Print at most N differences, in JSON too; 0 prints all'
 complete -c dunkelva -n '__fish_seen_subcommand_from diff' -l summary -d 'Print the counts alone, and no differences'
 complete -c dunkelva -n '__fish_seen_subcommand_from diff' -l schema-only -d 'Compare the names and types of the columns, and no rows'
