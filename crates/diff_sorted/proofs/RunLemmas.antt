@@ -19,7 +19,7 @@ use Rattle.diff_report.specs.Sides.{compared_left, compared_right, naming_of}
 use Rattle.diff_report.specs.declared.sides.Sides.{Sides}
 use Rattle.diff_run.proofs.SideLemmas.{made_of, sides_are}
 use Rattle.diff_run.specs.Comparables.{AreComparables}
-use Rattle.diff_run.specs.Heads.{AreHeadsOf, IsFrameOf}
+use Rattle.diff_run.specs.Heads.{AreChosen, AreHeadsOf, IsFrameOf}
 use Rattle.diff_run.specs.Inputs.{AreBothOf}
 use Rattle.diff_run.specs.Run.{AreSidesOf, HaveUniqueKeys, IsReportOf, columns_text, differences_text, outcome_of}
 use Rattle.diff_run.specs.declared.heads.Heads.{Heads}
@@ -69,7 +69,7 @@ compared_alone options names both none = record { left = rw none refl; right = r
 
 module _ (options : Options) (left_text right_text left_name right_name : List ℕ) (h : Heads) (f : Frame) (r : SortedReport)
     (laid : IsLayout (offset_strings (λ x. x) h.left_names) (offset_strings (λ x. x) h.right_names) options.choice h.layout)
-    (heads : AreHeadsOf options left_text right_text h) (can : CanBeSorted options) (frame : IsFrameOf options h left_name right_name f) (lent : IsLentFrame options f r.frame)
+    (heads : AreHeadsOf options left_text right_text h) (chosen : AreChosen options h) (can : CanBeSorted options) (frame : IsFrameOf options h left_name right_name f) (lent : IsLentFrame options f r.frame)
     (t : IsToldOf options left_text right_text h.layout r) where
   abbrev both : Both
   both = record {
@@ -87,7 +87,7 @@ module _ (options : Options) (left_text right_text left_name right_name : List �
   tables = made_of options f both None
 
   sides : AreSidesOf options left_text right_text left_name right_name h.layout tables
-  sides = sides_are options left_text right_text left_name right_name h f both None heads laid frame both_are (compared_alone options (offset_strings (λ x. x) f.names) both can.numbers)
+  sides = sides_are options left_text right_text left_name right_name h f both None heads laid chosen frame both_are (compared_alone options (offset_strings (λ x. x) f.names) both can.numbers)
 
   few : length t.told.changed < 2 ^ 63
   few = let same = t.told.same in let small = t.matching.left_rows.small in omega (arith, same, small)

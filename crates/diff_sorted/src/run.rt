@@ -6,7 +6,7 @@ ghost use Rattle.polars_arrays_bytes.specs.OffsetStrings.{offset_strings};
 ghost use Rattle.diff_columns.specs.Layout.{IsLayout};
 ghost use Rattle.diff_csv.specs.Reading.{IsOpen};
 ghost use Rattle.diff_run.specs.Heads as heads;
-ghost use Rattle.diff_run.specs.Heads.{AreHeadsOf};
+ghost use Rattle.diff_run.specs.Heads.{AreChosen, AreHeadsOf};
 ghost use Rattle.diff_merge.specs.Rows.{Seen};
 ghost use Rattle.diff_report.specs.declared.sides.Sides.{Sides};
 ghost use Rattle.diff_run.specs.Run.{IsReportOf, outcome_of};
@@ -136,7 +136,8 @@ fn report_of(
         (offset_strings (λ x. x) heads.now.right_names) options.now.choice heads.now.layout }
     ensures { MatchResult result
         (λ report. (left_text right_text : List ℕ) (f : Frame)
-        → AreHeadsOf options.now left_text right_text heads.now → CanBeSorted options.now
+        → AreHeadsOf options.now left_text right_text heads.now → AreChosen options.now heads.now
+        → CanBeSorted options.now
         → heads.IsFrameOf options.now heads.now files.entry.left.now files.entry.right.now f
         → IsLentFrame options.now f told.now.frame → told.now.limit ≡ options.now.limit
         → IsToldOf options.now left_text right_text heads.now.layout told.now
@@ -181,8 +182,8 @@ fn report_on<L: Read + Drop, R: Read + Drop>(
 
 /// Compares two inputs whose rows are sorted by key, byte by byte, and writes the report that `run`
 /// of `diff_run` writes. A few rows of each input are in memory, and the lines of the report. Fails
-/// with `Refused` exactly where there is no key, or numbers or a part are asked for, with `Falls`
-/// where a row has a lesser key than the row before it. Nothing is written unless a write fails.
+/// with `Refused` only where there is no key, or numbers or a part are asked for, and with `Falls`
+/// only where a row has a lesser key than the row before it. Then nothing is written.
 pub fn run_sorted<L: Read + Drop, R: Read + Drop, W: Write>(
     alloc: Global,
     left: Input<'_, L>,

@@ -241,7 +241,7 @@ totals-one = refl
 counted-n : is_counted (0 ∷ 1 ∷ []) 1 ≡ true
 counted-n = refl
 
-count-text-n : count_text (naming_of sides) (0 ∷ 1 ∷ []) 1 ≡ codes "n 1"
+count-text-n : count_text (naming_of sides).names (0 ∷ 1 ∷ []) 1 ≡ codes "n 1"
 unfolding word_text digits
 count-text-n = refl
 

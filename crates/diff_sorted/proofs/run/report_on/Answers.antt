@@ -46,6 +46,6 @@ pub returns : goal.returns
 returns g c = λ left_text right_text el er.
     let left = c.in_ok-left.ensures left_text el in
     let right = c.in_ok-right.ensures right_text er in
-    c.in_ok-report.ensures left_text right_text c.in_ok-frame.frame (c.in_ok-heads.ensures.texts left_text right_text left right) c.in_ok-test_options.ensures c.in_ok-frame.ensures
+    c.in_ok-report.ensures left_text right_text c.in_ok-frame.frame (c.in_ok-heads.ensures.texts left_text right_text left right) c.in_ok-heads.ensures.chosen c.in_ok-test_options.ensures c.in_ok-frame.ensures
     (subst (λ (f : Frame). IsLentFrame c.args.options.now c.in_ok-frame.frame f) (sym c.in_ok-told.ensures.frame) c.lent.ensures)
     c.in_ok-told.ensures.limit (c.in_ok-told.ensures.told left_text right_text left right)
