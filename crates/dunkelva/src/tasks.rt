@@ -110,13 +110,14 @@ fn tables_ending(
 
 /// Returns the end of a comparison of sorted tables with this result.
 fn sorted_ending(
+    rt: &HostRuntime,
     came_to: Result<Outcome, SortedError>,
     files: (&[u8], &[u8]),
     options: &Options<'_>,
 ) -> Result<Ending> {
     match came_to {
         Ok(outcome) => Ok(Ending::from(outcome)),
-        Err(SortedError::Run { cause }) => tables_ending(Err(cause), files, options),
+        Err(SortedError::Run { cause }) => tables_ending(rt, Err(cause), files, options),
         Err(error) => Err(sorted_trouble(error, files)),
     }
 }
@@ -153,7 +154,7 @@ fn report_to<W: Write>(
         }
         Task::Sorted(options) => {
             let came_to = run_sorted(rt.alloc(), left, right, out, options);
-            sorted_ending(came_to, files, options)
+            sorted_ending(rt, came_to, files, options)
         }
         Task::Documents(options) => {
             let came_to = run_documents(rt.alloc(), left, right, out, options);
