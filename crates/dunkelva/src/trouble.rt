@@ -149,8 +149,9 @@ pub(crate) fn table_trouble(
 pub(crate) fn sorted_trouble(error: SortedError, files: (&[u8], &[u8])) -> Error {
     match error {
         SortedError::Falls { side, line } => {
-            anyhow!("the row at line {line} has a lesser key than the row before it")
-                .context(file_of(files, side))
+            anyhow!("the row at line {line} has a lesser key than the row before it").context(
+                file_of(files, side),
+            )
         }
         SortedError::KeyTwice { side, first, again } => {
             one_key(first, again).context(file_of(files, side))
