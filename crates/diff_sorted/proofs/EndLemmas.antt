@@ -1,7 +1,9 @@
 -- A report behind the last row.
-use Rattle.std.proofs.Common.{◌≡◌, ◌∙◌, ℕ, List, ◌++◌, length, map, take, ap, sym, subst, refl}
+use Rattle.std.proofs.Common.{◌≡◌, ◌∙◌, ◌+◌, ℕ, List, ◌++◌, length, map, take, ap, arith, sym, subst, refl}
 use Rattle.std.proofs.lemmas.List.{length-map}
+use Rattle.std.proofs.lemmas.Bool.Decides.{nat_tests}
 use Rattle.std.specs.List.{concat, flat_map}
+use Rattle.std.specs.Prelude.{◌==◌, ◌&&◌}
 use Rattle.diff_keys.specs.declared.matching.Matching.{Matching}
 use Rattle.diff_merge.specs.Rows.{Seen}
 use Rattle.diff_report.proofs.LineLemmas.{first_of_one}
@@ -27,3 +29,7 @@ count_is f xs limit l h = h.count ∙ length-map xs f
 -- lines that are written behind a text
 pub first_written : {X : Type 0} (f : X → List ℕ) (xs : List X) (room : ℕ) (old lines new : List ℕ) → lines ≡ concat (take room (map f xs)) → new ≡ old ++ lines → new ≡ old ++ flat_map f (take room xs)
 first_written f xs room old lines new is written = written ∙ ap (λ l. old ++ l) (is ∙ first_of_one f room xs)
+
+-- a sum of three is 0 where each of them is
+pub none_of : (a b c : ℕ) → (a + b + c == 0) ≡ ((a == 0) && (b == 0) && (c == 0))
+none_of a b c = grind (arith, nat_tests)

@@ -1,16 +1,13 @@
 -- Why sorted texts are not compared.
-use Rattle.std.proofs.Common.{◌≡◌, ◌∙◌, ℕ, Bool, true, false, List, Option, Some, None, sym, ap, subst, refl}
+use Rattle.std.proofs.Common.{◌≡◌, ◌∙◌, ℕ, Bool, true, false, List, Option, Some, None, sym, refl}
 use Rattle.std.specs.Prelude.{is_some}
 use Rattle.polars_arrays_bytes.specs.OffsetStrings.{offset_strings}
 use Rattle.diff_columns.specs.Layout.{IsLayout}
 use Rattle.diff_columns.specs.declared.error.Side.{Side}
 use Rattle.diff_columns.specs.declared.error.Side.TheVariants.{Left, Right}
 use Rattle.diff_columns.specs.declared.layout.Layout.{Layout}
-use Rattle.diff_csv.specs.declared.options.CsvOptions.{CsvOptions}
-use Rattle.diff_keys.specs.Matching.{IsMatching}
-use Rattle.diff_merge.specs.Faults.{HasFall, HasTwice, IsTextFault}
-use Rattle.diff_merge.specs.Merging.{AreAll, IsMergeFault, IsMergeOf}
-use Rattle.diff_merge.specs.Rows.{keys_of}
+use Rattle.diff_merge.specs.Faults.{IsTextFault}
+use Rattle.diff_merge.specs.Merging.{IsMergeFault, IsMergeOf}
 use Rattle.diff_merge.specs.declared.cursor.Cursor.{Cursor}
 use Rattle.diff_merge.specs.declared.error.MergeError.{MergeError}
 use Rattle.diff_merge.specs.declared.error.MergeError.TheVariants as merge

@@ -1,12 +1,14 @@
 //! The whole comparison of sorted inputs, from two readers to a writer.
 
-ghost use Rattle.std.specs.Prelude.{◌≡◌, ◌⊎◌, ℕ, List, Some, IfErr, IfOk, MatchResult};
+ghost use Rattle.std.specs.Prelude.{◌≡◌, ◌⊎◌, ◌||◌, if◌then◌else◌, ℕ, List, Some, IfErr, IfOk};
+ghost use Rattle.std.specs.Prelude.{MatchResult};
 ghost use Rattle.std.specs.Io.KnownBytes.{Appends};
 ghost use Rattle.polars_arrays_bytes.specs.OffsetStrings.{offset_strings};
 ghost use Rattle.diff_columns.specs.Layout.{IsLayout};
 ghost use Rattle.diff_csv.specs.Reading.{IsOpen};
-ghost use Rattle.diff_run.specs.Heads as heads;
-ghost use Rattle.diff_run.specs.Heads.{AreChosen, AreHeadsOf};
+ghost use Rattle.diff_keys.specs.declared.outcome.Outcome.TheVariants.{Same, Different};
+ghost use Rattle.diff_run.specs.Chosen.{no_columns};
+ghost use Rattle.diff_run.specs.Heads.{AreChosen, AreHeadsOf, IsFrameOf};
 ghost use Rattle.diff_merge.specs.Rows.{Seen};
 ghost use Rattle.diff_report.specs.declared.sides.Sides.{Sides};
 ghost use Rattle.diff_run.specs.Run.{IsReportOf, outcome_of};
@@ -48,8 +50,8 @@ fn test_options(options: &Options<'_>) -> Result<(), SortedError>
     if has_part {
         return Err(SortedError::Refused);
     }
-    let is_keyless = options.choice.keys.is_empty();
-    if is_keyless {
+    let key_count = options.choice.keys.len();
+    if key_count == 0 {
         return Err(SortedError::Refused);
     }
     Ok(())
@@ -113,15 +115,34 @@ fn told_of<'f, L: Read + Drop, R: Read + Drop>(
     Ok(report)
 }
 
+/// Returns whether no column makes a difference.
+fn are_shared(options: &Options<'_>, layout: &Layout) -> bool
+    ensures { result ≡ options.now.common || no_columns layout.now }
+{
+    let same_columns = layout.left_alone.is_empty() && layout.right_alone.is_empty();
+    options.common || same_columns
+}
+
+/// Returns `Same` where no row and no column makes a difference.
+fn outcome_by(same_rows: bool, same_columns: bool) -> Outcome
+    ensures { result ≡ if same_rows then (if same_columns then Same else Different) else Different }
+{
+    if !same_rows {
+        return Outcome::Different;
+    }
+    if !same_columns {
+        return Outcome::Different;
+    }
+    Outcome::Same
+}
+
 /// Returns what the report comes to.
 fn outcome_of(options: &Options<'_>, layout: &Layout, report: &SortedReport<'_>) -> Outcome
     ensures { (left_rows right_rows : List Seen) (s : Sides) (c : Comparison)
         → IsToldAs report.now left_rows right_rows s c
         → result ≡ outcome_of options.now layout.now c }
 {
-    let same_columns = layout.left_alone.is_empty() && layout.right_alone.is_empty();
-    let is_same = report.is_same() && (options.common || same_columns);
-    if is_same { Outcome::Same } else { Outcome::Different }
+    outcome_by(report.is_same(), are_shared(options, layout))
 }
 
 /// Returns the report of two inputs of which all rows were told.
@@ -138,7 +159,7 @@ fn report_of(
         (λ report. (left_text right_text : List ℕ) (f : Frame)
         → AreHeadsOf options.now left_text right_text heads.now → AreChosen options.now heads.now
         → CanBeSorted options.now
-        → heads.IsFrameOf options.now heads.now files.entry.left.now files.entry.right.now f
+        → IsFrameOf options.now heads.now files.entry.left.now files.entry.right.now f
         → IsLentFrame options.now f told.now.frame → told.now.limit ≡ options.now.limit
         → IsToldOf options.now left_text right_text heads.now.layout told.now
         → IsReportOf options.now left_text right_text files.entry.left.now files.entry.right.now

@@ -74,6 +74,6 @@ impl<'a> SortedReport<'a> {
             → IsToldAs self.now left_rows right_rows s c
             → result ≡ no_rows c.matching c.changed.items }
     {
-        self.changed.count == 0 && self.removed.count == 0 && self.added.count == 0
+        self.totals().differences() == 0
     }
 }

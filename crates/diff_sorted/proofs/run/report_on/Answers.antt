@@ -1,4 +1,4 @@
-use Rattle.std.proofs.Common.{◌∙◌, subst, sym}
+use Rattle.std.proofs.Common.{subst, sym}
 use Rattle.std.proofs.lemmas.Result.{err_from_is_err_and}
 use Rattle.diff_single.specs.declared.frame.Frame.{Frame}
 use Rattle.diff_sorted.specs.Ends.{IsLentFrame}

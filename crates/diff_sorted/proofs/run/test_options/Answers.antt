@@ -1,4 +1,4 @@
-use Rattle.std.proofs.Common.{◌≡◌, ◌∙◌, arith, sym}
+use Rattle.std.proofs.Common.{◌∙◌, arith, sym}
 use Rattle.diff_sorted.proofs.FaultLemmas.{none_asked, some_asked}
 use Rattle.diff_sorted.proofs.run.test_options.Goals as goal
 
@@ -8,8 +8,8 @@ returns-then-has_numbers c = λ left_text right_text can. some_asked c.args.opti
 pub returns-then-has_part : goal.returns-then-has_part
 returns-then-has_part c = λ left_text right_text can. some_asked c.args.options.now.part (sym c.is_some-has_part.ensures ∙ c.if-has_part.true) can.part
 
-pub returns-then-is_keyless : goal.returns-then-is_keyless
-returns-then-is_keyless c = λ left_text right_text can. absurd (omega (arith, can.keys))
+pub returns-then-key_count-eq0 : goal.returns-then-key_count-eq0
+returns-then-key_count-eq0 c = λ left_text right_text can. absurd (omega (arith, can.keys))
 
 pub returns : goal.returns
 returns c = record {

@@ -3,7 +3,7 @@ use Rattle.std.proofs.lemmas.Result.{err_from_is_err_and}
 use Rattle.std.specs.Borrow.{Bor}
 use Rattle.std.specs.Prelude.{ℕ, List}
 use Rattle.diff_columns.specs.declared.error.Side.TheVariants.{Left, Right}
-use Rattle.diff_sorted.proofs.FaultLemmas.{GoesOver, merge_fault, text_fault, told_whole}
+use Rattle.diff_sorted.proofs.FaultLemmas.{merge_fault, text_fault, told_whole}
 use Rattle.diff_sorted.proofs.run.told_of.Goals as goal
 
 pub returns-in_err-first-clause-told : goal.returns-in_err-first-clause-told

@@ -1,10 +1,10 @@
-use Rattle.std.proofs.Common.{◌∙◌, arith, refl}
+use Rattle.std.proofs.Common.{arith, refl}
 use Rattle.diff_report.proofs.LineLemmas.{lines_written}
 use Rattle.diff_report.specs.Sides.{naming_of}
 use Rattle.diff_report.specs.declared.lines.Alone.TheVariants.{Removed, Added}
 use Rattle.diff_run.specs.Lines.{pair_at, row_alone}
 use Rattle.diff_sorted.proofs.EndLemmas.{count_is, first_written, tells_all}
-use Rattle.diff_sorted.proofs.text.SortedReport.push_lines.Goals as goal
+use Rattle.diff_sorted.proofs.report.SortedReport.push_lines.Goals as goal
 
 pub returns : goal.returns
 returns c = λ left_rows right_rows s d h.

@@ -1,4 +1,4 @@
-use Rattle.std.proofs.Common.{◌≡◌, ◌∙◌, ◌++◌, ap, length, refl, take}
+use Rattle.std.proofs.Common.{◌≡◌, ◌∙◌, ◌++◌, ap, take}
 use Rattle.std.proofs.lemmas.List.{append_assoc}
 use Rattle.std.specs.List.{concat}
 use Rattle.diff_report.specs.Counts.{column_counts}
@@ -6,7 +6,7 @@ use Rattle.diff_report.specs.Naming.{Naming}
 use Rattle.diff_run.specs.Lines.{all_lines, end_text}
 use Rattle.diff_run.proofs.LineLemmas.{in_form}
 use Rattle.diff_sorted.proofs.EndLemmas.{tells_all}
-use Rattle.diff_sorted.proofs.text.SortedReport.push.Goals as goal
+use Rattle.diff_sorted.proofs.report.SortedReport.push.Goals as goal
 
 pub returns : goal.returns
 returns c = λ left_rows right_rows s d h.

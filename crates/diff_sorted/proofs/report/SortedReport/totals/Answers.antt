@@ -1,9 +1,9 @@
-use Rattle.std.proofs.Common.{◌∙◌, ap, arith, length, sym}
+use Rattle.std.proofs.Common.{ap, arith, length}
 use Rattle.diff_report.specs.Sides.{naming_of}
 use Rattle.diff_report.specs.declared.lines.Alone.TheVariants.{Removed, Added}
 use Rattle.diff_run.specs.Lines.{pair_at, row_alone}
 use Rattle.diff_sorted.proofs.EndLemmas.{count_is, tells_all}
-use Rattle.diff_sorted.proofs.text.SortedReport.totals.Goals as goal
+use Rattle.diff_sorted.proofs.report.SortedReport.totals.Goals as goal
 
 pub returns : goal.returns
 returns c = λ left_rows right_rows s d h.
