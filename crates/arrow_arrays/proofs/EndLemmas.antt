@@ -1,8 +1,10 @@
 -- Offsets less a base.
-use Rattle.std.proofs.Common.{◌≡◌, ℕ, zero, suc, ◌+◌, ◌-◌, ◌*◌, ◌^◌, ◌≤◌, ◌<◌, ℤ, pos, Bool, true, false, List, [], ◌∷◌, ◌++◌, length, get_or, map, take, refl, sym, ap, ◌∙◌, arith}
+use Rattle.std.proofs.Common.{◌≡◌, ◌≢◌, ℕ, zero, suc, ◌+◌, ◌-◌, ◌*◌, ◌^◌, ◌≤◌, ◌<◌, ◌<ℤ◌, ℤ, pos, negsuc, Bool, true, false, List, [], ◌∷◌, ◌++◌, length, get_or, map, take, refl, sym, ap, ◌∙◌, arith}
 use Rattle.std.proofs.Math.Seq.{take-suc}
-use Rattle.std.proofs.lemmas.Bool.{le-leb}
-use Rattle.std.proofs.lemmas.List.{length-append, map-append, take_all}
+use Rattle.std.proofs.lemmas.Bool.{le-leb, lt-leb}
+use Rattle.std.proofs.lemmas.List.{get_or-map, length-append, length-map, map-append, take_all}
+use Rattle.std.proofs.lemmas.List.Elements.{All-get_or}
+use Rattle.std.specs.List.{All}
 use Rattle.std.specs.Prelude.{Option, Some, None, if◌then◌else◌, nat_le}
 use Rattle.polars_arrays_bytes.specs.OffsetStrings.{places}
 use Rattle.polars_arrays_numbers.specs.Naturals.{natural_of}
@@ -63,3 +65,25 @@ pub map-more : {A B : Type 0} (f : A → B) (xs : List A) (i : ℕ) (d : A) → 
 map-more f xs i d low =
     let at : i + 1 ≡ suc i = omega arith in
     ap (λ n. map f (take n xs)) at ∙ ap (map f) (take-suc xs i d low) ∙ map-append f (take i xs) (get_or xs i d ∷ [])
+
+-- an offset that is not lent
+pub no-place : (base : ℕ) (offset : Option ℕ) → offset ≡ None → place_from base offset ≡ None
+no-place base None is = refl
+no-place base (Some place) is = cc
+
+not-chosen : (b : Bool) (x y : Option ℕ) → b ≡ false → (if b then x else y) ≡ y
+not-chosen true x y is = cc
+not-chosen false x y is = refl
+
+pub place_before : (base place : ℕ) (offset : Option ℕ) → offset ≡ Some place → place < base → place_from base offset ≡ None
+place_before base place offset is before =
+    ap (place_from base) is ∙ not-chosen (nat_le base place) (Some (place - base)) None (lt-leb base place before)
+
+-- an offset that is no place makes the list one that is not
+pub unplaced : {A : Type 0} (value : A → ℤ) (base : ℕ) (offsets : List A) (i : ℕ) (d : A) → i < length offsets → place_from base (natural_of (value (get_or offsets i d))) ≡ None → ¬ (All (λ place. place ≢ None) (places_from base value offsets))
+unplaced value base offsets i d low none all =
+    let long : length (places_from base value offsets) ≡ length offsets = length-map (places value offsets) (place_from base) ∙ length-map offsets (λ x. natural_of (value x)) in
+    let at : get_or (places_from base value offsets) i None ≡ place_from base (natural_of (value (get_or offsets i d))) = get_or-map (place_from base) (places value offsets) i None None (omega (arith, low, length-map offsets (λ x. natural_of (value x)))) ∙ ap (place_from base) (get_or-map (λ x. natural_of (value x)) offsets i d None low) in
+    All-get_or (λ place. place ≢ None) (places_from base value offsets) i None (omega (arith, low, long)) all (at ∙ none)
+
+pub ruleset ends = (place_less, no-place, place_before)

@@ -1,8 +1,10 @@
 pub mod EndLemmas
 pub mod Examples
+pub mod Fitting
 pub mod GatheredRows
 pub mod Honest
 pub mod MaskedRows
+pub mod SlotLemmas
 pub mod Stacks
 pub mod Standing
 pub mod ViewRows

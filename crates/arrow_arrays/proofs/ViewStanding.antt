@@ -19,7 +19,6 @@ use Rattle.arrow_parts.specs.Lent.{buffers_in, present_in}
 use Rattle.arrow_parts.specs.declared.part.Part.{Part}
 use Rattle.arrow_parts.specs.declared.part.PartKind.TheVariants as kind
 use Rattle.arrow_arrays.proofs.MaskedRows.{row-under}
-use Rattle.arrow_arrays.specs.Stands.{StandsFor}
 use Rattle.arrow_arrays.specs.Views.{AreGathered, bytes_if, has_row, viewed_row}
 
 kept-same : (b : Bool) (x y : Row) → (b ≡ true → x ≡ y) → kept b x ≡ kept b y
@@ -70,20 +69,14 @@ gathered-at p all bytes are i =
           ∙ sym (slots-past (strings_of (buffers_in p) (sized_strings 16 p.rows p.u8s.now)) p.rows i (length-viewed p) past)
     ])
 
-gathered-count : (p : Part) (a : OffsetStrings ℤ) → AreGathered p p.rows (places (λ x. x) a.offsets) a.values → row_count a.offsets ≡ p.rows
+pub gathered-count : (p : Part) (a : OffsetStrings ℤ) → AreGathered p p.rows (places (λ x. x) a.offsets) a.values → row_count a.offsets ≡ p.rows
 gathered-count p a are =
     let long : length (places (λ x. x) a.offsets) ≡ length a.offsets = length-map a.offsets (λ x. natural_of x) in
     omega (arith, long, are.count)
 
-gathered-rows : (p : Part) (a : OffsetStrings ℤ) → AreGathered p p.rows (places (λ x. x) a.offsets) a.values → a.validity ≡ present_in p → (i : ℕ) → row_at (offset_rows (λ x. x) a) i ≡ kept (has_row p i) (row_at (byte_slots (strings_of (buffers_in p) (sized_strings 16 p.rows p.u8s.now))) i)
+pub gathered-rows : (p : Part) (a : OffsetStrings ℤ) → AreGathered p p.rows (places (λ x. x) a.offsets) a.values → a.validity ≡ present_in p → (i : ℕ) → row_at (offset_rows (λ x. x) a) i ≡ kept (has_row p i) (row_at (byte_slots (strings_of (buffers_in p) (sized_strings 16 p.rows p.u8s.now))) i)
 gathered-rows p a are mask i =
     let slots = byte_slots (strings_between (places (λ x. x) a.offsets) a.values) in
     row-under a.validity slots i
     ∙ ap (λ v. kept (is_present v i) (row_at slots i)) mask
     ∙ gathered-at p (places (λ x. x) a.offsets) a.values are i
-
-pub leaf-BinaryView : (a : OffsetStrings ℤ) (p : Part) → AreGathered p p.rows (places (λ x. x) a.offsets) a.values → a.validity ≡ present_in p → StandsFor kind.BinaryView p (of.LargeBinary a)
-leaf-BinaryView a p are mask cs = record { good = tt; len = gathered-count p a are; rows = gathered-rows p a are mask }
-
-pub leaf-Utf8View : (a : OffsetStrings ℤ) (p : Part) → AreGathered p p.rows (places (λ x. x) a.offsets) a.values → a.validity ≡ present_in p → StandsFor kind.Utf8View p (of.LargeUtf8 a)
-leaf-Utf8View a p are mask cs = record { good = tt; len = gathered-count p a are; rows = gathered-rows p a are mask }

@@ -1,4 +1,5 @@
 pub mod Columns
+pub mod Good
 pub mod Shapes
 pub mod Stacks
 pub mod Stands

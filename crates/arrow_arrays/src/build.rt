@@ -1,10 +1,17 @@
 //! Arrays of whole trees of parts.
 #![tactic(auto, using(crate::proofs::Stacks::stacks))]
 
-ghost use Rattle.std.specs.Prelude.{◌≡◌, ◌++◌, ◌∷◌, [], List, IfOk, OnOk, length, reverse};
+ghost use Rattle.std.specs.Prelude.{◌≡◌, ◌≤◌, ◌+◌, ◌++◌, ◌∷◌, [], List, IfErr, IfOk, OnOk, length};
+ghost use Rattle.std.specs.Prelude.{map, reverse, string_bytes};
+ghost use Rattle.std.specs.Str.{IsUtf8};
 ghost use Rattle.arrow_arrays.specs.Columns.{Column, rows_of_parts};
-ghost use Rattle.arrow_arrays.specs.Stacks.{AllFit, AreTaken, IsStep, Stacks};
-ghost use Rattle.arrow_arrays.specs.Stands.{AllStand, Stands};
+ghost use Rattle.arrow_arrays.specs.Good.{AllGood, AreGoodParts, GoodRows};
+ghost use Rattle.arrow_arrays.specs.Shapes.{IsHonestOver};
+ghost use Rattle.arrow_arrays.specs.Stacks.{AllFit, AreTaken, IsRefusedStep, IsStep, Stacks};
+ghost use Rattle.arrow_arrays.specs.Stacks.{WasGood};
+ghost use Rattle.arrow_arrays.specs.Stands.{AllStand, AreTyped, Stands, field_names};
+ghost use Rattle.arrow_parts.specs.Kinds.{kind_number};
+ghost use Rattle.arrow_parts.specs.Refusals.{IsHonest, IsMemoryFailure};
 ghost use Rattle.arrow_parts.specs.declared.part.Part.{Part};
 
 use crate::nested::{Inside, fill, only_one};
@@ -16,7 +23,11 @@ use polars_arrays_nested::any_array::AnyArray;
 use std::alloc::Global;
 
 /// Returns the name of a part. The error is `Parts` if it is not UTF-8.
-fn name_of(alloc: Global, part: &Part<'_>) -> Result<String, Refused> {
+fn name_of(alloc: Global, part: &Part<'_>) -> Result<String, Refused>
+    ensures text { IfOk result (λ _. IsUtf8 part.now.name.now) }
+    ensures name { IfOk result (λ name. string_bytes name ≡ part.now.name.now) }
+    ensures refused { IfErr result (IsHonest (IsUtf8 part.now.name.now)) }
+{
     match std::str::from_utf8(part.name) {
         Ok(text) => Ok(String::from_str(alloc, text)?),
         Err(_) => Err(Refused::Parts),
@@ -24,7 +35,13 @@ fn name_of(alloc: Global, part: &Part<'_>) -> Result<String, Refused> {
 }
 
 /// Puts the name of a part on top of others.
-fn put_name(alloc: Global, part: &Part<'_>, names: &mut Vec<String>) -> Result<(), Refused> {
+fn put_name(alloc: Global, part: &Part<'_>, names: &mut Vec<String>) -> Result<(), Refused>
+    ensures text { OnOk result (IsUtf8 part.now.name.now) }
+    ensures longer { OnOk result (length names.new.items ≡ length names.old.items + 1) }
+    ensures put { OnOk result (map string_bytes names.new.items
+        ≡ map string_bytes names.old.items ++ part.now.name.now ∷ []) }
+    ensures refused { IfErr result (IsHonest (IsUtf8 part.now.name.now)) }
+{
     let name = name_of(alloc, part)?;
     names.push(name)?;
     Ok(())
@@ -36,7 +53,9 @@ fn take_columns(
     count: usize,
     stack: &mut Vec<AnyArray>,
 ) -> Result<Vec<AnyArray>, Refused>
-    ensures { IfOk result (λ taken. AreTaken count taken.items stack.old.items stack.new.items) }
+    ensures taken { IfOk result
+        (λ taken. AreTaken count taken.items stack.old.items stack.new.items) }
+    ensures refused { IfErr result (IsHonest (count ≤ length stack.old.items)) }
 {
     if stack.len() < count {
         return Err(Refused::Parts);
@@ -51,18 +70,27 @@ fn take_columns(
     Ok(columns)
 }
 
-/// Takes a name from the top for each column, and returns the columns' names and types.
+/// Takes a name from the top for each column, and returns the columns' names and types. The one
+/// error is `Memory`.
 fn take_fields(
     alloc: Global,
     columns: &[AnyArray],
     names: &mut Vec<String>,
-) -> Result<Vec<Field>, Refused> {
+) -> Result<Vec<Field>, Refused>
+    requires { length columns.now ≤ length names.old.items }
+    ensures typed { IfOk result (λ fields. AreTyped fields.items columns.now) }
+    ensures named { IfOk result (λ fields. AreTaken (length columns.now) (field_names fields.items)
+        (map string_bytes names.old.items) (map string_bytes names.new.items)) }
+    ensures left { OnOk result
+        (length names.old.items ≡ length columns.now + length names.new.items) }
+    ensures refused { IfErr result IsMemoryFailure }
+{
     let mut fields = Vec::with_capacity(alloc, columns.len())?;
-    for column in columns {
+    for i in 0..columns.len() {
         let Some(name) = names.pop() else {
             return Err(Refused::Parts);
         };
-        let dtype = column.dtype(alloc)?;
+        let dtype = columns[i].dtype(alloc)?;
         fields.push(Field { name, dtype })?;
     }
     Ok(fields)
@@ -75,7 +103,14 @@ fn take_inside(
     stack: &mut Vec<AnyArray>,
     names: &mut Vec<String>,
 ) -> Result<Inside, Refused>
-    ensures { IfOk result (λ t. AreTaken count t.columns.items stack.old.items stack.new.items) }
+    requires { length stack.old.items ≤ length names.old.items }
+    ensures taken { IfOk result
+        (λ t. AreTaken count t.columns.items stack.old.items stack.new.items) }
+    ensures typed { IfOk result (λ t. AreTyped t.fields.items t.columns.items) }
+    ensures named { IfOk result (λ t. AreTaken count (field_names t.fields.items)
+        (map string_bytes names.old.items) (map string_bytes names.new.items)) }
+    ensures left { OnOk result (length names.old.items ≡ count + length names.new.items) }
+    ensures refused { IfErr result (IsHonest (count ≤ length stack.old.items)) }
 {
     let columns = take_columns(alloc, count, stack)?;
     let fields = take_fields(alloc, &columns, names)?;
@@ -84,7 +119,8 @@ fn take_inside(
 
 /// Takes the last shape.
 fn take_shape(shapes: &mut Vec<Shape>) -> Result<Shape, Refused>
-    ensures { IfOk result (λ s. shapes.old.items ≡ shapes.new.items ++ s ∷ []) }
+    ensures taken { IfOk result (λ s. shapes.old.items ≡ shapes.new.items ++ s ∷ []) }
+    ensures none { IfErr result (λ _. length shapes.old.items ≡ 0) }
 {
     match shapes.pop() {
         Some(shape) => Ok(shape),
@@ -102,8 +138,14 @@ fn filled(
 ) -> Result<AnyArray, Refused>
     requires shapes { (ps : List Part) × AllFit ps shapes.old.items }
     requires stack { (cs : List Column) × AllStand (reverse stack.old.items) cs }
-    ensures { IfOk result
-        (IsStep count shapes.old.items shapes.new.items stack.old.items stack.new.items) }
+    requires names { length stack.old.items ≤ length names.old.items }
+    ensures made { IfOk result
+        (IsStep count shapes.old.items shapes.new.items stack.old.items stack.new.items
+        (map string_bytes names.old.items) (map string_bytes names.new.items)) }
+    ensures good { OnOk result (WasGood count shapes.old.items stack.old.items) }
+    ensures left { OnOk result (length names.old.items ≡ count + length names.new.items) }
+    ensures taken { OnOk result (length stack.old.items ≡ count + length stack.new.items) }
+    ensures refused { IfErr result (IsRefusedStep count shapes.old.items stack.old.items) }
 {
     let inside = take_inside(alloc, count, stack, names)?;
     let shape = take_shape(shapes)?;
@@ -121,8 +163,14 @@ fn step(
 ) -> Result<(), Refused>
     requires shapes { (ps : List Part) × AllFit ps shapes.old.items }
     requires stack { (cs : List Column) × AllStand (reverse stack.old.items) cs }
-    ensures { OnOk result
-        (Stacks count shapes.old.items shapes.new.items stack.old.items stack.new.items) }
+    requires names { length stack.old.items ≤ length names.old.items }
+    ensures made { OnOk result
+        (Stacks count shapes.old.items shapes.new.items stack.old.items stack.new.items
+        (map string_bytes names.old.items) (map string_bytes names.new.items)) }
+    ensures good { OnOk result (WasGood count shapes.old.items stack.old.items) }
+    ensures left { OnOk result (length names.old.items ≡ count + length names.new.items) }
+    ensures taken { OnOk result (length stack.old.items + 1 ≡ count + length stack.new.items) }
+    ensures refused { IfErr result (IsRefusedStep count shapes.old.items stack.old.items) }
 {
     let array = filled(alloc, count, shapes, stack, names)?;
     stack.push(array)?;
@@ -131,9 +179,10 @@ fn step(
 
 /// Puts the shape of a part behind others.
 fn put_shape(alloc: Global, part: &Part<'_>, shapes: &mut Vec<Shape>) -> Result<(), Refused>
-    ensures { OnOk result
+    ensures put { OnOk result
         ((ps : List Part) → AllFit ps shapes.old.items
         → AllFit (ps ++ part.now ∷ []) shapes.new.items) }
+    ensures refused { IfErr result (IsHonestOver (GoodRows (kind_number part.now.kind) part.now)) }
 {
     let shape = shape_of(alloc, part)?;
     shapes.push(shape)?;
@@ -142,7 +191,8 @@ fn put_shape(alloc: Global, part: &Part<'_>, shapes: &mut Vec<Shape>) -> Result<
 
 /// Returns the shapes of parts.
 fn shapes_of(alloc: Global, parts: &[Part<'_>]) -> Result<Vec<Shape>, Refused>
-    ensures { IfOk result (λ shapes. AllFit parts.now shapes.items) }
+    ensures fit { IfOk result (λ shapes. AllFit parts.now shapes.items) }
+    ensures refused { IfErr result (IsHonest (AllGood parts.now)) }
 {
     let mut shapes = Vec::with_capacity(alloc, parts.len())?;
     for i in 0..parts.len() {
@@ -153,10 +203,13 @@ fn shapes_of(alloc: Global, parts: &[Part<'_>]) -> Result<Vec<Shape>, Refused>
 
 /// Returns the array that parts in pre-order describe. Its rows are copies, so nothing stays lent.
 ///
-/// The error is `Parts` if the parts make no array, and `Memory` if an allocation fails. A text
-/// between offsets, masked or not, has to be UTF-8; keys and views of masked rows are arbitrary.
+/// The error is `Parts` exactly if the parts make no array, and else `Memory`: an allocation
+/// failed. A text between offsets, masked or not, has to be UTF-8; keys and views of masked rows
+/// are arbitrary.
 pub fn build(alloc: Global, parts: &[Part<'_>]) -> Result<AnyArray, Refused>
-    ensures { IfOk result (λ a. Stands a (rows_of_parts parts.now)) }
+    ensures stands { IfOk result (λ a. Stands a (rows_of_parts parts.now)) }
+    ensures good { IfOk result (λ _. AreGoodParts parts.now) }
+    ensures refused { IfErr result (IsHonest (AreGoodParts parts.now)) }
 {
     let mut shapes = shapes_of(alloc, parts)?;
     let mut stack: Vec<AnyArray> = Vec::new(alloc);

@@ -3,8 +3,6 @@
 
 pub mod build;
 mod ends;
-mod keys;
-mod leaves;
 mod nested;
 mod shapes;
 mod slots;

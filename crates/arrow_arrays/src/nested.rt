@@ -1,11 +1,13 @@
 //! Shapes that are filled with the arrays inside them.
 #![tactic(auto, using(crate::proofs::Standing::filling))]
 
-ghost use Rattle.std.specs.Prelude.{◌≡◌, ◌∷◌, [], IfOk};
+ghost use Rattle.std.specs.Prelude.{◌≡◌, ◌∷◌, [], length, IfErr, IfOk};
 ghost use Rattle.std.specs.List.{All};
 ghost use Rattle.polars_arrays_nested.specs.GoodParts.{IsGood};
 ghost use Rattle.arrow_arrays.specs.Shapes.{GoodShape};
-ghost use Rattle.arrow_arrays.specs.Stands.{Fills, FillsOne};
+ghost use Rattle.arrow_arrays.specs.Stands.{AreTyped, CanFillOne, CanFillWith, Fills, FillsOne};
+ghost use Rattle.arrow_arrays.specs.Stands.{IsHonestFill, IsHonestOne};
+ghost use Rattle.arrow_parts.specs.Refusals.{IsHonest};
 ghost use Rattle.arrow_arrays.specs.declared.shapes.Shape.TheVariants.{Lists, FixedLists, Structs};
 ghost use Rattle.arrow_arrays.specs.declared.shapes.Shape.TheVariants.{Entries};
 
@@ -31,7 +33,8 @@ pub struct Inside {
 
 /// Returns the one array. The error is `Parts` if there are more, or none.
 pub fn only_one(columns: Vec<AnyArray>) -> Result<AnyArray, Refused>
-    ensures { IfOk result (λ a. columns.items ≡ a ∷ []) }
+    ensures one { IfOk result (λ a. columns.items ≡ a ∷ []) }
+    ensures refused { IfErr result (IsHonest (length columns.items ≡ 1)) }
 {
     let mut columns = columns;
     if columns.len() != 1 {
@@ -51,7 +54,9 @@ fn lists(
     items: AnyArray,
 ) -> Result<AnyArray, Refused>
     requires { IsGood items }
-    ensures { IfOk result (FillsOne (Lists offsets validity) items) }
+    ensures made { IfOk result (FillsOne (Lists offsets validity) items) }
+    ensures can { IfOk result (λ _. CanFillOne (Lists offsets validity) items) }
+    ensures refused { IfErr result (IsHonestOne (Lists offsets validity) items) }
 {
     let items = Box::new(alloc, items)?;
     let array = ListArray::try_new(offsets, items, validity)?;
@@ -66,7 +71,9 @@ fn fixed_lists(
     items: AnyArray,
 ) -> Result<AnyArray, Refused>
     requires { IsGood items }
-    ensures { IfOk result (FillsOne (FixedLists size validity) items) }
+    ensures made { IfOk result (FillsOne (FixedLists size validity) items) }
+    ensures can { IfOk result (λ _. CanFillOne (FixedLists size validity) items) }
+    ensures refused { IfErr result (IsHonestOne (FixedLists size validity) items) }
 {
     let items = Box::new(alloc, items)?;
     let array = FixedSizeListArray::try_new(size.width, size.rows, items, validity)?;
@@ -76,7 +83,9 @@ fn fixed_lists(
 /// Returns a dictionary of entries.
 fn entries(alloc: Global, keys: DictKeys, items: AnyArray) -> Result<AnyArray, Refused>
     requires { IsGood items }
-    ensures { IfOk result (FillsOne (Entries keys) items) }
+    ensures made { IfOk result (FillsOne (Entries keys) items) }
+    ensures can { IfOk result (λ _. CanFillOne (Entries keys) items) }
+    ensures refused { IfErr result (IsHonestOne (Entries keys) items) }
 {
     let items = Box::new(alloc, items)?;
     let array = DictionaryArray::try_new(keys, items)?;
@@ -85,8 +94,12 @@ fn entries(alloc: Global, keys: DictKeys, items: AnyArray) -> Result<AnyArray, R
 
 /// Returns structs of columns.
 fn structs(rows: usize, validity: Option<Bitmap>, inside: Inside) -> Result<AnyArray, Refused>
-    requires { All IsGood inside.columns.items }
-    ensures { IfOk result (Fills (Structs rows validity) inside.columns.items) }
+    requires good { All IsGood inside.columns.items }
+    requires typed { AreTyped inside.fields.items inside.columns.items }
+    ensures made { IfOk result
+        (Fills (Structs rows validity) inside.fields.items inside.columns.items) }
+    ensures can { IfOk result (λ _. CanFillWith (Structs rows validity) inside.columns.items) }
+    ensures refused { IfErr result (IsHonestFill (Structs rows validity) inside.columns.items) }
 {
     let Inside { fields, columns } = inside;
     let array = StructArray::try_new(fields, rows, columns, validity)?;
@@ -101,7 +114,10 @@ fn listed(
     inside: Inside,
 ) -> Result<AnyArray, Refused>
     requires { All IsGood inside.columns.items }
-    ensures { IfOk result (Fills (Lists offsets validity) inside.columns.items) }
+    ensures made { IfOk result
+        (Fills (Lists offsets validity) inside.fields.items inside.columns.items) }
+    ensures can { IfOk result (λ _. CanFillWith (Lists offsets validity) inside.columns.items) }
+    ensures refused { IfErr result (IsHonestFill (Lists offsets validity) inside.columns.items) }
 {
     let items = only_one(inside.columns)?;
     let array = lists(alloc, offsets, validity, items)?;
@@ -116,7 +132,10 @@ fn fixed_listed(
     inside: Inside,
 ) -> Result<AnyArray, Refused>
     requires { All IsGood inside.columns.items }
-    ensures { IfOk result (Fills (FixedLists size validity) inside.columns.items) }
+    ensures made { IfOk result
+        (Fills (FixedLists size validity) inside.fields.items inside.columns.items) }
+    ensures can { IfOk result (λ _. CanFillWith (FixedLists size validity) inside.columns.items) }
+    ensures refused { IfErr result (IsHonestFill (FixedLists size validity) inside.columns.items) }
 {
     let items = only_one(inside.columns)?;
     let array = fixed_lists(alloc, size, validity, items)?;
@@ -126,7 +145,9 @@ fn fixed_listed(
 /// Returns a dictionary of the one array inside.
 fn entered(alloc: Global, keys: DictKeys, inside: Inside) -> Result<AnyArray, Refused>
     requires { All IsGood inside.columns.items }
-    ensures { IfOk result (Fills (Entries keys) inside.columns.items) }
+    ensures made { IfOk result (Fills (Entries keys) inside.fields.items inside.columns.items) }
+    ensures can { IfOk result (λ _. CanFillWith (Entries keys) inside.columns.items) }
+    ensures refused { IfErr result (IsHonestFill (Entries keys) inside.columns.items) }
 {
     let items = only_one(inside.columns)?;
     let array = entries(alloc, keys, items)?;
@@ -137,8 +158,11 @@ fn entered(alloc: Global, keys: DictKeys, inside: Inside) -> Result<AnyArray, Re
 /// array, and `Memory` if an allocation fails.
 pub fn fill(alloc: Global, shape: Shape, inside: Inside) -> Result<AnyArray, Refused>
     requires columns { All IsGood inside.columns.items }
+    requires typed { AreTyped inside.fields.items inside.columns.items }
     requires shape { GoodShape shape }
-    ensures { IfOk result (Fills shape inside.columns.items) }
+    ensures made { IfOk result (Fills shape inside.fields.items inside.columns.items) }
+    ensures can { IfOk result (λ _. CanFillWith shape inside.columns.items) }
+    ensures refused { IfErr result (IsHonestFill shape inside.columns.items) }
 {
     match shape {
         Shape::Leaf(array) => Ok(array),

@@ -1,20 +1,45 @@
 //! Shapes: the arrays of parts without the arrays inside them.
-#![tactic(auto, using(crate::proofs::Standing::fitting))]
+#![tactic(auto, using(crate::proofs::Fitting::fitting))]
 
-ghost use Rattle.std.specs.Prelude.{IfOk};
-ghost use Rattle.arrow_arrays.specs.Shapes.{FitsEntries, FitsKind, FitsPart};
+ghost use Rattle.std.specs.Prelude.{IfErr, IfOk};
+ghost use Rattle.arrow_arrays.specs.Good.{GoodKind, GoodLists, GoodRows};
+ghost use Rattle.arrow_arrays.specs.Shapes.{FitsKind, FitsLists, FitsPart, IsHonestOver};
+ghost use Rattle.arrow_parts.specs.Kinds.{kind_number};
+ghost use Rattle.arrow_parts.specs.Lent.{places_from};
 ghost use Rattle.arrow_parts.specs.declared.part.PartKind.TheVariants as kinds;
 
-use crate::keys::keys;
-use crate::leaves::leaf;
-use crate::slots::{ends, present};
+use crate::ends::LentOffset;
+use crate::slots::{ends, numbers, present, sized_strings, strings, texts, truths};
+use crate::views::{viewed_strings, viewed_texts};
+use crate::wide::{signed_numbers, unsigned_numbers};
 use arrow_parts::part::{Part, PartKind};
 use arrow_parts::refused::Refused;
 use polars_arrays_bits::bitmap::Bitmap;
+use polars_arrays_flat::null::NullArray;
 use polars_arrays_nested::any_array::AnyArray;
 use polars_arrays_nested::dict_keys::DictKeys;
 use polars_arrays_nested::list_offsets::ListOffsets;
 use std::alloc::Global;
+
+// The shape of an array of one level, of a kind of `AnyArray`.
+macro_rules! leaf {
+    ($kind:ident, $array:expr) => {
+        match $array {
+            Ok(array) => Ok(Shape::Leaf(AnyArray::$kind(array))),
+            Err(reason) => Err(reason),
+        }
+    };
+}
+
+// The shape of a dictionary, of a type of `DictKeys`.
+macro_rules! entries {
+    ($kind:ident, $keys:expr) => {
+        match $keys {
+            Ok(keys) => Ok(Shape::Entries(DictKeys::$kind(keys))),
+            Err(reason) => Err(reason),
+        }
+    };
+}
 
 /// The number of items of each list, and the number of lists.
 #[derive(Clone, Copy)]
@@ -33,27 +58,22 @@ pub enum Shape {
     Entries(DictKeys),
 }
 
-/// Returns the shape of lists between offsets of 32 bits.
-fn near_lists(alloc: Global, part: &Part<'_>) -> Result<Shape, Refused>
-    ensures { IfOk result (FitsKind kinds.List part.now) }
+/// Returns the shape of lists between offsets.
+fn lists<O: LentOffset>(alloc: Global, part: &Part<'_>, offsets: &[O]) -> Result<Shape, Refused>
+    ensures made { IfOk result
+        (FitsLists (places_from part.now.base O.value offsets.now) part.now) }
+    ensures refused { IfErr result
+        (IsHonestOver (GoodLists (places_from part.now.base O.value offsets.now) part.now)) }
 {
     let validity = present(alloc, part)?;
-    let ends = ends(alloc, part, part.i32s)?;
-    Ok(Shape::Lists(ListOffsets::Large(ends), validity))
-}
-
-/// Returns the shape of lists between offsets of 64 bits.
-fn far_lists(alloc: Global, part: &Part<'_>) -> Result<Shape, Refused>
-    ensures { IfOk result (FitsKind kinds.LargeList part.now) }
-{
-    let validity = present(alloc, part)?;
-    let ends = ends(alloc, part, part.i64s)?;
+    let ends = ends(alloc, part, offsets)?;
     Ok(Shape::Lists(ListOffsets::Large(ends), validity))
 }
 
 /// Returns the shape of lists of one width.
 fn fixed_lists(alloc: Global, part: &Part<'_>) -> Result<Shape, Refused>
-    ensures { IfOk result (FitsKind kinds.FixedSizeList part.now) }
+    ensures made { IfOk result (FitsKind kinds.FixedSizeList part.now) }
+    ensures refused { IfErr result (IsHonestOver (GoodKind kinds.FixedSizeList part.now)) }
 {
     let validity = present(alloc, part)?;
     let size = Size {
@@ -65,53 +85,58 @@ fn fixed_lists(alloc: Global, part: &Part<'_>) -> Result<Shape, Refused>
 
 /// Returns the shape of structs.
 fn structs(alloc: Global, part: &Part<'_>) -> Result<Shape, Refused>
-    ensures { IfOk result (FitsKind kinds.Struct part.now) }
+    ensures made { IfOk result (FitsKind kinds.Struct part.now) }
+    ensures refused { IfErr result (IsHonestOver (GoodKind kinds.Struct part.now)) }
 {
     let validity = present(alloc, part)?;
     Ok(Shape::Structs(part.rows, validity))
 }
 
-/// Returns the shape of a dictionary.
-fn entries(alloc: Global, kind: PartKind, part: &Part<'_>) -> Result<Shape, Refused>
-    ensures { IfOk result (FitsEntries kind part.now) }
-{
-    let keys = keys(alloc, kind, part)?;
-    Ok(Shape::Entries(keys))
-}
-
-/// Returns an array of one level as a shape.
-fn flat(alloc: Global, kind: PartKind, part: &Part<'_>) -> Result<Shape, Refused>
-    ensures { IfOk result (FitsKind kind part.now) }
-{
-    let array = leaf(alloc, kind, part)?;
-    Ok(Shape::Leaf(array))
-}
-
 /// Returns the shape of a part of a kind.
 fn shape_of_kind(alloc: Global, kind: PartKind, part: &Part<'_>) -> Result<Shape, Refused>
-    ensures { IfOk result (FitsKind kind part.now) }
+    ensures made { IfOk result (FitsKind kind part.now) }
+    ensures refused { IfErr result (IsHonestOver (GoodKind kind part.now)) }
 {
     match kind {
-        PartKind::List => near_lists(alloc, part),
-        PartKind::LargeList => far_lists(alloc, part),
+        PartKind::Null => Ok(Shape::Leaf(AnyArray::Null(NullArray::new(part.rows)))),
+        PartKind::Boolean => leaf!(Boolean, truths(alloc, part)),
+        PartKind::Int8 => leaf!(Int8, numbers(alloc, part, part.i8s)),
+        PartKind::Int16 => leaf!(Int16, numbers(alloc, part, part.i16s)),
+        PartKind::Int32 => leaf!(Int32, numbers(alloc, part, part.i32s)),
+        PartKind::Int64 => leaf!(Int64, numbers(alloc, part, part.i64s)),
+        PartKind::Int128 => leaf!(Int128, signed_numbers(alloc, part)),
+        PartKind::UInt8 => leaf!(UInt8, numbers(alloc, part, part.u8s)),
+        PartKind::UInt16 => leaf!(UInt16, numbers(alloc, part, part.u16s)),
+        PartKind::UInt32 => leaf!(UInt32, numbers(alloc, part, part.u32s)),
+        PartKind::UInt64 => leaf!(UInt64, numbers(alloc, part, part.u64s)),
+        PartKind::UInt128 => leaf!(UInt128, unsigned_numbers(alloc, part)),
+        PartKind::Binary => leaf!(LargeBinary, strings(alloc, part, part.i32s)),
+        PartKind::LargeBinary => leaf!(LargeBinary, strings(alloc, part, part.i64s)),
+        PartKind::Utf8 => leaf!(LargeUtf8, texts(alloc, part, part.i32s)),
+        PartKind::LargeUtf8 => leaf!(LargeUtf8, texts(alloc, part, part.i64s)),
+        PartKind::FixedSizeBinary => leaf!(FixedSizeBinary, sized_strings(alloc, part)),
+        PartKind::BinaryView => leaf!(LargeBinary, viewed_strings(alloc, part)),
+        PartKind::Utf8View => leaf!(LargeUtf8, viewed_texts(alloc, part)),
+        PartKind::List => lists(alloc, part, part.i32s),
+        PartKind::LargeList => lists(alloc, part, part.i64s),
         PartKind::FixedSizeList => fixed_lists(alloc, part),
         PartKind::Struct => structs(alloc, part),
-        PartKind::DictInt8
-        | PartKind::DictInt16
-        | PartKind::DictInt32
-        | PartKind::DictInt64
-        | PartKind::DictUInt8
-        | PartKind::DictUInt16
-        | PartKind::DictUInt32
-        | PartKind::DictUInt64 => entries(alloc, kind, part),
-        _ => flat(alloc, kind, part),
+        PartKind::DictInt8 => entries!(Int8, numbers(alloc, part, part.i8s)),
+        PartKind::DictInt16 => entries!(Int16, numbers(alloc, part, part.i16s)),
+        PartKind::DictInt32 => entries!(Int32, numbers(alloc, part, part.i32s)),
+        PartKind::DictInt64 => entries!(Int64, numbers(alloc, part, part.i64s)),
+        PartKind::DictUInt8 => entries!(UInt8, numbers(alloc, part, part.u8s)),
+        PartKind::DictUInt16 => entries!(UInt16, numbers(alloc, part, part.u16s)),
+        PartKind::DictUInt32 => entries!(UInt32, numbers(alloc, part, part.u32s)),
+        PartKind::DictUInt64 => entries!(UInt64, numbers(alloc, part, part.u64s)),
     }
 }
 
 /// Returns the shape of a part. The error is `Parts` if the part makes no array, whatever is inside
 /// it, and `Memory` if an allocation fails.
 pub fn shape_of(alloc: Global, part: &Part<'_>) -> Result<Shape, Refused>
-    ensures { IfOk result (FitsPart part.now) }
+    ensures made { IfOk result (FitsPart part.now) }
+    ensures refused { IfErr result (IsHonestOver (GoodRows (kind_number part.now.kind) part.now)) }
 {
     match PartKind::of(part.kind) {
         Some(kind) => shape_of_kind(alloc, kind, part),

@@ -1,12 +1,15 @@
 //! Validity, numbers, truth values and byte strings of a part, copied into arrays.
+#![tactic(auto, using(crate::proofs::SlotLemmas::refusals))]
 
 ghost use Rattle.std.specs.Prelude.{◌≡◌, length, IfOk, IfErr};
 ghost use Rattle.polars_arrays_bytes.specs.OffsetStrings.{places, row_count};
-ghost use Rattle.arrow_parts.specs.ByteBits.{HoldPresence, byte_window};
+ghost use Rattle.arrow_arrays.specs.Good.{AreNumbers, ArePlaced, AreSized, AreTextRows, AreTruths};
+ghost use Rattle.arrow_arrays.specs.Good.{GoodStrings, HoldRows};
+ghost use Rattle.arrow_arrays.specs.Stands.{IsNumbers, IsSizedStrings, IsStrings, IsTruths};
 ghost use Rattle.arrow_parts.specs.Lent.{places_from, present_in};
-ghost use Rattle.arrow_parts.specs.Refusals.{IsHonest};
+ghost use Rattle.arrow_parts.specs.Refusals.{IsHonest, IsMemoryFailure};
 
-use crate::ends::ends_from;
+use crate::ends::{LentOffset, ends_from};
 use arrow_parts::bits::{bits_of, validity};
 use arrow_parts::part::Part;
 use arrow_parts::refused::Refused;
@@ -18,52 +21,50 @@ use polars_arrays_bytes::text::Utf8Array;
 use polars_arrays_flat::boolean::BooleanArray;
 use polars_arrays_flat::primitive::PrimitiveArray;
 use polars_arrays_numbers::native_type::NativeType;
-use polars_arrays_numbers::offset::Offset;
 use std::alloc::Global;
 
 /// Returns which rows of a part are present, or None if all are. The error is `Parts` if there are
 /// fewer bits than rows, and `Memory` if an allocation fails.
 pub fn present(alloc: Global, part: &Part<'_>) -> Result<Option<Bitmap>, Refused>
     ensures mask { IfOk result (λ bits. bits ≡ present_in part.now) }
-    ensures held { IfOk result
-        (λ _. HoldPresence part.now.first_bit part.now.rows part.now.present.now) }
-    ensures refused { IfErr result
-        (IsHonest (HoldPresence part.now.first_bit part.now.rows part.now.present.now)) }
+    ensures held { IfOk result (λ _. HoldRows part.now) }
+    ensures refused { IfErr result (IsHonest (HoldRows part.now)) }
 {
     validity(alloc, part.present, part.first_bit, part.rows)
 }
 
-/// Returns a copy of a slice.
+/// Returns a copy of a slice. The one error is `Memory`.
 fn copied<T: Copy>(alloc: Global, elements: &[T]) -> Result<Buffer<T>, Refused>
-    ensures { IfOk result (λ buffer. buffer.items ≡ elements.now) }
+    ensures copy { IfOk result (λ buffer. buffer.items ≡ elements.now) }
+    ensures refused { IfErr result IsMemoryFailure }
 {
     Ok(Buffer::from_vec(Vec::from_slice(alloc, elements)?))
 }
 
 /// Returns the array of a part's rows, which are numbers. The error is `Parts` unless there is one
-/// for each row, and `Memory` if an allocation fails.
+/// for each row and a bit for each row, and `Memory` if an allocation fails.
 pub fn numbers<T: NativeType>(
     alloc: Global,
     part: &Part<'_>,
     values: &[T],
 ) -> Result<PrimitiveArray<T>, Refused>
-    ensures stored { IfOk result (λ a. a.values ≡ values.now) }
-    ensures count { IfOk result (λ _. length values.now ≡ part.now.rows) }
-    ensures mask { IfOk result (λ a. a.validity ≡ present_in part.now) }
+    ensures made { IfOk result (IsNumbers part.now values.now) }
+    ensures refused { IfErr result (IsHonest (AreNumbers part.now (length values.now))) }
 {
     if values.len() != part.rows {
         return Err(Refused::Parts);
     }
     let validity = present(alloc, part)?;
-    let array = PrimitiveArray::try_new(copied(alloc, values)?, validity)?;
+    let values = copied(alloc, values)?;
+    let array = PrimitiveArray::try_new(values, validity)?;
     Ok(array)
 }
 
-/// Returns the array of a part's rows, which are truth values.
+/// Returns the array of a part's rows, which are truth values. The error is `Parts` unless there is
+/// a bit for each row, and `Memory` if an allocation fails.
 pub fn truths(alloc: Global, part: &Part<'_>) -> Result<BooleanArray, Refused>
-    ensures stored { IfOk result
-        (λ a. a.values ≡ byte_window part.now.first_bit part.now.rows part.now.u8s.now) }
-    ensures mask { IfOk result (λ a. a.validity ≡ present_in part.now) }
+    ensures made { IfOk result (IsTruths part.now) }
+    ensures refused { IfErr result (IsHonest (AreTruths part.now)) }
 {
     let validity = present(alloc, part)?;
     let values = bits_of(alloc, part.u8s, part.first_bit, part.rows)?;
@@ -74,7 +75,7 @@ pub fn truths(alloc: Global, part: &Part<'_>) -> Result<BooleanArray, Refused>
 /// Returns the ends of a part's rows, which are strings or lists between offsets. The error is
 /// `Parts` unless there is one offset more than rows and none lies before the base, and `Memory`
 /// if an allocation fails.
-pub fn ends<O: Offset>(
+pub fn ends<O: LentOffset>(
     alloc: Global,
     part: &Part<'_>,
     offsets: &[O],
@@ -82,6 +83,8 @@ pub fn ends<O: Offset>(
     ensures count { IfOk result (λ ends. row_count ends.items ≡ part.now.rows) }
     ensures ends { IfOk result
         (λ ends. places (λ x. x) ends.items ≡ places_from part.now.base O.value offsets.now) }
+    ensures refused { IfErr result
+        (IsHonest (ArePlaced part.now.rows (places_from part.now.base O.value offsets.now))) }
 {
     let ends = ends_from(alloc, part.base, offsets)?;
     if ends.len().saturating_sub(1) != part.rows {
@@ -90,49 +93,53 @@ pub fn ends<O: Offset>(
     Ok(ends)
 }
 
-/// Returns the array of a part's rows, which are byte strings.
-pub fn strings<O: Offset>(
+/// Returns the array of a part's rows, which are byte strings. The error is `Parts` unless the
+/// offsets are those of the rows and lead into the bytes, and `Memory` if an allocation fails.
+pub fn strings<O: LentOffset>(
     alloc: Global,
     part: &Part<'_>,
     offsets: &[O],
 ) -> Result<BinaryArray<i64>, Refused>
-    ensures count { IfOk result (λ a. row_count a.offsets ≡ part.now.rows) }
-    ensures ends { IfOk result
-        (λ a. places (λ x. x) a.offsets ≡ places_from part.now.base O.value offsets.now) }
-    ensures stored { IfOk result (λ a. a.values ≡ part.now.u8s.now) }
-    ensures mask { IfOk result (λ a. a.validity ≡ present_in part.now) }
+    ensures made { IfOk result
+        (IsStrings part.now (places_from part.now.base O.value offsets.now)) }
+    ensures good { IfOk result
+        (λ _. GoodStrings (places_from part.now.base O.value offsets.now) part.now) }
+    ensures refused { IfErr result
+        (IsHonest (GoodStrings (places_from part.now.base O.value offsets.now) part.now)) }
 {
     let validity = present(alloc, part)?;
     let ends = ends(alloc, part, offsets)?;
-    let array = BinaryArray::try_new(ends, copied(alloc, part.u8s)?, validity)?;
+    let bytes = copied(alloc, part.u8s)?;
+    let array = BinaryArray::try_new(ends, bytes, validity)?;
     Ok(array)
 }
 
 /// Returns the array of a part's rows, which are texts. The error is also `Parts` if a text, masked
 /// or not, is not UTF-8.
-pub fn texts<O: Offset>(
+pub fn texts<O: LentOffset>(
     alloc: Global,
     part: &Part<'_>,
     offsets: &[O],
 ) -> Result<Utf8Array<i64>, Refused>
-    ensures count { IfOk result (λ a. row_count a.offsets ≡ part.now.rows) }
-    ensures ends { IfOk result
-        (λ a. places (λ x. x) a.offsets ≡ places_from part.now.base O.value offsets.now) }
-    ensures stored { IfOk result (λ a. a.values ≡ part.now.u8s.now) }
-    ensures mask { IfOk result (λ a. a.validity ≡ present_in part.now) }
+    ensures made { IfOk result
+        (IsStrings part.now (places_from part.now.base O.value offsets.now)) }
+    ensures good { IfOk result
+        (λ _. AreTextRows part.now (places_from part.now.base O.value offsets.now)) }
+    ensures refused { IfErr result
+        (IsHonest (AreTextRows part.now (places_from part.now.base O.value offsets.now))) }
 {
     let validity = present(alloc, part)?;
     let ends = ends(alloc, part, offsets)?;
-    let array = Utf8Array::try_new(ends, copied(alloc, part.u8s)?, validity)?;
+    let bytes = copied(alloc, part.u8s)?;
+    let array = Utf8Array::try_new(ends, bytes, validity)?;
     Ok(array)
 }
 
-/// Returns the array of a part's rows, which are byte strings of one size.
+/// Returns the array of a part's rows, which are byte strings of one size. The error is `Parts`
+/// unless the bytes are exactly those of the rows, and `Memory` if an allocation fails.
 pub fn sized_strings(alloc: Global, part: &Part<'_>) -> Result<FixedSizeBinaryArray, Refused>
-    ensures size { IfOk result (λ a. a.size ≡ part.now.width) }
-    ensures count { IfOk result (λ a. a.count ≡ part.now.rows) }
-    ensures stored { IfOk result (λ a. a.values ≡ part.now.u8s.now) }
-    ensures mask { IfOk result (λ a. a.validity ≡ present_in part.now) }
+    ensures made { IfOk result (IsSizedStrings part.now) }
+    ensures refused { IfErr result (IsHonest (AreSized part.now (length part.now.u8s.now))) }
 {
     let validity = present(alloc, part)?;
     let values = copied(alloc, part.u8s)?;

@@ -9,6 +9,7 @@ ghost use Rattle.polars_arrays_views.specs.Views.{AllZero, InBuffer, IsView, row
 ghost use Rattle.polars_arrays_views.specs.Views.{view_prefix};
 ghost use Rattle.arrow_parts.specs.Lent.{buffers_in, lent_buffers, present_in};
 ghost use Rattle.arrow_parts.specs.Refusals.{IsHonest};
+ghost use Rattle.arrow_arrays.specs.Stands.{IsViewed};
 ghost use Rattle.arrow_arrays.specs.Views.{AllLead, AreGathered, AreTextViews, AreViews};
 ghost use Rattle.arrow_arrays.specs.Views.{LeadsToRow, NotNegative, bytes_if, has_row, view_in};
 ghost use Rattle.arrow_arrays.specs.Views.{viewed_row};
@@ -195,9 +196,7 @@ fn has_views(part: &Part<'_>) -> bool
 /// row, and `Memory` if an allocation fails.
 #[tactic(auto, using(crate::proofs::GatheredRows::arrays))]
 pub fn viewed_strings(alloc: Global, part: &Part<'_>) -> Result<BinaryArray<i64>, Refused>
-    ensures rows { IfOk result
-        (λ a. AreGathered part.now part.now.rows (places (λ x. x) a.offsets) a.values) }
-    ensures mask { IfOk result (λ a. a.validity ≡ present_in part.now) }
+    ensures made { IfOk result (IsViewed part.now) }
     ensures good { IfOk result (λ _. AreViews part.now) }
     ensures refused { IfErr result (IsHonest (AreViews part.now)) }
 {
@@ -214,9 +213,8 @@ pub fn viewed_strings(alloc: Global, part: &Part<'_>) -> Result<BinaryArray<i64>
 /// `Parts` if the text of a present row is not UTF-8.
 #[tactic(auto, using(crate::proofs::GatheredRows::arrays))]
 pub fn viewed_texts(alloc: Global, part: &Part<'_>) -> Result<Utf8Array<i64>, Refused>
-    ensures rows { IfOk result
-        (λ a. AreGathered part.now part.now.rows (places (λ x. x) a.offsets) a.values) }
-    ensures mask { IfOk result (λ a. a.validity ≡ present_in part.now) }
+    ensures made { IfOk result (IsViewed part.now) }
+    ensures good { IfOk result (λ _. AreTextViews part.now) }
     ensures refused { IfErr result (IsHonest (AreTextViews part.now)) }
 {
     if !has_views(part) {

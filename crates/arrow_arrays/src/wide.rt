@@ -1,7 +1,11 @@
 //! Numbers of 128 bits that are lent as pairs of words.
+#![tactic(auto, using(crate::proofs::SlotLemmas::refusals))]
 
-ghost use Rattle.std.specs.Prelude.{◌≡◌, ◌+◌, ◌*◌, ◌^◌, length, map, IfOk};
-ghost use Rattle.arrow_parts.specs.Lent.{present_in, signed_wide, wide_numbers};
+ghost use Rattle.std.specs.Prelude.{◌≡◌, ◌+◌, ◌*◌, ◌^◌, length, map, IfErr, IfOk};
+ghost use Rattle.arrow_arrays.specs.Good.{AreNumbers};
+ghost use Rattle.arrow_arrays.specs.Stands.{IsNumbers};
+ghost use Rattle.arrow_parts.specs.Lent.{signed_wide, wide_numbers};
+ghost use Rattle.arrow_parts.specs.Refusals.{IsHonest, IsMemoryFailure};
 
 use crate::slots::numbers;
 use arrow_parts::part::Part;
@@ -29,9 +33,10 @@ fn signed(number: u128) -> i128
     }
 }
 
-/// Returns the numbers of pairs of words; a last word alone makes none.
+/// Returns the numbers of pairs of words; a last word alone makes none. The one error is `Memory`.
 fn numbers_of(alloc: Global, words: &[u64]) -> Result<Vec<u128>, Refused>
-    ensures { IfOk result (λ all. all.items ≡ wide_numbers words.now) }
+    ensures numbers { IfOk result (λ all. all.items ≡ wide_numbers words.now) }
+    ensures refused { IfErr result IsMemoryFailure }
 {
     let count = words.len() / 2;
     let mut all: Vec<u128> = Vec::with_capacity(alloc, count)?;
@@ -41,9 +46,10 @@ fn numbers_of(alloc: Global, words: &[u64]) -> Result<Vec<u128>, Refused>
     Ok(all)
 }
 
-/// Returns the signed numbers of pairs of words.
+/// Returns the signed numbers of pairs of words. The one error is `Memory`.
 fn signed_of(alloc: Global, words: &[u64]) -> Result<Vec<i128>, Refused>
-    ensures { IfOk result (λ all. all.items ≡ map signed_wide (wide_numbers words.now)) }
+    ensures numbers { IfOk result (λ all. all.items ≡ map signed_wide (wide_numbers words.now)) }
+    ensures refused { IfErr result IsMemoryFailure }
 {
     let unsigned = numbers_of(alloc, words)?;
     let mut all: Vec<i128> = Vec::with_capacity(alloc, unsigned.len())?;
@@ -55,22 +61,21 @@ fn signed_of(alloc: Global, words: &[u64]) -> Result<Vec<i128>, Refused>
 
 /// Returns the array of a part's rows, which are unsigned numbers of 128 bits.
 pub fn unsigned_numbers(alloc: Global, part: &Part<'_>) -> Result<PrimitiveArray<u128>, Refused>
-    ensures stored { IfOk result (λ a. a.values ≡ wide_numbers part.now.u64s.now) }
-    ensures count { IfOk result (λ a. length a.values ≡ part.now.rows) }
-    ensures mask { IfOk result (λ a. a.validity ≡ present_in part.now) }
+    ensures made { IfOk result (IsNumbers part.now (wide_numbers part.now.u64s.now)) }
+    ensures refused { IfErr result
+        (IsHonest (AreNumbers part.now (length (wide_numbers part.now.u64s.now)))) }
 {
     let values = numbers_of(alloc, part.u64s)?;
-    let array = numbers(alloc, part, &values)?;
-    Ok(array)
+    numbers(alloc, part, &values)
 }
 
 /// Returns the array of a part's rows, which are signed numbers of 128 bits.
 pub fn signed_numbers(alloc: Global, part: &Part<'_>) -> Result<PrimitiveArray<i128>, Refused>
-    ensures stored { IfOk result (λ a. a.values ≡ map signed_wide (wide_numbers part.now.u64s.now)) }
-    ensures count { IfOk result (λ a. length a.values ≡ part.now.rows) }
-    ensures mask { IfOk result (λ a. a.validity ≡ present_in part.now) }
+    ensures made { IfOk result
+        (IsNumbers part.now (map signed_wide (wide_numbers part.now.u64s.now))) }
+    ensures refused { IfErr result
+        (IsHonest (AreNumbers part.now (length (wide_numbers part.now.u64s.now)))) }
 {
     let values = signed_of(alloc, part.u64s)?;
-    let array = numbers(alloc, part, &values)?;
-    Ok(array)
+    numbers(alloc, part, &values)
 }

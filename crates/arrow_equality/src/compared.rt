@@ -1,10 +1,11 @@
 //! The bits and the count of a comparison.
 
-ghost use Rattle.std.specs.Prelude.{◌≡◌, slice_index_or, OnErr, OnOk, IfErr, IfOk};
+ghost use Rattle.std.specs.Prelude.{◌≡◌, length, slice_index_or, OnErr, OnOk, IfErr, IfOk};
 ghost use Rattle.polars_arrays_nested.specs.GoodParts.{IsGood};
 ghost use Rattle.polars_arrays_nested.specs.Lengths.{len_of};
 ghost use Rattle.polars_arrays_nested.specs.Types.{type_of};
 ghost use Rattle.arrow_equality.specs.Compared.{AreCompared, IsCounted};
+ghost use Rattle.arrow_equality.specs.Equal.{HaveRoom};
 ghost use Rattle.arrow_parts.specs.Refusals.{IsMemoryFailure};
 ghost use Rattle.arrow_parts.specs.Written.{AreWritten};
 ghost use Rattle.arrow_parts.specs.declared.refused.Refused.TheVariants.{Room};
@@ -24,7 +25,8 @@ pub struct Compared {
     pub comparisons: u64,
 }
 
-/// Compares two arrays of one type and length, row by row. The one error is `Memory`.
+/// Compares two arrays of one type and length, row by row, with at most one comparison for each
+/// leaf slot of the left array. The one error is `Memory`.
 pub fn compare(alloc: Global, left: &AnyArray, right: &AnyArray) -> Result<Compared, Refused>
     requires left_good { IsGood left.now }
     requires right_good { IsGood right.now }
@@ -48,6 +50,7 @@ pub fn write(compared: &Compared, out: &mut [u64], comparisons: &mut [u64]) -> R
     ensures bits { OnOk result (AreWritten compared.now.bits out.new) }
     ensures count { OnOk result (slice_index_or comparisons.new 0 0 ≡ compared.now.comparisons) }
     ensures refused { IfErr result (λ e. e ≡ Room) }
+    ensures room { OnErr result (¬ (HaveRoom (length compared.now.bits) out.old comparisons.old)) }
     ensures kept { OnErr result (out.new ≡ out.old) }
     ensures count_kept { OnErr result (comparisons.new ≡ comparisons.old) }
 {

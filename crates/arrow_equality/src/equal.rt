@@ -1,10 +1,11 @@
 //! Rows of lent arrays that are the same.
 
-ghost use Rattle.std.specs.Prelude.{◌≡◌, IfOk, OnErr, OnOk};
+ghost use Rattle.std.specs.Prelude.{◌≡◌, IfErr, IfOk, OnErr, OnOk};
 ghost use Rattle.polars_arrays_nested.specs.GoodParts.{IsGood};
 ghost use Rattle.arrow_arrays.specs.Columns.{rows_of_parts};
-ghost use Rattle.arrow_equality.specs.Compared.{AreCompared};
+ghost use Rattle.arrow_equality.specs.Compared.{AreCompared, IsRefusedPair};
 ghost use Rattle.arrow_equality.specs.Equal.{AreEqualIn, IsComparison, IsCountIn};
+ghost use Rattle.arrow_equality.specs.Equal.{IsRefusedComparison, IsTrueRefusal};
 
 use crate::compared::{Compared, compare, write};
 use arrow_arrays::build::build;
@@ -18,9 +19,13 @@ use std::alloc::Global;
 fn compare_arrays(alloc: Global, left: &AnyArray, right: &AnyArray) -> Result<Compared, Refused>
     requires left_good { IsGood left.now }
     requires right_good { IsGood right.now }
-    ensures { IfOk result (AreCompared left.now right.now) }
+    ensures compared { IfOk result (AreCompared left.now right.now) }
+    ensures refused { IfErr result (IsRefusedPair left.now right.now) }
 {
-    if !left.same_type(right) || left.len() != right.len() {
+    if !left.same_type(right) {
+        return Err(Refused::Types);
+    }
+    if left.len() != right.len() {
         return Err(Refused::Types);
     }
     compare(alloc, left, right)
@@ -28,7 +33,9 @@ fn compare_arrays(alloc: Global, left: &AnyArray, right: &AnyArray) -> Result<Co
 
 /// Compares two lent arrays, row by row.
 fn compare_parts(alloc: Global, left: &[Part<'_>], right: &[Part<'_>]) -> Result<Compared, Refused>
-    ensures { IfOk result (IsComparison (rows_of_parts left.now) (rows_of_parts right.now)) }
+    ensures compared { IfOk result
+        (IsComparison (rows_of_parts left.now) (rows_of_parts right.now)) }
+    ensures refused { IfErr result (IsRefusedComparison left.now right.now) }
 {
     let left = build(alloc, left)?;
     let right = build(alloc, right)?;
@@ -51,6 +58,7 @@ pub fn equal_rows(
 ) -> Result<(), Refused>
     ensures same { OnOk result (AreEqualIn left.now right.now out.new) }
     ensures count { OnOk result (IsCountIn left.now right.now comparisons.new) }
+    ensures refused { IfErr result (IsTrueRefusal left.now right.now out.old comparisons.old) }
     ensures kept { OnErr result (out.new ≡ out.old) }
     ensures count_kept { OnErr result (comparisons.new ≡ comparisons.old) }
 {

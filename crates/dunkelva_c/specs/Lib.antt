@@ -7,3 +7,4 @@ pub mod Extremes
 pub mod Nulls
 pub mod NumberComparisons
 pub mod States
+pub mod Trees

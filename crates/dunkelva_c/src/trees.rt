@@ -1,7 +1,9 @@
 //! Equality of arrays of any type.
 
 ghost use Rattle.std.specs.Prelude.{◌≡◌, ◌≢◌, pos};
+ghost use Rattle.arrow_calls.specs.Statuses.{IsTrueStatus};
 ghost use Rattle.arrow_equality.specs.Equal.{AreEqualIn, IsCountIn};
+ghost use Rattle.dunkelva_c.specs.Trees.{IsTrueTreeFault};
 
 use arrow_calls::fault::{Fault, status};
 use arrow_equality::equal::equal_rows;
@@ -10,12 +12,18 @@ use std::alloc::Global;
 
 /// Sets bit `i` of `out` if rows `i` of two arrays are the same tree, where null is the same as
 /// null alone, and all bits past the last row to 0. The first of `comparisons` becomes the number
-/// of leaves that were compared, at most the greatest `u64`.
+/// of leaves that were compared: at most one for each leaf slot of the left array, and at most the
+/// greatest `u64`.
 ///
 /// The status is 0, or else both slices are unchanged: it is 1 if one of the arrays cannot be made
 /// of its parts, 2 if the two are not of one type and length, 3 if `out` has fewer bits than rows
 /// or `comparisons` is empty, and 4 if an allocation fails. The width of offsets is no part of a
 /// type.
+///
+/// The clauses say this of the parts alone: what 0 means for the bits (`same`) and for the number
+/// (`count`), that nothing is written otherwise (`kept`, `count_kept`), and that each status but 0
+/// is true (`refused`), except that nothing is said of 4.
+#[tactic(auto, using(crate::proofs::Trees::trees))]
 #[unsafe(no_mangle)]
 pub extern "C" fn dunkelva_parts_equal(
     alloc: Global,
@@ -28,6 +36,8 @@ pub extern "C" fn dunkelva_parts_equal(
     ensures count { result ≡ pos 0 → IsCountIn left.now right.now comparisons.new }
     ensures kept { result ≢ pos 0 → out.new ≡ out.old }
     ensures count_kept { result ≢ pos 0 → comparisons.new ≡ comparisons.old }
+    ensures refused { IsTrueStatus
+        (IsTrueTreeFault left.now right.now out.old comparisons.old) result }
 {
     match equal_rows(alloc, left, right, out, comparisons) {
         Ok(()) => 0,

@@ -1,6 +1,9 @@
-use Rattle.arrow_arrays.proofs.Standing.{one-fills}
+use Rattle.arrow_arrays.proofs.Standing.{one-can, one-fills}
 use Rattle.arrow_arrays.specs.declared.shapes.Shape.TheVariants.{Entries}
 use Rattle.arrow_arrays.proofs.nested.entered.Goals as goal
 
-pub returns : goal.returns
-returns c = one-fills c.args.inside.columns.items c.in_ok-items.items c.in_ok-array.array (Entries c.args.keys) c.in_ok-items.ensures c.in_ok-array.ensures
+pub returns-clause-made : goal.returns-clause-made
+returns-clause-made c = one-fills c.args.inside.fields.items c.args.inside.columns.items c.in_ok-items.items c.in_ok-array.array (Entries c.args.keys) c.in_ok-items.ensures.one c.in_ok-array.ensures.made
+
+pub returns-clause-can : goal.returns-clause-can
+returns-clause-can c = one-can (Entries c.args.keys) c.args.inside.columns.items c.in_ok-items.items c.in_ok-items.ensures.one c.in_ok-array.ensures.can

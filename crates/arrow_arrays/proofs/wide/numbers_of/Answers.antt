@@ -12,5 +12,5 @@ loop-i-preserved c =
       subst (λ n. length c.args.words.now / 2 ≤ n) (sym c.push_reserved.ensures.capacity) c.loop-i.invariant.2,
     )
 
-pub returns : goal.returns
-returns c = c.loop-i.invariant.0 ∙ wide-all c.args.words.now c.loop-i.i (omega (arith, c.loop-i-test.false))
+pub returns-clause-numbers : goal.returns-clause-numbers
+returns-clause-numbers c = c.loop-i.invariant.0 ∙ wide-all c.args.words.now c.loop-i.i (omega (arith, c.loop-i-test.false))

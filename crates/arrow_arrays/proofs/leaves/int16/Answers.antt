@@ -1,5 +1,0 @@
-use Rattle.arrow_arrays.proofs.Standing.{leaf-Int16}
-use Rattle.arrow_arrays.proofs.leaves.int16.Goals as goal
-
-pub returns : goal.returns
-returns c = leaf-Int16 c.in_ok-array.array c.args.part.now c.in_ok-array.ensures.stored c.in_ok-array.ensures.count c.in_ok-array.ensures.mask
