@@ -1,6 +1,6 @@
 -- Worked examples of the definitions.
-use Rattle.std.specs.Prelude.{◌≡◌, pos, true, false, [], ◌∷◌, Some, refl}
-use Rattle.std.proofs.Common.{arith}
+use Rattle.std.specs.Prelude.{◌≡◌, ◌≢◌, ℕ, pos, true, false, List, [], ◌∷◌, Some, None, get_or, refl}
+use Rattle.std.proofs.Common.{ap, arith}
 use Rattle.std.proofs.lemmas.List.Elements.{All-cons, All-head, All-nil}
 use Rattle.polars_arrays_flat.specs.Kind.{Int8Kind, no_kinds, more_kinds}
 use Rattle.polars_arrays_flat.specs.Row.{Int, Entry, Rows, Null, no_rows, more_rows}
@@ -46,7 +46,9 @@ two-fields = refl
 
 -- the names `a`, `b` are not those of these columns
 other-name : AllNamed ((97 ∷ []) ∷ (98 ∷ []) ∷ []) (three ∷ three ∷ []) → ⊥
-other-name all = let is = all.1.0 in cc
+other-name all =
+    let is : ◌≡◌ {A = ℕ} 98 97 = ap (λ (name : List ℕ). get_or name 0 0) all.1.0 in
+    omega (arith, is)
 
 -- two columns are not one
 two-columns : only (three ∷ three ∷ []) ≡ no_column []
@@ -71,12 +73,18 @@ across-slots = refl
 entry-slots : entry_leaves (Some (true ∷ false ∷ true ∷ [])) (Some 2 ∷ Some 2 ∷ Some 2 ∷ []) (three ∷ []) 0 3 ≡ 2
 entry-slots = refl
 
+there : (place : ℕ) → Some place ≢ None
+there place none = cc
+
 -- between the offsets 5, 7 over what begins at offset 5 lies one row; 4 lies before it
 one-row : ArePlaced 1 (places_from 5 (λ x. x) (pos 5 ∷ pos 7 ∷ []))
-one-row = record { count = refl; placed = All-cons _ _ _ (λ none. cc) (All-cons _ _ _ (λ none. cc) (All-nil _)) }
+one-row = record {
+  count = refl;
+  placed = All-cons (λ place. place ≢ None) (Some 0) (Some 2 ∷ []) (there 0) (All-cons (λ place. place ≢ None) (Some 2) [] (there 2) (All-nil (λ place. place ≢ None)));
+}
 
 before-base : ArePlaced 1 (places_from 5 (λ x. x) (pos 4 ∷ pos 7 ∷ [])) → ⊥
-before-base are = All-head _ _ _ are.placed refl
+before-base are = All-head (λ place. place ≢ None) None (Some 2 ∷ []) are.placed refl
 
 -- a list has one column inside it
 two-inside : OneColumn (λ c. c.len ≡ 3) (three ∷ three ∷ []) → ⊥
@@ -87,7 +95,8 @@ one-inside = refl
 
 -- columns of a struct of three rows
 both-long : AllLong 3 (three ∷ three ∷ [])
-both-long = All-cons _ _ _ refl (All-cons _ _ _ refl (All-nil _))
+both-long =
+    All-cons (λ c. c.len ≡ 3) three (three ∷ []) refl (All-cons (λ c. c.len ≡ 3) three [] refl (All-nil (λ c. c.len ≡ 3)))
 
 -- 13 bytes that begin with `abcd`, in buffer 0 from byte 1 on
 not-negative : NotNegative (13 ∷ 0 ∷ 0 ∷ 0 ∷ 97 ∷ 98 ∷ 99 ∷ 100 ∷ 0 ∷ 0 ∷ 0 ∷ 0 ∷ 1 ∷ 0 ∷ 0 ∷ 0 ∷ [])

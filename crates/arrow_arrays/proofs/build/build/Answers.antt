@@ -43,3 +43,8 @@ pub returns-in_err-array-clause-refused : goal.returns-in_err-array-clause-refus
 returns-in_err-array-clause-refused c =
     let p = err_from_is_err_and c.from_residual-in_err-array.result c.from_residual-in_err-array.ensures.1 in
     rw (p.1, p.2) (one-array-refused c.args.parts.now c.loop-i.i c.loop-i.shapes.items c.loop-i.stack.items (map string_bytes c.loop-i.names.items) _ (omega (arith, c.loop-i-test.false, c.loop-i.auto.i-end)) c.loop-i.invariant.0 c.in_err-array.ensures.refused)
+
+pub returns-in_err-shapes-clause-refused : goal.returns-in_err-shapes-clause-refused
+returns-in_err-shapes-clause-refused c =
+    let p = err_from_is_err_and c.from_residual-in_err-shapes.result c.from_residual-in_err-shapes.ensures.1 in
+    rw (p.1, p.2) (shapes-refused c.args.parts.now _ c.in_err-shapes.ensures.refused)

@@ -1,5 +1,6 @@
 use Rattle.std.proofs.Common.{◌≤◌, length, map, ap, subst, ◌∙◌, arith}
 use Rattle.std.specs.Prelude.{string_bytes}
+use Rattle.std.proofs.lemmas.Result.{err_from_is_err_and}
 use Rattle.arrow_arrays.proofs.Stacks.{taken-length}
 use Rattle.arrow_arrays.specs.Stacks.{AreTaken}
 use Rattle.arrow_arrays.specs.Stands.{AreTyped, field_names}
@@ -20,3 +21,13 @@ returns-clause-named c =
 pub returns-clause-left : goal.returns-clause-left
 returns-clause-left c =
     omega (arith, c.in_ok-fields.ensures.left, c.in_ok-columns.ensures.taken.count_is, ap length c.deref.ensures.value)
+
+pub returns-in_err-columns-clause-refused : goal.returns-in_err-columns-clause-refused
+returns-in_err-columns-clause-refused c =
+    let p = err_from_is_err_and c.from_residual-in_err-columns.result c.from_residual-in_err-columns.ensures.1 in
+    rw (p.1, p.2) c.in_err-columns.ensures.refused
+
+pub returns-in_err-fields-clause-refused : goal.returns-in_err-fields-clause-refused
+returns-in_err-fields-clause-refused c =
+    let p = err_from_is_err_and c.from_residual-in_err-fields.result c.from_residual-in_err-fields.ensures.1 in
+    rw (p.1, p.2, c.in_err-fields.ensures.refused) tt
