@@ -46,5 +46,5 @@ returns-in_err-array-clause-refused c =
 
 pub returns-in_err-shapes-clause-refused : goal.returns-in_err-shapes-clause-refused
 returns-in_err-shapes-clause-refused c =
-    let p = err_from_is_err_and c.from_residual-in_err-shapes.result c.from_residual-in_err-shapes.ensures.1 in
+    let p = err_from_is_err_and c.from_residual.result c.from_residual.ensures.1 in
     rw (p.1, p.2) (shapes-refused c.args.parts.now _ c.in_err-shapes.ensures.refused)

@@ -17,7 +17,7 @@ returns-clause-taken c = taken-length c.args.count c.in_ok-inside.inside.columns
 
 pub returns-in_err-inside-clause-refused : goal.returns-in_err-inside-clause-refused
 returns-in_err-inside-clause-refused c =
-    let p = err_from_is_err_and c.from_residual-in_err-inside.result c.from_residual-in_err-inside.ensures.1 in
+    let p = err_from_is_err_and c.from_residual.result c.from_residual.ensures.1 in
     rw (p.1, p.2) (few-refused c.args.count c.args.shapes.now.items c.args.stack.now.items _ c.in_err-inside.ensures.refused)
 
 pub returns-in_err-shape-clause-refused : goal.returns-in_err-shape-clause-refused

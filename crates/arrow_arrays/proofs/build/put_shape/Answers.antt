@@ -7,7 +7,7 @@ returns-clause-put c ps all = fit-more ps c.args.shapes.now.items c.push.new.sel
 
 pub returns-in_err-shape-clause-refused : goal.returns-in_err-shape-clause-refused
 returns-in_err-shape-clause-refused c =
-    let p = err_from_is_err_and c.from_residual-in_err-shape.result c.from_residual-in_err-shape.ensures.1 in
+    let p = err_from_is_err_and c.from_residual.result c.from_residual.ensures.1 in
     rw (p.1, p.2) c.in_err-shape.ensures.refused
 
 pub returns-in_err-push-clause-refused : goal.returns-in_err-push-clause-refused

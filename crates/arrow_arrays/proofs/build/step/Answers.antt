@@ -8,7 +8,7 @@ returns-clause-made c = pushed-step c.args.count c.args.shapes.now.items c.fille
 
 pub returns-in_err-array-clause-refused : goal.returns-in_err-array-clause-refused
 returns-in_err-array-clause-refused c =
-    let p = err_from_is_err_and c.from_residual-in_err-array.result c.from_residual-in_err-array.ensures.1 in
+    let p = err_from_is_err_and c.from_residual.result c.from_residual.ensures.1 in
     rw (p.1, p.2) c.in_err-array.ensures.refused
 
 pub returns-in_err-push-clause-refused : goal.returns-in_err-push-clause-refused

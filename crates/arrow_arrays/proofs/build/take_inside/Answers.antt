@@ -24,7 +24,7 @@ returns-clause-left c =
 
 pub returns-in_err-columns-clause-refused : goal.returns-in_err-columns-clause-refused
 returns-in_err-columns-clause-refused c =
-    let p = err_from_is_err_and c.from_residual-in_err-columns.result c.from_residual-in_err-columns.ensures.1 in
+    let p = err_from_is_err_and c.from_residual.result c.from_residual.ensures.1 in
     rw (p.1, p.2) c.in_err-columns.ensures.refused
 
 pub returns-in_err-fields-clause-refused : goal.returns-in_err-fields-clause-refused

@@ -9,7 +9,7 @@ returns-clause-made g c =
 
 pub returns-in_err-validity-clause-refused : goal.returns-in_err-validity-clause-refused
 returns-in_err-validity-clause-refused g c =
-    let p = err_from_is_err_and c.from_residual-in_err-validity.result c.from_residual-in_err-validity.ensures.1 in
+    let p = err_from_is_err_and c.from_residual.result c.from_residual.ensures.1 in
     rw (p.1, p.2) (lists-present (places_from c.args.part.now.base g.O.Number.value c.args.offsets.now) c.args.part.now _ c.in_err-validity.ensures.refused)
 
 pub returns-in_err-ends-clause-refused : goal.returns-in_err-ends-clause-refused
