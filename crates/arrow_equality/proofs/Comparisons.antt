@@ -1,5 +1,5 @@
 -- Comparisons of arrays are those of the columns that they stand for.
-use Rattle.std.proofs.Common.{◌≡◌, ◌↔◌, ℕ, ◌+◌, ◌-◌, ◌*◌, ◌^◌, ◌<◌, ◌≤◌, Bool, true, false, List, length, get_or, refl, sym, ap, subst, ◌∙◌, arith}
+use Rattle.std.proofs.Common.{◌≡◌, ◌↔◌, ℕ, ◌-◌, ◌*◌, ◌^◌, ◌<◌, ◌≤◌, true, false, List, length, sym, ap, subst, ◌∙◌, arith}
 use Rattle.std.specs.Prelude.{min, slice_index_or, IfErr, OnErr, OnOk, Result, Ok, Err}
 use Rattle.std.proofs.Math.Nat.{min-le_left}
 use Rattle.std.proofs.lemmas.List.{get_or_past}
@@ -8,7 +8,6 @@ use Rattle.polars_arrays_nested.specs.Leaves.{leaves}
 use Rattle.polars_arrays_nested.specs.Lengths.{len_of}
 use Rattle.polars_arrays_nested.specs.Types.{type_of}
 use Rattle.polars_arrays_nested.specs.declared.any_array.AnyArray.{AnyArray}
-use Rattle.polars_arrays_words.specs.Bits.{bit_of}
 use Rattle.polars_compare_nested.specs.Tally.{tally}
 use Rattle.arrow_parts.specs.Refusals.{IsHonest}
 use Rattle.arrow_parts.specs.Written.{AreWritten}
@@ -19,7 +18,7 @@ use Rattle.arrow_arrays.specs.Columns.{Column, rows_of_parts}
 use Rattle.arrow_arrays.specs.Good.{AreGoodParts}
 use Rattle.arrow_arrays.specs.Stands.{Stands}
 use Rattle.arrow_equality.specs.Compared.{AreComparable, AreCompared, IsCounted, IsRefusedPair}
-use Rattle.arrow_equality.specs.Equal.{AreAlike, AreEqualRows, HaveRoom, IsComparison, IsCount, IsRefusedComparison, IsTrueRefusal}
+use Rattle.arrow_equality.specs.Equal.{AreEqualRows, HaveRoom, IsComparison, IsCount, IsRefusedComparison, IsTrueRefusal}
 use Rattle.arrow_equality.specs.declared.compared.Compared.{Compared}
 
 -- the count is at most the leaf slots of the left array

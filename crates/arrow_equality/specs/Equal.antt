@@ -1,5 +1,5 @@
 -- Equal rows of two columns.
-use Rattle.std.specs.Prelude.{◌≡◌, ◌<◌, ◌≤◌, ◌*◌, ◌↔◌, ℕ, Bool, true, false, List, length}
+use Rattle.std.specs.Prelude.{◌≡◌, ◌<◌, ◌≤◌, ◌*◌, ◌↔◌, ℕ, true, false, List, length}
 use Rattle.std.specs.Prelude.{slice_index_or, ⊤}
 use Rattle.polars_arrays_nested.specs.Types.{type_of}
 use Rattle.polars_arrays_nested.specs.declared.any_array.AnyArray.{AnyArray}
@@ -10,7 +10,7 @@ use Rattle.arrow_parts.specs.declared.part.Part.{Part}
 use Rattle.arrow_parts.specs.declared.refused.Refused.{Refused}
 use Rattle.arrow_parts.specs.declared.refused.Refused.TheVariants.{Parts, Types, Room, Memory}
 use Rattle.arrow_arrays.specs.Stands.{Stands}
-use Rattle.arrow_equality.specs.Compared.{AreCompared, IsCounted}
+use Rattle.arrow_equality.specs.Compared.{IsCounted}
 use Rattle.arrow_equality.specs.declared.compared.Compared.{Compared}
 
 -- two columns are of one type and length
