@@ -1,4 +1,4 @@
 mod Examples
 mod Lent
 mod StateMemory
-pub mod Trees
+pub mod TreeFaults

@@ -23,7 +23,7 @@ use std::alloc::Global;
 /// The clauses say this of the parts alone: what 0 means for the bits (`same`) and for the number
 /// (`count`), that nothing is written otherwise (`kept`, `count_kept`), and that each status but 0
 /// is true (`refused`), except that nothing is said of 4.
-#[tactic(auto, using(crate::proofs::Trees::trees))]
+#[tactic(auto, using(crate::proofs::TreeFaults::trees))]
 #[unsafe(no_mangle)]
 pub extern "C" fn dunkelva_parts_equal(
     alloc: Global,
