@@ -85,7 +85,7 @@ build_library() {
     echo "building the library, for x86-64-$level" >&2
     if ! is_proved || ! "$here/../packaging/build_archive" bench_kernels "$cpu"; then
         echo "proving what it is made of first, which takes half an hour or more" >&2
-        (cd "$crates/bench_kernels" && rt lib "$cpu" | tail -n 1)
+        (cd "$crates/bench_kernels" && rt lib "$cpu" | tail -n 1) >&2
     fi
     mv "$crates/bench_kernels/out/libbench_kernels.a" "$archive"
 }
