@@ -429,13 +429,17 @@ const FORMS: [Form; 4] = [
     },
 ];
 
-/// Checks that both sides return the same for all scalars, at lengths up to some hundreds.
-pub fn agree() {
+/// Checks that both sides return the same for all scalars, at lengths up to some hundreds, of the
+/// operations that are to be run.
+pub fn agree(bench: &Bench) {
     for count in (0..70).chain([127, 128, 129, 300]) {
         let columns = &Columns::new(count);
         for scalar in SCALARS {
             for form in FORMS {
                 at_all_types(columns, scalar, form, &mut |kernel| {
+                    if !bench.runs(kernel.name) {
+                        return;
+                    }
                     let repeats = count + 2;
                     assert_eq!(
                         (kernel.ours)(repeats),

@@ -298,12 +298,13 @@ pub fn compare(bench: &mut Bench, run: usize) {
     }
 }
 
-/// Checks that both sides return the same bits, at lengths up to some hundreds and many places.
-pub fn agree() {
+/// Checks that both sides return the same bits, at lengths up to some hundreds and many places, of
+/// the kernels that are to be run.
+pub fn agree(bench: &Bench) {
     for len in 0..300 {
         let words = operands(len);
         let repeats = 2 * len + 4;
-        for kernel in LOGIC {
+        for kernel in LOGIC.iter().filter(|kernel| bench.runs(kernel.name)) {
             let shifts: &[usize] = if kernel.shift == 0 {
                 &[0, 64]
             } else {

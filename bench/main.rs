@@ -73,8 +73,8 @@ fn main() {
     let mut bench = Bench::new(settings);
     eprintln!("comparing what both sides return, and then timing");
     rows_agree(&bench);
-    bitmaps::agree();
-    arithmetic::agree();
+    bitmaps::agree(&bench);
+    arithmetic::agree(&bench);
     bench.in_rounds(rounds, |bench| {
         for run in 0..RUNS.len() {
             for_each_on_rows(RUNS[run].count, &mut |kernel| {
