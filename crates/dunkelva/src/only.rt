@@ -137,6 +137,9 @@ pub(crate) fn warn_of_unknown(
     left: &str,
     right: &str,
 ) {
+    if patterns.is_empty() {
+        return;
+    }
     let Some(search) = search_files(rt, patterns, left, right) else {
         return;
     };
