@@ -18,9 +18,9 @@ const MOST_TYPES: usize = 1 << 20;
 
 /// A column: rows of one type, in the layout of Arrow, in slices that are borrowed.
 ///
-/// Making an array copies nothing, except a validity that begins at another bit of its byte than the
-/// rows do. The calls that compare rows read numbers where they lie, and copy rows of other types, in
-/// blocks of about 16,384.
+/// Making an array copies nothing, except a validity that begins at another bit of its byte than
+/// the rows do. The calls that compare rows read numbers where they lie, and copy rows of other
+/// types, in blocks of about 16,384.
 /// What a call would read is checked when an array is made, so that no call reads behind the end of
 /// a slice: offsets rise and end within their bytes or items, a validity has a bit for each row,
 /// the fields of a struct have its rows.

@@ -16,8 +16,8 @@ pub trait Number: sealed::Sealed + Copy + Default + Send + Sync + 'static {
     const FORMAT: &'static [u8];
 }
 
-/// An integer type: `i8` to `i64`, `u8` to `u64`. Arithmetic serves these, and dictionaries have keys
-/// of one of them.
+/// An integer type: `i8` to `i64`, `u8` to `u64`. Arithmetic serves these, and dictionaries have
+/// keys of one of them.
 pub trait Integer: Number + Into<i128> {}
 
 /// A type of offsets of texts, byte strings and lists: `i32` or `i64`.

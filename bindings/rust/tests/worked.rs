@@ -290,7 +290,8 @@ fn reductions() -> Result<(), Error> {
     assert_eq!(sum(&rows)?, Some(-59)); // 197 - 256
     assert_eq!(min_max(&rows)?, Some((-3, 100)));
     assert_eq!((min(&rows)?, max(&rows)?), (Some(-3), Some(100)));
-    assert_eq!(reduce(&rows, BitOperation::And)?, Some(100)); // 100 is 0b0110_0100, -3 is 0b1111_1101
+    // 100 is 0b0110_0100, -3 is 0b1111_1101
+    assert_eq!(reduce(&rows, BitOperation::And)?, Some(100));
     assert_eq!(reduce(&rows, BitOperation::Or)?, Some(-3));
     assert_eq!(reduce(&rows, BitOperation::Xor)?, Some(-3));
     let greatest = Array::numbers(&[u64::MAX, 0]);
