@@ -26,7 +26,7 @@ typedef struct { char *at; size_t size; } text;
 typedef struct { int is_documents, form, piped, is_numbers; text words, names[2], files[2]; } pair;
 
 /* what a run did */
-typedef struct { int status, is_lone, has_counts; unsigned long counts[4]; char said[600], printed[200]; } ran;
+typedef struct { int status, is_lone, has_counts; unsigned long counts[4]; char said[2000], printed[200]; } ran;
 
 extern char **environ;
 static const char *program;
@@ -254,6 +254,14 @@ static ran run(const pair *of, int first, int second, int is_piped) {
 
 /* ---- what is asked of runs */
 
+/* Says whether nothing is said but that no document has a part at a path of --only. */
+static int only_warns(const char *said) {
+    static const char *const warning = "dunkelva: warning: --only: no document has a part at ";
+    for (; *said; said = strchr(said, '\n') + 1)
+        if (!begins(said, warning) || !strchr(said, '\n')) return 0;
+    return 1;
+}
+
 /* Returns what is wrong with a run by itself, or NULL. */
 static const char *wrong_alone(const ran *it) {
     if (it->status < 0) return "a signal";
@@ -263,7 +271,7 @@ static const char *wrong_alone(const ran *it) {
         if (it->has_counts) return "status 2 with a report";
         return !end || end[1] || !begins(it->said, "dunkelva: ") ? "status 2 without one line" : NULL;
     }
-    if (it->said[0]) return "a report and a line of a fault";
+    if (!only_warns(it->said)) return "a report and a line of a fault";
     if (it->has_counts != 1) return "no counts";
     int differ = it->counts[0] || it->counts[1] || it->counts[2] || it->is_lone;
     return differ != it->status ? "a status that is not that of the counts" : NULL;
