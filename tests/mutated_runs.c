@@ -283,6 +283,24 @@ static const char *fault_of(const ran *it) {
     return at ? at : it->said;
 }
 
+/* Returns how long a fault is without its hint, which depends on whether a file can be read twice. */
+static size_t fault_length(const char *fault) {
+    static const char *const hints[] = {": the columns are ", ": for JSON lines give --input ndjson"};
+    size_t length = strcspn(fault, "\n");
+    for (int it = 0; it < 2; it++) {
+        const char *hint = strstr(fault, hints[it]);
+        if (hint && (size_t)(hint - fault) < length) length = (size_t)(hint - fault);
+    }
+    return length;
+}
+
+/* Says whether two runs ended with the same fault. */
+static int have_one_fault(const ran *one, const ran *other) {
+    const char *left = fault_of(one), *right = fault_of(other);
+    size_t length = fault_length(left);
+    return length == fault_length(right) && !memcmp(left, right, length);
+}
+
 /* Says whether a run ended because of the columns that the options choose, which depend on both files. */
 static int is_choice(const ran *it) {
     return it->status == 2 &&
@@ -311,8 +329,8 @@ static const char *wrong_with(const pair *of, ran *done) {
         if (is_choice(done)) return NULL;
         if (!is_bad[0] && !is_bad[1]) return "a fault in none of the files";
         for (int it = 0; it < 2 && is_certain; it++)
-            if (!(is_bad[0] && strcmp(fault_of(done + it), fault_of(done + 2)) == 0) &&
-                !(is_bad[1] && strcmp(fault_of(done + it), fault_of(done + 3)) == 0)) return "another fault";
+            if (!(is_bad[0] && have_one_fault(done + it, done + 2)) &&
+                !(is_bad[1] && have_one_fault(done + it, done + 3))) return "another fault";
         return NULL;
     }
     if (is_certain && (is_bad[0] || is_bad[1])) return "a report of a file with a fault";
