@@ -25,6 +25,36 @@ def test_equal() -> None:
     assert dunkelva.equal(frame, other).tolist() == [True, False]
 
 
+@pytest.mark.parametrize("dtype", ["i1", "i2", "i4", "i8", "u1", "u2", "u4", "u8", ">i4"])
+def test_equal_plain(dtype: str) -> None:
+    """Arrays of one type of whole numbers, of each length, in one piece or not."""
+    for rows in (0, 1, 7, 8, 9, 1000, 1 << 17, (1 << 17) + 1):
+        left = (np.arange(rows) % 100).astype(dtype)
+        right = np.where(np.arange(rows) % 7 == 3, 101, left).astype(dtype)
+        wanted = left == right
+        same = dunkelva.equal(left, right)
+        assert same.dtype == np.bool_ and (same == wanted).all() and same.shape == (rows,)
+        assert (dunkelva.equal(left[::-1], right[::-1]) == wanted[::-1]).all()
+        left.flags.writeable = False
+        assert (dunkelva.equal(left, right) == wanted).all()
+        assert (same == wanted).all()  # it is no memory of a later call
+
+
+def test_not_plain() -> None:
+    """Arrays that look like plain ones."""
+    rows = np.arange(4)
+    assert dunkelva.equal(rows.reshape(2, 2), rows.reshape(2, 2)).tolist() == [True, True]
+    assert dunkelva.equal(rows, masked(rows, mask=[1, 0, 0, 0])).tolist() == [
+        False, True, True, True]
+    for other in (rows[:3], rows.astype("i4"), rows.astype("u8"), rows.astype(">i8")[:2]):
+        with pytest.raises(dunkelva.TypesDiffer):
+            dunkelva.equal(rows, other)
+    with pytest.raises(dunkelva.NotServed):
+        dunkelva.equal(rows.astype("f8"), rows.astype("f8"))
+    with pytest.raises(dunkelva.TypesDiffer, match="0 dimensions"):
+        dunkelva.equal(np.array(1), np.array(1))
+
+
 def test_compare() -> None:
     days = np.array(["2024-01-01", "NaT", "2024-01-03"], "M8[D]")
     assert dunkelva.compare(days, ">", datetime.date(2024, 1, 2)).tolist() == [False, False, True]

@@ -22,6 +22,7 @@ from ._library import compare as _compare
 from ._numbers import (compare, count_ones, count_zeros, is_null, leading_ones, leading_zeros, max,
                        min, min_max, reduce_and, reduce_or, reduce_xor, sum, trailing_ones,
                        trailing_zeros)
+from ._plain import equal_plain
 from ._sources import Table, pair, read, whole
 from ._unique import Unique, n_unique, unique
 
@@ -60,6 +61,10 @@ def equal(left: object, right: object, *, floats_by_bits: bool = False,
         ...
     dunkelva.TypesDiffer: right: a row of str is no int64
     """
+    if type(left) is np.ndarray and type(right) is np.ndarray:
+        plain = equal_plain(left, right)
+        if plain is not None:
+            return plain
     flags = (FLOATS_BY_BITS if floats_by_bits else 0) | (CHECK_TEXTS if check_texts else 0)
     lefts, rights = read(left, "left"), read(right, "right")
     if isinstance(lefts, Table) and isinstance(rights, Table):

@@ -14,6 +14,8 @@ from ._types import Type
 FLOATS_BY_BITS = 1
 CHECK_TEXTS = 2
 
+_TRUTHS = np.dtype(np.bool_)
+
 _BAD_ARRAY, _TYPES_DIFFER, _, _NO_MEMORY, _NOT_SERVED, _BAD_STRUCTS, _BAD_ARGUMENT = range(1, 8)
 _OUT_OF_RANGE = 8
 
@@ -134,7 +136,7 @@ def bits_for(rows: int) -> npt.NDArray[np.uint8]:
 
 def unpacked(bits: npt.NDArray[np.uint8], rows: int) -> npt.NDArray[np.bool_]:
     """Returns bits as truth values."""
-    return np.unpackbits(bits, count=rows, bitorder="little").view(np.bool_)
+    return np.unpackbits(bits, None, rows, "little").view(_TRUTHS)
 
 
 def joined(parts: List[npt.NDArray[Any]]) -> npt.NDArray[Any]:

@@ -130,11 +130,14 @@ def memory(address: int, count: int) -> npt.NDArray[np.uint8]:
     return np.frombuffer(content, np.uint8)
 
 
+_first_byte: Any = ctypes.c_char.from_buffer
+_place = ctypes.addressof
+
+
 def address_of(array: npt.NDArray[Any]) -> int:
     """Returns where the first row of an array lies."""
-    held: Any = array
     try:
-        return ctypes.addressof(ctypes.c_char.from_buffer(held))
+        return _place(_first_byte(array))
     except (TypeError, ValueError, BufferError):  # no rows, read only, or times
         address: int = array.__array_interface__["data"][0]
         return address

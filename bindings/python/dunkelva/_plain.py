@@ -1,0 +1,81 @@
+"""Equality of plain arrays of numpy: numbers in one piece, without nulls.
+
+Short columns take most of their time around the call. So what other columns need is left out here:
+structs are made once, and a call writes lengths and addresses into them.
+"""
+from __future__ import annotations
+
+import ctypes
+from typing import Any, Dict, List, Optional
+
+import numpy as np
+import numpy.typing as npt
+
+from ._library import LIBRARY, unpacked
+from ._structs import ArrowArray, address_of, make, make_schema
+from ._types import NUMBERS, flat_type
+
+# Its arguments are values of ctypes that were made before, which takes less time than checks of
+# their types in each call.
+_equal: Any = LIBRARY["dunkelva_equal"]
+_equal.restype = ctypes.c_int32
+
+# The schema of each type of numbers. Floats have none: they are compared by a flag alone.
+_KEPT = {np.dtype(kind): make_schema(flat_type(form)) for form, kind in NUMBERS.items()
+         if kind[0] != "f"}
+_SCHEMAS: Dict[Any, ctypes.c_void_p] = {
+    kind: ctypes.c_void_p(ctypes.addressof(schema)) for kind, schema in _KEPT.items()}
+
+# Words of a struct of an array, in which its length is the first, and the most rows whose bits fit
+# into memory that is kept.
+_WORDS = ctypes.sizeof(ArrowArray) // 8
+_FEW_ROWS = 1 << 17
+_ROOM, _NO_FLAGS = ctypes.c_size_t(_FEW_ROWS // 8), ctypes.c_uint32(0)
+
+
+class _Call:
+    """Memory of one call: both structs, each with pointers to its two buffers, and bits."""
+
+    __slots__ = ("words", "left", "right", "bits", "out")
+
+    def __init__(self) -> None:
+        self.words: Any = (ctypes.c_int64 * (2 * (_WORDS + 2)))()
+        first = ctypes.addressof(self.words)
+        places = first, first + 8 * (_WORDS + 2)
+        for at in places:
+            array = make(flat_type("i"), 0, [None, None]).array
+            ctypes.memmove(at, ctypes.addressof(array), 8 * _WORDS)
+            ArrowArray.from_address(at).buffers = ctypes.cast(
+                at + 8 * _WORDS, ctypes.POINTER(ctypes.c_void_p))
+        self.left, self.right = map(ctypes.c_void_p, places)
+        self.bits: npt.NDArray[np.uint8] = np.empty(_FEW_ROWS // 8, np.uint8)
+        self.out = ctypes.c_void_p(address_of(self.bits))
+
+
+# Calls that are not running. A thread takes one out, so that no two use the same.
+_IDLE: List[_Call] = []
+
+
+def equal_plain(left: npt.NDArray[Any], right: npt.NDArray[Any]) -> Optional[npt.NDArray[np.bool_]]:
+    """Compares two arrays of whole numbers, or returns None where they are not plain.
+
+    Plain are two arrays of one type and one length, some rows in one piece.
+    """
+    rows, kind = left.size, left.dtype
+    schema = _SCHEMAS.get(kind)
+    if (schema is None or right.dtype != kind or left.shape != (rows,) or right.shape != (rows,)
+            or not 0 < rows <= _FEW_ROWS or not left.flags.c_contiguous
+            or not right.flags.c_contiguous):
+        return None
+    try:
+        call = _IDLE.pop()
+    except IndexError:
+        call = _Call()
+    words = call.words
+    words[0] = words[_WORDS + 2] = rows
+    words[_WORDS + 1] = address_of(left)
+    words[2 * _WORDS + 3] = address_of(right)
+    status = _equal(schema, call.left, schema, call.right, _NO_FLAGS, call.out, _ROOM)
+    same = unpacked(call.bits, rows) if status == 0 else None
+    _IDLE.append(call)
+    return same
