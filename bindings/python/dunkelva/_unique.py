@@ -12,7 +12,7 @@ from ._library import COLUMN, LIBRARY, NotServed, TypesDiffer, declare, refusal,
 from ._numbers import NUMBER, Number, _column, extremes
 from ._rows import Unfit, build
 from ._sources import Table, read, typed
-from ._structs import Column, address_of, is_made_here
+from ._structs import Column, address_of, is_made_here, part_of
 from ._types import NUMBERS, Type
 from ._values import named, numbers_of, present_rows
 
@@ -24,6 +24,10 @@ _FEW_WORDS = 1 << 13
 
 # Words whose bits are looked at in one step.
 _STEP = 1 << 16
+
+# Rows that are read in one step. numpy reads them twice for the ends of a range, and the library
+# twice for a state: the second time from a cache.
+_ROWS = 1 << 16
 
 
 class _State(ctypes.Structure):
@@ -249,7 +253,11 @@ def _stored_ends(column: Column) -> Optional[Tuple[int, int]]:
     stored = numbers_of(chunk)
     if stored is None or column.type.entries is not None or column.type.has_floats():
         return None
-    return int(stored.min()), int(stored.max())
+    if chunk.rows <= _ROWS:
+        return int(stored.min()), int(stored.max())
+    parts = [stored[first:first + _ROWS] for first in range(0, chunk.rows, _ROWS)]
+    ends = [(int(part.min()), int(part.max())) for part in parts]
+    return min(least for least, _ in ends), max(greatest for _, greatest in ends)
 
 
 def _state_of(column: Column) -> Optional[Unique]:
@@ -263,7 +271,10 @@ def _state_of(column: Column) -> Optional[Unique]:
         return None
     state: Unique = Unique.__new__(Unique)
     state._make(column.type, ends)
-    state._append(column)
+    for chunk in column.chunks:
+        for first in range(0, chunk.rows, _ROWS) or (0,):
+            part = part_of(chunk, first, min(_ROWS, chunk.rows - first))
+            state._check(_append(state._state, part.schema, part.array), "column")
     return state
 
 
