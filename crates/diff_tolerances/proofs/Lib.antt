@@ -1,0 +1,3 @@
+mod Examples
+pub mod PartnerLemmas
+pub mod RowLemmas

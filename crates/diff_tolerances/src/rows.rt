@@ -1,0 +1,68 @@
+//! The rows that right rows are compared by.
+
+ghost use Rattle.std.specs.Prelude.{◌≡◌, ◌<◌, ◌++◌, ◌∷◌, [], ℕ, List, IfSome, length, get_or, OnOk};
+ghost use Rattle.polars_arrays_bytes.specs.OffsetStrings.{offset_strings};
+ghost use Rattle.diff_tables.specs.Strings.{AreStrings};
+ghost use Rattle.diff_tolerances.specs.Rows.{cell_at, row_at, row_by};
+
+use crate::cells::{Tolerance, cell_by};
+use diff_tables::strings::Strings;
+use diff_tables::table::Table;
+use polars_arrays_bytes::binary::BinaryArray;
+use polars_arrays_flat::byte_rows::ByteRows;
+use std::alloc::AllocError;
+
+/// Returns the cell in a column that a right row is compared by, beside its partner, if it has one.
+fn cell_at<'a>(
+    tolerances: &[Tolerance<'_>],
+    names: &BinaryArray<i64>,
+    left: &'a Table,
+    partner: Option<u32>,
+    right: &'a Table,
+    row: usize,
+    column: usize,
+) -> &'a [u8]
+    requires partner { IfSome partner (λ i. i < length left.now.rows) }
+    requires row { row < length right.now.rows }
+    requires left_column { column < left.now.width }
+    requires right_column { column < right.now.width }
+    requires name { column < length (offset_strings (λ x. x) names.now) }
+    ensures { result.now ≡ cell_at tolerances.now (offset_strings (λ x. x) names.now)
+        (row_at left.now.rows partner) (get_or right.now.rows row []) column }
+{
+    let cell = right.cell(row, column);
+    match partner {
+        Some(i) => {
+            let near = left.cell(i as usize, column);
+            cell_by(tolerances, names.bytes(column), near, cell)
+        }
+        None => cell,
+    }
+}
+
+/// Appends the cells that a right row is compared by, beside its partner, if it has one.
+pub(crate) fn push_row(
+    cells: &mut Strings,
+    tolerances: &[Tolerance<'_>],
+    names: &BinaryArray<i64>,
+    left: &Table,
+    partner: Option<u32>,
+    right: &Table,
+    row: usize,
+) -> Result<(), AllocError>
+    requires partner { IfSome partner (λ i. i < length left.now.rows) }
+    requires row { row < length right.now.rows }
+    requires left_width { left.now.width ≡ length (offset_strings (λ x. x) names.now) }
+    requires right_width { right.now.width ≡ length (offset_strings (λ x. x) names.now) }
+    ensures { OnOk result
+        ((all : List (List ℕ)) → AreStrings cells.old all
+        → AreStrings cells.new
+        (all ++ row_by tolerances.now (offset_strings (λ x. x) names.now)
+        (row_at left.now.rows partner) (get_or right.now.rows row []))) }
+{
+    for column in 0..names.count() {
+        let cell = cell_at(tolerances, names, left, partner, right, row, column);
+        cells.push(cell)?;
+    }
+    Ok(())
+}
