@@ -1,15 +1,20 @@
 -- Folds that grow row by row and block by block.
 use Rattle.std.proofs.Common.{◌≡◌, ◌<◌, ◌≤◌, ◌+◌, ◌∙◌, ℕ, zero, suc, Bool, true, false, List, [], ◌∷◌, ◌++◌, length, take, drop, get_or, refl, sym, ap, ap₂, arith, slice_index_or}
-use Rattle.std.specs.Prelude.{ℤ, Option, None, Some, cond, eqb}
+use Rattle.std.specs.Ordering.{int_eq}
+use Rattle.std.specs.Prelude.{ℤ, Option, None, Some, cond, eqb, not}
 use Rattle.std.specs.List.{list_all}
 use Rattle.std.proofs.lemmas.List.{take_all, take_more, length-drop, length-map, length-take-le, get_or-map, take-map, drop-map}
+use Rattle.std.proofs.lemmas.Bool.{eqb-true}
 use Rattle.std.proofs.lemmas.Bool.Decides.{nat_tests}
+use Rattle.std.proofs.lemmas.Cmp.{int_eq_equiv}
+use Rattle.std.proofs.lemmas.List.Recursion.{is_count_by}
+use Rattle.std.proofs.lemmas.List.Sums.{count_by-le-length}
 use Rattle.std.proofs.Math.Seq.{take-add}
-use Rattle.polars_arrays_flat.specs.ArrayRows.{null_total}
+use Rattle.polars_arrays_flat.specs.ArrayRows.{is_null, null_total}
 use Rattle.polars_arrays_flat.specs.Row.{Row, Null, Int, Truth, Bytes, Rows, Fields, Entry}
 use Rattle.polars_arrays_flat.specs.StoredRows.{row, kept, masked, number_slots, rows_under}
 use Rattle.polars_arrays_flat.specs.Validity.{HasBits}
-use Rattle.polars_arrays_folds.specs.Folds.{Folds, folded, folded_if_any, number_or, row_joined}
+use Rattle.polars_arrays_folds.specs.Folds.{Folds, folded, folded_if_any, none_present, number_or, row_joined}
 
 module _ (joined : ℤ → ℤ → ℤ) (neutral : ℤ) (law : Folds joined neutral) where
   row-groups : (row : Row) (a b : ℤ) → joined (row_joined joined row a) b ≡ row_joined joined row (joined a b)
@@ -195,3 +200,40 @@ module _ (joined : ℤ → ℤ → ℤ) (neutral : ℤ) (rows : List Row) (nulls
   some_fold x e f =
       ap (λ (y : ℤ). Some y) f
       ∙ sym (ap (λ b. cond b None (Some (folded joined neutral rows))) (ap₂ eqb (sym is_nulls) (sym is_len) ∙ unequal_test nulls len e))
+
+-- the number of null rows, by recursion
+nulls : List Row → ℕ
+nulls [] = 0
+nulls (row ∷ rows) = cond (is_null row) (1 + nulls rows) (nulls rows)
+
+nulls-are : (rows : List Row) → nulls rows ≡ null_total rows
+unfolding nulls
+nulls-are rows = is_count_by nulls is_null refl (λ row rest. refl) rows
+
+few-nulls : (rows : List Row) → nulls rows ≤ length rows
+few-nulls rows = omega (arith, nulls-are rows, count_by-le-length is_null rows)
+
+-- where all rows are null none is folded
+folded-nulls : (joined : ℤ → ℤ → ℤ) (neutral : ℤ) (rows : List Row) → nulls rows ≡ length rows → folded joined neutral rows ≡ neutral
+unfolding nulls
+folded-nulls joined neutral [] e = refl
+folded-nulls joined neutral (Null ∷ rows) e = folded-nulls joined neutral rows (omega arith)
+folded-nulls joined neutral (Int n ∷ rows) e = absurd (omega (arith, few-nulls rows))
+folded-nulls joined neutral (Truth x ∷ rows) e = absurd (omega (arith, few-nulls rows))
+folded-nulls joined neutral (Bytes x ∷ rows) e = absurd (omega (arith, few-nulls rows))
+folded-nulls joined neutral (Rows x ∷ rows) e = absurd (omega (arith, few-nulls rows))
+folded-nulls joined neutral (Fields x ∷ rows) e = absurd (omega (arith, few-nulls rows))
+folded-nulls joined neutral (Entry x ∷ rows) e = absurd (omega (arith, few-nulls rows))
+
+module _ (joined : ℤ → ℤ → ℤ) (neutral : ℤ) (rows : List Row) (x start : ℤ) (first : start ≡ neutral) (whole : x ≡ folded joined neutral rows) (unequal : not (int_eq x start) ≡ true) where
+  by_presence : (none : Bool) → none_present rows ≡ none → Some x ≡ folded_if_any joined neutral rows
+  by_presence false e = ap (λ (y : ℤ). Some y) whole ∙ sym (ap (λ b. cond b None (Some (folded joined neutral rows))) e)
+  by_presence true e =
+      let all : nulls rows ≡ length rows = nulls-are rows ∙ eqb-true (null_total rows) (length rows) e in
+      let same : x ≡ start = whole ∙ folded-nulls joined neutral rows all ∙ sym first in
+      let equal : not (int_eq x start) ≡ false = ap (λ (y : ℤ). not (int_eq y start)) same ∙ ap not (int_eq_equiv.refl start) in
+      cc
+
+  -- a total that is not the neutral number is that of some rows
+  pub unequal_fold : Some x ≡ folded_if_any joined neutral rows
+  unequal_fold = by_presence (none_present rows) refl

@@ -1,3 +1,4 @@
+pub mod CommonBits
 pub mod Examples
 pub mod FoldSteps
 pub mod WordFlags

@@ -2,7 +2,8 @@
 //! of an array.
 
 ghost use Rattle.std.specs.Option.{option_copied};
-ghost use Rattle.std.specs.Prelude.{◌≡◌, ℕ, eqb, not, length, map, option_map};
+ghost use Rattle.std.specs.Prelude.{◌≡◌, ◌<◌, ◌%◌, ℕ, true, false, eqb, not, length, map};
+ghost use Rattle.std.specs.Prelude.{get_or, option_map};
 ghost use Rattle.polars_arrays_flat.specs.ArrayRows.{number_rows};
 ghost use Rattle.polars_arrays_flat.specs.Row.{Int};
 ghost use Rattle.polars_arrays_flat.specs.StoredRows.{kept, masked, number_slots, rows_under};
@@ -15,11 +16,18 @@ use polars_arrays_bits::bit_mask::BitMask;
 use polars_arrays_bits::bitmap::Bitmap;
 use polars_arrays_flat::array::Array;
 use polars_arrays_flat::primitive::PrimitiveArray;
+use polars_arrays_numbers::comparison::{Comparison, Unequal};
 use polars_arrays_numbers::native_type::NativeType;
 use std::simd::prelude::*;
 
 // Number of rows folded at once: those of one word.
 const BLOCK: usize = 64;
+
+// Number of words in a run, whose bits are tested together.
+const RUN_WORDS: usize = 32;
+
+// Number of rows in a run.
+const RUN: usize = BLOCK * RUN_WORDS;
 
 // Index of the byte of a word that has a row's bit.
 const BYTES: [usize; BLOCK] = [
@@ -117,6 +125,20 @@ fn fold_word<T: NativeType, O: Operator<T>>(operator: &O, numbers: &[T], word: u
     }
 }
 
+// Returns the bits that all words of a run have in common. It has no branch a word and is
+// vectorized.
+#[inline(always)]
+fn common_bits(mask: &BitMask<'_>) -> u64
+    requires { length mask.now ≡ 2048 }
+    ensures { (p : ℕ) → p < 2048 → is_bit result (p % 64) ≡ true → get_or mask.now p false ≡ true }
+{
+    let mut common = u64::MAX;
+    for k in 0..RUN_WORDS {
+        common &= mask.word(k);
+    }
+    common
+}
+
 // Folds the numbers whose bit is 1, row by row.
 #[inline(always)]
 fn fold_by_row<T: NativeType, O: Operator<T>>(operator: &O, numbers: &[T], mask: &BitMask<'_>) -> T
@@ -133,12 +155,8 @@ fn fold_by_row<T: NativeType, O: Operator<T>>(operator: &O, numbers: &[T], mask:
     total
 }
 
-/// Folds the numbers whose bit is 1, 64 rows at a time.
-pub fn fold_present<T: NativeType, O: Operator<T>>(
-    operator: &O,
-    numbers: &[T],
-    mask: &BitMask<'_>,
-) -> T
+// Folds the numbers whose bit is 1, 64 rows at a time.
+fn fold_words<T: NativeType, O: Operator<T>>(operator: &O, numbers: &[T], mask: &BitMask<'_>) -> T
     requires { length mask.now ≡ length numbers.now }
     ensures { T.value result
         ≡ folded O.joined (O.neutral operator.now)
@@ -154,6 +172,67 @@ pub fn fold_present<T: NativeType, O: Operator<T>>(
     let at = BLOCK * blocks;
     let rest = numbers.len() - at;
     let last = fold_by_row(operator, &numbers[at..at + rest], &mask.window(at, rest));
+    operator.join(total, last)
+}
+
+// Folds the numbers of a run whose bit is 1. Where all bits are 1, one loop folds them all.
+#[inline(always)]
+fn fold_even_run<T: NativeType, O: Operator<T>>(
+    operator: &O,
+    numbers: &[T],
+    mask: &BitMask<'_>,
+) -> T
+    requires run { length numbers.now ≡ 2048 }
+    requires bits { length mask.now ≡ 2048 }
+    ensures { T.value result
+        ≡ folded O.joined (O.neutral operator.now)
+        (masked mask.now (number_slots T.value numbers.now)) }
+{
+    if common_bits(mask) == u64::MAX {
+        fold_all(operator, numbers)
+    } else {
+        fold_words(operator, numbers, mask)
+    }
+}
+
+// Folds the numbers of a run whose bit is 1. The bits are tested together where the first word is
+// all ones.
+#[inline(always)]
+fn fold_run<T: NativeType, O: Operator<T>>(operator: &O, numbers: &[T], mask: &BitMask<'_>) -> T
+    requires run { length numbers.now ≡ 2048 }
+    requires bits { length mask.now ≡ 2048 }
+    ensures { T.value result
+        ≡ folded O.joined (O.neutral operator.now)
+        (masked mask.now (number_slots T.value numbers.now)) }
+{
+    if mask.word(0) == u64::MAX {
+        fold_even_run(operator, numbers, mask)
+    } else {
+        fold_words(operator, numbers, mask)
+    }
+}
+
+/// Folds the numbers whose bit is 1, in runs of 2048 rows.
+pub fn fold_present<T: NativeType, O: Operator<T>>(
+    operator: &O,
+    numbers: &[T],
+    mask: &BitMask<'_>,
+) -> T
+    requires { length mask.now ≡ length numbers.now }
+    ensures { T.value result
+        ≡ folded O.joined (O.neutral operator.now)
+        (masked mask.now (number_slots T.value numbers.now)) }
+{
+    let runs = numbers.len() / RUN;
+    let mut total = operator.start();
+    for k in 0..runs {
+        let at = RUN * k;
+        let run = fold_run(operator, &numbers[at..at + RUN], &mask.window(at, RUN));
+        total = operator.join(total, run);
+    }
+    let at = RUN * runs;
+    let rest = numbers.len() - at;
+    let last = fold_words(operator, &numbers[at..at + rest], &mask.window(at, rest));
     operator.join(total, last)
 }
 
@@ -192,8 +271,13 @@ pub fn reduce_rows<T: NativeType, O: Operator<T>>(
 {
     // Has no effect at run time. The proof learns from it that the validity has a bit for each row.
     let _validity = array.validity();
+    let total = fold_rows(operator, array);
+    // Nulls are counted only where the total is that of no rows.
+    if Unequal.compare(total, operator.start()) {
+        return Some(total);
+    }
     if array.null_count() == array.len() {
         return None;
     }
-    Some(fold_rows(operator, array))
+    Some(total)
 }
