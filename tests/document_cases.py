@@ -280,8 +280,23 @@ FILES = (
      '~ id="1"  a 2 -> 0\n1 changed, 0 removed, 0 added, 2 the same.'),
     (["--key", "id"], b'{"id":1200}\n{"id":1.50}\n{"id":-0.0}\n{"id":9.5}\n{"id":-0.05}\n{"id":12e-1}\n', b"", 1,
      "".join(f"- id={it}  left.ndjson line {n}\n"
-             for n, it in enumerate(("12e2", "15e-1", "0", "95e-1", "-5e-2", "12e-1"), 1))
+             for n, it in enumerate(("1200", "1.5", "0", "9.5", "-0.05", "1.2"), 1))
      + "0 changed, 6 removed, 0 added, 0 the same."),
+    # numbers of keys without an exponent, up to 20 tens
+    (["--key", "id"], b'{"id":1e20}\n{"id":-1.0e21}\n{"id":0.1e-19}\n{"id":1e-21}\n{"id":123e-3}\n{"id":123e-4}\n', b"", 1,
+     "".join(f"- id={it}  left.ndjson line {n}\n"
+             for n, it in enumerate(
+                 ("100000000000000000000", "-1e21", "0.00000000000000000001", "1e-21", "0.123", "0.0123"), 1))
+     + "0 changed, 6 removed, 0 added, 0 the same."),
+    (["--key", "id"], b'{"id":12345678901234567890123456789012345678900}\n{"id":1%s}\n{"id":[10,0.50]}\n{"id":"1e1"}\n' % (b"0" * 21),
+     b'{"id":1e1%s}\n' % (b"0" * 20), 1,
+     "- id=12345678901234567890123456789012345678900  left.ndjson line 1\n- id=1e21  left.ndjson line 2\n"
+     '- id=[1e1,5e-1]  left.ndjson line 3\n- id="1e1"  left.ndjson line 4\n+ id=1e100000000000000000000  right.ndjson line 1\n'
+     "0 changed, 4 removed, 1 added, 0 the same."),
+    (["--key", "id", "--format", "json"], b'{"id":12e2,"a":1}\n', b'{"id":1200.0,"a":2}\n{"id":-25e-2}\n', 1,
+     '{"kind":"changed","key":{"id":1200},"left_line":1,"right_line":1,"changes":[{"path":"a","left":1,"right":2}]}\n'
+     '{"kind":"added","key":{"id":-0.25},"line":2}\n'
+     '{"kind":"counts","changed":1,"removed":0,"added":1,"same":0,"not_shown":0}'),
     (["--key", "id"], b'{"id":{"b":[1.0,"\\u0041"],"a":null,"":{ }}}\n',
      b'{"id":{"":{},"a":null,"b":[1,"A"]},"n":1}\n', 1,
      '~ id={"":{},"a":null,"b":[1,"A"]}  n missing -> 1\n1 changed, 0 removed, 0 added, 0 the same.'),

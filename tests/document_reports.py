@@ -7,6 +7,7 @@ text, and are compared as digits and an exponent of any size.
 """
 import collections
 import dataclasses
+import decimal
 import json
 import re
 
@@ -15,6 +16,7 @@ import table_reports
 
 DEEPEST = 128
 MOST_DIGITS = 30
+MOST_TENS = 20
 MISSING = object()
 LONE = re.compile("[\ud800-\udfff]")
 HIGH = re.compile("[\x7f-\x9f]")
@@ -359,6 +361,14 @@ def key_text(part, string=string_text):
     return compact(normal(None if part is MISSING else part), string)
 
 
+def printed_key(cell):
+    """Returns what is printed of a part of a key with this normal text: a number has no exponent,
+    unless that of its normal text is above 20 or below -20."""
+    if not NUMBER.fullmatch(cell) or abs(number_parts(cell)[2]) > MOST_TENS:
+        return cell
+    return f"{decimal.Decimal(cell):f}"
+
+
 # ---- tolerances
 
 
@@ -515,7 +525,10 @@ def text_report(sides, found, options):
     names = [word(key) for key in options["keys"]]
 
     def row_text(side, i):
-        cells = (b"%s=%s" % (name, cell.encode()) for name, cell in zip(names, keys[side][i]))
+        cells = (
+            b"%s=%s" % (name, printed_key(cell).encode())
+            for name, cell in zip(names, keys[side][i])
+        )
         return b",".join(cells) or b"row %d" % (i + 1)
 
     def painted(color, text):
@@ -578,7 +591,11 @@ def json_objects(sides, found, options):
 
     def key(side, i):
         cells = keys_of([sides[side][i]], options)[0]
-        return Object(tuple((name, parsed(cell)) for name, cell in zip(options["keys"], cells)))
+        return Object(
+            tuple(
+                (name, parsed(printed_key(cell))) for name, cell in zip(options["keys"], cells)
+            )
+        )
 
     def change(it):
         told = [

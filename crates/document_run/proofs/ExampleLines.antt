@@ -15,9 +15,11 @@ use Rattle.document_report.specs.Report.{document_report_text}
 use Rattle.document_words.specs.Counts.{totals_text}
 use Rattle.document_words.specs.Keys.{document_name}
 use Rattle.document_words.specs.Lines.{alone_line, alone_text}
+use Rattle.document_words.specs.Numbers.{is_short, plain_digits, value_text}
 use Rattle.document_words.specs.Sides as words
 use Rattle.document_words.specs.Skipped.{skipped_text}
 use Rattle.document_words.specs.declared.sides.DocumentSides.{DocumentSides}
+use Rattle.fast_float.specs.Text.{scan}
 use Rattle.json_changes.specs.Texts.{Told}
 use Rattle.json_plain.specs.Plain.{plain_byte, plain_json}
 use Rattle.document_run.proofs.ExampleDocuments.{new_rows, old_rows}
@@ -100,7 +102,7 @@ text_of p lines limit = concat (take limit lines) ++ rest_text limit (length lin
     ++ (skipped_text p.left_name p.left_skipped ++ skipped_text p.right_name p.right_skipped)
 
 lines-with : (between : ℕ → ℕ → List Told) (one three : List Told) → between 0 0 ≡ one → between 2 1 ≡ three → lines_of (parts (places one three)) between ≡ lines_with one three
-unfolding document_name alone_text listed word_text painted color_text plain_json plain_byte digits
+unfolding document_name alone_text listed word_text value_text is_short plain_digits scan painted color_text plain_json plain_byte digits
 lines-with between [] [] a b = refl
 lines-with between [] (e ∷ es) a b = rw b refl
 lines-with between (d ∷ ds) [] a b = rw a refl

@@ -13,11 +13,13 @@ use Rattle.document_words.specs.Changes.{change_object, change_text, part_member
 use Rattle.document_words.specs.Counts.{counts_json, totals_text}
 use Rattle.document_words.specs.Keys.{document_name, key_members}
 use Rattle.document_words.specs.Lines.{alone_json, alone_text}
+use Rattle.document_words.specs.Numbers.{is_short, plain_digits, value_text, with_point}
 use Rattle.document_words.specs.Skipped.{skipped_members, skipped_text}
+use Rattle.fast_float.specs.Text.{scan}
 use Rattle.json_plain.specs.Plain.{plain_byte, plain_json}
 
-name-by-keys : document_name (codes "order.id" ∷ codes "day" ∷ []) 0 (codes "\"A-7\"" ∷ codes "3" ∷ codes "{}" ∷ []) ≡ codes "order.id=\"A-7\",day=3"
-unfolding document_name listed word_text plain_json plain_byte
+name-by-keys : document_name (codes "order.id" ∷ codes "day" ∷ []) 0 (codes "\"A-7\"" ∷ codes "3e1" ∷ codes "{}" ∷ []) ≡ codes "order.id=\"A-7\",day=30"
+unfolding document_name listed word_text value_text is_short plain_digits scan plain_json plain_byte
 name-by-keys = refl
 
 name-by-number : document_name [] 1 (codes "{}" ∷ []) ≡ codes "row 2"
@@ -26,16 +28,50 @@ name-by-number = refl
 
 -- a key whose name has a space
 name-with-space : document_name (codes "a b" ∷ []) 0 (codes "1" ∷ codes "{}" ∷ []) ≡ codes "\"a b\"=1"
-unfolding document_name listed word_text quoted byte_text plain_json plain_byte
+unfolding document_name listed word_text quoted byte_text value_text is_short plain_digits scan plain_json plain_byte
 name-with-space = refl
 
 no-members : key_members [] (codes "{}" ∷ []) ≡ []
 unfolding listed
 no-members = refl
 
-members : key_members (codes "id" ∷ codes "day" ∷ []) (codes "\"A-7\"" ∷ codes "3" ∷ codes "{}" ∷ []) ≡ codes "\"id\":\"A-7\",\"day\":3"
-unfolding listed json_string char_text encode_utf8 plain_json plain_byte computing
+members : key_members (codes "id" ∷ codes "day" ∷ []) (codes "\"A-7\"" ∷ codes "3e1" ∷ codes "{}" ∷ []) ≡ codes "\"id\":\"A-7\",\"day\":30"
+unfolding listed json_string char_text encode_utf8 value_text is_short plain_digits scan plain_json plain_byte computing
 members = refl
+
+hundreds : value_text (codes "12e2") ≡ codes "1200"
+unfolding value_text is_short plain_digits scan
+hundreds = refl
+
+tenths : value_text (codes "15e-1") ≡ codes "1.5"
+unfolding value_text is_short with_point plain_digits scan
+tenths = refl
+
+hundredths : value_text (codes "-5e-2") ≡ codes "-0.05"
+unfolding value_text is_short with_point plain_digits scan
+hundredths = refl
+
+zero : value_text (codes "0") ≡ codes "0"
+unfolding value_text is_short plain_digits scan
+zero = refl
+
+most-zeros : value_text (codes "1e20") ≡ codes "100000000000000000000"
+unfolding value_text is_short plain_digits scan
+most-zeros = refl
+
+-- past 20 tens the exponent stays
+large : value_text (codes "1e21") ≡ codes "1e21"
+unfolding value_text is_short scan plain_json plain_byte
+large = refl
+
+small : value_text (codes "-15e-21") ≡ codes "-15e-21"
+unfolding value_text is_short scan plain_json plain_byte
+small = refl
+
+-- numbers within an array stay in their normal texts
+within : value_text (codes "[12e2]") ≡ codes "[12e2]"
+unfolding value_text is_short scan plain_json plain_byte
+within = refl
 
 price : change_text false (codes "items[2].price") (Some (codes "9.5")) (Some (codes "9.75")) ≡ codes "items[2].price 9.5 -> 9.75"
 unfolding change_text part_text painted color_text plain_json plain_byte

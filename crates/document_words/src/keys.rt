@@ -7,13 +7,13 @@ ghost use Rattle.diff_words.specs.Lists.{listed};
 ghost use Rattle.document_words.specs.Keys.{document_name, key_member, key_members, key_text};
 ghost use Rattle.document_words.specs.Sides.{IsDocumentSide, names_of};
 
+use crate::numbers::push_value;
 use crate::sides::DocumentSides;
 use diff_json::strings::push_string;
 use diff_report::sides::Side;
 use diff_words::decimals::push_decimal;
 use diff_words::lists::push_gap;
 use diff_words::words::push_word;
-use json_plain::plain::push_plain_json;
 use std::alloc::AllocError;
 
 /// Appends the name of key `k`, and its value in a row.
@@ -32,7 +32,7 @@ fn push_key(
 {
     push_word(out, &sides.keys[k])?;
     out.push(b'=')?;
-    push_plain_json(out, side.table.cell(i, k))?;
+    push_value(out, side.table.cell(i, k))?;
     Ok(())
 }
 
@@ -97,7 +97,7 @@ fn push_key_member(
 {
     push_string(out, &sides.keys[k])?;
     out.push(b':')?;
-    push_plain_json(out, side.table.cell(i, k))?;
+    push_value(out, side.table.cell(i, k))?;
     Ok(())
 }
 

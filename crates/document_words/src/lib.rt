@@ -6,6 +6,8 @@
 pub mod changes;
 pub mod counts;
 pub mod keys;
+pub mod laws;
 pub mod lines;
+pub mod numbers;
 pub mod sides;
 pub mod skipped;

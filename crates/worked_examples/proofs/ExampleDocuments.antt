@@ -46,6 +46,7 @@ use Rattle.document_run.specs.declared.options.DocumentOptions.{DocumentOptions}
 use Rattle.document_words.specs.Changes.{change_text, part_text}
 use Rattle.document_words.specs.Counts.{totals_text}
 use Rattle.document_words.specs.Keys.{document_name}
+use Rattle.document_words.specs.Numbers.{is_short, plain_digits, value_text}
 use Rattle.document_words.specs.Skipped.{skipped_text}
 use Rattle.document_words.specs.declared.sides.DocumentSides.{DocumentSides}
 use Rattle.fast_float.specs.Text.{scan}
@@ -280,7 +281,8 @@ text_with changes = (pair_text false (codes "id=1") changes ++ []) ++ [] ++ code
 text-of : (rules : Bor Rules) (skip_bad : Bool)
     → document_report_text (sides_under rules skip_bad) matching (0 ∷ []) 20
     ≡ text_with (changes_at (sides_under rules skip_bad) 0 0)
-unfolding document_report_text changed_line pair_line document_name listed word_text plain_json
+unfolding document_report_text changed_line pair_line document_name listed word_text value_text
+    is_short plain_digits scan plain_json
     plain_byte rest_text totals_text skipped_text digits
 text-of rules skip_bad = refl
 
