@@ -1,20 +1,16 @@
-/* Calls on columns of one level. They are handed over whole: their numbers are lent, not copied. */
+/* Calls on columns of one level. They are handed over whole: their numbers are lent, not copied.
+ * Dictionaries, whose null rows are asked for, are handed over as trees. */
 #include "shim.h"
 
 #include <stdlib.h>
 #include <string.h>
 
-/* Describes all rows of a column. The caller closes it, also where this fails. */
-static int32_t open_whole(struct column *column, const struct ArrowSchema *type,
-                          const struct ArrowArray *array, uint32_t flags) {
-  TRY(dunkelva_open(column, type, array, flags));
-  return dunkelva_describe(column, 0, array->length);
-}
-
-/* Does the same where all rows are whole numbers of 8 to 64 bits. */
+/* Describes all rows of a column, where all are whole numbers of 8 to 64 bits. The caller closes
+ * it, also where this fails. */
 static int32_t open_numbers(struct column *column, const struct ArrowSchema *type,
                             const struct ArrowArray *array) {
-  TRY(open_whole(column, type, array, 0));
+  TRY(dunkelva_open(column, type, array, 0));
+  TRY(dunkelva_describe(column, 0, array->length));
   return dunkelva_is_numbers(column) ? DUNKELVA_OK : DUNKELVA_NOT_SERVED;
 }
 
@@ -46,16 +42,42 @@ static int32_t give_bits(struct bits *bits, int32_t status, uint8_t *out) {
   return status;
 }
 
+/* Finds the null rows of a dictionary, a window of rows at a time: those whose key is null, or
+ * whose entry is. Kernels that compare no trees serve none. */
+static int32_t null_entries(struct column *column, struct bits *bits, uint64_t *count) {
+#ifdef DUNKELVA_NUMBERS_ONLY
+  (void)column;
+  (void)bits;
+  (void)count;
+  return DUNKELVA_NOT_SERVED;
+#else
+  int64_t window = dunkelva_window(column);
+  int64_t done = 0;
+  do { /* a window of no rows is one too: the entries are checked */
+    int64_t rows = window < bits->rows - done ? window : bits->rows - done;
+    uint64_t nulls = 0;
+    TRY(dunkelva_describe(column, done, rows));
+    TRY(dunkelva_parts_are_null(column->parts, column->extent.parts, bits->words + done / 64,
+                                (size_t)words_for_bits(rows), &nulls));
+    *count += nulls;
+    done += rows;
+  } while (done < bits->rows);
+  return DUNKELVA_OK;
+#endif
+}
+
 /* Finds the null rows of a column. In all types but dictionaries and those that have no validity a
  * row is null where the validity says so. So the validity alone is handed over, as that of truth
  * values. */
 static int32_t is_null(struct column *column, struct bits *bits, const struct ArrowSchema *type,
                        const struct ArrowArray *array, const uint8_t *out, size_t out_bytes,
                        uint64_t *count) {
-  TRY(open_whole(column, type, array, DUNKELVA_FLOATS_BY_BITS));
+  TRY(dunkelva_open(column, type, array, DUNKELVA_FLOATS_BY_BITS));
   if (type->dictionary != NULL) {
-    return DUNKELVA_NOT_SERVED;
+    TRY(take_bits(bits, array->length, out, out_bytes));
+    return null_entries(column, bits, count);
   }
+  TRY(dunkelva_describe(column, 0, array->length));
   if (column->parts->kind != KIND_NULL) {
     column->parts->kind = KIND_BOOLEAN;
   }

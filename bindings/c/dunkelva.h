@@ -118,8 +118,9 @@ int32_t dunkelva_equal_rows(const struct ArrowSchema *left_type, const struct Ar
                             uint32_t flags, uint8_t *out, size_t out_bytes, uint64_t *comparisons);
 
 /* Writes which rows of a column are null: bit i of `out`, as in `dunkelva_equal`, is 1 where row i
- * is null. Where `count` is not null, it gets how many they are. Serves the types of
- * `dunkelva_equal` but dictionaries. Floats need no flag. */
+ * is null. Where `count` is not null, it gets how many they are. A row of a dictionary is null
+ * where its key is, or the entry that the key names. Serves the types of `dunkelva_equal`. Floats
+ * need no flag. */
 int32_t dunkelva_is_null(const struct ArrowSchema *type, const struct ArrowArray *array,
                          uint8_t *out, size_t out_bytes, uint64_t *count);
 

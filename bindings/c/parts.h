@@ -72,6 +72,9 @@ int32_t dunkelva_parts_equal(const struct part *left, size_t left_len, const str
                              size_t right_len, uint64_t *out, size_t out_len, uint64_t *comparisons,
                              size_t comparisons_len);
 
+int32_t dunkelva_parts_are_null(const struct part *parts, size_t len, uint64_t *out, size_t out_len,
+                                uint64_t *count);
+
 /* These take one part each. */
 int32_t dunkelva_parts_equal_lent(const struct part *left, const struct part *right, uint64_t *out,
                                   size_t out_len);

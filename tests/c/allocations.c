@@ -53,29 +53,38 @@ void __wrap_free(void *memory) {
 
 enum { ROWS = 100, ROOM = 13 };
 
+/* A dictionary with nulls: keys to three texts. */
+static struct made *dictionary(void) {
+  static uint8_t bits[ROOM];
+  static int8_t keys[ROWS];
+  static const int32_t ends[] = {0, 1, 2, 3};
+  memset(bits, 0x5B, sizeof bits);
+  for (int32_t row = 0; row < ROWS; row++) {
+    keys[row] = (int8_t)(row % 3);
+  }
+  struct made *texts = make("u", 3, 3, NULL, ends, "abc");
+  struct made *made = make("c", ROWS, 2, bits, keys, NULL);
+  made->type.dictionary = &texts->type;
+  made->array.dictionary = &texts->array;
+  return made;
+}
+
 /* A column of structs of a truth value, a list of dictionaries of texts, and views. `shift` moves
  * some buffers to odd addresses. */
 static struct made *column(size_t shift) {
   static uint8_t bits[ROOM];
   static int32_t ends[ROWS + 1];
-  static int8_t keys[ROWS];
   static uint8_t odd[sizeof ends + 1];
   static uint8_t views[16 * ROWS];
-  static const int32_t entry_ends[] = {0, 1, 2, 3};
   static const int64_t lengths[] = {20};
   memset(bits, 0x5B, sizeof bits);
   for (int32_t row = 0; row < ROWS; row++) {
     ends[row + 1] = row + 1;
-    keys[row] = (int8_t)(row % 3);
     views[16 * row] = (uint8_t)(row % 12);
     memset(views + 16 * row + 4, 'a', (size_t)row % 12);
   }
   memcpy(odd + shift, ends, sizeof ends);
-  struct made *texts = make("u", 3, 3, NULL, entry_ends, "abc");
-  struct made *dictionary = make("c", ROWS, 2, bits, keys, NULL);
-  dictionary->type.dictionary = &texts->type;
-  dictionary->array.dictionary = &texts->array;
-  struct made *lists = put(make("+l", ROWS, 2, bits, odd + shift, NULL), "", dictionary);
+  struct made *lists = put(make("+l", ROWS, 2, bits, odd + shift, NULL), "", dictionary());
   struct made *seen = make("vu", ROWS, 4, NULL, views, "twenty bytes of text");
   seen->buffers[3] = lengths;
   struct made *outer =
@@ -225,6 +234,9 @@ int main(void) {
     try_call("compare", call_compare, flat);
     try_call("compare_number", call_compare_number, flat);
     try_call("is_null", call_is_null, tree);
+    if (!NUMBERS_ONLY) {
+      try_call("is_null of keys", call_is_null, dictionary());
+    }
     try_call("sum", call_sum, flat);
     try_call("min_max", call_min_max, flat);
     try_call("bits", call_bits, flat);

@@ -21,6 +21,8 @@ int32_t __real_dunkelva_parts_equal_lent(const struct part *, const struct part 
                                          size_t);
 int32_t __wrap_dunkelva_parts_equal_lent(const struct part *, const struct part *, uint64_t *,
                                          size_t);
+int32_t __real_dunkelva_parts_are_null(const struct part *, size_t, uint64_t *, size_t, uint64_t *);
+int32_t __wrap_dunkelva_parts_are_null(const struct part *, size_t, uint64_t *, size_t, uint64_t *);
 int LLVMFuzzerTestOneInput(const uint8_t *data, size_t size);
 
 static unsigned long statuses[8];
@@ -49,6 +51,20 @@ int32_t __wrap_dunkelva_parts_equal(const struct part *left, size_t left_len,
     require(memcmp(bits, out, out_len * sizeof *bits) == 0, "both set the same bits");
     require(*comparisons <= most, "no more comparisons than leaves");
   }
+  free(bits);
+  return status;
+}
+
+int32_t __wrap_dunkelva_parts_are_null(const struct part *parts, size_t len, uint64_t *out,
+                                       size_t out_len, uint64_t *count) {
+  model_read_all(parts, len);
+  uint64_t *bits = malloc(out_len * sizeof *bits + 1);
+  uint64_t nulls = 0;
+  int32_t wanted = model_parts_are_null(parts, len, bits, out_len, &nulls);
+  int32_t status = __real_dunkelva_parts_are_null(parts, len, out, out_len, count);
+  require(status == wanted, "the library and the model return one status for nulls");
+  require(status != 0 || (memcmp(bits, out, out_len * sizeof *bits) == 0 && *count == nulls),
+          "both find the same nulls");
   free(bits);
   return status;
 }

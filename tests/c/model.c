@@ -488,6 +488,33 @@ int32_t model_parts_equal(const struct part *left, size_t left_len, const struct
   return status;
 }
 
+int32_t model_parts_are_null(const struct part *parts, size_t len, uint64_t *out, size_t out_len,
+                             uint64_t *count) {
+  struct tree tree = {0};
+  tree.end = calloc(len + 1, sizeof *tree.end);
+  if (tree.end == NULL) {
+    return NO_MEMORY;
+  }
+  int32_t status = make_tree(&tree, parts, len) ? DONE : NO_ARRAY;
+  size_t rows = status == DONE ? parts->rows : 0;
+  if (out_len < rows / 64 + (rows % 64 != 0)) {
+    status = NO_ROOM;
+  }
+  if (status == DONE) {
+    *count = 0;
+    for (size_t i = 0; i < out_len; i++) {
+      out[i] = 0;
+    }
+    for (size_t row = 0; row < rows; row++) {
+      bool null = is_null_row(&tree, 0, row);
+      *count += null;
+      out[row / 64] |= (uint64_t)null << (row % 64);
+    }
+  }
+  free(tree.end);
+  return status;
+}
+
 static void read_slice(const struct slice *slice, size_t size, size_t align) {
   if (slice->data == NULL || (uintptr_t)slice->data % align != 0) {
     fputs("model: a slice with no good address\n", stderr);
@@ -547,6 +574,12 @@ int32_t dunkelva_parts_equal(const struct part *left, size_t left_len, const str
   return comparisons_len == 1
              ? model_parts_equal(left, left_len, right, right_len, out, out_len, comparisons)
              : NO_ROOM;
+}
+
+int32_t dunkelva_parts_are_null(const struct part *parts, size_t len, uint64_t *out, size_t out_len,
+                                uint64_t *count) {
+  model_read_all(parts, len);
+  return model_parts_are_null(parts, len, out, out_len, count);
 }
 
 /* A number of a column, in two's complement of 64 bits. */

@@ -10,6 +10,10 @@
 int32_t model_parts_equal(const struct part *left, size_t left_len, const struct part *right,
                           size_t right_len, uint64_t *out, size_t out_len, uint64_t *most);
 
+/* Returns the status of `dunkelva_parts_are_null`, and writes its bits and its count. */
+int32_t model_parts_are_null(const struct part *parts, size_t len, uint64_t *out, size_t out_len,
+                             uint64_t *count);
+
 /* Reads each byte that parts lend, and ends the program where a slice breaks the rules: a null
  * pointer, a bad address, a tree of another size. */
 void model_read_all(const struct part *parts, size_t len);

@@ -55,6 +55,15 @@ def equal_rows(library, left, left_first, right, right_first, rows):
     return status, unpacked(out, rows)
 
 
+def is_null(library, column):
+    """Returns a status and truth values, one a row, or what is wrong with the number of nulls."""
+    out, nulls = (ctypes.c_uint8 * ((len(column) + 7) // 8))(), ctypes.c_uint64()
+    status = library.dunkelva_is_null(column.schema, column.array, out, len(out),
+                                      ctypes.byref(nulls))
+    found = unpacked(out, len(column))
+    return status, found if nulls.value == sum(found) else f"{nulls.value} nulls"
+
+
 def unpacked(out, rows):
     """Returns bits as truth values."""
     return [bool(out[row // 8] >> row % 8 & 1) for row in range(rows)]
@@ -77,6 +86,7 @@ def try_pair(library, chance, depth, rows):
     tried.append((f"rows {first} {second} {count}",
                   equal_rows(library, left, first, right, second, count),
                   [one == other for one, other in window]))
+    tried.append(("nulls", is_null(library, left), [row is None for row in left_rows]))
     faults = [f"{what}: {kind}, status {got[0]}" for what, got, hoped in tried
               if got != (arrow.OK, hoped)]
     return faults, sum(wanted)

@@ -585,9 +585,40 @@ static void try_nulls(void) {
         "null floats");
   const int8_t keys[] = {0, 0};
   struct made *keyed = dictionary("c", 2, NULL, keys, make("n", 1, 0, NULL, NULL, NULL));
-  count(dunkelva_is_null(&keyed->type, &keyed->array, &out, 1, &nulls) == DUNKELVA_NOT_SERVED &&
-            out == 0x1 && nulls == 1,
-        "no nulls of dictionaries");
+  int32_t wanted = NUMBERS_ONLY ? DUNKELVA_NOT_SERVED : DUNKELVA_OK;
+  count(dunkelva_is_null(&keyed->type, &keyed->array, &out, 1, &nulls) == wanted &&
+            (NUMBERS_ONLY || (out == 0x3 && nulls == 2)),
+        "keys to a null");
+}
+
+/* Tries rows that are null by their keys or by the entries that these name. */
+static void try_null_entries(void) {
+  const int32_t values[] = {7, 0, 9};
+  const uint8_t keys[] = {2, 1, 200, 0, 1, 2}; /* 9, null, a null key, 7, null, 9 */
+  struct made *entries = make("i", 3, 2, BITS(0x5), values, NULL);
+  struct made *keyed = dictionary("C", 6, BITS(0x3B), keys, entries);
+  uint8_t out = 0x55;
+  uint64_t nulls = 7;
+  count(dunkelva_is_null(&keyed->type, &keyed->array, &out, 1, &nulls) == DUNKELVA_OK &&
+            out == 0x16 && nulls == 3,
+        "nulls of a dictionary");
+  keyed->array.offset = 1; /* null, a null key, 7, null */
+  keyed->array.length = 4;
+  count(dunkelva_is_null(&keyed->type, &keyed->array, &out, 1, NULL) == DUNKELVA_OK && out == 0xB,
+        "nulls of some rows of a dictionary");
+  const int8_t outer[] = {0, 4, 2, 1, 3}; /* of null, a null key, 7, null: no entry 4 */
+  struct made *twice = dictionary("c", 5, BITS(0x1D), outer, keyed);
+  out = 0x55;
+  count(dunkelva_is_null(&twice->type, &twice->array, &out, 1, &nulls) == DUNKELVA_OK &&
+            out == 0x1B && nulls == 4,
+        "nulls of a dictionary of a dictionary");
+  count(dunkelva_is_null(&twice->type, &twice->array, &out, 0, &nulls) == DUNKELVA_NO_ROOM &&
+            out == 0x1B && nulls == 4,
+        "nulls of a dictionary without room");
+  twice->array.buffers[0] = NULL;
+  count(dunkelva_is_null(&twice->type, &twice->array, &out, 1, &nulls) == DUNKELVA_BAD_ARRAY &&
+            out == 0x1B && nulls == 4,
+        "a key that names no entry has no nulls");
 }
 
 /* Says whether three results of 8 bits and their bits are these. */
@@ -793,6 +824,7 @@ int main(void) {
     try_lists();
     try_structs_and_maps();
     try_dictionaries();
+    try_null_entries();
     try_broken_structs();
     try_arguments();
     try_many_rows();

@@ -165,7 +165,7 @@ def test_streams() -> None:
     (lambda: dunkelva.sum(np.array(["2024-01-01"], "M8[D]")), "date32, which has no sum"),
     (lambda: dunkelva.min([1.5]), "column is float64"),
     (lambda: dunkelva.count_ones({"a": [1]}), "column: it is a table"),
-    (lambda: dunkelva.is_null(pd.Categorical(["a"])), "dictionary<int32, large_string>"),
+    (lambda: dunkelva.is_null({"a": [1]}), "column: it is a table"),
     (lambda: dunkelva.diff([1], [1], on="id"), "left is no table"),
     (lambda: dunkelva.diff({"a": [1.5]}, {"a": [1.5]}, on="a"), "a key has none"),
     (lambda: dunkelva.diff({"a": [1]}, {"a": ["1"]}, on="a"), "column 'a'"),

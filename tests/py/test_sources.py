@@ -85,6 +85,7 @@ def test_series_of_pandas() -> None:
     categories = pd.Series(pd.Categorical(["a", "b", None]))
     assert equal(categories, pd.Series(pd.Categorical(["a", "c", None]))) == [True, False, True]
     assert equal(categories, ["a", "b", "c"]) == [True, True, False]
+    assert dunkelva.is_null(categories).tolist() == [False, False, True]
     assert equal(pd.Categorical([1, 2]), pd.Series(pd.Categorical([1, 3, 2])[:2])) == [True, False]
     zoned = pd.Series(pd.to_datetime(["2024-01-01", None]).tz_localize("Europe/Oslo"))
     assert equal(zoned, zoned[::-1]) == [False, False]

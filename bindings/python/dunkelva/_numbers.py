@@ -95,7 +95,7 @@ def number_of_value(column: Column, value: object, names: Tuple[str, str]) -> Nu
 def is_null(column: object) -> npt.NDArray[np.bool_]:
     """Returns a truth value for each row: True where the row is null.
 
-    Serves the types of `equal` but dictionaries. Floats need no flag.
+    Serves the types of `equal`. Floats need no flag.
 
     >>> is_null(["a", None, "c"])
     array([False,  True, False])

@@ -150,7 +150,7 @@ pub fn equal_counted(
 ///
 /// # Errors
 ///
-/// [`Error::NotServed`] for dictionaries and types that the library does not serve;
+/// [`Error::NotServed`] for types that the library does not serve; [`Error::BadArray`];
 /// [`Error::NoMemory`].
 ///
 /// # Examples

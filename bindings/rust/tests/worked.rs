@@ -231,7 +231,8 @@ fn dictionaries() -> Result<(), Error> {
     let entries = Array::from_texts([Some("b"), None, Some("a"), Some("c")])?;
     let right = Array::dictionary(&[0_u8, 2, 1, 3], entries)?;
     assert_eq!(same(&left, &right)?, "1110");
-    assert_eq!(is_null(&left), Err(Error::NotServed));
+    assert_eq!(digits(&is_null(&left)?), "0010");
+    assert_eq!(digits(&is_null(&right)?), "0010");
     let other = Array::dictionary(&[0_i8, 0, 0, 0], Array::from_texts([Some("a")])?)?;
     assert_eq!(same(&left, &other), Err(Error::TypesDiffer));
     Ok(())

@@ -1,12 +1,14 @@
-//! Equality of arrays of any type.
+//! Arrays of any type: equality and null rows.
 
-ghost use Rattle.std.specs.Prelude.{◌≡◌, ◌≢◌, pos};
+ghost use Rattle.std.specs.Prelude.{◌≡◌, ◌≢◌, length, pos};
 ghost use Rattle.arrow_calls.specs.Statuses.{IsTrueStatus};
 ghost use Rattle.arrow_equality.specs.Equal.{AreEqualIn, IsCountIn};
-ghost use Rattle.dunkelva_c.specs.Trees.{IsTrueTreeFault};
+ghost use Rattle.arrow_equality.specs.Nulls.{AreNullIn};
+ghost use Rattle.dunkelva_c.specs.Trees.{IsTrueNullRowsFault, IsTrueTreeFault};
 
 use arrow_calls::fault::{Fault, status};
 use arrow_equality::equal::equal_rows;
+use arrow_equality::nulls::null_rows;
 use arrow_parts::part::Part;
 use std::alloc::Global;
 
@@ -40,6 +42,31 @@ pub extern "C" fn dunkelva_parts_equal(
         (IsTrueTreeFault left.now right.now out.old comparisons.old) result }
 {
     match equal_rows(alloc, left, right, out, comparisons) {
+        Ok(()) => 0,
+        Err(refused) => status(Fault::from(refused)),
+    }
+}
+
+/// Sets bit `i` of `out` if row `i` of an array is null, and all bits past the last row to 0.
+/// `count` becomes the number of null rows. A row of a dictionary is null if its key is null, or
+/// the entry that the key names.
+///
+/// The status is 0, or else nothing is written: it is 1 if the array cannot be made of its parts, 3
+/// if `out` has fewer bits than rows, and 4 if an allocation fails.
+#[tactic(auto, using(crate::proofs::TreeFaults::nulls))]
+#[unsafe(no_mangle)]
+pub extern "C" fn dunkelva_parts_are_null(
+    alloc: Global,
+    parts: &[Part<'_>],
+    out: &mut [u64],
+    count: &mut u64,
+) -> i32
+    ensures written { result ≡ pos 0 → AreNullIn parts.now out.new count.new }
+    ensures kept { result ≢ pos 0 → out.new ≡ out.old }
+    ensures count_kept { result ≢ pos 0 → count.new ≡ count.old }
+    ensures refused { IsTrueStatus (IsTrueNullRowsFault (length out.old) parts.now) result }
+{
+    match null_rows(alloc, parts, out, count) {
         Ok(()) => 0,
         Err(refused) => status(Fault::from(refused)),
     }
