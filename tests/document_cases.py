@@ -462,8 +462,6 @@ TROUBLES = (
     (["--missing-is-null", "table.csv", "table.csv"], "--missing-is-null is for JSON documents alone"),
     (["--skip-bad", "table.csv", "table.csv"], "--skip-bad is for JSON documents alone"),
     (["--missing-is-null", "--input", "csv", "good.ndjson", "good.ndjson"], "--missing-is-null is for JSON"),
-    *(([option, "id=1", "table.csv", "table.csv"], f"{option} is for JSON documents alone")
-      for option in ("--tolerance", "--relative-tolerance")),
     *(([option, f"id{word}", "good.ndjson", "good.ndjson"], f"{option}{said}") for word, said in (
         ("", " takes a path and a bound such as"), ("0.1", " takes a path and a bound such as"),
         ("=", ': the bound "" is not a number'), ("=x", ': the bound "x" is not a number'),

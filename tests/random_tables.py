@@ -102,6 +102,9 @@ NO_NUMBERS = (
     "1e+",
     "00",
 )
+# bounds of numbers that lie apart, and of those that lie apart by a part of the larger one
+BOUNDS = ("0", "0.25", "0.2499", "1", "11", "1e16", "0.24e0")
+PARTS = ("0", "0.2", "0.1999", "1", "0.999999999999999999", "2")
 FILES = ("left.csv", "right.csv", "le ft.csv", "a=b.csv", "Å.csv")
 
 # `left` and `right` are Tables, `options` a dict, the others the bytes of the files
@@ -211,7 +214,19 @@ def made_options(names, keys, chance):
     if options["numbers"] and chance.random() < 0.4:
         given = [*names, *["none"] * (chance.random() < 0.1)]
         options["texts"] = chance.sample(given, chance.randrange(1, len(given) + 1))
+    if others and chance.random() < 0.3:
+        options["tolerances"] = made_tolerances(others, chance)
     return options
+
+
+def made_tolerances(names, chance):
+    """Makes tolerances for some of these columns: names with their bounds, and whether these are
+    parts of the larger number."""
+    made = []
+    for _ in range(chance.randrange(1, 4)):
+        relative = chance.random() < 0.5
+        made.append((chance.choice(names), chance.choice(PARTS if relative else BOUNDS), relative))
+    return made
 
 
 def made_pair(chance):
@@ -265,6 +280,8 @@ def arguments(options):
     ):
         for value in options.get(name, []):
             words += [word_of, value]
+    for name, bound, relative in options.get("tolerances", []):
+        words += ["--relative-tolerance" if relative else "--tolerance", f"{name}={bound}"]
     for name in ("null", "limit"):
         if options[name] is not None:
             words += [f"--{name}", str(options[name])]

@@ -38,6 +38,24 @@ def is_wide(cell):
     return bool(found and found[2]) and len(found[2].lstrip("+-").lstrip("0")) > MOST_DIGITS
 
 
+def is_close(left, right, bound, relative):
+    """Returns whether two cells are numbers that lie at most a bound apart, or at most that part of
+    the larger one."""
+    if any(not NUMBER.fullmatch(cell) or is_wide(cell) for cell in (left, right)):
+        return False
+    with decimal.localcontext(prec=1000, traps=[decimal.Inexact]):
+        left, right, most = map(decimal.Decimal, (left, right, bound))
+        return abs(left - right) <= (most * max(abs(left), abs(right)) if relative else most)
+
+
+def is_tolerated(name, left, right, options):
+    """Returns whether a tolerance allows two cells of a column to differ."""
+    return any(
+        column == name and is_close(left, right, bound, relative)
+        for column, bound, relative in options.get("tolerances", [])
+    )
+
+
 def partners(left_keys, right_keys):
     """Returns pairs of rows of one key, the first with the first, and the right rows that have
     none."""
@@ -81,10 +99,13 @@ def comparison_of(pair):
     pairs, added = partners(*[[tuple(row[k] for k in keys) for row in rows] for rows in compared])
     removed = [i for i, j in pairs if j is None]
     matched = [(i, j) for i, j in pairs if j is not None]
-    changed = [
-        (i, j, [c for c in range(len(names)) if compared[0][i][c] != compared[1][j][c]])
-        for i, j in matched
-    ]
+
+    def are_apart(i, j, c):
+        cells = (sides[0][i][c], sides[1][j][c])
+        is_same = compared[0][i][c] == compared[1][j][c]
+        return not is_same and not is_tolerated(names[c], *cells, options)
+
+    changed = [(i, j, [c for c in range(len(names)) if are_apart(i, j, c)]) for i, j in matched]
     changed = [it for it in changed if it[2]]
     same = len(matched) - len(changed)
     return Comparison(

@@ -30,7 +30,7 @@ commas = record { delimiter = 44; has_header = true }
 
 -- the options of dunkelva diff old.csv new.csv --key id
 abbrev pub options : Options
-options = record { choice = by_id; csv = commas; numbers = None; part = None; null = None; limit = 20; common = false; unique = false; format = Text; colored = false }
+options = record { choice = by_id; csv = commas; numbers = None; tolerances = None; part = None; null = None; limit = 20; common = false; unique = false; format = Text; colored = false }
 
 abbrev old_text : List ℕ
 old_text = codes "id,city,amount\n1,Oslo,12.50\n2,Bergen,3\n3,Molde,1\n"

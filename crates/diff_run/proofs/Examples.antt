@@ -64,12 +64,12 @@ abbrev lent : {A : Type 0} → A → Bor A
 lent x = record { ref_ptr = (0, 0); now = x }
 
 -- where numbers count in all columns but id, they are compared by what they are worth
-by-worth : rows_by (Some (lent (lent (codes "id") ∷ []))) (codes "id" ∷ codes "n" ∷ []) ((codes "7.0" ∷ codes "1.50" ∷ []) ∷ [])
+by-worth : rows_by None (Some (lent (lent (codes "id") ∷ []))) (codes "id" ∷ codes "n" ∷ []) ((codes "7.0" ∷ codes "1.50" ∷ []) ∷ [])
     ≡ (codes "7.0" ∷ comparable true (codes "1.50") ∷ []) ∷ []
 by-worth = refl
 
 -- where they do not count, rows are compared by themselves
-by-themselves : rows_by None (codes "id" ∷ codes "n" ∷ []) ((codes "7.0" ∷ codes "1.50" ∷ []) ∷ []) ≡ (codes "7.0" ∷ codes "1.50" ∷ []) ∷ []
+by-themselves : rows_by None None (codes "id" ∷ codes "n" ∷ []) ((codes "7.0" ∷ codes "1.50" ∷ []) ∷ []) ≡ (codes "7.0" ∷ codes "1.50" ∷ []) ∷ []
 by-themselves = refl
 
 -- no column of day, n is named id

@@ -1,3 +1,5 @@
+pub mod ChosenLemmas
+pub mod ComparableLemmas
 pub mod ExampleColumns
 pub mod ExampleLines
 pub mod ExampleReport

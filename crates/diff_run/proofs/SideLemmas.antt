@@ -16,11 +16,10 @@ use Rattle.diff_csv.specs.Records.{AreRecordsOf}
 use Rattle.diff_csv.specs.Records as csv
 use Rattle.diff_csv.specs.Tables.{HasShape}
 use Rattle.diff_csv.specs.declared.source.CsvTable.{CsvTable}
-use Rattle.diff_numbers.specs.Columns.{number_columns}
 use Rattle.diff_report.specs.Sides.{AreAsLarge, AreSides, compared_left, compared_right}
 use Rattle.diff_report.specs.declared.sides.Comparables.{Comparables}
 use Rattle.diff_report.specs.declared.sides.Sides.{Sides}
-use Rattle.diff_run.specs.Comparables.{AreComparables, HasNamedColumns, HasWideNumber, IsComparedFault, table_on}
+use Rattle.diff_run.specs.Comparables.{AreComparables, HasNamedColumns, HasWideNumber, IsComparedFault, counted, table_on}
 use Rattle.diff_run.specs.Faults.{IsRowsFault, IsRunFault, IsSideFault, rows_on}
 use Rattle.diff_run.specs.Heads.{AreChosen, AreHeadsOf, IsFrameOf, IsHeadsFault, fault_of}
 use Rattle.diff_run.specs.Inputs.{AreBothOf}
@@ -50,6 +49,16 @@ made_of options f b by = record {
 pub length_names : (columns : List ℕ) (names : Names) → length (cells_at columns names) ≡ length columns
 length_names columns names = length-map columns (λ c. get_or names c [])
 
+-- the keys are among the columns
+pub keys_named : (options : Options) (h : Heads) (left right : List ℕ) (f : Frame) → IsLayout (offset_strings (λ x. x) h.left_names) (offset_strings (λ x. x) h.right_names) options.choice h.layout → IsFrameOf options h left right f
+    → All (λ column. column < length (offset_strings (λ x. x) f.names)) f.keys.items
+keys_named options h left right f laid frame =
+    subst (λ ks. All (λ column. column < length (offset_strings (λ x. x) f.names)) ks) (sym frame.keys)
+    (subst (λ n. All (λ column. column < n) h.layout.keys.items) (sym count) (keys_within (offset_strings (λ x. x) h.left_names) (offset_strings (λ x. x) h.right_names) options.choice h.layout laid))
+  where
+    count : length (offset_strings (λ x. x) f.names) ≡ length h.layout.left.items
+    count = ap length frame.column_names ∙ length_names h.layout.left.items (offset_strings (λ x. x) h.left_names)
+
 -- sides of matched columns have these columns, and the keys are some of them
 pub sides_fit : (options : Options) (h : Heads) (left right : List ℕ) (f : Frame) (b : Both) (by : Option Comparables)
     → IsLayout (offset_strings (λ x. x) h.left_names) (offset_strings (λ x. x) h.right_names) options.choice h.layout → IsFrameOf options h left right f
@@ -58,8 +67,7 @@ sides_fit options h left right f b by laid frame l r large = record {
   comparables = large;
   left = record { width = l.width ∙ sym count; lines = l.lines; numbers = l.numbers };
   right = record { width = r.width ∙ (sym laid.same_names.one_length ∙ sym count); lines = r.lines; numbers = r.numbers };
-  keys = subst (λ ks. All (λ column. column < length (offset_strings (λ x. x) f.names)) ks) (sym frame.keys)
-      (subst (λ n. All (λ column. column < n) h.layout.keys.items) (sym count) (keys_within (offset_strings (λ x. x) h.left_names) (offset_strings (λ x. x) h.right_names) options.choice h.layout laid));
+  keys = keys_named options h left right f laid frame;
 }
   where
     count : length (offset_strings (λ x. x) f.names) ≡ length h.layout.left.items
@@ -68,7 +76,7 @@ sides_fit options h left right f b by laid frame l r large = record {
 -- the sides of two texts, whose names are those of the columns that were matched
 pub sides_are : (options : Options) (left_text right_text left right : List ℕ) (h : Heads) (f : Frame) (b : Both) (by : Option Comparables) → AreHeadsOf options left_text right_text h
     → IsLayout (offset_strings (λ x. x) h.left_names) (offset_strings (λ x. x) h.right_names) options.choice h.layout → AreChosen options h → IsFrameOf options h left right f
-    → AreBothOf options left_text right_text h.layout b → AreComparables options (offset_strings (λ x. x) f.names) b by
+    → AreBothOf options left_text right_text h.layout b → AreComparables options (offset_strings (λ x. x) f.names) f.keys.items b by
     → AreSidesOf options left_text right_text left right h.layout (made_of options f b by)
 sides_are options left_text right_text left right h f b by heads laid chosen frame both compared =
     let l = both.left in
@@ -103,12 +111,13 @@ pub rows_fault : (options : Options) (left_text right_text left right : List ℕ
     → IsRowsFault options s e → IsRunFault options left_text right_text e
 rows_fault options left_text right_text left right layout s error.Memory sides fault = fault
 rows_fault options left_text right_text left right layout s error.TooManyRows sides fault = record {
-  left_name = left;
-  right_name = right;
+  left_records = sides.left_records;
+  right_records = sides.right_records;
+  left_all = sides.left_all;
+  right_all = sides.right_all;
   layout = layout;
-  sides = s;
-  sides_are = sides;
-  many = fault;
+  laid_out = sides.laid_out;
+  many = rw (sides.left.rows, sides.right.rows) at fault;
 }
 rows_fault options left_text right_text left right layout s (error.KeyTwice side first again) sides fault = record {
   left_name = left;
@@ -168,7 +177,7 @@ rows_read : (options : Options) (left_text right_text : List ℕ) (layout : Layo
 rows_read options left_text right_text layout b both Left = both.left.table.rows
 rows_read options left_text right_text layout b both Right = both.right.table.rows
 
--- a number that can't be compared is one of the two texts
+-- rows that can't be compared are those of the two texts
 pub number_fault : (options : Options) (left_text right_text left right : List ℕ) (h : Heads) (f : Frame) (b : Both) (e : RunError) → AreHeadsOf options left_text right_text h
     → IsLayout (offset_strings (λ x. x) h.left_names) (offset_strings (λ x. x) h.right_names) options.choice h.layout → IsFrameOf options h left right f
     → AreBothOf options left_text right_text h.layout b → IsComparedFault options (offset_strings (λ x. x) f.names) b e → IsRunFault options left_text right_text e
@@ -183,19 +192,28 @@ number_fault options left_text right_text left right h f b (error.WideExponent s
       right_all = both.right.all;
       layout = h.layout;
       laid_out = rw (el, er) at laid;
-      texts = fault.texts;
-      asked = fault.asked;
       names = offset_strings (λ x. x) f.names;
       names_are = rw el at frame.column_names;
-      wide = subst (λ rows. HasWideNumber (number_columns (names_of fault.texts.now) (offset_strings (λ x. x) f.names)) (offset_strings (λ x. x) f.names) rows name.items)
-          (rows_read options left_text right_text h.layout b both side) fault.fault;
+      wide = subst (λ rows. HasWideNumber (counted options.numbers (offset_strings (λ x. x) f.names)) (offset_strings (λ x. x) f.names) rows name.items)
+          (rows_read options left_text right_text h.layout b both side) fault;
     }
-number_fault options left_text right_text left right h f b error.TooManyRows heads laid frame both fault = absurd fault.fault
-number_fault options left_text right_text left right h f b (error.KeyTwice side first again) heads laid frame both fault = absurd fault.fault
-number_fault options left_text right_text left right h f b (error.Csv side cause) heads laid frame both fault = absurd fault.fault
-number_fault options left_text right_text left right h f b (error.Columns cause) heads laid frame both fault = absurd fault.fault
-number_fault options left_text right_text left right h f b (error.Choice cause) heads laid frame both fault = absurd fault.fault
-number_fault options left_text right_text left right h f b (error.Write cause) heads laid frame both fault = absurd fault.fault
+number_fault options left_text right_text left right h f b error.TooManyRows heads laid frame both fault =
+    let el = heads.left_names both.left.records both.left.all in
+    let er = heads.right_names both.right.records both.right.all in
+    record {
+      left_records = both.left.records;
+      right_records = both.right.records;
+      left_all = both.left.all;
+      right_all = both.right.all;
+      layout = h.layout;
+      laid_out = rw (el, er) at laid;
+      many = rw (both.left.table.rows, both.right.table.rows) at fault;
+    }
+number_fault options left_text right_text left right h f b (error.KeyTwice side first again) heads laid frame both fault = absurd fault
+number_fault options left_text right_text left right h f b (error.Csv side cause) heads laid frame both fault = absurd fault
+number_fault options left_text right_text left right h f b (error.Columns cause) heads laid frame both fault = absurd fault
+number_fault options left_text right_text left right h f b (error.Choice cause) heads laid frame both fault = absurd fault
+number_fault options left_text right_text left right h f b (error.Write cause) heads laid frame both fault = absurd fault
 
 -- why the columns of two texts are not matched is why the texts are not compared
 pub columns_fault : (options : Options) (left_text right_text : List ℕ) (left right : Names) (e : ColumnError)

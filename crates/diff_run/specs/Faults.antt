@@ -3,8 +3,7 @@
 -- With the key "id" the texts "id,n", "7,1" and "day,n", "3,8" are not compared, since no column of
 -- the right one is named id; nor are "id,n", "7" and any other, since the second record of the left
 -- one has one field.
-use Rattle.std.specs.Borrow.{Bor}
-use Rattle.std.specs.Prelude.{◌≡◌, ◌≤◌, ◌^◌, ℕ, true, List, Some, length, ⊤}
+use Rattle.std.specs.Prelude.{◌≡◌, ℕ, true, List, ⊤}
 use Rattle.diff_columns.specs.Errors.{IsColumnFault}
 use Rattle.diff_columns.specs.Layout.{IsLayout}
 use Rattle.diff_columns.specs.Names.{Names, names_of}
@@ -16,12 +15,11 @@ use Rattle.diff_csv.specs.Records.{AreRecordsOf, IsReadFault}
 use Rattle.diff_csv.specs.Records as csv
 use Rattle.diff_keys.specs.Unique.{IsFirstTwice}
 use Rattle.diff_keys.specs.declared.unique.Twice.{Twice}
-use Rattle.diff_numbers.specs.Columns.{number_columns}
 use Rattle.diff_parts.specs.Rows.{rows_in}
 use Rattle.diff_report.specs.Sides.{compared_left, compared_right}
 use Rattle.diff_report.specs.declared.sides.Sides.{Sides}
 use Rattle.diff_run.specs.Chosen.{IsNoChoice}
-use Rattle.diff_run.specs.Comparables.{HasWideNumber}
+use Rattle.diff_run.specs.Comparables.{HasWideNumber, HaveFew, counted}
 use Rattle.diff_run.specs.Inputs.{rows_of}
 use Rattle.diff_run.specs.Run.{AreSidesOf}
 use Rattle.diff_run.specs.declared.error.ChoiceError.{ChoiceError}
@@ -55,7 +53,7 @@ IsChoiceFault options left_text right_text cause = (left right : List (List (Lis
 
 -- each row of the two tables has a number below 2^32
 abbrev pub HaveFewRows : Sides → Type 0
-HaveFewRows s = (length s.left.table.rows ≤ 2 ^ 32) × (length s.right.table.rows ≤ 2 ^ 32)
+HaveFewRows s = HaveFew s.left.table.rows s.right.table.rows
 
 -- the rows that those of one of two sides are compared by
 abbrev pub compared_on : Side → Sides → List (List (List ℕ))
@@ -90,15 +88,6 @@ IsRowsFault options s (error.Columns cause) = ⊥
 IsRowsFault options s (error.Choice cause) = ⊥
 IsRowsFault options s (error.Write cause) = ⊥
 
--- a table of the two texts has more than 2^32 rows
-pub record HasTooManyRows (options : Options) (left_text right_text : List ℕ) : Type 0 where
-  pub left_name : List ℕ
-  pub right_name : List ℕ
-  pub layout : Layout
-  pub sides : Sides
-  pub sides_are : AreSidesOf options left_text right_text left_name right_name layout sides
-  pub many : ¬ (HaveFewRows sides)
-
 -- two rows of the table of one text have one key, and keys have to be unique
 pub record IsKeyFault (options : Options) (left_text right_text : List ℕ) (side : Side) :
     Type 0 where
@@ -119,6 +108,19 @@ rows_on Left options layout left right =
 rows_on Right options layout left right =
     rows_in options.part layout.keys.items (rows_of options.csv.has_header right layout.right.items)
 
+-- a table of the two texts has more than 2^32 rows
+pub record HasTooManyRows (options : Options) (left_text right_text : List ℕ) : Type 0 where
+  pub left_records : List (List (List ℕ))
+  pub right_records : List (List (List ℕ))
+  pub left_all : AreRecordsOf options.csv left_text left_records
+  pub right_all : AreRecordsOf options.csv right_text right_records
+  pub layout : Layout
+  pub laid_out :
+      IsLayout (csv.names_of options.csv.has_header left_records)
+      (csv.names_of options.csv.has_header right_records) options.choice layout
+  pub many : ¬ (HaveFew (rows_on Left options layout left_records right_records)
+      (rows_on Right options layout left_records right_records))
+
 -- on this side a number in the column of this name counts, and its exponent is wide
 pub record IsWideFault (options : Options) (left_text right_text : List ℕ) (side : Side)
     (name : List ℕ) : Type 0 where
@@ -130,12 +132,10 @@ pub record IsWideFault (options : Options) (left_text right_text : List ℕ) (si
   pub laid_out :
       IsLayout (csv.names_of options.csv.has_header left_records)
       (csv.names_of options.csv.has_header right_records) options.choice layout
-  pub texts : Bor (List (Bor (List ℕ)))
-  pub asked : options.numbers ≡ Some texts
   pub names : Names
   pub names_are : names
       ≡ cells_at layout.left.items (csv.names_of options.csv.has_header left_records)
-  pub wide : HasWideNumber (number_columns (names_of texts.now) names) names
+  pub wide : HasWideNumber (counted options.numbers names) names
       (rows_on side options layout left_records right_records) name
 
 -- why two texts are not compared: one can't be read, the columns can't be matched, the options

@@ -22,7 +22,7 @@ use Rattle.diff_report.specs.Report.{report_text}
 use Rattle.diff_report.specs.Sides.{compared_left, compared_right}
 use Rattle.diff_report.specs.declared.sides.Sides.{Sides}
 use Rattle.diff_run.specs.Chosen.{AreKnown, no_columns, nothing_left}
-use Rattle.diff_run.specs.Comparables.{rows_by}
+use Rattle.diff_run.specs.Comparables.{AreRightRows, rows_by}
 use Rattle.diff_run.specs.Inputs.{IsSideWith}
 use Rattle.diff_run.specs.Lone.{alone_lines}
 use Rattle.diff_words.specs.declared.formats.Format.{Format}
@@ -84,9 +84,15 @@ pub record AreSidesOf (options : Options) (left_text right_text left_name right_
   pub right : IsSideWith options.csv.has_header right_records layout.right.items layout.keys.items
       options.part right_name sides.right
   pub left_compared : compared_left sides
-      ≡ rows_by options.numbers (offset_strings (λ x. x) sides.names) sides.left.table.rows
-  pub right_compared : compared_right sides
-      ≡ rows_by options.numbers (offset_strings (λ x. x) sides.names) sides.right.table.rows
+      ≡ rows_by options.tolerances options.numbers (offset_strings (λ x. x) sides.names)
+      sides.left.table.rows
+  pub right_compared :
+      AreRightRows options.tolerances (offset_strings (λ x. x) sides.names) sides.keys.items
+      (rows_by options.tolerances options.numbers (offset_strings (λ x. x) sides.names)
+      sides.left.table.rows)
+      (rows_by options.tolerances options.numbers (offset_strings (λ x. x) sides.names)
+      sides.right.table.rows)
+      (compared_right sides)
   pub column_names : offset_strings (λ x. x) sides.names
       ≡ cells_at layout.left.items (csv.names_of options.csv.has_header left_records)
   pub keys : sides.keys.items ≡ layout.keys.items

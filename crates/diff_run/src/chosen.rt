@@ -1,9 +1,10 @@
 //! What the options choose of the columns of two inputs.
 
-ghost use Rattle.std.specs.Prelude.{◌≡◌, All, MatchOption, MatchResult};
+ghost use Rattle.std.specs.Prelude.{◌≡◌, ◌↔◌, All, IsTrue, MatchOption, MatchResult};
 ghost use Rattle.polars_arrays_bytes.specs.OffsetStrings.{offset_strings};
 ghost use Rattle.diff_columns.specs.Names.{IsKnown, IsUnknown};
-ghost use Rattle.diff_run.specs.Chosen.{AreKnown, IsUnknownName, names_given, nothing_left};
+ghost use Rattle.diff_run.specs.Chosen.{AreKnown, IsUnknownName, columns_given, columns_of};
+ghost use Rattle.diff_run.specs.Chosen.{names_given, nothing_left};
 ghost use Rattle.diff_run.specs.Heads.{AreChosen, IsHeadsFault};
 
 use crate::error::{ChoiceError, NameList, RunError};
@@ -11,6 +12,7 @@ use crate::heads::Heads;
 use crate::options::Options;
 use diff_columns::known::name_unknown;
 use diff_columns::layout::Layout;
+use diff_tolerances::cells::Tolerance;
 use polars_arrays_bytes::binary::BinaryArray;
 use polars_arrays_flat::byte_rows::ByteRows;
 
@@ -28,6 +30,52 @@ fn unknown_among(
 {
     match names {
         Some(names) => name_unknown(left, right, names),
+        None => None,
+    }
+}
+
+/// Returns whether a column of one of the inputs has this name.
+fn is_known(left: &BinaryArray<i64>, right: &BinaryArray<i64>, name: &[u8]) -> bool
+    ensures { IsTrue result
+        ↔ IsKnown (offset_strings (λ x. x) left.now) (offset_strings (λ x. x) right.now) name.now }
+{
+    name_unknown(left, right, &[name]).is_none()
+}
+
+/// Returns the place of the first of some tolerances whose column neither input has, or `None`.
+fn first_unknown(
+    left: &BinaryArray<i64>,
+    right: &BinaryArray<i64>,
+    tolerances: &[Tolerance<'_>],
+) -> Option<usize>
+    ensures { MatchOption result
+        (All (IsKnown (offset_strings (λ x. x) left.now) (offset_strings (λ x. x) right.now))
+        (columns_of tolerances.now))
+        (IsUnknown (offset_strings (λ x. x) left.now) (offset_strings (λ x. x) right.now)
+        (columns_of tolerances.now)) }
+{
+    for k in 0..tolerances.len() {
+        if !is_known(left, right, tolerances[k].column) {
+            return Some(k);
+        }
+    }
+    None
+}
+
+/// Returns the place of the first of the tolerances whose column neither input has, or `None`.
+fn unknown_tolerance(
+    left: &BinaryArray<i64>,
+    right: &BinaryArray<i64>,
+    tolerances: Option<&[Tolerance<'_>]>,
+) -> Option<usize>
+    ensures { MatchOption result
+        (All (IsKnown (offset_strings (λ x. x) left.now) (offset_strings (λ x. x) right.now))
+        (columns_given tolerances.entry))
+        (IsUnknown (offset_strings (λ x. x) left.now) (offset_strings (λ x. x) right.now)
+        (columns_given tolerances.entry)) }
+{
+    match tolerances {
+        Some(tolerances) => first_unknown(left, right, tolerances),
         None => None,
     }
 }
@@ -55,6 +103,10 @@ fn unknown_name(
     }
     let list = NameList::Texts;
     if let Some(name) = unknown_among(left, right, options.numbers) {
+        return Some(ChoiceError::NoColumn { list, name });
+    }
+    let list = NameList::Tolerances;
+    if let Some(name) = unknown_tolerance(left, right, options.tolerances) {
         return Some(ChoiceError::NoColumn { list, name });
     }
     None

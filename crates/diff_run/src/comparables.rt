@@ -1,12 +1,11 @@
 //! The tables that the rows of two inputs are compared by.
 
-ghost use Rattle.std.specs.Prelude.{◌≡◌, ◌<◌, length, MatchResult};
-ghost use Rattle.diff_columns.specs.Names.{names_of};
-ghost use Rattle.diff_numbers.specs.Columns.{number_columns};
+ghost use Rattle.std.specs.Prelude.{◌≡◌, ◌<◌, All, length, IfOk, MatchResult};
 ghost use Rattle.diff_numbers.specs.Rows.{IsComparableTable};
-ghost use Rattle.diff_run.specs.Comparables.{AreBothBy, AreComparables, HasNamedColumns};
-ghost use Rattle.diff_run.specs.Comparables.{IsComparedFault, IsNumberFault, IsTableFault};
-ghost use Rattle.diff_run.specs.Comparables.{NamesWideNumber};
+ghost use Rattle.diff_run.specs.Comparables.{AreBothBy, AreComparables, AreExact, AreTolerant};
+ghost use Rattle.diff_run.specs.Comparables.{HasNamedColumns, IsComparedFault, IsNumberFault};
+ghost use Rattle.diff_run.specs.Comparables.{IsTableFault, IsToleranceFault, NamesWideNumber};
+ghost use Rattle.diff_run.specs.Comparables.{counted};
 ghost use Rattle.polars_arrays_bytes.specs.OffsetStrings.{offset_strings};
 
 use crate::error::RunError;
@@ -14,14 +13,17 @@ use crate::inputs::Both;
 use crate::options::Options;
 use diff_columns::error::Side;
 use diff_csv::source::CsvTable;
+use diff_keys::error::MatchError;
 use diff_numbers::columns::number_columns;
 use diff_numbers::error::ComparableError;
 use diff_numbers::table::comparable_table;
 use diff_report::sides::Comparables;
 use diff_tables::table::Table;
+use diff_tolerances::cells::Tolerance;
+use diff_tolerances::table::tolerant_table;
 use polars_arrays_bytes::binary::BinaryArray;
 use polars_arrays_flat::byte_rows::ByteRows;
-use std::alloc::Global;
+use std::alloc::{AllocError, Global};
 
 /// Returns the error of a number whose exponent is too wide, in this column. `line` is where its
 /// row begins.
@@ -63,31 +65,79 @@ fn table_by(
     }
 }
 
-/// Returns the tables that the rows of both inputs are compared by. Numbers count in all columns
-/// except those that are compared as texts.
+/// Returns for each column whether its numbers count.
+fn counted(
+    alloc: Global,
+    names: &BinaryArray<i64>,
+    options: &Options<'_>,
+) -> Result<Vec<bool>, AllocError>
+    ensures columns { IfOk result
+        (λ numeric. numeric.items
+        ≡ counted options.now.numbers (offset_strings (λ x. x) names.now)) }
+    ensures one_each { IfOk result
+        (λ numeric. length numeric.items ≡ length (offset_strings (λ x. x) names.now)) }
+{
+    match options.numbers {
+        Some(texts) => {
+            let numeric = number_columns(alloc, names, texts)?;
+            Ok(numeric)
+        }
+        None => {
+            let numeric = vec![in alloc; false; names.count()]?;
+            Ok(numeric)
+        }
+    }
+}
+
+/// Returns the tables that the rows of both inputs are compared by before tolerances, if they are
+/// not compared as they are.
 fn tables_by(
     alloc: Global,
     names: &BinaryArray<i64>,
-    texts: &[&[u8]],
     both: &Both,
+    options: &Options<'_>,
 ) -> Result<Comparables, RunError>
     requires left { HasNamedColumns (offset_strings (λ x. x) names.now) both.now.left }
     requires right { HasNamedColumns (offset_strings (λ x. x) names.now) both.now.right }
     ensures { MatchResult result
-        (AreBothBy (number_columns (names_of texts.now) (offset_strings (λ x. x) names.now))
-        both.now)
-        (IsNumberFault (number_columns (names_of texts.now) (offset_strings (λ x. x) names.now))
+        (AreBothBy (counted options.now.numbers (offset_strings (λ x. x) names.now)) both.now)
+        (IsNumberFault (counted options.now.numbers (offset_strings (λ x. x) names.now))
         (offset_strings (λ x. x) names.now) both.now) }
 {
-    let numeric = number_columns(alloc, names, texts)?;
+    let numeric = counted(alloc, names, options)?;
     let left = table_by(alloc, names, &numeric, &both.left, Side::Left)?;
     let right = table_by(alloc, names, &numeric, &both.right, Side::Right)?;
     Ok(Comparables { left, right })
 }
 
-/// Returns the tables that the rows of both inputs are compared by, if they are not compared as
-/// they are.
-pub(crate) fn compared_by(
+/// Returns these tables, where cells of the right one that the tolerances allow to differ from
+/// those of their partners are replaced by these.
+fn with_tolerances(
+    alloc: Global,
+    names: &BinaryArray<i64>,
+    keys: &[usize],
+    tables: Comparables,
+    tolerances: &[Tolerance<'_>],
+) -> Result<Comparables, RunError>
+    requires left { tables.left.width ≡ length (offset_strings (λ x. x) names.now) }
+    requires right { tables.right.width ≡ length (offset_strings (λ x. x) names.now) }
+    requires keys { All (λ c. c < length (offset_strings (λ x. x) names.now)) keys.now }
+    ensures { MatchResult result
+        (AreTolerant tolerances.now (offset_strings (λ x. x) names.now) keys.now tables)
+        (IsToleranceFault tables) }
+{
+    let Comparables { left, right } = tables;
+    match tolerant_table(alloc, tolerances, names, keys, &left, &right) {
+        Ok(right) => Ok(Comparables { left, right }),
+        Err(MatchError::Memory) => Err(RunError::Memory),
+        Err(MatchError::TooManyRows) => Err(RunError::TooManyRows),
+    }
+}
+
+/// Returns the tables that the rows of both inputs are compared by without tolerances, if they are
+/// not compared as they are.
+#[tactic(auto, using(crate::proofs::ComparableLemmas::exact_none, crate::proofs::ComparableLemmas::exact_tables, crate::proofs::ComparableLemmas::number_told,))]
+fn compared_exactly(
     alloc: Global,
     names: &BinaryArray<i64>,
     both: &Both,
@@ -96,12 +146,41 @@ pub(crate) fn compared_by(
     requires left { HasNamedColumns (offset_strings (λ x. x) names.now) both.now.left }
     requires right { HasNamedColumns (offset_strings (λ x. x) names.now) both.now.right }
     ensures { MatchResult result
-        (AreComparables options.now (offset_strings (λ x. x) names.now) both.now)
+        (AreExact options.now.numbers (offset_strings (λ x. x) names.now) both.now)
         (IsComparedFault options.now (offset_strings (λ x. x) names.now) both.now) }
 {
-    let Some(texts) = options.numbers else {
-        return Ok(None);
-    };
-    let tables = tables_by(alloc, names, texts, both)?;
-    Ok(Some(tables))
+    match options.numbers {
+        None => Ok(None),
+        Some(_) => {
+            let tables = tables_by(alloc, names, both, options)?;
+            Ok(Some(tables))
+        }
+    }
+}
+
+/// Returns the tables that the rows of both inputs are compared by, if they are not compared as
+/// they are.
+#[tactic(auto, using(crate::proofs::ComparableLemmas::exact, crate::proofs::ComparableLemmas::tolerant, crate::proofs::ComparableLemmas::tolerance_fault, crate::proofs::ComparableLemmas::number_told,))]
+pub(crate) fn compared_by(
+    alloc: Global,
+    names: &BinaryArray<i64>,
+    keys: &[usize],
+    both: &Both,
+    options: &Options<'_>,
+) -> Result<Option<Comparables>, RunError>
+    requires keys { All (λ c. c < length (offset_strings (λ x. x) names.now)) keys.now }
+    requires left { HasNamedColumns (offset_strings (λ x. x) names.now) both.now.left }
+    requires right { HasNamedColumns (offset_strings (λ x. x) names.now) both.now.right }
+    ensures { MatchResult result
+        (AreComparables options.now (offset_strings (λ x. x) names.now) keys.now both.now)
+        (IsComparedFault options.now (offset_strings (λ x. x) names.now) both.now) }
+{
+    match options.tolerances {
+        None => compared_exactly(alloc, names, both, options),
+        Some(tolerances) => {
+            let tables = tables_by(alloc, names, both, options)?;
+            let near = with_tolerances(alloc, names, keys, tables, tolerances)?;
+            Ok(Some(near))
+        }
+    }
 }

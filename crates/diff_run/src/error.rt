@@ -20,6 +20,8 @@ pub enum NameList {
     Ignored,
     /// The columns to compare as texts.
     Texts,
+    /// The columns that have a tolerance.
+    Tolerances,
 }
 
 impl fmt::Display for NameList {
@@ -30,6 +32,7 @@ impl fmt::Display for NameList {
             NameList::Only => f.write_str("columns to compare"),
             NameList::Ignored => f.write_str("columns to ignore"),
             NameList::Texts => f.write_str("columns to compare as texts"),
+            NameList::Tolerances => f.write_str("columns with a tolerance"),
         }
     }
 }

@@ -3,6 +3,7 @@
 use diff_columns::choice::Choice;
 use diff_csv::options::CsvOptions;
 use diff_parts::part::Part;
+use diff_tolerances::cells::Tolerance;
 pub use diff_words::formats::Format;
 
 /// The options of a comparison and of its report.
@@ -15,6 +16,9 @@ pub struct Options<'a> {
     /// The columns that are compared as texts. In all other columns numbers are compared by their
     /// values. With `None` all cells are compared as texts.
     pub numbers: Option<&'a [&'a [u8]]>,
+    /// The tolerances for numbers. Two cells of partners do not differ where one of the tolerances
+    /// allows them to. With `None` there are no tolerances.
+    pub tolerances: Option<&'a [Tolerance<'a>]>,
     /// The part of the rows that is read and compared. The cells in the key columns, as they are
     /// written, decide which part a row is in. With `None` all rows are read. The parts make the
     /// whole if keys are compared as texts.

@@ -105,7 +105,7 @@ pub(crate) fn sides_of<L: Read + Drop, R: Read + Drop>(
 {
     let frame = frame_of(alloc, heads, files, options)?;
     let both = read_both(alloc, left, right, &heads.layout, options)?;
-    let comparables = compared_by(alloc, &frame.names, &both, options)?;
+    let comparables = compared_by(alloc, &frame.names, &frame.keys, &both, options)?;
     Ok(Sides {
         left: Side {
             name: frame.left,

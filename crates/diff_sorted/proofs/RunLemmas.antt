@@ -65,8 +65,8 @@ is_table options text columns keys rows m few whole h = record {
   };
 }
 
-compared_alone : (options : Options) (names : Names) (left right : CsvTable) → options.numbers ≡ None → AreComparables options names (record { left = left; right = right }) None
-compared_alone options names left right none = record { left = rw none refl; right = rw none refl; large = tt }
+compared_alone : (options : Options) (names : Names) (keys : List ℕ) (left right : CsvTable) → options.numbers ≡ None → options.tolerances ≡ None → AreComparables options names keys (record { left = left; right = right }) None
+compared_alone options names keys left right none exact = record { left = rw (none, exact) refl; right = rw (none, exact) refl; large = tt }
 
 module _ (options : Options) (left_text right_text left_name right_name : List ℕ) (h : Heads) (f : Frame) (r : SortedReport)
     (laid : IsLayout (offset_strings (λ x. x) h.left_names) (offset_strings (λ x. x) h.right_names) options.choice h.layout)
@@ -89,7 +89,7 @@ module _ (options : Options) (left_text right_text left_name right_name : List �
 
   sides : AreSidesOf options left_text right_text left_name right_name h.layout tables
   sides = sides_are options left_text right_text left_name right_name h f (record { left = left_table; right = right_table }) None heads laid chosen frame both_are
-      (compared_alone options (offset_strings (λ x. x) f.names) left_table right_table can.numbers)
+      (compared_alone options (offset_strings (λ x. x) f.names) f.keys.items left_table right_table can.numbers can.tolerances)
 
   few : length t.told.changed < 2 ^ 63
   few = let same = t.told.same in let small = t.matching.left_rows.small in omega (arith, same, small)

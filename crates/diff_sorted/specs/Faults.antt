@@ -39,10 +39,11 @@ fault_of (merge.KeyTwice side first again) = error.KeyTwice side first again
 abbrev pub IsFaultOf : MergeError → SortedError → Type 0
 IsFaultOf m e = e ≡ fault_of m
 
--- sorted inputs are compared by a key, as texts, and whole
+-- sorted inputs are compared by a key, as texts, exactly, and whole
 pub record CanBeSorted (options : Options) : Type 0 where
   pub keys : 0 < length options.choice.keys.now
   pub numbers : options.numbers ≡ None
+  pub tolerances : options.tolerances ≡ None
   pub part : options.part ≡ None
 
 -- the columns that are compared, on a side

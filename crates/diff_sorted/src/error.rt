@@ -11,8 +11,8 @@ use thiserror::Error;
 /// The reason why two sorted inputs are not compared. Nothing was written, unless a write failed.
 #[derive(Debug, Drop, Error)]
 pub enum SortedError {
-    /// There is no key, or numbers or a part are asked for.
-    #[error("sorted inputs are compared by a key, as texts, and whole")]
+    /// There is no key, or numbers, tolerances or a part are asked for.
+    #[error("sorted inputs are compared by a key, as texts, exactly, and whole")]
     Refused,
     /// A row has a key that is less than that of the row before it. `line` is where it begins.
     #[error("the row at line {line} has a lesser key than the row before it")]

@@ -46,6 +46,10 @@ fn test_options(options: &Options<'_>) -> Result<(), SortedError>
     if has_numbers {
         return Err(SortedError::Refused);
     }
+    let has_tolerances = options.tolerances.is_some();
+    if has_tolerances {
+        return Err(SortedError::Refused);
+    }
     let has_part = options.part.is_some();
     if has_part {
         return Err(SortedError::Refused);
@@ -203,8 +207,8 @@ fn report_on<L: Read + Drop, R: Read + Drop>(
 
 /// Compares two inputs whose rows are sorted by key, byte by byte, and writes the report that `run`
 /// of `diff_run` writes. A few rows of each input are in memory, and the lines of the report. Fails
-/// with `Refused` only where there is no key, or numbers or a part are asked for, and with `Falls`
-/// only where a row has a lesser key than the row before it. Then nothing is written.
+/// with `Refused` only where there is no key, or numbers, tolerances or a part are asked for, and
+/// with `Falls` only where a row has a lesser key than the row before it. Then nothing is written.
 pub fn run_sorted<L: Read + Drop, R: Read + Drop, W: Write>(
     alloc: Global,
     left: Input<'_, L>,

@@ -15,8 +15,7 @@ others are CSV; files named .json need --input. For JSON, --key takes paths such
 as order.id or items[0].sku. --only, --ignore and the two tolerances take paths
 in which [] is every item, as items[].price. --common, --numbers, --text,
 --null, --delimiter, --no-header and --sorted are for CSV alone;
---missing-is-null, --no-key-is-null, --skip-bad and the two tolerances are for
-JSON alone.
+--missing-is-null, --no-key-is-null and --skip-bad are for JSON alone.
 
 The status is 0 where the files are the same, 1 where they differ, and 2 where
 they can't be compared.";

@@ -17,6 +17,7 @@ mod progress;
 mod rules;
 mod schema;
 mod tasks;
+mod tolerances;
 mod trouble;
 mod words;
 
@@ -30,6 +31,7 @@ use crate::parts::{part_of, part_of_rows, refuse_unsorted};
 use crate::rules::rules_of;
 use crate::schema::{compare_schemas, show_schema};
 use crate::tasks::{Target, Task, compare_named};
+use crate::tolerances::tolerances_of;
 use crate::words::{Names, csv_options, format_of, is_colored, limit_of, target_of};
 use anyhow::{Result, anyhow};
 use clap::ArgMatches;
@@ -53,6 +55,7 @@ fn diff_tables(
 ) -> Result<u8> {
     refuse_document_options(matches)?;
     let names = Names::of(rt.alloc(), matches)?;
+    let tolerances = tolerances_of(rt.alloc(), matches, &names.keys)?;
     let choice = Choice {
         keys: &names.keys,
         only: matches.contains_id("only").then_some(names.only.as_slice()),
@@ -64,6 +67,7 @@ fn diff_tables(
         numbers: matches
             .get_flag("numbers")
             .then_some(names.texts.as_slice()),
+        tolerances: (!tolerances.is_empty()).then_some(tolerances.as_slice()),
         part: part_of_rows(matches, &names)?,
         null: matches.get_str("null").map(|word| word.as_bytes()),
         limit: limit_of(matches),

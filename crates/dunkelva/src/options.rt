@@ -114,17 +114,15 @@ static OPTIONS: [CliOption; 27] = [
     CliOption {
         id: "tolerance",
         takes: Takes::Texts,
-        value: "PATH=BOUND",
-        goes_with: GoesWith::Documents,
-        help: "In JSON numbers at PATH may lie up to BOUND apart",
+        value: "COLUMN=BOUND",
+        help: "Numbers in COLUMN, or at a path, may lie up to BOUND apart",
         ..SWITCH
     },
     CliOption {
         id: "relative-tolerance",
         takes: Takes::Texts,
-        value: "PATH=BOUND",
-        goes_with: GoesWith::Documents,
-        help: "In JSON numbers at PATH may lie up to BOUND times the larger one apart",
+        value: "COLUMN=BOUND",
+        help: "Numbers in COLUMN, or at a path, may lie up to BOUND times the larger one apart",
         ..SWITCH
     },
     CliOption {

@@ -35,8 +35,10 @@ pub(crate) fn refuse_unsorted(matches: &ArgMatches<'_>) -> Result<()> {
     if matches.get_flag("numbers") {
         return Err(anyhow!("--sorted does not go with --numbers"));
     }
-    if matches.contains_id("partition") {
-        return Err(anyhow!("--sorted does not go with --partition"));
+    for option in ["partition", "tolerance", "relative-tolerance"] {
+        if matches.contains_id(option) {
+            return Err(anyhow!("--sorted does not go with --{option}"));
+        }
     }
     Ok(())
 }

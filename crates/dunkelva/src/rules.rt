@@ -12,10 +12,10 @@ use json_tolerances::closeness::Margin;
 use std::alloc::Global;
 
 /// The option whose bounds are numbers.
-const ABSOLUTE: &str = "tolerance";
+pub(crate) const ABSOLUTE: &str = "tolerance";
 
 /// The option whose bounds are parts of the larger number.
-const RELATIVE: &str = "relative-tolerance";
+pub(crate) const RELATIVE: &str = "relative-tolerance";
 
 /// Returns the error for a word that is not a path. The example is a path that the option takes.
 pub(crate) fn no_path(error: PathError, option: &str, example: &str, word: &str) -> Error {
@@ -50,7 +50,7 @@ fn push_patterns(
 }
 
 /// Returns the margin that a word of an option writes.
-fn margin_of(option: &str, word: &str) -> Result<Margin> {
+pub(crate) fn margin_of(option: &str, word: &str) -> Result<Margin> {
     match Bound::read(word) {
         Ok(bound) if option == RELATIVE => Ok(Margin::Relative(bound)),
         Ok(bound) => Ok(Margin::Absolute(bound)),

@@ -1,6 +1,7 @@
 //! Errors for files that can't be compared.
 
 use crate::names::columns_of;
+use crate::rules::{ABSOLUTE, RELATIVE};
 use anyhow::{Error, anyhow};
 use diff_columns::error::{ColumnError, Side};
 use diff_csv::error::CsvError;
@@ -8,9 +9,11 @@ use diff_csv::options::CsvOptions;
 use diff_run::error::{ChoiceError, NameList, RunError};
 use diff_run::options::Options;
 use diff_sorted::error::SortedError;
+use diff_tolerances::cells::Tolerance;
 use document_rows::error::{LineFault, ReadError};
 use document_run::error::DocumentError;
 use document_run::options::DocumentOptions;
+use json_tolerances::closeness::Margin;
 
 /// Returns the name of a side's file.
 fn file_of<'a>(files: (&'a [u8], &'a [u8]), side: Side) -> &'a str {
@@ -64,19 +67,44 @@ fn no_key(rt: &HostRuntime, file: &str, key: usize, options: &Options<'_>) -> Er
     }
 }
 
-/// Returns the name of the option that gives a list, and the names in the list.
-fn names_in<'a>(list: NameList, options: &Options<'a>) -> (&'static str, &'a [&'a [u8]]) {
-    match list {
+/// Returns the option that gives a tolerance.
+fn option_of(tolerance: &Tolerance<'_>) -> &'static str {
+    match tolerance.margin {
+        Margin::Absolute(_) => ABSOLUTE,
+        Margin::Relative(_) => RELATIVE,
+    }
+}
+
+/// Returns the option that gives the tolerance at this place, and the column that it is for.
+fn tolerance_in<'a>(place: usize, options: &Options<'a>) -> (&'static str, Option<&'a [u8]>) {
+    let Some(tolerances) = options.tolerances else {
+        return (ABSOLUTE, None);
+    };
+    match tolerances.get(place) {
+        Some(tolerance) => (option_of(tolerance), Some(tolerance.column)),
+        None => (ABSOLUTE, None),
+    }
+}
+
+/// Returns the option that gives the name at this place of a list, and the name.
+fn name_in<'a>(
+    list: NameList,
+    place: usize,
+    options: &Options<'a>,
+) -> (&'static str, Option<&'a [u8]>) {
+    let (option, names) = match list {
         NameList::Only => ("only", options.choice.only.unwrap_or(&[])),
         NameList::Ignored => ("ignore", options.choice.ignored),
         NameList::Texts => ("text", options.numbers.unwrap_or(&[])),
-    }
+        NameList::Tolerances => return tolerance_in(place, options),
+    };
+    (option, names.get(place).copied())
 }
 
 /// Returns the error for a name in a list that is not the name of a column of either file.
 fn no_column(list: NameList, name: usize, options: &Options<'_>) -> Error {
-    let (option, names) = names_in(list, options);
-    match names.get(name) {
+    let (option, name) = name_in(list, name, options);
+    match name {
         Some(name) => anyhow!(
             "--{option}: neither file has a column named {:?}",
             text_of(name)

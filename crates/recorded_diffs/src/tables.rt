@@ -43,6 +43,7 @@ fn answer_choice(
             has_header: true,
         },
         numbers: None,
+        tolerances: None,
         part: None,
         null: None,
         limit: 20,

@@ -131,7 +131,7 @@ are_sides unique left_text right_text left right left_lines right_lines left_all
       right_closed = right_closed;
       matchable = matchable;
       laid_out = laid_out;
-      known = record { only = All-nil _; ignored = All-nil _; texts = All-nil _ };
+      known = record { only = All-nil _; ignored = All-nil _; texts = All-nil _; tolerances = All-nil _ };
       some_left = refl;
       left = record
           { named = refl; width = refl; rows = left_cells; lines = left_many; numbers = refl };

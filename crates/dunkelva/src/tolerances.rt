@@ -1,0 +1,56 @@
+//! The tolerances for columns that the words of the command line give.
+
+use crate::rules::{ABSOLUTE, RELATIVE, margin_of};
+use anyhow::{Result, anyhow};
+use clap::ArgMatches;
+use diff_tolerances::cells::Tolerance;
+use std::alloc::Global;
+
+/// Refuses a column that is a key, since keys are compared exactly.
+fn refuse_key(option: &str, column: &str, keys: &[&[u8]]) -> Result<()> {
+    if keys.contains(&column.as_bytes()) {
+        return Err(anyhow!("--{option}: {column:?} is a key, and keys are compared exactly"));
+    }
+    Ok(())
+}
+
+/// Returns the tolerance that a word of an option writes: a column, and behind the last equals sign
+/// a bound.
+fn tolerance_of<'a>(option: &str, word: &'a str, keys: &[&[u8]]) -> Result<Tolerance<'a>> {
+    let Some((column, number)) = word.rsplit_once('=') else {
+        return Err(anyhow!(
+            "--{option} takes a column and a bound such as amount=0.01, not {word:?}"
+        ));
+    };
+    refuse_key(option, column, keys)?;
+    let margin = margin_of(option, number)?;
+    Ok(Tolerance {
+        column: column.as_bytes(),
+        margin,
+    })
+}
+
+/// Appends the tolerances that the words of an option write.
+fn push_tolerances<'a>(
+    tolerances: &mut Vec<Tolerance<'a>>,
+    matches: &ArgMatches<'a>,
+    option: &str,
+    keys: &[&[u8]],
+) -> Result<()> {
+    for word in matches.get_strs(option).unwrap_or(&[]) {
+        tolerances.push(tolerance_of(option, *word, keys)?)?;
+    }
+    Ok(())
+}
+
+/// Returns the tolerances for columns that the words give. Fails where one is for a key.
+pub(crate) fn tolerances_of<'a>(
+    alloc: Global,
+    matches: &ArgMatches<'a>,
+    keys: &[&[u8]],
+) -> Result<Vec<Tolerance<'a>>> {
+    let mut tolerances = Vec::new(alloc);
+    push_tolerances(&mut tolerances, matches, ABSOLUTE, keys)?;
+    push_tolerances(&mut tolerances, matches, RELATIVE, keys)?;
+    Ok(tolerances)
+}
