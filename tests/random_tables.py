@@ -122,7 +122,11 @@ def written(names, rows, options, chance):
         out, lineterminator=end, quoting=quoting, delimiter=options["delimiter"] or ","
     )
     records = [names, *rows]
-    for record in records:
+    has_gaps = chance.random() < 0.2
+    for i, record in enumerate(records):
+        # empty lines are no records; before the first one CR LF makes later lines one too low
+        if has_gaps and chance.random() < 0.3 and (i > 0 or end == "\n"):
+            out.write(end * chance.randint(1, 3))
         lines.append(out.getvalue().count("\n") + 1)
         writer.writerow(record)
     text = out.getvalue()

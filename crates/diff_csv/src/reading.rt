@@ -17,7 +17,7 @@ ghost use Rattle.diff_csv.specs.Records.{IsReadFault};
 ghost use Rattle.diff_csv.specs.declared.options.CsvOptions.{CsvOptions};
 
 use crate::error::{CsvError, fault_of};
-use crate::lines::{lag_behind, line_at};
+use crate::lines::{is_one_byte, lag_behind, line_at, line_of};
 use crate::options::CsvOptions;
 use csv::{ByteRecord, Reader, ReaderBuilder};
 use std::alloc::Global;
@@ -73,8 +73,8 @@ pub(crate) struct Records<R> {
     reader: Reader<Chain<R, &'static [u8]>>,
     // The record behind those that were given. It is the mark's if the text has no more records.
     ahead: Box<ByteRecord>,
-    // The line at which it begins.
-    line: u64,
+    // The line at which the reader began to look for it.
+    from: u64,
     // The number of lines by which the reader's lines of later records lag.
     lag: u64,
 }
@@ -85,7 +85,7 @@ impl<R: Drop> Drop for Records<R> {
         let Records {
             reader,
             ahead,
-            line: _,
+            from: _,
             lag: _,
         } = self;
         drop(reader);
@@ -105,14 +105,21 @@ impl<R: Read + Drop> Records<R> {
         let mut reader = reader_of(alloc, input, options);
         // There is a record, if only the mark's.
         read_record(&mut reader, &mut ahead)?;
-        let line = line_at(ahead.position(), 0);
+        let from = line_at(ahead.position(), 0);
         let lag = lag_behind(&ahead, reader.position());
         Ok(Records {
             reader,
             ahead,
-            line,
+            from,
             lag,
         })
+    }
+
+    /// Returns the line at which the record before the one ahead ends.
+    fn line_before(&self) -> u64 {
+        let is_ended_by_mark = is_one_byte(self.ahead.position(), self.reader.position());
+        let lag = if is_ended_by_mark { self.lag } else { 0 };
+        self.from.saturating_sub(1).saturating_sub(lag)
     }
 
     /// Gives the next record in `row`. Returns the line at which it begins, or `None` where there
@@ -127,15 +134,16 @@ impl<R: Read + Drop> Records<R> {
             → IsReadFault options text error) }
         ensures fault { IfErr result IsNoRecord }
     {
-        let line = self.line;
+        let from = self.from;
         mem::swap(row, &mut self.ahead);
         if read_record(&mut self.reader, &mut self.ahead)? {
-            self.line = line_at(self.ahead.position(), self.lag);
-            return Ok(Some(line));
+            self.from = line_at(self.ahead.position(), self.lag);
+            return Ok(Some(line_of(row, from, self.line_before())));
         }
         if is_mark(row) {
             return Ok(None);
         }
+        let line = line_of(row, from, self.reader.position().line());
         Err(CsvError::OpenQuote { line })
     }
 }

@@ -11,7 +11,6 @@ ghost use Rattle.diff_csv.specs.declared.options.CsvOptions.{CsvOptions};
 ghost use Rattle.diff_csv.specs.declared.row_reader.Ahead.TheVariants.{First, Later};
 
 use crate::error::CsvError;
-use crate::lines::line_at;
 use crate::reading::Records;
 use csv::ByteRecord;
 use std::alloc::Global;
@@ -35,6 +34,8 @@ pub struct RowReader<R> {
     records: Records<R>,
     // The first record. If it is a row, it stands here until it is given.
     first: Box<ByteRecord>,
+    // The line at which it begins.
+    line: u64,
     // The number of fields of the first record.
     width: usize,
     ahead: Ahead,
@@ -69,12 +70,13 @@ fn check_length(row: &ByteRecord, width: usize, line: u64) -> Result<(), CsvErro
 }
 
 impl<R: Read + Drop> RowReader<R> {
-    /// Begins a text. Its first record, if it has one, is read already, and is a row if there is no
-    /// header. The one error is `Memory`.
+    /// Begins a text. Its first record, if it has one, is read already, begins at `line`, and is a
+    /// row if there is no header. The one error is `Memory`.
     pub(crate) fn new(
         alloc: Global,
         records: Records<R>,
         first: Option<ByteRecord>,
+        line: u64,
         has_header: bool,
     ) -> Result<RowReader<R>, CsvError>
         ensures { MatchResult result
@@ -87,6 +89,7 @@ impl<R: Read + Drop> RowReader<R> {
             return Ok(RowReader {
                 records,
                 first,
+                line,
                 width: 0,
                 ahead: Ahead::End,
             });
@@ -97,6 +100,7 @@ impl<R: Read + Drop> RowReader<R> {
         Ok(RowReader {
             records,
             first,
+            line,
             width,
             ahead,
         })
@@ -140,7 +144,7 @@ impl<R: Read + Drop> RowReader<R> {
             Ahead::First => {
                 mem::swap(row, &mut self.first);
                 self.ahead = Ahead::Later;
-                Ok(Some(line_at(row.position(), 0)))
+                Ok(Some(self.line))
             }
             Ahead::Later => self.read_later(row),
             Ahead::End => Ok(None),

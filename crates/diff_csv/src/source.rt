@@ -34,9 +34,8 @@ pub struct CsvTable {
     /// The rows that were asked for, each with its cells in the columns that were asked for.
     pub table: Table,
     /// The line at which each row begins, from 1 on. It is right if all records end in LF, or all
-    /// in CR LF. Line feeds in quoted fields count. A row behind empty lines has the line of the
-    /// first of these. Empty lines before the first record may make the later lines of a CR LF text
-    /// one too low.
+    /// in CR LF. Empty lines and line feeds in quoted fields count. Empty lines before the first
+    /// record may make the later lines of a CR LF text one too low.
     pub lines: Vec<u64>,
     /// The number of each row among all rows of the text, from 1 on, if only the rows of a part
     /// were read.
@@ -108,6 +107,8 @@ pub struct Source<R> {
     records: Records<R>,
     // The first record, unless the text has none.
     first: Option<ByteRecord>,
+    // The line at which it begins.
+    line: u64,
     has_header: bool,
 }
 
@@ -117,6 +118,7 @@ impl<R: Drop> Drop for Source<R> {
         let Source {
             records,
             first,
+            line: _,
             has_header: _,
         } = self;
         drop(records);
@@ -146,16 +148,18 @@ impl<R: Read + Drop> Source<R> {
         let has_header = options.has_header;
         let mut records = Records::new(alloc, input, options)?;
         let mut row = Box::new(alloc, ByteRecord::new(alloc))?;
-        let Some(_) = records.read(&mut row)? else {
+        let Some(line) = records.read(&mut row)? else {
             return Ok(Source {
                 records,
                 first: None,
+                line: 0,
                 has_header,
             });
         };
         Ok(Source {
             records,
             first: Some(Box::into_inner(row)),
+            line,
             has_header,
         })
     }
@@ -189,9 +193,10 @@ impl<R: Read + Drop> Source<R> {
         let Source {
             records,
             first,
+            line,
             has_header,
         } = self;
-        let reader = RowReader::new(alloc, records, first, has_header)?;
+        let reader = RowReader::new(alloc, records, first, line, has_header)?;
         Ok(reader)
     }
 

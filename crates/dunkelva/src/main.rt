@@ -6,6 +6,7 @@
 mod command;
 mod config;
 mod files;
+mod hints;
 mod keys;
 mod kinds;
 mod names;

@@ -10,17 +10,36 @@ use std::alloc::Global;
 /// The most names in a message.
 const MOST_NAMES: usize = 12;
 
-/// The most bytes of a name in a message. A longer one is of a file that is no table.
+/// The most bytes of a name in a message. A longer one is cut.
 const MOST_BYTES: usize = 60;
 
-/// Appends a name, with a comma before it unless it is the first one.
+/// The bytes that may stand between fields where commas do not.
+const OTHER_DELIMITERS: &[u8] = b";\t|";
+
+/// Returns the beginning of a text, of at most this many bytes.
+fn beginning(text: &str, most: usize) -> &str {
+    for len in (0..most + 1).rev() {
+        if let Some(start) = text.get(..len) {
+            return start;
+        }
+    }
+    ""
+}
+
+/// Appends a name, cut if it is long, with a comma before it unless it is the first one.
 fn push_name(text: &mut String, alloc: Global, name: &[u8], is_first: bool) -> Result<()> {
     let comma = if is_first { "" } else { ", " };
     text.push_str(comma)?;
-    match str::from_utf8(name) {
-        Ok(name) => text.push_str(&format!(in alloc; "{name:?}")?)?,
-        Err(_) => text.push_str("one that is not UTF-8")?,
+    let Ok(name) = str::from_utf8(name) else {
+        text.push_str("one that is not UTF-8")?;
+        return Ok(());
+    };
+    if name.len() <= MOST_BYTES {
+        text.push_str(&format!(in alloc; "{name:?}")?)?;
+        return Ok(());
     }
+    let start = beginning(name, MOST_BYTES);
+    text.push_str(&format!(in alloc; "{start:?}..")?)?;
     Ok(())
 }
 
@@ -37,17 +56,23 @@ fn list_of<N: ByteRows>(alloc: Global, names: &N) -> Result<String> {
         let more = count - MOST_NAMES;
         text.push_str(&format!(in alloc; " and {more} more")?)?;
     }
+    push_question(&mut text, alloc, names)?;
     Ok(text)
 }
 
-/// Returns whether there are names, and none of them is too long for a message.
-fn are_short<N: ByteRows>(names: &N) -> bool {
-    for c in 0..names.count() {
-        if names.bytes(c).len() > MOST_BYTES {
-            return false;
+/// Appends a question where the only name has another delimiter in it.
+fn push_question<N: ByteRows>(text: &mut String, alloc: Global, names: &N) -> Result<()> {
+    if names.count() != 1 {
+        return Ok(());
+    }
+    for byte in names.bytes(0) {
+        if OTHER_DELIMITERS.contains(byte) {
+            let delimiter = char::from(*byte);
+            text.push_str(&format!(in alloc; ": is {delimiter:?} the --delimiter?")?)?;
+            return Ok(());
         }
     }
-    names.count() > 0
+    Ok(())
 }
 
 /// Returns a list of the names of the columns of a CSV file, or `None` if it is not an ordinary
@@ -57,7 +82,7 @@ pub(crate) fn columns_of(rt: &HostRuntime, file: &str, csv: CsvOptions) -> Optio
     reader.size()?;
     let source = Source::open(rt.alloc(), reader, csv).ok()?;
     let names = source.names(rt.alloc()).ok()?;
-    if !are_short(&names) {
+    if names.count() == 0 {
         return None;
     }
     list_of(rt.alloc(), &names).ok()

@@ -1,6 +1,7 @@
 //! Comparisons of two inputs, and the forms of their reports.
 
 use crate::files::{Source, open, total_of};
+use crate::hints::explained;
 use crate::progress::{Cleared, Counted, Progress};
 use crate::trouble::{document_trouble, sorted_trouble, table_trouble};
 use anyhow::{Result, anyhow};
@@ -314,5 +315,8 @@ pub(crate) fn compare_named(
     let names = (left, right);
     let left = open(rt, left, has_standard)?;
     let right = open(rt, right, has_standard)?;
-    compare(rt, left, right, names, task, target)
+    match compare(rt, left, right, names, task, target) {
+        Ok(status) => Ok(status),
+        Err(error) => Err(explained(rt, error, names.0, names.1)),
+    }
 }

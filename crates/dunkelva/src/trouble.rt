@@ -101,15 +101,25 @@ fn name_in<'a>(
     (option, names.get(place).copied())
 }
 
-/// Returns the error for a name in a list that is not the name of a column of either file.
-fn no_column(list: NameList, name: usize, options: &Options<'_>) -> Error {
+/// Returns the error for a name in a list that is not the name of a column of either file. The
+/// columns of `file` are listed, if it can be read once more.
+fn no_column(
+    rt: &HostRuntime,
+    file: &str,
+    list: NameList,
+    name: usize,
+    options: &Options<'_>,
+) -> Error {
     let (option, name) = name_in(list, name, options);
-    match name {
-        Some(name) => anyhow!(
-            "--{option}: neither file has a column named {:?}",
-            text_of(name)
+    let name = match name {
+        Some(name) => text_of(name),
+        None => return anyhow!("--{option}: neither file has a column of this name"),
+    };
+    match columns_of(rt, file, options.csv) {
+        Some(names) => anyhow!(
+            "--{option}: neither file has a column named {name:?}: the columns of {file} are {names}"
         ),
-        None => anyhow!("--{option}: neither file has a column of this name"),
+        None => anyhow!("--{option}: neither file has a column named {name:?}"),
     }
 }
 
@@ -167,7 +177,7 @@ pub(crate) fn table_trouble(
         RunError::Columns { cause } => columns_trouble(rt, cause, files, options),
         RunError::Choice {
             cause: ChoiceError::NoColumn { list, name },
-        } => no_column(list, name, options),
+        } => no_column(rt, text_of(files.0), list, name, options),
         other => anyhow!("{other}"),
     }
 }
@@ -177,9 +187,11 @@ pub(crate) fn table_trouble(
 pub(crate) fn sorted_trouble(error: SortedError, files: (&[u8], &[u8])) -> Error {
     match error {
         SortedError::Falls { side, line } => {
-            anyhow!("the row at line {line} has a lesser key than the row before it").context(
-                file_of(files, side),
+            anyhow!(
+                "the row at line {line} has a lesser key than the row before it: sort by bytes, as \
+                 LC_ALL=C sort does"
             )
+            .context(file_of(files, side))
         }
         SortedError::KeyTwice { side, first, again } => {
             one_key(first, again).context(file_of(files, side))

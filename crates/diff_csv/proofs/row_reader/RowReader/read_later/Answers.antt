@@ -29,6 +29,6 @@ returns-in_err-check_length-clause-told g c =
 pub returns-clause-told : goal.returns-clause-told
 returns-clause-told g c = λ options text rows h.
     let before : IsBehind g.R.Read.remaining options text c.args.self.now rows = rw c.requires at h in
-    rw c.requires (one_behind g.R.Read.remaining options text c.args.self.now (record { records = c.read.new.self; first = c.args.self.now.first; width = c.args.self.now.width; ahead = c.args.self.now.ahead }) rows (fields_of c.read.new.row.value) before
+    rw c.requires (one_behind g.R.Read.remaining options text c.args.self.now (record { records = c.read.new.self; first = c.args.self.now.first; line = c.args.self.now.line; width = c.args.self.now.width; ahead = c.args.self.now.ahead }) rows (fields_of c.read.new.row.value) before
     (rw c.in-Some.is at (c.in_ok-line.ensures.told options text (before.first ∷ before.more) before.reading))
     (ap (λ (r : Row). length (fields_of r)) (sym c.deref.ensures) ∙ c.in_ok-check_length.ensures) refl)
