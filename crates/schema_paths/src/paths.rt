@@ -1,0 +1,98 @@
+//! The schemas of paths.
+
+ghost use Rattle.std.specs.Prelude.{◌≡◌, List, length, IfOk, MatchResult};
+ghost use Rattle.polars_arrays_bits.specs.Errors.{IsMemory};
+ghost use Rattle.json_groups.specs.Groups.{AreGroupsOf, IsGroupOf};
+ghost use Rattle.json_parts.specs.Parts.{Part};
+ghost use Rattle.schema_paths.specs.Kinds.{HasKinds};
+ghost use Rattle.schema_paths.specs.Paths.{AreNumeric, AreSchemasOf, IsSchemaOf};
+
+use crate::kinds::Kinds;
+use json_groups::group::Group;
+use polars_arrays_bits::error::ComputeError;
+use polars_arrays_flat::byte_rows::ByteRows;
+use schema_values::numbers::number_values;
+use std::alloc::Global;
+
+/// A summary of the values at a path of documents.
+#[derive(Drop)]
+pub struct PathSchema {
+    /// The text of the path.
+    pub path: Vec<u8>,
+    /// The number of documents.
+    pub documents: usize,
+    /// The number of values that are null.
+    pub nulls: usize,
+    /// The number of documents that have no value at the path.
+    pub missing: usize,
+    /// The number of values that are true or false.
+    pub truths: usize,
+    /// The number of values that are strings.
+    pub texts: usize,
+    /// The number of values that are objects.
+    pub objects: usize,
+    /// The number of values that are arrays.
+    pub arrays: usize,
+    /// The number of values that are numbers.
+    pub numbers: usize,
+    /// The number of different numbers, which are compared exactly. It is never `None` if all
+    /// exponents have at most 30 digits.
+    pub distinct: Option<usize>,
+    /// The least number, as its first text. `None` if there is no number.
+    pub least: Option<Vec<u8>>,
+    /// The greatest number, as its first text. `None` if there is no number.
+    pub greatest: Option<Vec<u8>>,
+}
+
+/// Returns the schema of the path of a group, which was made from this many documents. The only
+/// error is `Memory`.
+fn schema_of(
+    alloc: Global,
+    group: Group<Kinds>,
+    documents: usize,
+) -> Result<PathSchema, ComputeError>
+    requires { (parts : List (List Part)) × AreNumeric parts × IsGroupOf HasKinds parts group }
+    ensures path { IfOk result (λ schema. schema.path.items ≡ group.path.items) }
+    ensures schema { MatchResult result
+        (λ schema. (parts : List (List Part)) → IsGroupOf HasKinds parts group
+        → documents ≡ length parts → IsSchemaOf parts schema) IsMemory }
+{
+    let kinds = group.tally;
+    let numbers = kinds.numbers.into_array(alloc)?;
+    let values = number_values(alloc, &numbers)?;
+    Ok(PathSchema {
+        path: group.path,
+        documents,
+        nulls: kinds.nulls,
+        missing: documents.saturating_sub(group.documents),
+        truths: kinds.truths,
+        texts: kinds.texts,
+        objects: kinds.objects,
+        arrays: kinds.arrays,
+        numbers: numbers.count(),
+        distinct: values.distinct,
+        least: values.least,
+        greatest: values.greatest,
+    })
+}
+
+/// Returns the schemas of the paths of groups, which were made from this many documents. The only
+/// error is `Memory`.
+pub(crate) fn schemas_of(
+    alloc: Global,
+    groups: Vec<Group<Kinds>>,
+    documents: usize,
+) -> Result<Vec<PathSchema>, ComputeError>
+    requires { (parts : List (List Part)) × AreNumeric parts
+        × AreGroupsOf HasKinds parts groups.items }
+    ensures { MatchResult result
+        (λ schemas. (parts : List (List Part)) → AreGroupsOf HasKinds parts groups.items
+        → documents ≡ length parts → AreSchemasOf parts schemas.items) IsMemory }
+{
+    let mut schemas = Vec::new(alloc);
+    for group in groups {
+        let schema = schema_of(alloc, group, documents)?;
+        schemas.push(schema)?;
+    }
+    Ok(schemas)
+}
