@@ -105,11 +105,7 @@ fn push_line(out: &mut Vec<u8>, table: &Table, widths: &[usize], i: usize) -> Re
 
 /// Appends the rows of a table in a line each, with blanks behind the cells of each column up to
 /// its longest one, and two more before the next column.
-pub(crate) fn push_aligned(
-    alloc: Global,
-    out: &mut Vec<u8>,
-    table: &Table,
-) -> Result<(), AllocError>
+pub fn push_aligned(alloc: Global, out: &mut Vec<u8>, table: &Table) -> Result<(), AllocError>
     ensures { OnOk result
         (out.new.items ≡ out.old.items ++ aligned table.now.width table.now.rows) }
 {

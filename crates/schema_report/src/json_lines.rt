@@ -14,7 +14,7 @@ use schema_columns::column::ColumnSchema;
 use std::alloc::AllocError;
 
 /// Appends the text before a count, and the count.
-fn push_number(out: &mut Vec<u8>, before: &[u8], n: usize) -> Result<(), AllocError>
+pub fn push_number(out: &mut Vec<u8>, before: &[u8], n: usize) -> Result<(), AllocError>
     ensures { OnOk result (out.new.items ≡ out.old.items ++ before.now ++ decimal n) }
 {
     out.extend_from_slice(before)?;
@@ -23,7 +23,7 @@ fn push_number(out: &mut Vec<u8>, before: &[u8], n: usize) -> Result<(), AllocEr
 }
 
 /// Appends the text before a count, and the count, or `null` where there is none.
-fn push_count(out: &mut Vec<u8>, before: &[u8], count: Option<usize>) -> Result<(), AllocError>
+pub fn push_count(out: &mut Vec<u8>, before: &[u8], count: Option<usize>) -> Result<(), AllocError>
     ensures { OnOk result (out.new.items ≡ out.old.items ++ before.now ++ count_member count) }
 {
     out.extend_from_slice(before)?;
@@ -37,7 +37,11 @@ fn push_count(out: &mut Vec<u8>, before: &[u8], count: Option<usize>) -> Result<
 }
 
 /// Appends the text before a value, and the value as a string, or `null` where there is none.
-fn push_value(out: &mut Vec<u8>, before: &[u8], value: &Option<Vec<u8>>) -> Result<(), AllocError>
+pub fn push_value(
+    out: &mut Vec<u8>,
+    before: &[u8],
+    value: &Option<Vec<u8>>,
+) -> Result<(), AllocError>
     ensures { OnOk result
         (out.new.items ≡ out.old.items ++ before.now
         ++ value_member (option_map (λ v. v.items) value.now)) }

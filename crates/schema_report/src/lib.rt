@@ -2,10 +2,10 @@
 //! JSON lines.
 #![tactic(auto)]
 
-mod aligned;
+pub mod aligned;
 pub mod changes;
 pub mod changes_json;
 mod grid;
 pub mod json_lines;
 pub mod text;
-mod words;
+pub mod words;

@@ -33,7 +33,7 @@ pub(crate) fn push_kind(out: &mut Vec<u8>, kind: Kind) -> Result<(), AllocError>
 }
 
 /// Appends a count, or a hyphen where there is none.
-pub(crate) fn push_count(out: &mut Vec<u8>, count: Option<usize>) -> Result<(), AllocError>
+pub fn push_count(out: &mut Vec<u8>, count: Option<usize>) -> Result<(), AllocError>
     ensures { OnOk result (out.new.items ≡ out.old.items ++ count_text count) }
 {
     match count {
@@ -77,11 +77,7 @@ fn push_string(out: &mut Vec<u8>, bytes: &[u8]) -> Result<(), AllocError>
 }
 
 /// Appends a value of a kind, or a hyphen where there is none.
-pub(crate) fn push_value(
-    out: &mut Vec<u8>,
-    kind: Kind,
-    value: &Option<Vec<u8>>,
-) -> Result<(), AllocError>
+pub fn push_value(out: &mut Vec<u8>, kind: Kind, value: &Option<Vec<u8>>) -> Result<(), AllocError>
     ensures { OnOk result
         (out.new.items ≡ out.old.items ++ value_text kind (option_map (λ v. v.items) value.now)) }
 {

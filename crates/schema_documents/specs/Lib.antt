@@ -1,0 +1,4 @@
+pub mod Grid
+pub mod JsonLines
+pub mod Said
+pub mod Text

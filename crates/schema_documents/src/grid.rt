@@ -1,0 +1,170 @@
+//! The schemas of paths, as a table of words.
+
+ghost use Rattle.std.specs.Fmt.{decimal};
+ghost use Rattle.std.specs.Prelude.{◌≡◌, ◌++◌, ◌∷◌, [], ℕ, List, map, OnOk, IfOk, MatchResult};
+ghost use Rattle.polars_arrays_bits.specs.Errors.{IsMemory};
+ghost use Rattle.diff_tables.specs.Strings.{AreStrings};
+ghost use Rattle.schema_documents.specs.Grid.{end_cells, head_cells, head_names, header};
+ghost use Rattle.schema_documents.specs.Grid.{kind_cells, kind_names, number_cells, number_names};
+ghost use Rattle.schema_documents.specs.Grid.{row_of};
+
+use diff_tables::strings::Strings;
+use diff_tables::table::Table;
+use diff_words::decimals::push_decimal;
+use json_plain::plain::push_plain_json;
+use polars_arrays_bits::error::ComputeError;
+use schema_columns::kind::Kind;
+use schema_paths::paths::PathSchema;
+use schema_report::words::{push_count, push_value};
+use std::alloc::{AllocError, Global};
+
+/// Appends the headings of a path and of what is not there.
+fn push_head_names(cells: &mut Strings) -> Result<(), AllocError>
+    ensures { OnOk result
+        ((all : List (List ℕ)) → AreStrings cells.old all
+        → AreStrings cells.new (all ++ head_names)) }
+{
+    cells.push(b"path")?;
+    cells.push(b"null")?;
+    cells.push(b"missing")?;
+    Ok(())
+}
+
+/// Appends the headings of the counts of the other kinds but numbers.
+fn push_kind_names(cells: &mut Strings) -> Result<(), AllocError>
+    ensures { OnOk result
+        ((all : List (List ℕ)) → AreStrings cells.old all
+        → AreStrings cells.new (all ++ kind_names)) }
+{
+    cells.push(b"truth value")?;
+    cells.push(b"text")?;
+    cells.push(b"object")?;
+    cells.push(b"array")?;
+    Ok(())
+}
+
+/// Appends the headings of the properties of numbers.
+fn push_number_names(cells: &mut Strings) -> Result<(), AllocError>
+    ensures { OnOk result
+        ((all : List (List ℕ)) → AreStrings cells.old all
+        → AreStrings cells.new (all ++ number_names)) }
+{
+    cells.push(b"number")?;
+    cells.push(b"distinct")?;
+    cells.push(b"least")?;
+    cells.push(b"greatest")?;
+    Ok(())
+}
+
+/// Appends the headings of all properties.
+fn push_header(cells: &mut Strings) -> Result<(), AllocError>
+    ensures { OnOk result
+        ((all : List (List ℕ)) → AreStrings cells.old all → AreStrings cells.new (all ++ header)) }
+{
+    push_head_names(cells)?;
+    push_kind_names(cells)?;
+    push_number_names(cells)?;
+    Ok(())
+}
+
+/// Appends a number. The text is made in `room`.
+fn push_number(cells: &mut Strings, room: &mut Vec<u8>, n: usize) -> Result<(), AllocError>
+    ensures { OnOk result
+        ((all : List (List ℕ)) → AreStrings cells.old all
+        → AreStrings cells.new (all ++ decimal n ∷ [])) }
+{
+    room.clear();
+    push_decimal(room, n)?;
+    cells.push(room)?;
+    Ok(())
+}
+
+/// Appends a path, and how often it is null and missing. The texts are made in `room`.
+fn push_head(cells: &mut Strings, room: &mut Vec<u8>, path: &PathSchema) -> Result<(), AllocError>
+    ensures { OnOk result
+        ((all : List (List ℕ)) → AreStrings cells.old all
+        → AreStrings cells.new (all ++ head_cells path.now)) }
+{
+    room.clear();
+    push_plain_json(room, &path.path)?;
+    cells.push(room)?;
+    push_number(cells, room, path.nulls)?;
+    push_number(cells, room, path.missing)?;
+    Ok(())
+}
+
+/// Appends the numbers of values of the other kinds but numbers.
+fn push_kinds(cells: &mut Strings, room: &mut Vec<u8>, path: &PathSchema) -> Result<(), AllocError>
+    ensures { OnOk result
+        ((all : List (List ℕ)) → AreStrings cells.old all
+        → AreStrings cells.new (all ++ kind_cells path.now)) }
+{
+    push_number(cells, room, path.truths)?;
+    push_number(cells, room, path.texts)?;
+    push_number(cells, room, path.objects)?;
+    push_number(cells, room, path.arrays)?;
+    Ok(())
+}
+
+/// Appends how many numbers there are and how many of them differ.
+fn push_numbers(
+    cells: &mut Strings,
+    room: &mut Vec<u8>,
+    path: &PathSchema,
+) -> Result<(), AllocError>
+    ensures { OnOk result
+        ((all : List (List ℕ)) → AreStrings cells.old all
+        → AreStrings cells.new (all ++ number_cells path.now)) }
+{
+    push_number(cells, room, path.numbers)?;
+    room.clear();
+    push_count(room, path.distinct)?;
+    cells.push(room)?;
+    Ok(())
+}
+
+/// Appends the least and the greatest number.
+fn push_ends(cells: &mut Strings, room: &mut Vec<u8>, path: &PathSchema) -> Result<(), AllocError>
+    ensures { OnOk result
+        ((all : List (List ℕ)) → AreStrings cells.old all
+        → AreStrings cells.new (all ++ end_cells path.now)) }
+{
+    room.clear();
+    push_value(room, Kind::Number, &path.least)?;
+    cells.push(room)?;
+    room.clear();
+    push_value(room, Kind::Number, &path.greatest)?;
+    cells.push(room)?;
+    Ok(())
+}
+
+/// Appends the properties of a path.
+fn push_row(cells: &mut Strings, room: &mut Vec<u8>, path: &PathSchema) -> Result<(), AllocError>
+    ensures { OnOk result
+        ((all : List (List ℕ)) → AreStrings cells.old all
+        → AreStrings cells.new (all ++ row_of path.now)) }
+{
+    push_head(cells, room, path)?;
+    push_kinds(cells, room, path)?;
+    push_numbers(cells, room, path)?;
+    push_ends(cells, room, path)?;
+    Ok(())
+}
+
+/// The number of words in a row.
+const WIDTH: usize = 11;
+
+/// Returns the properties of paths, below their headings. The only error is `Memory`.
+pub(crate) fn grid_of(alloc: Global, paths: &[PathSchema]) -> Result<Table, ComputeError>
+    ensures width { MatchResult result (λ grid. grid.width ≡ 11) IsMemory }
+    ensures rows { IfOk result (λ grid. grid.rows ≡ header ∷ map row_of paths.now) }
+{
+    let mut cells = Strings::new(alloc)?;
+    let mut room = Vec::new(alloc);
+    push_header(&mut cells)?;
+    for path in paths {
+        push_row(&mut cells, &mut room, path)?;
+    }
+    let grid = Table::new(alloc, WIDTH, paths.len() + 1, cells)?;
+    Ok(grid)
+}

@@ -1,0 +1,59 @@
+//! The schema of documents, printed as text or as JSON lines.
+
+ghost use Rattle.std.specs.Prelude.{◌≡◌, ◌++◌, [], ℕ, List, Some, IfErr, OnOk};
+ghost use Rattle.document_rows.specs.Errors.{IsMemory, IsReadFault};
+ghost use Rattle.schema_paths.specs.Documents.{whole};
+ghost use Rattle.schema_documents.specs.Said.{SaysSchemaOf, form_text};
+
+use crate::json_lines::push_schema_json;
+use crate::text::push_schema;
+use document_rows::error::ReadError;
+use schema_paths::read::{DocumentSchema, read_document_schema};
+use schema_run::said::Form;
+use std::alloc::Global;
+use std::io::Read;
+
+/// Appends the schema of documents, under the name of their file. The only error is `Memory`.
+fn push_form(
+    alloc: Global,
+    out: &mut Vec<u8>,
+    file: &[u8],
+    schema: &DocumentSchema,
+    form: Form,
+) -> Result<(), ReadError>
+    ensures ok { OnOk result (out.new.items ≡ out.old.items ++ form_text form file.now schema.now) }
+    ensures fault { IfErr result IsMemory }
+{
+    match form {
+        Form::Text => match push_schema(alloc, out, file, schema) {
+            Ok(()) => Ok(()),
+            Err(_) => Err(ReadError::Memory),
+        },
+        Form::Json => match push_schema_json(out, &schema.paths) {
+            Ok(()) => Ok(()),
+            Err(_) => Err(ReadError::Memory),
+        },
+    }
+}
+
+/// Reads documents, one a line, and appends their schema, under the name of their file. Fails with
+/// `Line` only if a line is no document, with `Read` if the reader fails, and otherwise with
+/// `Memory`.
+pub fn push_schema_of<R: Read + Drop>(
+    alloc: Global,
+    out: &mut Vec<u8>,
+    file: &[u8],
+    input: R,
+    form: Form,
+) -> Result<(), ReadError>
+    ensures said { OnOk result
+        ((text : List ℕ) → R.remaining input ≡ Some text → (said : List ℕ)
+        × (out.new.items ≡ out.old.items ++ said) × SaysSchemaOf text form file.now said) }
+    ensures fault { IfErr result
+        (λ error. (text : List ℕ) → R.remaining input ≡ Some text
+        → IsReadFault text whole [] error) }
+{
+    let schema = read_document_schema(alloc, input)?;
+    push_form(alloc, out, file, &schema, form)?;
+    Ok(())
+}

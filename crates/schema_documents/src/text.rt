@@ -1,0 +1,67 @@
+//! The schemas of paths as text.
+
+ghost use Rattle.std.specs.Prelude.{◌≡◌, ◌++◌, OnOk, IfErr};
+ghost use Rattle.polars_arrays_bits.specs.Errors.{IsMemory};
+ghost use Rattle.schema_documents.specs.Text.{documents_word, head_line, paths_word};
+ghost use Rattle.schema_documents.specs.Text.{schema_text};
+
+use crate::grid::grid_of;
+use diff_words::decimals::push_decimal;
+use diff_words::words::push_word;
+use polars_arrays_bits::error::ComputeError;
+use schema_paths::read::DocumentSchema;
+use schema_report::aligned::push_aligned;
+use std::alloc::{AllocError, Global};
+
+/// Returns what stands behind the number of documents.
+fn documents_word(count: usize) -> &'static [u8]
+    ensures { result.now ≡ documents_word count }
+{
+    if count == 1 {
+        b" document, "
+    } else {
+        b" documents, "
+    }
+}
+
+/// Returns what stands behind the number of paths.
+fn paths_word(count: usize) -> &'static [u8]
+    ensures { result.now ≡ paths_word count }
+{
+    if count == 1 { b" path\n" } else { b" paths\n" }
+}
+
+/// Appends how many documents a file has, and how many paths.
+#[tactic(auto, unfolding(crate::specs::Text::head_line))]
+fn push_head(
+    out: &mut Vec<u8>,
+    file: &[u8],
+    documents: usize,
+    paths: usize,
+) -> Result<(), AllocError>
+    ensures { OnOk result (out.new.items ≡ out.old.items ++ head_line file.now documents paths) }
+{
+    push_word(out, file)?;
+    out.extend_from_slice(b": ")?;
+    push_decimal(out, documents)?;
+    out.extend_from_slice(documents_word(documents))?;
+    push_decimal(out, paths)?;
+    out.extend_from_slice(paths_word(paths))?;
+    Ok(())
+}
+
+/// Appends the schemas of the paths of a file, in a line each. The only error is `Memory`.
+pub fn push_schema(
+    alloc: Global,
+    out: &mut Vec<u8>,
+    file: &[u8],
+    schema: &DocumentSchema,
+) -> Result<(), ComputeError>
+    ensures ok { OnOk result (out.new.items ≡ out.old.items ++ schema_text file.now schema.now) }
+    ensures fault { IfErr result IsMemory }
+{
+    push_head(out, file, schema.documents, schema.paths.len())?;
+    let grid = grid_of(alloc, &schema.paths)?;
+    push_aligned(alloc, out, &grid)?;
+    Ok(())
+}
