@@ -111,7 +111,7 @@ fn diff<'a>(alloc: Global) -> Result<Command<'a>, AllocError> {
     with_options(alloc, command, options())
 }
 
-/// Adds the command that prints the schemas of the columns of a file.
+/// Adds the command that prints the schema of a file.
 fn with_schema<'a>(alloc: Global, command: Command<'a>) -> Result<Command<'a>, AllocError> {
     command.subcommand(schema_command(alloc)?)
 }

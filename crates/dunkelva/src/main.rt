@@ -1,6 +1,6 @@
 //! Compares files. `dunkelva diff LEFT RIGHT` prints the differences between two CSV files, or
 //! between two files of JSON documents. `dunkelva schema FILE` prints the schemas of the columns of
-//! a CSV file.
+//! a CSV file, or of the paths of JSON documents.
 #![tactic(auto)]
 
 mod command;

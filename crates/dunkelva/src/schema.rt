@@ -1,16 +1,16 @@
-//! The schemas of the columns of files: `dunkelva schema FILE`, and
-//! `dunkelva diff --schema-only LEFT RIGHT`.
+//! The schemas of files: `dunkelva schema FILE`, and `dunkelva diff --schema-only LEFT RIGHT`.
 
 use crate::command::with_option;
 use crate::files::open;
-use crate::kinds::names_documents;
+use crate::kinds::{hold_documents, names_documents};
 use crate::options::{Takes, options};
 use crate::outputs::refuse_own_output;
-use crate::trouble::csv_trouble;
+use crate::trouble::{csv_trouble, read_trouble};
 use crate::words::csv_options;
 use anyhow::{Result, anyhow};
 use clap::{Arg, ArgMatches, Command};
 use diff_csv::options::CsvOptions;
+use schema_documents::said as documents;
 use schema_report::changes::{SchemaCounts, counts_of, push_changes};
 use schema_report::changes_json::push_changes_json;
 use schema_run::read::{TableSchema, read_schema};
@@ -21,14 +21,20 @@ use std::io::{ErrorKind, Write};
 
 /// The text behind the options in `dunkelva schema --help`.
 const NOTES: &str = "\
-Each column has the narrowest of the types empty, truth value, whole number,
-number and text that all its values are of. A field that is empty is missing,
-unless --null says that it is null; the others are its values.
+Each column of a CSV file has the narrowest of the types empty, truth value,
+whole number, number and text that all its values are of. A field that is empty
+is missing, unless --null says that it is null; the others are its values.
+
+Files whose names end in .ndjson or .jsonl have a JSON object in each line; files
+named .json need --input. Each path in them, such as order.id or items[].price,
+has the number of its values of each kind, and of the documents without it;
+distinct, least and greatest are of the numbers. --null, --delimiter and
+--no-header are for CSV alone.
 
 The status is 0, or 2 where the file can't be read.";
 
 /// The options of `dunkelva diff` that the command has too.
-const SHARED: [&str; 4] = ["null", "delimiter", "no-header", "format"];
+const SHARED: [&str; 5] = ["null", "delimiter", "no-header", "input", "format"];
 
 /// The options of `dunkelva diff` with a value that can't be given with `--schema-only`.
 const OTHERS: [&str; 7] = [
@@ -64,10 +70,10 @@ fn file_arg<'a>(alloc: Global) -> Arg<'a> {
         .required(true)
 }
 
-/// Returns the command that prints the schemas of the columns of a file.
+/// Returns the command that prints the schema of a file.
 pub(crate) fn schema_command<'a>(alloc: Global) -> Result<Command<'a>, AllocError> {
     let mut command = Command::new(alloc, "schema")
-        .about("Says what the columns of a CSV file are")
+        .about("Says what is in a CSV or NDJSON file")
         .after_help(NOTES)
         .arg(file_arg(alloc))?;
     for option in options() {
@@ -100,7 +106,7 @@ fn null_in<'m>(matches: &'m ArgMatches<'_>) -> Option<&'m [u8]> {
 /// Refuses a file whose name says that it has JSON.
 fn refuse_documents(file: &str) -> Result<()> {
     if names_documents(file) {
-        return Err(anyhow!("only CSV files have a schema").context(file));
+        return Err(anyhow!("--schema-only is for CSV files alone").context(file));
     }
     Ok(())
 }
@@ -132,6 +138,31 @@ fn print_text(rt: &HostRuntime, text: &[u8], status: u8) -> Result<u8> {
     }
 }
 
+/// Refuses options that only tables have.
+fn refuse_of_tables(matches: &ArgMatches<'_>) -> Result<()> {
+    for option in ["null", "delimiter"] {
+        if matches.contains_id(option) {
+            return Err(anyhow!("--{option} is for CSV files alone"));
+        }
+    }
+    if matches.get_flag("no-header") {
+        return Err(anyhow!("--no-header is for CSV files alone"));
+    }
+    Ok(())
+}
+
+/// Returns the text of the schemas of the paths of a file's documents.
+fn documents_text(rt: &HostRuntime, matches: &ArgMatches<'_>, file: &str) -> Result<Vec<u8>> {
+    refuse_of_tables(matches)?;
+    let input = open(rt, file, false)?;
+    let mut text = Vec::new(rt.alloc());
+    let (name, form) = (file.as_bytes(), form_in(matches));
+    match documents::push_schema_of(rt.alloc(), &mut text, name, input.reader, form) {
+        Ok(()) => Ok(text),
+        Err(error) => Err(read_trouble(error, &[]).context(file)),
+    }
+}
+
 /// Returns the text of the schemas of the columns of a file.
 fn schema_text(
     rt: &HostRuntime,
@@ -139,7 +170,6 @@ fn schema_text(
     file: &str,
     options: CsvOptions,
 ) -> Result<Vec<u8>> {
-    refuse_documents(file)?;
     let input = open(rt, file, false)?;
     let mut text = Vec::new(rt.alloc());
     let (name, null, form) = (file.as_bytes(), null_in(matches), form_in(matches));
@@ -157,10 +187,14 @@ fn schema_text(
     }
 }
 
-/// Prints the schemas of the columns of the file that the words name, and returns the status.
+/// Prints the schema of the file that the words name, and returns the status.
 pub(crate) fn show_schema(rt: &HostRuntime, matches: &ArgMatches<'_>) -> Result<u8> {
     let file = matches.get_str("file").unwrap_or("-");
     refuse_own_output(rt, &[file])?;
+    if hold_documents(matches, file, file)? {
+        let text = documents_text(rt, matches, file)?;
+        return print_text(rt, &text, 0);
+    }
     let options = csv_options(matches, file, file)?;
     let text = schema_text(rt, matches, file, options)?;
     print_text(rt, &text, 0)

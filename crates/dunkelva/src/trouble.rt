@@ -200,10 +200,10 @@ pub(crate) fn sorted_trouble(error: SortedError, files: (&[u8], &[u8])) -> Error
     }
 }
 
-/// Returns the reason why a line is not a document.
-fn fault_text(fault: LineFault, options: &DocumentOptions<'_>) -> Error {
+/// Returns the reason why a line is not a document. `keys` are the paths of the keys.
+fn fault_text(fault: LineFault, keys: &[&[u8]]) -> Error {
     match fault {
-        LineFault::NoPart { key } => match options.names.get(key) {
+        LineFault::NoPart { key } => match keys.get(key) {
             Some(name) => anyhow!("the key {:?} is missing", text_of(name)),
             None => anyhow!("a key is missing"),
         },
@@ -214,27 +214,23 @@ fn fault_text(fault: LineFault, options: &DocumentOptions<'_>) -> Error {
 }
 
 /// Returns the error for a line that is not a document.
-fn line_trouble(
-    line: u64,
-    column: Option<u64>,
-    fault: LineFault,
-    options: &DocumentOptions<'_>,
-) -> Error {
-    let text = fault_text(fault, options);
+fn line_trouble(line: u64, column: Option<u64>, fault: LineFault, keys: &[&[u8]]) -> Error {
+    let text = fault_text(fault, keys);
     match column {
         Some(column) => anyhow!("line {line}, column {column}: {text}"),
         None => anyhow!("line {line}: {text}"),
     }
 }
 
-/// Returns the error for an input of documents that can't be read.
-fn read_trouble(cause: ReadError, options: &DocumentOptions<'_>) -> Error {
+/// Returns the error for an input of documents that can't be read. `keys` are the paths of the
+/// keys.
+pub(crate) fn read_trouble(cause: ReadError, keys: &[&[u8]]) -> Error {
     match cause {
         ReadError::Line {
             line,
             column,
             fault,
-        } => line_trouble(line, column, fault, options),
+        } => line_trouble(line, column, fault, keys),
         other => anyhow!("{other}"),
     }
 }
@@ -248,7 +244,7 @@ pub(crate) fn document_trouble(
 ) -> Error {
     match error {
         DocumentError::Read { side, cause } => {
-            read_trouble(cause, options).context(file_of(files, side))
+            read_trouble(cause, options.names).context(file_of(files, side))
         }
         DocumentError::KeyTwice { side, first, again } => {
             one_key(first, again).context(file_of(files, side))

@@ -1,7 +1,7 @@
 # Completes dunkelva in fish.
 
 complete -c dunkelva -f -n 'not __fish_seen_subcommand_from diff schema help' -a diff -d 'Compares two CSV or NDJSON files by key, and prints what differs'
-complete -c dunkelva -f -n 'not __fish_seen_subcommand_from diff schema help' -a schema -d 'Says what the columns of a CSV file are'
+complete -c dunkelva -f -n 'not __fish_seen_subcommand_from diff schema help' -a schema -d 'Says what is in a CSV or NDJSON file'
 complete -c dunkelva -f -n 'not __fish_seen_subcommand_from diff schema help' -a help -d 'Print this message or the help of the given subcommand(s)'
 complete -c dunkelva -n 'not __fish_seen_subcommand_from diff schema help' -s h -l help -d 'Print help'
 complete -c dunkelva -n 'not __fish_seen_subcommand_from diff schema help' -s V -l version -d 'Print version'
@@ -33,6 +33,7 @@ complete -c dunkelva -n '__fish_seen_subcommand_from diff' -l markdown -d 'Print
 complete -c dunkelva -n '__fish_seen_subcommand_from diff' -l html -rF -d 'Write a page to look at into FILE, of up to 10000 differences, and print nothing'
 complete -c dunkelva -n '__fish_seen_subcommand_from diff' -l config -rF -d 'Take options from FILE, which is TOML; those of the command line win'
 complete -c dunkelva -n '__fish_seen_subcommand_from diff' -s h -l help -d 'Print help'
+complete -c dunkelva -n '__fish_seen_subcommand_from schema' -l input -x -a 'csv ndjson' -d 'The format of both files; without it their names tell it'
 complete -c dunkelva -n '__fish_seen_subcommand_from schema' -l null -x -d 'A field that is WORD is null; diff still compares its text'
 complete -c dunkelva -n '__fish_seen_subcommand_from schema' -l delimiter -x -d 'The byte between fields, \\t for a tab; without it a comma, or a tab in .tsv files'
 complete -c dunkelva -n '__fish_seen_subcommand_from schema' -l no-header -d 'The first record is a row; columns are named 1, 2, 3 ..'
