@@ -39,7 +39,10 @@ fn is_known(left: &BinaryArray<i64>, right: &BinaryArray<i64>, name: &[u8]) -> b
     ensures { IsTrue result
         ↔ IsKnown (offset_strings (λ x. x) left.now) (offset_strings (λ x. x) right.now) name.now }
 {
-    name_unknown(left, right, &[name]).is_none()
+    match name_unknown(left, right, &[name]) {
+        Some(_) => false,
+        None => true,
+    }
 }
 
 /// Returns the place of the first of some tolerances whose column neither input has, or `None`.
