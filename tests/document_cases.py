@@ -171,6 +171,7 @@ CLOSE = (
     (["--tolerance", "a=0.1", "--tolerance", "a=0.2"], "1", "1.2", False),
     (["--tolerance", "a=0.2", "--tolerance", "a=0.1"], "1", "1.2", False),
     (["--tolerance", "a=0.1", "--tolerance", "b=0.2"], "1", "1.2", True),
+    (["--tolerance", "b=0.1,a=0.2"], "1", "1.2", False), (["--tolerance", "b=0.2,a=0.1"], "1", "1.2", True),
     (["--tolerance", "a=0.1", "--relative-tolerance", "a=0.5"], "1", "2", False),
     (["--tolerance", "a=1", "--relative-tolerance", "a=0.1"], "1", "2", False),
     (["--relative-tolerance", "a=0.01"], "99", "100", False), (["--relative-tolerance", "a=0.01"], "100", "99", False),

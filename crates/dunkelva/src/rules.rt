@@ -71,14 +71,15 @@ fn tolerance_of(alloc: Global, option: &str, word: &str) -> Result<Tolerance> {
     Ok(Tolerance { pattern, margin })
 }
 
-/// Appends the tolerances that the words of an option write.
+/// Appends the tolerances in the lists that an option takes.
 fn push_tolerances(
     tolerances: &mut Vec<Tolerance>,
     alloc: Global,
     matches: &ArgMatches<'_>,
     option: &str,
 ) -> Result<()> {
-    for word in matches.get_strs(option).unwrap_or(&[]) {
+    let words = split_lists(alloc, matches.get_strs(option).unwrap_or(&[]))?;
+    for word in &words {
         tolerances.push(tolerance_of(alloc, option, word)?)?;
     }
     Ok(())

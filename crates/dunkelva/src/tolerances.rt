@@ -1,9 +1,11 @@
 //! The tolerances for columns that the words of the command line give.
 
 use crate::rules::{ABSOLUTE, RELATIVE, margin_of};
+use crate::words::unquoted;
 use anyhow::{Result, anyhow};
 use clap::ArgMatches;
 use diff_tolerances::cells::Tolerance;
+use dunkelva_options::lists::split_lists;
 use std::alloc::Global;
 
 /// Refuses a column that is a key, since keys are compared exactly.
@@ -22,6 +24,7 @@ fn tolerance_of<'a>(option: &str, word: &'a str, keys: &[&[u8]]) -> Result<Toler
             "--{option} takes a column and a bound such as amount=0.01, not {word:?}"
         ));
     };
+    let column = unquoted(column);
     refuse_key(option, column, keys)?;
     let margin = margin_of(option, number)?;
     Ok(Tolerance {
@@ -30,14 +33,16 @@ fn tolerance_of<'a>(option: &str, word: &'a str, keys: &[&[u8]]) -> Result<Toler
     })
 }
 
-/// Appends the tolerances that the words of an option write.
+/// Appends the tolerances in the lists that an option takes. A comma in quotes is part of a name.
 fn push_tolerances<'a>(
     tolerances: &mut Vec<Tolerance<'a>>,
+    alloc: Global,
     matches: &ArgMatches<'a>,
     option: &str,
     keys: &[&[u8]],
 ) -> Result<()> {
-    for word in matches.get_strs(option).unwrap_or(&[]) {
+    let words = split_lists(alloc, matches.get_strs(option).unwrap_or(&[]))?;
+    for word in &words {
         tolerances.push(tolerance_of(option, *word, keys)?)?;
     }
     Ok(())
@@ -50,7 +55,7 @@ pub(crate) fn tolerances_of<'a>(
     keys: &[&[u8]],
 ) -> Result<Vec<Tolerance<'a>>> {
     let mut tolerances = Vec::new(alloc);
-    push_tolerances(&mut tolerances, matches, ABSOLUTE, keys)?;
-    push_tolerances(&mut tolerances, matches, RELATIVE, keys)?;
+    push_tolerances(&mut tolerances, alloc, matches, ABSOLUTE, keys)?;
+    push_tolerances(&mut tolerances, alloc, matches, RELATIVE, keys)?;
     Ok(tolerances)
 }

@@ -24,7 +24,7 @@ pub(crate) struct Names<'a> {
 }
 
 /// Returns a name without the quotes around it, if there are some.
-fn unquoted(name: &str) -> &str {
+pub(crate) fn unquoted(name: &str) -> &str {
     match name.strip_prefix('"') {
         Some(rest) => rest.strip_suffix('"').unwrap_or(name),
         None => name,
