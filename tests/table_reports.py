@@ -335,6 +335,10 @@ def choice_fault(pair):
         for name in options.get(names, []):
             if name not in left and name not in right:
                 return f"--{option}: neither file has a column named {in_quotes(name, 'latin-1')}"
+    for option, is_relative in (("tolerance", False), ("relative-tolerance", True)):
+        for name, _, relative in options.get("tolerances", []):
+            if relative == is_relative and name not in left and name not in right:
+                return f"--{option}: neither file has a column named {in_quotes(name, 'latin-1')}"
     found = comparison_of(pair)
     return (
         "no column is left to compare"

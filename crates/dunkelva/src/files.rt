@@ -68,6 +68,15 @@ pub(crate) fn open<'a>(
     })
 }
 
+/// Opens a file that was read before once more, if it is an ordinary file.
+pub(crate) fn open_again(rt: &HostRuntime, name: &str) -> Option<Source> {
+    // A pipe is not opened: without a writer that would take for ever.
+    if !fs::metadata(rt, name).ok()?.is_file() {
+        return None;
+    }
+    Some(open(rt, name, false).ok()?.reader)
+}
+
 /// Returns the number of bytes of two sources, if both are known.
 pub(crate) fn total_of(left: &Source, right: &Source) -> Option<u64> {
     left.size()?.checked_add(right.size()?)

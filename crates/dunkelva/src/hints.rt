@@ -1,6 +1,6 @@
 //! Hints at what a file is that can't be compared.
 
-use crate::files::open;
+use crate::files::open_again;
 use anyhow::{Error, anyhow};
 use std::io::Read;
 
@@ -21,8 +21,7 @@ fn what_begins(head: &[u8]) -> Option<&'static str> {
 
 /// Returns what an ordinary file is by its first bytes, if it is no text in UTF-8.
 fn what_is(rt: &HostRuntime, file: &str) -> Option<&'static str> {
-    let mut reader = open(rt, file, false).ok()?.reader;
-    reader.size()?;
+    let mut reader = open_again(rt, file)?;
     let mut head = [0; 4];
     let count = reader.read(&mut head).ok()?;
     what_begins(head.get(..count)?)

@@ -1,6 +1,6 @@
 //! The names of a file's columns, for messages.
 
-use crate::files::open;
+use crate::files::open_again;
 use anyhow::Result;
 use diff_csv::options::CsvOptions;
 use diff_csv::source::Source;
@@ -78,8 +78,7 @@ fn push_question<N: ByteRows>(text: &mut String, alloc: Global, names: &N) -> Re
 /// Returns a list of the names of the columns of a CSV file, or `None` if it is not an ordinary
 /// file, which can be read a second time.
 pub(crate) fn columns_of(rt: &HostRuntime, file: &str, csv: CsvOptions) -> Option<String> {
-    let reader = open(rt, file, false).ok()?.reader;
-    reader.size()?;
+    let reader = open_again(rt, file)?;
     let source = Source::open(rt.alloc(), reader, csv).ok()?;
     let names = source.names(rt.alloc()).ok()?;
     if names.count() == 0 {

@@ -3,7 +3,7 @@
 //! With such a path alone no difference is found, whatever the documents are. So a misspelt one is
 //! reported, on standard error, once the comparison has ended.
 
-use crate::files::open;
+use crate::files::open_again;
 use clap::ArgMatches;
 use dunkelva_options::lists::split_lists;
 use json::{Scratch, Value};
@@ -98,8 +98,7 @@ impl<'p> Search<'p> {
     /// Looks for the patterns in an ordinary file until all are found. Returns `None` if it can't be
     /// read once more.
     fn read_file(&mut self, rt: &HostRuntime, file: &str) -> Option<()> {
-        let source = open(rt, file, false).ok()?.reader;
-        source.size()?;
+        let source = open_again(rt, file)?;
         let reader = BufReader::new(rt.alloc(), source).ok()?;
         for line in reader.lines(rt.alloc()) {
             let line = line.ok()?;

@@ -7,8 +7,8 @@ use Rattle.schema_paths.specs.Documents.{AreGathered, whole}
 use Rattle.schema_paths.proofs.LineLemmas.{line_more, lines_many}
 use Rattle.schema_paths.proofs.read.groups_of.Goals as goal
 
-pub loop-row-initial : goal.loop-row-initial
-loop-row-initial c = λ lines rows. record {
+pub loop-row-init : goal.loop-row-init
+loop-row-init c = λ lines rows. record {
   held = c.new-groups.ensures;
   numbers = All-nil (λ line. HasNumbers (tree_of line));
 }
