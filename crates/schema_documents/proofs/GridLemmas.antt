@@ -7,7 +7,7 @@ use Rattle.schema_paths.specs.declared.paths.PathSchema.{PathSchema}
 use Rattle.schema_documents.specs.Grid.{header, row_of}
 
 rows_cut : (paths : List PathSchema) → cut_rows 11 (length paths) (flat_map row_of paths) ≡ map row_of paths
-unfolding cut_rows
+unfolding cut_rows row_of
 rows_cut [] = refl
 rows_cut (s ∷ more) = ap (λ cells. cut_rows 11 (suc (length more)) cells) (flat_map-cons row_of s more) ∙ ap (λ rest. row_of s ∷ rest) (rows_cut more)
 
@@ -18,6 +18,7 @@ all_cut paths =
     ap (λ n. cut_rows 11 n (header ++ flat_map row_of paths)) more ∙ ap (λ rest. header ∷ rest) (rows_cut paths)
 
 rows_many : (paths : List PathSchema) → length (flat_map row_of paths) ≡ 11 * length paths
+unfolding row_of
 rows_many [] = refl
 rows_many (s ∷ more) =
     let rest = rows_many more in

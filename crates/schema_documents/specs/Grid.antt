@@ -41,5 +41,5 @@ end_cells s =
     (option_map (λ t. t.items) s.greatest) ∷ []
 
 -- the properties of a path
-abbrev pub row_of : PathSchema → List (List ℕ)
+unfoldable pub row_of : PathSchema → List (List ℕ)
 row_of s = head_cells s ++ kind_cells s ++ number_cells s ++ end_cells s

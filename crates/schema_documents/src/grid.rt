@@ -30,16 +30,25 @@ fn push_head_names(cells: &mut Strings) -> Result<(), AllocError>
     Ok(())
 }
 
+/// Appends two headings.
+fn push_two(cells: &mut Strings, first: &[u8], second: &[u8]) -> Result<(), AllocError>
+    ensures { OnOk result
+        ((all : List (List ℕ)) → AreStrings cells.old all
+        → AreStrings cells.new (all ++ first.now ∷ second.now ∷ [])) }
+{
+    cells.push(first)?;
+    cells.push(second)?;
+    Ok(())
+}
+
 /// Appends the headings of the counts of the other kinds but numbers.
 fn push_kind_names(cells: &mut Strings) -> Result<(), AllocError>
     ensures { OnOk result
         ((all : List (List ℕ)) → AreStrings cells.old all
         → AreStrings cells.new (all ++ kind_names)) }
 {
-    cells.push(b"truth value")?;
-    cells.push(b"text")?;
-    cells.push(b"object")?;
-    cells.push(b"array")?;
+    push_two(cells, b"truth value", b"text")?;
+    push_two(cells, b"object", b"array")?;
     Ok(())
 }
 
@@ -49,10 +58,8 @@ fn push_number_names(cells: &mut Strings) -> Result<(), AllocError>
         ((all : List (List ℕ)) → AreStrings cells.old all
         → AreStrings cells.new (all ++ number_names)) }
 {
-    cells.push(b"number")?;
-    cells.push(b"distinct")?;
-    cells.push(b"least")?;
-    cells.push(b"greatest")?;
+    push_two(cells, b"number", b"distinct")?;
+    push_two(cells, b"least", b"greatest")?;
     Ok(())
 }
 
@@ -138,16 +145,37 @@ fn push_ends(cells: &mut Strings, room: &mut Vec<u8>, path: &PathSchema) -> Resu
     Ok(())
 }
 
+/// Appends a path, how often it is missing, and the numbers of values of the kinds but numbers.
+fn push_counts(cells: &mut Strings, room: &mut Vec<u8>, path: &PathSchema) -> Result<(), AllocError>
+    ensures { OnOk result
+        ((all : List (List ℕ)) → AreStrings cells.old all
+        → AreStrings cells.new (all ++ (head_cells path.now ++ kind_cells path.now))) }
+{
+    push_head(cells, room, path)?;
+    push_kinds(cells, room, path)?;
+    Ok(())
+}
+
+/// Appends the properties of the numbers of a path.
+fn push_values(cells: &mut Strings, room: &mut Vec<u8>, path: &PathSchema) -> Result<(), AllocError>
+    ensures { OnOk result
+        ((all : List (List ℕ)) → AreStrings cells.old all
+        → AreStrings cells.new (all ++ (number_cells path.now ++ end_cells path.now))) }
+{
+    push_numbers(cells, room, path)?;
+    push_ends(cells, room, path)?;
+    Ok(())
+}
+
 /// Appends the properties of a path.
+#[tactic(auto, unfolding(crate::specs::Grid::row_of))]
 fn push_row(cells: &mut Strings, room: &mut Vec<u8>, path: &PathSchema) -> Result<(), AllocError>
     ensures { OnOk result
         ((all : List (List ℕ)) → AreStrings cells.old all
         → AreStrings cells.new (all ++ row_of path.now)) }
 {
-    push_head(cells, room, path)?;
-    push_kinds(cells, room, path)?;
-    push_numbers(cells, room, path)?;
-    push_ends(cells, room, path)?;
+    push_counts(cells, room, path)?;
+    push_values(cells, room, path)?;
     Ok(())
 }
 

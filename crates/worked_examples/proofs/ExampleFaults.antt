@@ -1,7 +1,7 @@
 -- Worked examples of `IsRunFault`: which errors are true of two texts, and which are not.
-use Rattle.std.proofs.Common.{◌≡◌, ◌≤◌, ◌^◌, ◌∙◌, ℕ, true, false, List, [], ◌∷◌, length}
+use Rattle.std.proofs.Common.{◌≡◌, ◌<◌, ◌≤◌, ◌^◌, ◌∙◌, ℕ, true, false, List, [], ◌∷◌, length}
 use Rattle.std.proofs.Common.{arith, ap, sym, subst, refl}
-use Rattle.std.proofs.lemmas.List.{length-map}
+use Rattle.std.proofs.lemmas.List.{get_or-replicate, length-map, length-replicate}
 use Rattle.std.proofs.lemmas.List.Elements.{All-nil}
 use Rattle.std.specs.Prelude.{None, Some, codes}
 use Rattle.csv.specs.Machine.{next_record}
@@ -17,7 +17,7 @@ use Rattle.diff_csv.specs.Records as csv
 use Rattle.diff_csv.specs.declared.error.CsvError.TheVariants.{Length, OpenQuote}
 use Rattle.diff_numbers.specs.Cells.{IsWideNumber}
 use Rattle.diff_run.proofs.ExampleReport.{commas, options}
-use Rattle.diff_run.specs.Faults.{IsRunFault}
+use Rattle.diff_run.specs.Faults.{IsRunFault, rows_on}
 use Rattle.diff_run.specs.declared.error.RunError.TheVariants as error
 use Rattle.diff_tables.specs.Keys.{cells_at}
 use Rattle.fast_float.specs.Text.{scan}
@@ -169,26 +169,26 @@ twice-allowed fault = let both : false ≡ true = fault.asked in cc
 few-rows : ¬ (IsRunFault options old_text new_text error.TooManyRows)
 few-rows fault = fault.many (few_left, few_right)
   where
-    left_count : length fault.sides.left.table.rows ≡ 2
-    left_count = ap length fault.sides_are.left.rows ∙
-        (length-map (data_rows true fault.sides_are.left_records) (cells_at fault.layout.left.items)
+    left_count :
+        length (rows_on Left options fault.layout fault.left_records fault.right_records) ≡ 2
+    left_count =
+        length-map (data_rows true fault.left_records) (cells_at fault.layout.left.items)
         ∙ ap (λ records. length (data_rows true records))
-        (one_reading _ _ _ fault.sides_are.left_records (header ∷ old_rows)
-        fault.sides_are.left_all old_read))
+        (one_reading _ _ _ fault.left_records (header ∷ old_rows) fault.left_all old_read)
 
-    right_count : length fault.sides.right.table.rows ≡ 1
+    right_count :
+        length (rows_on Right options fault.layout fault.left_records fault.right_records) ≡ 1
     right_count =
-        ap length fault.sides_are.right.rows ∙
-        (length-map (data_rows true fault.sides_are.right_records)
-        (cells_at fault.layout.right.items)
+        length-map (data_rows true fault.right_records) (cells_at fault.layout.right.items)
         ∙ ap (λ records. length (data_rows true records))
-        (one_reading _ _ _ fault.sides_are.right_records (header ∷ new_rows)
-        fault.sides_are.right_all new_read))
+        (one_reading _ _ _ fault.right_records (header ∷ new_rows) fault.right_all new_read)
 
-    few_left : length fault.sides.left.table.rows ≤ 2 ^ 32
+    few_left :
+        length (rows_on Left options fault.layout fault.left_records fault.right_records) ≤ 2 ^ 32
     few_left = omega (arith, left_count)
 
-    few_right : length fault.sides.right.table.rows ≤ 2 ^ 32
+    few_right :
+        length (rows_on Right options fault.layout fault.left_records fault.right_records) ≤ 2 ^ 32
     few_right = omega (arith, right_count)
 
 -- ---- numbers
@@ -237,8 +237,6 @@ wide-exponent = record {
   right_all = new_read;
   layout = layout;
   laid_out = laid_out;
-  texts = lent [];
-  asked = refl;
   names = header;
   names_are = refl;
   wide = record {
@@ -259,4 +257,8 @@ wide-exponent = record {
 wide-as_text :
     ¬ (IsRunFault options wide_text new_text
     (error.WideExponent Left 2 (vector (codes "n") (omega arith))))
-wide-as_text fault = let asked : None ≡ Some fault.texts = fault.asked in cc
+wide-as_text fault =
+    let within = subst (λ n. fault.wide.column < n) (length-replicate (length fault.names) false)
+    fault.wide.wide.column_within in
+    let text = get_or-replicate (length fault.names) fault.wide.column false false within in
+    let both : false ≡ true = sym text ∙ fault.wide.wide.counts in cc
