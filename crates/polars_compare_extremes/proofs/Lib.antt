@@ -7,3 +7,4 @@ mod Listed
 mod NumberRows
 mod SlotRows
 mod Truths
+mod ViewOrder

@@ -12,4 +12,5 @@ mod numbers;
 pub mod places;
 pub mod preference;
 pub mod scalar;
+mod view_places;
 mod views;

@@ -1,12 +1,16 @@
 //! Preferences of an extreme among byte strings.
 
-ghost use Rattle.std.specs.Prelude.{◌≡◌};
+ghost use Rattle.std.specs.Prelude.{◌≡◌, ◌<◌, length};
 ghost use Rattle.polars_arrays_flat.specs.Row.{Bytes};
+ghost use Rattle.polars_arrays_views.specs.Parts.{view_strings};
+ghost use Rattle.polars_compare_extremes.specs.Places.{string_row};
 ghost use Rattle.polars_compare_extremes.specs.Preference.{Prefers};
 ghost use Rattle.polars_compare_extremes.specs.PreferenceLaws.{greater_prefers, less_prefers};
 
 use crate::first_bytes::less_by_first;
+use crate::view_places::less_by_prefix;
 use polars_arrays_numbers::comparison::{Greater, Less};
+use polars_arrays_views::binary_view::BinaryViewArray;
 use polars_compare_leaves::bytes::ByteComparison;
 
 /// A comparison that says which of two byte strings is better, so that a list of them has a best
@@ -15,6 +19,15 @@ pub trait Preference: ByteComparison {
     /// Returns whether the left byte string is better. It is fast if the first bytes differ.
     fn is_better(&self, left: &[u8], right: &[u8]) -> bool
         ensures { result ≡ Self.ByteComparison.rows (Bytes left.now) (Bytes right.now) };
+
+    /// Returns whether row `i` is better than row `j`. It is fast if the prefixes of their views
+    /// differ.
+    fn is_better_row(&self, array: &BinaryViewArray, i: usize, j: usize) -> bool
+        requires row { i < length array.now.views }
+        requires other { j < length array.now.views }
+        ensures { result
+            ≡ Self.ByteComparison.rows (string_row (view_strings array.now) i)
+            (string_row (view_strings array.now) j) };
 
     // Better than x is better than all that are not better than x.
     ghost preference_law: { Prefers Bytes Self.ByteComparison.rows };
@@ -27,6 +40,11 @@ impl Preference for Less {
     fn is_better(&self, left: &[u8], right: &[u8]) -> bool {
         less_by_first(left, right)
     }
+
+    #[inline(always)]
+    fn is_better_row(&self, array: &BinaryViewArray, i: usize, j: usize) -> bool {
+        less_by_prefix(array, i, j)
+    }
 }
 
 impl Preference for Greater {
@@ -35,5 +53,10 @@ impl Preference for Greater {
     #[inline(always)]
     fn is_better(&self, left: &[u8], right: &[u8]) -> bool {
         less_by_first(right, left)
+    }
+
+    #[inline(always)]
+    fn is_better_row(&self, array: &BinaryViewArray, i: usize, j: usize) -> bool {
+        less_by_prefix(array, j, i)
     }
 }

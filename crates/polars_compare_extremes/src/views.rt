@@ -1,7 +1,7 @@
 //! Extremes of arrays of views.
 
 use crate::borrowed::{BytesMinMaxKernel, TextMinMaxKernel};
-use crate::places::{best_place, best_string};
+use crate::view_places::{best_view, best_view_place};
 use polars_arrays_flat::array::Array;
 use polars_arrays_numbers::comparison::{Greater, Less};
 use polars_arrays_views::binary_view::BinaryViewArray;
@@ -9,18 +9,18 @@ use polars_arrays_views::text_view::Utf8ViewArray;
 
 impl BytesMinMaxKernel for BinaryViewArray {
     fn min_ignore_nan_kernel(&self) -> Option<&[u8]> {
-        best_string(&Less, self, self.validity())
+        best_view(&Less, self, self.validity())
     }
 
     fn max_ignore_nan_kernel(&self) -> Option<&[u8]> {
-        best_string(&Greater, self, self.validity())
+        best_view(&Greater, self, self.validity())
     }
 }
 
 impl TextMinMaxKernel for Utf8ViewArray {
     #[tactic(auto, using(crate::proofs::Lent::lends))]
     fn min_ignore_nan_kernel(&self) -> Option<&str> {
-        match best_place(&Less, self.as_binview(), self.validity()) {
+        match best_view_place(&Less, self.as_binview(), self.validity()) {
             Some(place) => Some(self.value(place)),
             None => None,
         }
@@ -28,7 +28,7 @@ impl TextMinMaxKernel for Utf8ViewArray {
 
     #[tactic(auto, using(crate::proofs::Lent::lends))]
     fn max_ignore_nan_kernel(&self) -> Option<&str> {
-        match best_place(&Greater, self.as_binview(), self.validity()) {
+        match best_view_place(&Greater, self.as_binview(), self.validity()) {
             Some(place) => Some(self.value(place)),
             None => None,
         }

@@ -1,0 +1,103 @@
+//! Searches for the best present byte string in views.
+
+ghost use Rattle.std.specs.Prelude.{◌≡◌, ◌<◌, [], length, slice_index_or, IfSome, MatchOption};
+ghost use Rattle.std.specs.Option.{option_copied};
+ghost use Rattle.polars_arrays_flat.specs.ByteOrder.{bytes_lt};
+ghost use Rattle.polars_arrays_flat.specs.Row.{Bytes};
+ghost use Rattle.polars_arrays_flat.specs.StoredRows.{byte_slots, rows_under};
+ghost use Rattle.polars_arrays_flat.specs.Validity.{HasBits};
+ghost use Rattle.polars_arrays_views.specs.Parts.{view_strings};
+ghost use Rattle.polars_compare_extremes.specs.Extremes.{FindsBest, NonePresent};
+ghost use Rattle.polars_compare_extremes.specs.Places.{IsBestSlot, IsFirstPresent, string_row};
+
+use crate::places::first_present;
+use crate::preference::Preference;
+use polars_arrays_bits::bitmap::Bitmap;
+use polars_arrays_flat::byte_rows::ByteRows;
+use polars_arrays_flat::validity::is_present;
+use polars_arrays_numbers::steps::Steps;
+use polars_arrays_views::binary_view::BinaryViewArray;
+use polars_arrays_views::rows::row_less;
+
+/// Returns whether row `i` is less than row `j`. If its view has a greater prefix, one comparison
+/// decides; in a search for an extreme that is so for nearly all rows.
+#[inline(always)]
+pub(crate) fn less_by_prefix(array: &BinaryViewArray, i: usize, j: usize) -> bool
+    requires row { i < length array.now.views }
+    requires other { j < length array.now.views }
+    ensures { result
+        ≡ bytes_lt (slice_index_or (view_strings array.now) i [])
+        (slice_index_or (view_strings array.now) j []) }
+{
+    if array.view(i).prefix() > array.view(j).prefix() {
+        return false;
+    }
+    row_less(array, i, array, j, &mut Steps::new())
+}
+
+// Returns the place of the first best present row, given the first present one.
+#[tactic(auto, using(crate::proofs::Lent::lends))]
+fn best_view_from<P: Preference>(
+    preference: &P,
+    array: &BinaryViewArray,
+    present: Option<&Bitmap>,
+    first: usize,
+) -> usize
+    requires bits { HasBits (length (view_strings array.now)) (option_copied present) }
+    requires first { IsFirstPresent (length (view_strings array.now)) (option_copied present) first }
+    ensures { IsBestSlot P.rows (string_row (view_strings array.now)) (option_copied present.entry)
+        (length (view_strings array.now)) result }
+{
+    let n = array.count();
+    let mut place = first;
+    for i in first + 1..n {
+        if preference.is_better_row(array, i, place) && is_present(present, i) {
+            place = i;
+        }
+    }
+    place
+}
+
+/// Returns the place of the first best present row, or `None` if none is present. `present` has a
+/// bit for each row.
+pub(crate) fn best_view_place<P: Preference>(
+    preference: &P,
+    array: &BinaryViewArray,
+    present: Option<&Bitmap>,
+) -> Option<usize>
+    requires { HasBits (length (view_strings array.now)) (option_copied present) }
+    ensures found { MatchOption result
+        (NonePresent (rows_under (option_copied present.entry)
+        (byte_slots (view_strings array.now))))
+        (λ place. FindsBest P.rows
+        (rows_under (option_copied present.entry) (byte_slots (view_strings array.now)))
+        (string_row (view_strings array.now) place)) }
+    ensures within { IfSome result (λ place. place < length (view_strings array.now)) }
+{
+    match first_present(present, array.count()) {
+        Some(first) => Some(best_view_from(preference, array, present, first)),
+        None => None,
+    }
+}
+
+/// Returns the first best present row, borrowed, or `None` if none is present. `present` has a bit
+/// for each row.
+#[tactic(auto, using(crate::proofs::Lent::lends))]
+pub(crate) fn best_view<'a, P: Preference>(
+    preference: &P,
+    array: &'a BinaryViewArray,
+    present: Option<&Bitmap>,
+) -> Option<&'a [u8]>
+    requires { HasBits (length (view_strings array.now)) (option_copied present) }
+    ensures { MatchOption result
+        (NonePresent (rows_under (option_copied present.entry)
+        (byte_slots (view_strings array.now))))
+        (λ bytes. FindsBest P.rows
+        (rows_under (option_copied present.entry) (byte_slots (view_strings array.now)))
+        (Bytes bytes.now)) }
+{
+    match best_view_place(preference, array, present) {
+        Some(place) => Some(array.value(place)),
+        None => None,
+    }
+}
