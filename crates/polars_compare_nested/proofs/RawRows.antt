@@ -50,6 +50,26 @@ raw_adds agree l a r b m k old new h adds = record {
   ];
 }
 
+-- no bits are added
+pub adds_none : (agree : Row → Row → Bool) (l : AnyArray) (a : ℕ) (r : AnyArray) (b : ℕ) (old : List Bool) → AddsRawBits agree l a r b 0 old old
+adds_none agree l a r b old = record { size = omega arith; kept = λ i low. refl; at_present = λ i low both. absurd (omega arith) }
+
+-- bits are added behind others that were
+pub adds_more : (agree : Row → Row → Bool) (l : AnyArray) (a : ℕ) (r : AnyArray) (b m k : ℕ) (old mid new : List Bool) → AddsRawBits agree l a r b m old mid → AddsRawBits agree l (a + m) r (b + m) k mid new → AddsRawBits agree l a r b (m + k) old new
+adds_more agree l a r b m k old mid new first next = record {
+  size = omega (arith, first.size, next.size);
+  kept = λ i low. next.kept i (omega (arith, low, first.size)) ∙ first.kept i low;
+  at_present = λ i low both. elim (cases_lt i m) [
+    | inl before ↦ next.kept (length old + i) (omega (arith, before, first.size)) ∙ first.at_present i before both
+    | inr after ↦ (
+        let place : length mid + (i - m) ≡ length old + i = omega (arith, after, first.size) in
+        let left : a + m + (i - m) ≡ a + i = omega arith in
+        let right : b + m + (i - m) ≡ b + i = omega arith in
+        let bit = next.at_present (i - m) (omega arith) (rw (left, right) both) in
+        rw (place, left, right) at bit)
+  ];
+}
+
 -- a bit that is right where its two rows are present is added
 pub adds_one : (agree : Row → Row → Bool) (l : AnyArray) (i : ℕ) (r : AnyArray) (j : ℕ) (old : List Bool) (bit : Bool) → SamePresent agree l i r j bit → AddsRawBits agree l i r j 1 old (old ++ bit ∷ [])
 adds_one agree l i r j old bit h = record {

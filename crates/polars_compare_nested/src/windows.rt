@@ -15,13 +15,14 @@ ghost use Rattle.polars_arrays_nested.specs.declared.any_array.AnyArray.{FixedSi
 ghost use Rattle.polars_arrays_nested.specs.declared.any_array.AnyArray.{Dictionary};
 ghost use Rattle.polars_compare_nested.specs.Bits.{AddsRawBits, JoinsBits, RawBits, SameBits};
 ghost use Rattle.polars_compare_nested.specs.Bits.{SamePresent};
+ghost use Rattle.polars_compare_nested.specs.Entries.{AreRowEntries};
 ghost use Rattle.polars_compare_nested.specs.FewLeaves.{AreLeavesWithoutNulls};
 ghost use Rattle.polars_compare_nested.specs.Known.{AreKnown};
 ghost use Rattle.polars_compare_nested.specs.Tally.{tally};
 ghost use Rattle.polars_compare_nested.specs.Windows.{AreWindows, Compares};
 
 use crate::downcast::{as_dictionary, as_fixed_size_list, as_list, as_struct};
-use crate::entries::row_entries;
+use crate::entries::{BLOCK_ROWS, EntryPair, KeyBlock, block_entries, row_entries};
 use crate::few_leaves::{are_few_leaves, are_leaves, same_few};
 use crate::items::item_window;
 use crate::leaf_kernel::LeafKernel;
@@ -295,11 +296,58 @@ pub fn dictionary_windows<K: LeafKernel>(
     // For the proof: both lengths fit in 64 bits, so the places don't overflow.
     let (_rows, _others) = (left.keys().len(), right.keys().len());
     let mut bits = BitmapBuilder::with_capacity(alloc, n)?;
-    for i in 0..n {
-        let same = equal_entries(alloc, left, a + i, right, b + i, steps)?;
-        bits.push_reserved(same);
+    let mut done = 0;
+    while done < n {
+        let count = (n - done).min(BLOCK_ROWS);
+        push_entries(
+            alloc,
+            &mut bits,
+            left,
+            a + done,
+            right,
+            b + done,
+            count,
+            steps,
+        )?;
+        done += count;
     }
     Ok(bits.freeze())
+}
+
+// Appends for each of `n` rows whether the keys name entries that are the same. All keys are read
+// before the entries are compared, so that reads need not wait for comparisons. If a key is masked
+// on either side, the bit is arbitrary. The error is `Memory`.
+#[cycle(equal)]
+fn push_entries<K: LeafKernel>(
+    alloc: Global,
+    bits: &mut BitmapBuilder,
+    left: &DictionaryArray,
+    a: usize,
+    right: &DictionaryArray,
+    b: usize,
+    n: usize,
+    steps: &mut K,
+) -> Result<(), ComputeError>
+    requires windows { AreWindows (Dictionary left.now) a (Dictionary right.now) b n }
+    requires few { n ≤ 64 }
+    requires room { n ≤ bits.old.room }
+    ensures told { MatchResult result
+        (λ _. AddsRawBits K.agree (Dictionary left.now) a (Dictionary right.now) b n bits.old.bits
+        bits.new.bits) IsMemory }
+    ensures room { IfOk result (λ _. bits.new.room ≡ bits.old.room - n) }
+    ensures counted { IfOk result
+        (λ _. K.count steps.new
+        ≡ K.count steps.old + tally (Dictionary left.now) (Dictionary right.now) a b n) }
+    ensures kept { K.count steps.old ≤ K.count steps.new }
+{
+    let keys = KeyBlock::read(left, a, n);
+    let others = KeyBlock::read(right, b, n);
+    for i in 0..n {
+        let found = block_entries(&keys, &others, i);
+        let same = equal_pair(alloc, left, a + i, right, b + i, found, steps)?;
+        bits.push_reserved(same);
+    }
+    Ok(())
 }
 
 // Returns whether the entries of two rows are the same. If a row is masked on either side, the
@@ -322,7 +370,32 @@ fn equal_entries<K: LeafKernel>(
         ≡ K.count steps.old + tally (Dictionary left.now) (Dictionary right.now) a b 1) }
     ensures kept { K.count steps.old ≤ K.count steps.new }
 {
-    match row_entries(left, a, right, b) {
+    let found = row_entries(left, a, right, b);
+    equal_pair(alloc, left, a, right, b, found, steps)
+}
+
+// Does what `equal_entries` does, where the entries of the two rows have been found.
+#[cycle(equal)]
+#[inline(always)]
+fn equal_pair<K: LeafKernel>(
+    alloc: Global,
+    left: &DictionaryArray,
+    a: usize,
+    right: &DictionaryArray,
+    b: usize,
+    found: Option<EntryPair>,
+    steps: &mut K,
+) -> Result<bool, ComputeError>
+    requires windows { AreWindows (Dictionary left.now) a (Dictionary right.now) b 1 }
+    requires entries { AreRowEntries left.now a right.now b found }
+    ensures told { MatchResult result
+        (λ bit. SamePresent K.agree (Dictionary left.now) a (Dictionary right.now) b bit) IsMemory }
+    ensures counted { IfOk result
+        (λ _. K.count steps.new
+        ≡ K.count steps.old + tally (Dictionary left.now) (Dictionary right.now) a b 1) }
+    ensures kept { K.count steps.old ≤ K.count steps.new }
+{
+    match found {
         Some(pair) => {
             let (entries, others) = (left.values(), right.values());
             let same = raw_row(alloc, entries, pair.left, others, pair.right, steps)?;

@@ -9,7 +9,7 @@ use Rattle.polars_compare_nested.proofs.FewRows.{whole_joined}
 use Rattle.polars_compare_nested.proofs.KnownLists.{known_at, none_known}
 use Rattle.polars_compare_nested.proofs.LeafSorts.{leaf_bit, leaf_bits, leaf_case, leaf_tally}
 use Rattle.polars_compare_nested.proofs.ListRuns.{apart_bits, run_bits, run_tally}
-use Rattle.polars_compare_nested.proofs.RawRows.{adds_one, entry_bit, entry_count, entry_none, fixed_bits, joined, raw_adds, raw_none, same_first}
+use Rattle.polars_compare_nested.proofs.RawRows.{adds_more, adds_none, adds_one, entry_bit, entry_count, entry_none, fixed_bits, joined, raw_adds, raw_none, same_first}
 use Rattle.polars_compare_nested.proofs.TallyAdds.{tally-adds}
 use Rattle.polars_compare_nested.proofs.WordRuns.{run_word}
 use Rattle.polars_compare_nested.specs.Tally.{tally}
@@ -207,41 +207,74 @@ join_column-returns-clause-told g t c = record {
   joined = c.and_assign.ensures;
 }
 
-pub dictionary_windows-loop-i-init : goal.dictionary_windows-loop-i-init
-dictionary_windows-loop-i-init g t c = (
+pub dictionary_windows-loop-done-init : goal.dictionary_windows-loop-done-init
+dictionary_windows-loop-done-init g t c = (
+  omega arith,
   rw c.in_ok-bits.ensures.empty (raw_none _ _ _ _ _),
   omega arith,
   omega arith,
   omega (arith, c.in_ok-bits.ensures.room),
 )
 
-pub dictionary_windows-loop-i-preserved : goal.dictionary_windows-loop-i-preserved
-dictionary_windows-loop-i-preserved g t c =
+pub dictionary_windows-loop-done-preserved : goal.dictionary_windows-loop-done-preserved
+dictionary_windows-loop-done-preserved g t c =
+    let next = c.in_ok-push_entries.ensures in
+    let adds = tally-adds (Dictionary c.args.left.now) (Dictionary c.args.right.now) c.args.a c.args.b c.loop-done.done c.min-count.result in (
+      omega (arith, c.min-count.ensures),
+      raw_adds _ _ _ _ _ _ _ _ _ c.loop-done.invariant.1 next.told,
+      next.counted ∙ omega (arith, c.loop-done.invariant.2, adds),
+      omega (arith, next.kept, c.loop-done.invariant.3),
+      omega (arith, next.room, c.min-count.ensures, c.loop-done.invariant.4),
+    )
+
+pub push_entries-loop-i-init : goal.push_entries-loop-i-init
+push_entries-loop-i-init g t c = (adds_none _ _ _ _ _ _, omega arith, omega arith, omega arith)
+
+pub push_entries-equal_pair-requires : goal.push_entries-equal_pair-requires
+push_entries-equal_pair-requires g t c κs within = (
+  omega arith,
+  (
+    within,
+    (
+      record {
+        left_good = c.requires.windows.left_good;
+        right_good = c.requires.windows.right_good;
+        one_type = c.requires.windows.one_type;
+        left_in = omega (arith, c.requires.windows.left_in, c.loop-i-test.true);
+        right_in = omega (arith, c.requires.windows.right_in, c.loop-i-test.true);
+      },
+      rw (c.read-keys.ensures.array, c.read-keys.ensures.at, c.read-others.ensures.array, c.read-others.ensures.at) at c.block_entries-found.ensures,
+    ),
+  ),
+)
+
+pub push_entries-loop-i-preserved : goal.push_entries-loop-i-preserved
+push_entries-loop-i-preserved g t c =
     let same = c.in_ok-same.ensures in
     let adds = tally-adds (Dictionary c.args.left.now) (Dictionary c.args.right.now) c.args.a c.args.b c.loop-i.i 1 in
     rw c.push_reserved.ensures (
-      raw_adds _ _ _ _ _ _ _ _ _ c.loop-i.invariant.0 (adds_one _ _ _ _ _ _ _ same.told),
+      adds_more _ _ _ _ _ _ _ _ _ _ c.loop-i.invariant.0 (adds_one _ _ _ _ _ _ _ same.told),
       same.counted ∙ omega (arith, c.loop-i.invariant.1, adds),
       omega (arith, same.kept, c.loop-i.invariant.2),
       omega (arith, c.loop-i.invariant.3),
     )
 
-pub equal_entries-returns-in_ok-same-in-Some-clause-told :
-    goal.equal_entries-returns-in_ok-same-in-Some-clause-told
-equal_entries-returns-in_ok-same-in-Some-clause-told g t c =
-    let entries = rw c.in-Some.is at c.row_entries.ensures in
-    entry_bit g.K.LeafKernel.agree c.args.left.now c.args.right.now c.args.a c.args.b _ _ c.in-Some.pair c.in_ok-same-in-Some.same c.requires.left_good c.requires.right_good (omega (arith, c.requires.left_in)) (omega (arith, c.requires.right_in)) c.values-entries.ensures.values c.values-others.ensures.values entries c.in_ok-same-in-Some.ensures.told
+pub equal_pair-returns-in_ok-same-in-Some-clause-told :
+    goal.equal_pair-returns-in_ok-same-in-Some-clause-told
+equal_pair-returns-in_ok-same-in-Some-clause-told g t c =
+    let entries = rw c.in-Some.is at c.requires.entries in
+    entry_bit g.K.LeafKernel.agree c.args.left.now c.args.right.now c.args.a c.args.b _ _ c.in-Some.pair c.in_ok-same-in-Some.same c.requires.windows.left_good c.requires.windows.right_good (omega (arith, c.requires.windows.left_in)) (omega (arith, c.requires.windows.right_in)) c.values-entries.ensures.values c.values-others.ensures.values entries c.in_ok-same-in-Some.ensures.told
 
-pub equal_entries-returns-in_ok-same-in-Some-clause-counted :
-    goal.equal_entries-returns-in_ok-same-in-Some-clause-counted
-equal_entries-returns-in_ok-same-in-Some-clause-counted g t c =
-    let entries = rw c.in-Some.is at c.row_entries.ensures in
+pub equal_pair-returns-in_ok-same-in-Some-clause-counted :
+    goal.equal_pair-returns-in_ok-same-in-Some-clause-counted
+equal_pair-returns-in_ok-same-in-Some-clause-counted g t c =
+    let entries = rw c.in-Some.is at c.requires.entries in
     c.in_ok-same-in-Some.ensures.counted
     ∙ ap (λ (k : ℕ). g.K.LeafKernel.count c.args.steps.now + k) (entry_count c.args.left.now c.args.right.now c.args.a c.args.b _ _ c.in-Some.pair c.values-entries.ensures.values c.values-others.ensures.values entries)
 
-pub equal_entries-returns-in-None-clause-told : goal.equal_entries-returns-in-None-clause-told
-equal_entries-returns-in-None-clause-told g t c =
-    entry_none _ c.args.left.now c.args.right.now c.args.a c.args.b _ c.requires.left_good c.requires.right_good (omega (arith, c.requires.left_in)) (omega (arith, c.requires.right_in)) (rw c.in-None.is at c.row_entries.ensures)
+pub equal_pair-returns-in-None-clause-told : goal.equal_pair-returns-in-None-clause-told
+equal_pair-returns-in-None-clause-told g t c =
+    entry_none _ c.args.left.now c.args.right.now c.args.a c.args.b _ c.requires.windows.left_good c.requires.windows.right_good (omega (arith, c.requires.windows.left_in)) (omega (arith, c.requires.windows.right_in)) (rw c.in-None.is at c.requires.entries)
 
 pub raw_row-leaf_row_eq-requires : goal.raw_row-leaf_row_eq-requires
 raw_row-leaf_row_eq-requires g t c = record {
@@ -373,11 +406,11 @@ struct_windows-equal_windows-requires g t c κs within =
 
 pub dictionary_windows-returns : goal.dictionary_windows-returns
 dictionary_windows-returns g t c =
-    let all : c.loop-i.i ≡ c.args.n = omega arith in
+    let all : c.loop-done.done ≡ c.args.n = omega (arith, c.loop-done.invariant.0) in
     record {
-      told = rw (c.freeze.ensures, ← all) c.loop-i.invariant.0;
-      counted = rw (← all) c.loop-i.invariant.1;
-      kept = c.loop-i.invariant.2;
+      told = rw (c.freeze.ensures, ← all) c.loop-done.invariant.1;
+      counted = rw (← all) c.loop-done.invariant.2;
+      kept = c.loop-done.invariant.3;
     }
 
 pub list_windows-returns : goal.list_windows-returns
@@ -389,17 +422,30 @@ list_windows-returns g t c =
       kept = c.loop-done.invariant.3;
     }
 
-pub dictionary_windows-equal_entries-requires : goal.dictionary_windows-equal_entries-requires
-dictionary_windows-equal_entries-requires g t c κs within = (
+pub dictionary_windows-push_entries-requires : goal.dictionary_windows-push_entries-requires
+dictionary_windows-push_entries-requires g t c κs within = (
   omega arith,
   (
     within,
-    record {
-      left_good = c.requires.left_good;
-      right_good = c.requires.right_good;
-      one_type = c.requires.one_type;
-      left_in = omega (arith, c.requires.left_in, c.loop-i-test.true);
-      right_in = omega (arith, c.requires.right_in, c.loop-i-test.true);
-    },
+    (
+      record {
+        left_good = c.requires.left_good;
+        right_good = c.requires.right_good;
+        one_type = c.requires.one_type;
+        left_in = omega (arith, c.requires.left_in, c.min-count.ensures);
+        right_in = omega (arith, c.requires.right_in, c.min-count.ensures);
+      },
+      (omega (arith, c.min-count.ensures), omega (arith, c.min-count.ensures, c.loop-done.invariant.4)),
+    ),
   ),
 )
+
+pub equal_entries-equal_pair-requires : goal.equal_entries-equal_pair-requires
+equal_entries-equal_pair-requires g t c κs within =
+    (omega arith, (within, (c.requires, c.row_entries-found.ensures)))
+
+pub equal_entries-returns-clause-told : goal.equal_entries-returns-clause-told
+equal_entries-returns-clause-told g t c = c.equal_pair.ensures.told
+
+pub equal_entries-returns-clause-counted : goal.equal_entries-returns-clause-counted
+equal_entries-returns-clause-counted g t c = c.equal_pair.ensures.counted

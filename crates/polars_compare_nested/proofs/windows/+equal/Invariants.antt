@@ -1,19 +1,30 @@
 use Rattle.std.proofs.Common.{◌≡◌, ◌+◌, ◌-◌, ◌≤◌, length, take}
 use Rattle.polars_arrays_nested.specs.Parts.{columns}
 use Rattle.polars_arrays_nested.specs.declared.any_array.AnyArray.{List, Dictionary}
-use Rattle.polars_compare_nested.specs.Bits.{RawBits}
+use Rattle.polars_compare_nested.specs.Bits.{AddsRawBits, RawBits}
 use Rattle.polars_compare_nested.specs.Known.{AreKnown}
 use Rattle.polars_compare_nested.specs.Tally.{tally}
 use Rattle.polars_compare_nested.specs.TallyColumns.{columns_tally}
 use Rattle.polars_compare_nested.proofs.Columns.{ColumnBits}
 use Rattle.polars_compare_nested.proofs.windows.+equal.Given as goal
 
-abbrev pub invariant-dictionary_windows-loop-i : goal.invariant-dictionary_windows-loop-i
-invariant-dictionary_windows-loop-i g l =
-    RawBits g.K.LeafKernel.agree (Dictionary l.left) l.a (Dictionary l.right) l.b l.i l.bits.bits
+abbrev pub invariant-dictionary_windows-loop-done : goal.invariant-dictionary_windows-loop-done
+invariant-dictionary_windows-loop-done g l =
+    (l.done ≤ l.n)
+    × RawBits g.K.LeafKernel.agree (Dictionary l.left) l.a (Dictionary l.right) l.b l.done l.bits.bits
+    × (g.K.LeafKernel.count l.steps ≡ g.K.LeafKernel.count l.fn.steps + tally (Dictionary l.left) (Dictionary l.right) l.a l.b l.done)
+    × (g.K.LeafKernel.count l.fn.steps ≤ g.K.LeafKernel.count l.steps)
+    × (l.n - l.done ≤ l.bits.room)
+
+abbrev pub decreases-dictionary_windows-loop-done : goal.decreases-dictionary_windows-loop-done
+decreases-dictionary_windows-loop-done g l = l.n - l.done
+
+abbrev pub invariant-push_entries-loop-i : goal.invariant-push_entries-loop-i
+invariant-push_entries-loop-i g l =
+    AddsRawBits g.K.LeafKernel.agree (Dictionary l.left) l.a (Dictionary l.right) l.b l.i l.fn.bits.bits l.bits.bits
     × (g.K.LeafKernel.count l.steps ≡ g.K.LeafKernel.count l.fn.steps + tally (Dictionary l.left) (Dictionary l.right) l.a l.b l.i)
     × (g.K.LeafKernel.count l.fn.steps ≤ g.K.LeafKernel.count l.steps)
-    × (l.n - l.i ≤ l.bits.room)
+    × (l.bits.room ≡ l.fn.bits.room - l.i)
 
 abbrev pub invariant-list_windows-loop-done : goal.invariant-list_windows-loop-done
 invariant-list_windows-loop-done g l =
