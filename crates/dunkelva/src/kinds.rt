@@ -89,8 +89,8 @@ pub(crate) fn usual_delimiter(left: &str, right: &str) -> Result<u8> {
     let (in_left, in_right) = (has_extension(left, ".tsv"), has_extension(right, ".tsv"));
     if in_left != in_right && left != "-" && right != "-" {
         return Err(anyhow!(
-            "by their names {left:?} and {right:?} have two delimiters, and both are read with one: \
-             convert one of them, or give --delimiter"
+            "by their names {left:?} and {right:?} have two delimiters, and both are read with \
+             one: convert one of them, or give --delimiter"
         ));
     }
     if in_left || in_right {

@@ -16,10 +16,10 @@ const MOST_BYTES: usize = 60;
 /// The bytes that may stand between fields where commas do not.
 const OTHER_DELIMITERS: &[u8] = b";\t|";
 
-/// Returns the beginning of a text, of at most this many bytes.
-fn beginning(text: &str, most: usize) -> &str {
-    for len in (0..most + 1).rev() {
-        if let Some(start) = text.get(..len) {
+/// Returns the beginning of a long name. No character is split.
+fn beginning(name: &str) -> &str {
+    for cut in 0..4 {
+        if let Some(start) = name.get(..MOST_BYTES - cut) {
             return start;
         }
     }
@@ -38,7 +38,7 @@ fn push_name(text: &mut String, alloc: Global, name: &[u8], is_first: bool) -> R
         text.push_str(&format!(in alloc; "{name:?}")?)?;
         return Ok(());
     }
-    let start = beginning(name, MOST_BYTES);
+    let start = beginning(name);
     text.push_str(&format!(in alloc; "{start:?}..")?)?;
     Ok(())
 }

@@ -75,51 +75,61 @@ fn option_of(tolerance: &Tolerance<'_>) -> &'static str {
     }
 }
 
-/// Returns the option that gives the tolerance at this place, and the column that it is for.
-fn tolerance_in<'a>(place: usize, options: &Options<'a>) -> (&'static str, Option<&'a [u8]>) {
-    let Some(tolerances) = options.tolerances else {
-        return (ABSOLUTE, None);
-    };
-    match tolerances.get(place) {
-        Some(tolerance) => (option_of(tolerance), Some(tolerance.column)),
-        None => (ABSOLUTE, None),
-    }
-}
-
-/// Returns the option that gives the name at this place of a list, and the name.
-fn name_in<'a>(
-    list: NameList,
-    place: usize,
-    options: &Options<'a>,
-) -> (&'static str, Option<&'a [u8]>) {
-    let (option, names) = match list {
+/// Returns the option that gives a list of names, and the names in the list.
+fn names_in<'a>(list: NameList, options: &Options<'a>) -> (&'static str, &'a [&'a [u8]]) {
+    match list {
         NameList::Only => ("only", options.choice.only.unwrap_or(&[])),
         NameList::Ignored => ("ignore", options.choice.ignored),
         NameList::Texts => ("text", options.numbers.unwrap_or(&[])),
-        NameList::Tolerances => return tolerance_in(place, options),
-    };
-    (option, names.get(place).copied())
+        NameList::Tolerances => (ABSOLUTE, &[]),
+    }
 }
 
-/// Returns the error for a name in a list that is not the name of a column of either file. The
-/// columns of `file` are listed, if it can be read once more.
+/// Returns the error for a name that is not the name of a column of either file. The columns of
+/// `file` are listed, if it can be read once more.
+fn unknown_column(
+    rt: &HostRuntime,
+    file: &str,
+    option: &str,
+    name: &str,
+    csv: CsvOptions,
+) -> Error {
+    match columns_of(rt, file, csv) {
+        Some(names) => anyhow!(
+            "--{option}: neither file has a column named {name:?}: the columns of {file} are \
+             {names}"
+        ),
+        None => anyhow!("--{option}: neither file has a column named {name:?}"),
+    }
+}
+
+/// Returns the error for a tolerance for a column that neither file has.
+fn no_tolerance_column(rt: &HostRuntime, file: &str, place: usize, options: &Options<'_>) -> Error {
+    let tolerances = options.tolerances.unwrap_or(&[]);
+    match tolerances.get(place) {
+        Some(tolerance) => {
+            let name = text_of(tolerance.column);
+            unknown_column(rt, file, option_of(tolerance), name, options.csv)
+        }
+        None => anyhow!("--{ABSOLUTE}: neither file has a column of this name"),
+    }
+}
+
+/// Returns the error for a name in a list that is not the name of a column of either file.
 fn no_column(
     rt: &HostRuntime,
     file: &str,
     list: NameList,
-    name: usize,
+    place: usize,
     options: &Options<'_>,
 ) -> Error {
-    let (option, name) = name_in(list, name, options);
-    let name = match name {
-        Some(name) => text_of(name),
-        None => return anyhow!("--{option}: neither file has a column of this name"),
-    };
-    match columns_of(rt, file, options.csv) {
-        Some(names) => anyhow!(
-            "--{option}: neither file has a column named {name:?}: the columns of {file} are {names}"
-        ),
-        None => anyhow!("--{option}: neither file has a column named {name:?}"),
+    if let NameList::Tolerances = list {
+        return no_tolerance_column(rt, file, place, options);
+    }
+    let (option, names) = names_in(list, options);
+    match names.get(place) {
+        Some(name) => unknown_column(rt, file, option, text_of(name), options.csv),
+        None => anyhow!("--{option}: neither file has a column of this name"),
     }
 }
 
