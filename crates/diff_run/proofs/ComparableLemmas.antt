@@ -78,3 +78,9 @@ number_told options names both (error.Csv side cause) fault = absurd fault
 number_told options names both (error.Columns cause) fault = absurd fault
 number_told options names both (error.Choice cause) fault = absurd fault
 number_told options names both (error.Write cause) fault = absurd fault
+
+-- for tables that are compared without tolerances
+pub ruleset exactly = (exact_none, exact_tables, number_told)
+
+-- for tables that are compared as the options say
+pub ruleset compared = (exact, tolerant, tolerance_fault, number_told)

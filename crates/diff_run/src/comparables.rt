@@ -136,7 +136,7 @@ fn with_tolerances(
 
 /// Returns the tables that the rows of both inputs are compared by without tolerances, if they are
 /// not compared as they are.
-#[tactic(auto, using(crate::proofs::ComparableLemmas::exact_none, crate::proofs::ComparableLemmas::exact_tables, crate::proofs::ComparableLemmas::number_told,))]
+#[tactic(auto, using(crate::proofs::ComparableLemmas::exactly))]
 fn compared_exactly(
     alloc: Global,
     names: &BinaryArray<i64>,
@@ -160,7 +160,7 @@ fn compared_exactly(
 
 /// Returns the tables that the rows of both inputs are compared by, if they are not compared as
 /// they are.
-#[tactic(auto, using(crate::proofs::ComparableLemmas::exact, crate::proofs::ComparableLemmas::tolerant, crate::proofs::ComparableLemmas::tolerance_fault, crate::proofs::ComparableLemmas::number_told,))]
+#[tactic(auto, using(crate::proofs::ComparableLemmas::compared))]
 pub(crate) fn compared_by(
     alloc: Global,
     names: &BinaryArray<i64>,
