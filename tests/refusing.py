@@ -7,7 +7,6 @@ environment names:
 | Variable | |
 |---|---|
 | `REFUSED=N` | the request for memory of this number, from 1 on |
-| `SILENT` | all requests for memory between those of the two marking sizes |
 | `READ_FAILS=N`, `WRITE_FAILS=N` | the read or the write of this number fails |
 | `BYTEWISE` | a read or a write moves a byte at most |
 | `READS_INTERRUPTED`, `WRITES_INTERRUPTED` | every other read or write is interrupted by a signal |
@@ -33,10 +32,8 @@ SOURCE = r"""
 #include <sys/syscall.h>
 #include <unistd.h>
 
-enum { BEGIN = 77777, END = 88888 };
-
-static long asked, begun, ended, within, refused = -1, reads, writes, read_fails = -1, write_fails = -1, change_at = -1;
-static int is_ready, is_silent, is_within, is_bytewise, reads_interrupted, writes_interrupted;
+static long asked, refused = -1, reads, writes, read_fails = -1, write_fails = -1, change_at = -1;
+static int is_ready, is_bytewise, reads_interrupted, writes_interrupted;
 
 static long number_of(const char *name) {
     const char *number = getenv(name);
@@ -49,47 +46,43 @@ static void prepare(void) {
     read_fails = number_of("READ_FAILS");
     write_fails = number_of("WRITE_FAILS");
     change_at = number_of("CHANGE_AT");
-    is_silent = getenv("SILENT") != NULL;
     is_bytewise = getenv("BYTEWISE") != NULL;
     reads_interrupted = getenv("READS_INTERRUPTED") != NULL;
     writes_interrupted = getenv("WRITES_INTERRUPTED") != NULL;
     is_ready = 1;
 }
 
-static int is_refused(size_t size) {
+static int is_refused(void) {
     prepare();
     asked++;
-    if (size == BEGIN) { begun++; is_within = 1; return 0; }
-    if (size == END) { ended += is_within; is_within = 0; return 0; }
-    within += is_within;
-    return asked == refused || (is_within && is_silent);
+    return asked == refused;
 }
 
 void *malloc(size_t size) {
     static void *(*real)(size_t);
     if (!real) real = dlsym(RTLD_NEXT, "malloc");
-    if (is_refused(size)) { errno = ENOMEM; return NULL; }
+    if (is_refused()) { errno = ENOMEM; return NULL; }
     return real(size);
 }
 
 void *realloc(void *old, size_t size) {
     static void *(*real)(void *, size_t);
     if (!real) real = dlsym(RTLD_NEXT, "realloc");
-    if (is_refused(size)) { errno = ENOMEM; return NULL; }
+    if (is_refused()) { errno = ENOMEM; return NULL; }
     return real(old, size);
 }
 
 void *aligned_alloc(size_t align, size_t size) {
     static void *(*real)(size_t, size_t);
     if (!real) real = dlsym(RTLD_NEXT, "aligned_alloc");
-    if (is_refused(size)) { errno = ENOMEM; return NULL; }
+    if (is_refused()) { errno = ENOMEM; return NULL; }
     return real(align, size);
 }
 
 int posix_memalign(void **to, size_t align, size_t size) {
     static int (*real)(void **, size_t, size_t);
     if (!real) real = dlsym(RTLD_NEXT, "posix_memalign");
-    if (is_refused(size)) return ENOMEM;
+    if (is_refused()) return ENOMEM;
     return real(to, align, size);
 }
 
@@ -128,8 +121,7 @@ ssize_t write(int fd, const void *from, size_t size) {
 
 __attribute__((destructor)) static void tell(void) {
     if (getenv("ASKED")) {
-        dprintf(2, "asked=%ld begun=%ld ended=%ld within=%ld reads=%ld writes=%ld\n", asked, begun, ended, within,
-                reads, writes);
+        dprintf(2, "asked=%ld reads=%ld writes=%ld\n", asked, reads, writes);
     }
 }
 """
@@ -166,6 +158,4 @@ def run(command, file, library, folder=None, **environment):
 def counts(complaints):
     """Returns the counts that the library told; of a run that it could not tell of they are 0."""
     told = {name: int(number) for name, number in re.findall(r"(\w+)=(\d+)", complaints)}
-    return {
-        name: told.get(name, 0) for name in ("asked", "begun", "ended", "within", "reads", "writes")
-    }
+    return {name: told.get(name, 0) for name in ("asked", "reads", "writes")}
