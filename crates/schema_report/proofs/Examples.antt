@@ -5,7 +5,7 @@ use Rattle.diff_words.specs.Quoted.{byte_text, quoted}
 use Rattle.diff_words.specs.Words.{word_text}
 use Rattle.schema_columns.specs.declared.kind.Kind.TheVariants.{Truth, Whole, Text}
 use Rattle.schema_report.specs.Aligned.{aligned}
-use Rattle.schema_report.specs.Changes.{kind_line}
+use Rattle.schema_report.specs.ColumnChanges.{kind_line}
 use Rattle.schema_report.specs.Text.{head_line}
 use Rattle.schema_report.specs.Words.{value_text}
 
