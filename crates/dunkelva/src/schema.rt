@@ -5,7 +5,7 @@ use crate::files::open;
 use crate::kinds::hold_documents;
 use crate::options::options;
 use crate::outputs::refuse_own_output;
-use crate::trouble::{csv_trouble, read_trouble};
+use crate::trouble::{csv_trouble, schema_trouble};
 use crate::words::csv_options;
 use anyhow::{Result, anyhow};
 use clap::{Arg, ArgMatches, Command};
@@ -26,12 +26,19 @@ Files whose names end in .ndjson or .jsonl have a JSON object in each line; file
 named .json need --input. Each path in them, such as order.id or items[].price,
 has the number of its values of each kind, and of the documents without it;
 distinct, least and greatest are of the numbers. --null, --delimiter and
---no-header are for CSV alone.
+--no-header are for CSV alone, and --skip-bad is for JSON alone.
 
 The status is 0, or 2 where the file can't be read.";
 
 /// The options of `dunkelva diff` that the command has too.
-const SHARED: [&str; 5] = ["null", "delimiter", "no-header", "input", "format"];
+const SHARED: [&str; 6] = [
+    "null",
+    "delimiter",
+    "no-header",
+    "skip-bad",
+    "input",
+    "format",
+];
 
 /// The status if the file can't be read, or if nobody reads the output.
 const TROUBLE: u8 = 2;
@@ -96,15 +103,24 @@ pub(crate) fn refuse_of_tables(matches: &ArgMatches<'_>) -> Result<()> {
     Ok(())
 }
 
+/// Refuses an option that only documents have.
+pub(crate) fn refuse_of_documents(matches: &ArgMatches<'_>) -> Result<()> {
+    if matches.get_flag("skip-bad") {
+        return Err(anyhow!("--skip-bad is for JSON documents alone"));
+    }
+    Ok(())
+}
+
 /// Returns the text of the schemas of the paths of a file's documents.
 fn documents_text(rt: &HostRuntime, matches: &ArgMatches<'_>, file: &str) -> Result<Vec<u8>> {
     refuse_of_tables(matches)?;
     let input = open(rt, file, false)?;
     let mut text = Vec::new(rt.alloc());
     let (name, form) = (file.as_bytes(), form_in(matches));
-    match documents::push_schema_of(rt.alloc(), &mut text, name, input.reader, form) {
+    let skip_bad = matches.get_flag("skip-bad");
+    match documents::push_schema_of(rt.alloc(), &mut text, name, input.reader, skip_bad, form) {
         Ok(()) => Ok(text),
-        Err(error) => Err(read_trouble(error, &[]).context(file)),
+        Err(error) => Err(schema_trouble(error).context(file)),
     }
 }
 
@@ -140,6 +156,7 @@ pub(crate) fn show_schema(rt: &HostRuntime, matches: &ArgMatches<'_>) -> Result<
         let text = documents_text(rt, matches, file)?;
         return print_text(rt, &text, 0);
     }
+    refuse_of_documents(matches)?;
     let options = csv_options(matches, file, file)?;
     let text = schema_text(rt, matches, file, options)?;
     print_text(rt, &text, 0)

@@ -4,14 +4,14 @@ use crate::files::open;
 use crate::kinds::hold_documents;
 use crate::options::{Takes, options};
 use crate::outputs::refuse_own_output;
-use crate::schema::{form_in, null_in, print_text, refuse_of_tables};
-use crate::trouble::{csv_trouble, read_trouble};
+use crate::schema::{form_in, null_in, print_text, refuse_of_documents, refuse_of_tables};
+use crate::trouble::{csv_trouble, schema_trouble};
 use crate::words::csv_options;
 use anyhow::{Result, anyhow};
 use clap::ArgMatches;
 use diff_csv::options::CsvOptions;
-use schema_documents::changes_json::push_path_objects;
-use schema_documents::changes_text::push_path_lines;
+use schema_documents::changes_json::push_document_objects;
+use schema_documents::changes_text::push_document_lines;
 use schema_paths::read::{DocumentSchema, read_document_schema};
 use schema_report::changes::{SchemaCounts, counts_of};
 use schema_report::changes_json::push_column_objects;
@@ -32,13 +32,12 @@ const OTHERS: [&str; 7] = [
 ];
 
 /// The options of `dunkelva diff` without a value that can't be given with `--schema-only`.
-const OTHER_FLAGS: [&str; 8] = [
+const OTHER_FLAGS: [&str; 7] = [
     "unique",
     "common",
     "numbers",
     "missing-is-null",
     "no-key-is-null",
-    "skip-bad",
     "summary",
     "markdown",
 ];
@@ -60,11 +59,16 @@ fn columns_in(
 
 /// Reads the schemas of the paths of a file's documents. `is_beside` says that an input is standard
 /// input.
-fn paths_in(rt: &HostRuntime, file: &str, is_beside: bool) -> Result<DocumentSchema> {
+fn paths_in(
+    rt: &HostRuntime,
+    matches: &ArgMatches<'_>,
+    file: &str,
+    is_beside: bool,
+) -> Result<DocumentSchema> {
     let input = open(rt, file, is_beside)?;
-    match read_document_schema(rt.alloc(), input.reader) {
+    match read_document_schema(rt.alloc(), input.reader, matches.get_flag("skip-bad")) {
         Ok(schema) => Ok(schema),
-        Err(error) => Err(read_trouble(error, &[]).context(file)),
+        Err(error) => Err(schema_trouble(error).context(file)),
     }
 }
 
@@ -107,6 +111,7 @@ fn compare_columns(
     right: &str,
     is_beside: bool,
 ) -> Result<u8> {
+    refuse_of_documents(matches)?;
     let options = csv_options(matches, left, right)?;
     let before = columns_in(rt, matches, left, options, is_beside)?.columns;
     let after = columns_in(rt, matches, right, options, is_beside)?.columns;
@@ -128,15 +133,15 @@ fn compare_paths(
     is_beside: bool,
 ) -> Result<u8> {
     refuse_of_tables(matches)?;
-    let before = paths_in(rt, left, is_beside)?.paths;
-    let after = paths_in(rt, right, is_beside)?.paths;
+    let before = paths_in(rt, matches, left, is_beside)?;
+    let after = paths_in(rt, matches, right, is_beside)?;
     let files = names_of(left, right);
     let mut text = Vec::new(rt.alloc());
     match form_in(matches) {
-        Form::Text => push_path_lines(&mut text, files, &before, &after)?,
-        Form::Json => push_path_objects(&mut text, &before, &after)?,
+        Form::Text => push_document_lines(&mut text, files, &before, &after)?,
+        Form::Json => push_document_objects(&mut text, &before, &after)?,
     }
-    print_text(rt, &text, status_of(counts_of(&before, &after)))
+    print_text(rt, &text, status_of(counts_of(&before.paths, &after.paths)))
 }
 
 /// Prints the differences between the schemas of two files, and returns the status.

@@ -5,14 +5,16 @@
 -- 1 changed, 1 removed, 0 added, 6 the same.
 use Rattle.std.specs.List.{flat_map}
 use Rattle.std.specs.Prelude.{◌≡◌, ◌==◌, ℕ, Bool, true, false, if◌then◌else◌, List, [], ◌∷◌, ◌++◌}
-use Rattle.std.specs.Prelude.{codes}
+use Rattle.std.specs.Prelude.{length, codes}
 use Rattle.diff_columns.specs.Errors.{word_of}
 use Rattle.diff_columns.specs.declared.error.Side.{Side}
 use Rattle.diff_json.specs.Strings.{json_string}
 use Rattle.diff_words.specs.Words.{word_text}
+use Rattle.document_words.specs.Skipped.{skipped_members, skipped_text}
 use Rattle.json_plain.specs.Plain.{plain_json}
 use Rattle.schema_paths.specs.Paths.{same_kinds}
 use Rattle.schema_paths.specs.declared.paths.PathSchema.{PathSchema}
+use Rattle.schema_paths.specs.declared.read.DocumentSchema.{DocumentSchema}
 use Rattle.schema_report.specs.Changes.{changes_text, counts_of}
 use Rattle.schema_report.specs.ColumnChanges.{counts_line, counts_members, file_on}
 use Rattle.schema_report.specs.declared.files.Files.{Files}
@@ -67,6 +69,12 @@ path_lines files left right =
     kinds_line left right
     ++ counts_line (counts_of path_name same_kinds left right)
 
+-- these lines, and how many lines of each file are passed over, if some are
+abbrev pub document_lines : Files → DocumentSchema → DocumentSchema → List ℕ
+document_lines files left right = path_lines files left.paths.items right.paths.items
+    ++ skipped_text files.left.now left.skipped.items
+    ++ skipped_text files.right.now right.skipped.items
+
 -- ---- as JSON lines
 
 -- the object of a path that one file has alone
@@ -80,10 +88,12 @@ kinds_object s t = codes "{\"kind\":\"type\",\"path\":" ++ json_string s.path.it
     ++ codes ",\"left\":[\"" ++ joined (codes "\",\"") (kind_words s)
     ++ codes "\"],\"right\":[\"" ++ joined (codes "\",\"") (kind_words t) ++ codes "\"]}\n"
 
--- the objects of the paths of two files that differ, and of the counts
-abbrev pub path_objects : List PathSchema → List PathSchema → List ℕ
-path_objects left right =
-    changes_text path_name same_kinds (λ side s. alone_object side s.path.items) kinds_object left
-    right
-    ++ counts_members (counts_of path_name same_kinds left right)
+-- the objects of the paths of two files that differ, and of the counts, in which stands too how
+-- many lines of each file are passed over, if lines may be
+abbrev pub document_objects : DocumentSchema → DocumentSchema → List ℕ
+document_objects left right =
+    changes_text path_name same_kinds (λ side s. alone_object side s.path.items) kinds_object
+    left.paths.items right.paths.items
+    ++ counts_members (counts_of path_name same_kinds left.paths.items right.paths.items)
+    ++ skipped_members left.skip_bad (length left.skipped.items) (length right.skipped.items)
     ++ codes "}\n"

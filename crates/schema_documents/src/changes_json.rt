@@ -2,12 +2,14 @@
 
 ghost use Rattle.std.specs.Prelude.{◌≡◌, ◌++◌, OnOk};
 ghost use Rattle.diff_columns.specs.Errors.{word_of};
-ghost use Rattle.schema_documents.specs.Changes.{alone_object, kinds_object, path_objects};
+ghost use Rattle.schema_documents.specs.Changes.{alone_object, document_objects, kinds_object};
 
 use crate::kinds::push_kinds;
+use crate::skipped::push_skipped_members;
 use diff_columns::error::Side;
 use diff_json::strings::push_string;
 use schema_paths::paths::PathSchema;
+use schema_paths::read::DocumentSchema;
 use schema_report::changes::{ChangeForm, counts_of, push_changes};
 use schema_report::changes_json::push_counts_members;
 use std::alloc::AllocError;
@@ -80,17 +82,20 @@ impl ChangeForm<PathSchema> for PathObjects {
     }
 }
 
-/// Appends the differences between the paths of two files, as JSON lines: an object for each
-/// difference, and one for the counts.
-pub fn push_path_objects(
+/// Appends the differences between the paths of two files of documents, as JSON lines: an object
+/// for each difference, and one for the counts. Where lines may be passed over, the latter says how
+/// many of each file are.
+pub fn push_document_objects(
     out: &mut Vec<u8>,
-    left: &[PathSchema],
-    right: &[PathSchema],
+    left: &DocumentSchema,
+    right: &DocumentSchema,
 ) -> Result<(), AllocError>
-    ensures { OnOk result (out.new.items ≡ out.old.items ++ path_objects left.now right.now) }
+    ensures { OnOk result
+        (out.new.items ≡ out.old.items ++ document_objects left.now right.now) }
 {
-    push_changes(out, &PathObjects, left, right)?;
-    push_counts_members(out, counts_of(left, right))?;
+    push_changes(out, &PathObjects, &left.paths, &right.paths)?;
+    push_counts_members(out, counts_of(&left.paths, &right.paths))?;
+    push_skipped_members(out, left.skip_bad, left.skipped.len(), right.skipped.len())?;
     out.extend_from_slice(b"}\n")?;
     Ok(())
 }

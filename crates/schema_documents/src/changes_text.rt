@@ -1,13 +1,16 @@
 //! Differences between the paths of two files of documents, as text.
 
 ghost use Rattle.std.specs.Prelude.{◌≡◌, ◌++◌, OnOk};
-ghost use Rattle.schema_documents.specs.Changes.{alone_line, kinds_line, path_lines};
+ghost use Rattle.schema_documents.specs.Changes.{alone_line, document_lines, kinds_line};
+ghost use Rattle.schema_documents.specs.Changes.{path_lines};
 
 use crate::kinds::push_kinds;
+use crate::skipped::push_skipped;
 use diff_columns::error::Side;
 use diff_words::words::push_word;
 use json_plain::plain::push_plain_json;
 use schema_paths::paths::PathSchema;
+use schema_paths::read::DocumentSchema;
 use schema_report::changes::{ChangeForm, counts_of, push_changes};
 use schema_report::changes_text::push_counts;
 use schema_report::files::{Files, file_on};
@@ -74,9 +77,9 @@ impl ChangeForm<PathSchema> for PathLines<'_> {
     }
 }
 
-/// Appends the differences between the paths of two files, as text: a line for each difference, and
-/// one for the counts.
-pub fn push_path_lines(
+/// Appends the differences between the paths of two files: a line for each difference, and one for
+/// the counts.
+fn push_path_lines(
     out: &mut Vec<u8>,
     files: Files<'_>,
     left: &[PathSchema],
@@ -86,5 +89,22 @@ pub fn push_path_lines(
 {
     push_changes(out, &PathLines { files }, left, right)?;
     push_counts(out, counts_of(left, right))?;
+    Ok(())
+}
+
+/// Appends the differences between the paths of two files of documents, as text: a line for each
+/// difference, one for the counts, and one for each file of which lines are passed over.
+pub fn push_document_lines(
+    out: &mut Vec<u8>,
+    files: Files<'_>,
+    left: &DocumentSchema,
+    right: &DocumentSchema,
+) -> Result<(), AllocError>
+    ensures { OnOk result
+        (out.new.items ≡ out.old.items ++ document_lines files left.now right.now) }
+{
+    push_path_lines(out, files, &left.paths, &right.paths)?;
+    push_skipped(out, files.left, &left.skipped)?;
+    push_skipped(out, files.right, &right.skipped)?;
     Ok(())
 }

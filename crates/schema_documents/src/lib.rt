@@ -8,4 +8,5 @@ mod grid;
 pub mod json_lines;
 mod kinds;
 pub mod said;
+mod skipped;
 pub mod text;
