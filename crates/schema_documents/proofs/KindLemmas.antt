@@ -33,7 +33,3 @@ next_word between before (w ∷ more) text word h = record {
     one_more [] = sym (append-nil (between ++ word))
     one_more (x ∷ xs) = ap (λ l. l ++ (between ++ word)) (flat_map-cons (λ n. between ++ n) x xs) ∙ append_assoc (between ++ x) (flat_map (λ n. between ++ n) xs) (between ++ word)
         ∙ ap (λ l. (between ++ x) ++ l) (one_more xs) ∙ sym (flat_map-cons (λ n. between ++ n) x (xs ++ word ∷ []))
-
--- six lists that are joined from the left
-pub six : {A : Type 0} (a b c d e f : List A) → (((((a ++ b) ++ c) ++ d) ++ e) ++ f) ≡ a ++ b ++ c ++ d ++ e ++ f
-six a b c d e f = append_assoc (((a ++ b) ++ c) ++ d) e f ∙ append_assoc ((a ++ b) ++ c) d (e ++ f) ∙ append_assoc (a ++ b) c (d ++ e ++ f) ∙ append_assoc a b (c ++ d ++ e ++ f)

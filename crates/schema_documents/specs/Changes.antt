@@ -88,12 +88,15 @@ kinds_object s t = codes "{\"kind\":\"type\",\"path\":" ++ json_string s.path.it
     ++ codes ",\"left\":[\"" ++ joined (codes "\",\"") (kind_words s)
     ++ codes "\"],\"right\":[\"" ++ joined (codes "\",\"") (kind_words t) ++ codes "\"]}\n"
 
--- the objects of the paths of two files that differ, and of the counts, in which stands too how
--- many lines of each file are passed over, if lines may be
+-- the objects of the paths of two files that differ, and the beginning of the object of the counts
+abbrev pub path_objects : List PathSchema → List PathSchema → List ℕ
+path_objects left right =
+    changes_text path_name same_kinds (λ side s. alone_object side s.path.items) kinds_object left
+    right
+    ++ counts_members (counts_of path_name same_kinds left right)
+
+-- these objects; the last one says how many lines of each file are passed over, if lines may be
 abbrev pub document_objects : DocumentSchema → DocumentSchema → List ℕ
-document_objects left right =
-    changes_text path_name same_kinds (λ side s. alone_object side s.path.items) kinds_object
-    left.paths.items right.paths.items
-    ++ counts_members (counts_of path_name same_kinds left.paths.items right.paths.items)
+document_objects left right = path_objects left.paths.items right.paths.items
     ++ skipped_members left.skip_bad (length left.skipped.items) (length right.skipped.items)
     ++ codes "}\n"

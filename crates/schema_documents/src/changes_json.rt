@@ -3,6 +3,7 @@
 ghost use Rattle.std.specs.Prelude.{◌≡◌, ◌++◌, OnOk};
 ghost use Rattle.diff_columns.specs.Errors.{word_of};
 ghost use Rattle.schema_documents.specs.Changes.{alone_object, document_objects, kinds_object};
+ghost use Rattle.schema_documents.specs.Changes.{path_objects};
 
 use crate::kinds::push_kinds;
 use crate::skipped::push_skipped_members;
@@ -82,19 +83,31 @@ impl ChangeForm<PathSchema> for PathObjects {
     }
 }
 
-/// Appends the differences between the paths of two files of documents, as JSON lines: an object
-/// for each difference, and one for the counts. Where lines may be passed over, the latter says how
-/// many of each file are.
+/// Appends the differences between the paths of two files: an object for each difference, and one
+/// for the counts without its end.
+fn push_path_objects(
+    out: &mut Vec<u8>,
+    left: &[PathSchema],
+    right: &[PathSchema],
+) -> Result<(), AllocError>
+    ensures { OnOk result (out.new.items ≡ out.old.items ++ path_objects left.now right.now) }
+{
+    push_changes(out, &PathObjects, left, right)?;
+    push_counts_members(out, counts_of(left, right))?;
+    Ok(())
+}
+
+/// Appends the differences between the paths of two files of documents, as JSON lines: an object for
+/// each difference, and one for the counts. Where lines may be passed over, the latter says how many
+/// of each file are.
 pub fn push_document_objects(
     out: &mut Vec<u8>,
     left: &DocumentSchema,
     right: &DocumentSchema,
 ) -> Result<(), AllocError>
-    ensures { OnOk result
-        (out.new.items ≡ out.old.items ++ document_objects left.now right.now) }
+    ensures { OnOk result (out.new.items ≡ out.old.items ++ document_objects left.now right.now) }
 {
-    push_changes(out, &PathObjects, &left.paths, &right.paths)?;
-    push_counts_members(out, counts_of(&left.paths, &right.paths))?;
+    push_path_objects(out, &left.paths, &right.paths)?;
     push_skipped_members(out, left.skip_bad, left.skipped.len(), right.skipped.len())?;
     out.extend_from_slice(b"}\n")?;
     Ok(())

@@ -85,7 +85,8 @@ fn push_path_lines(
     left: &[PathSchema],
     right: &[PathSchema],
 ) -> Result<(), AllocError>
-    ensures { OnOk result (out.new.items ≡ out.old.items ++ path_lines files left.now right.now) }
+    ensures { OnOk result
+        (out.new.items ≡ out.old.items ++ path_lines files.entry left.now right.now) }
 {
     push_changes(out, &PathLines { files }, left, right)?;
     push_counts(out, counts_of(left, right))?;
@@ -101,7 +102,7 @@ pub fn push_document_lines(
     right: &DocumentSchema,
 ) -> Result<(), AllocError>
     ensures { OnOk result
-        (out.new.items ≡ out.old.items ++ document_lines files left.now right.now) }
+        (out.new.items ≡ out.old.items ++ document_lines files.entry left.now right.now) }
 {
     push_path_lines(out, files, &left.paths, &right.paths)?;
     push_skipped(out, files.left, &left.skipped)?;

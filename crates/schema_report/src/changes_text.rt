@@ -98,7 +98,8 @@ pub fn push_column_lines(
     left: &[ColumnSchema],
     right: &[ColumnSchema],
 ) -> Result<(), AllocError>
-    ensures { OnOk result (out.new.items ≡ out.old.items ++ column_lines files left.now right.now) }
+    ensures { OnOk result
+        (out.new.items ≡ out.old.items ++ column_lines files.entry left.now right.now) }
 {
     push_changes(out, &ColumnLines { files }, left, right)?;
     push_counts(out, counts_of(left, right))?;

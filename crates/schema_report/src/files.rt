@@ -14,7 +14,7 @@ pub struct Files<'a> {
 
 /// Returns the name of the file on a side.
 pub fn file_on<'a>(files: Files<'a>, side: Side) -> &'a [u8]
-    ensures { result.now ≡ file_on files side }
+    ensures { result.now ≡ file_on files.entry side }
 {
     match side {
         Side::Left => files.left,
