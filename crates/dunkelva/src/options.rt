@@ -196,8 +196,7 @@ static OPTIONS: [CliOption; 27] = [
     },
     CliOption {
         id: "schema-only",
-        goes_with: GoesWith::Tables,
-        help: "Compare the names and types of the columns, and no rows",
+        help: "Compare the columns and their types, or the paths in JSON, and no rows",
         ..SWITCH
     },
     CliOption {

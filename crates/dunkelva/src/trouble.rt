@@ -14,6 +14,7 @@ use document_rows::error::{LineFault, ReadError};
 use document_run::error::DocumentError;
 use document_run::options::DocumentOptions;
 use json_tolerances::closeness::Margin;
+use schema_paths::error::SchemaError;
 
 /// Returns the name of a side's file.
 fn file_of<'a>(files: (&'a [u8], &'a [u8]), side: Side) -> &'a str {
@@ -234,7 +235,7 @@ fn line_trouble(line: u64, column: Option<u64>, fault: LineFault, keys: &[&[u8]]
 
 /// Returns the error for an input of documents that can't be read. `keys` are the paths of the
 /// keys.
-pub(crate) fn read_trouble(cause: ReadError, keys: &[&[u8]]) -> Error {
+fn read_trouble(cause: ReadError, keys: &[&[u8]]) -> Error {
     match cause {
         ReadError::Line {
             line,
@@ -242,6 +243,18 @@ pub(crate) fn read_trouble(cause: ReadError, keys: &[&[u8]]) -> Error {
             fault,
         } => line_trouble(line, column, fault, keys),
         other => anyhow!("{other}"),
+    }
+}
+
+/// The error where --skip-bad would leave no line of a file.
+const ALL_SKIPPED: &str = "--skip-bad would skip every line";
+
+/// Returns the error for an input of documents whose schema can't be read.
+pub(crate) fn schema_trouble(error: SchemaError) -> Error {
+    match error {
+        SchemaError::Read { cause } => read_trouble(cause, &[]),
+        SchemaError::AllSkipped => anyhow!("{ALL_SKIPPED}"),
+        SchemaError::Memory => anyhow!("out of memory"),
     }
 }
 
@@ -260,7 +273,7 @@ pub(crate) fn document_trouble(
             one_key(first, again).context(file_of(files, side))
         }
         DocumentError::AllSkipped { side } => {
-            anyhow!("--skip-bad would skip every line").context(file_of(files, side))
+            anyhow!("{ALL_SKIPPED}").context(file_of(files, side))
         }
         other => anyhow!("{other}"),
     }

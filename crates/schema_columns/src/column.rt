@@ -12,7 +12,7 @@ ghost use Rattle.schema_values.specs.Told.{told_of};
 
 use crate::distinct::count_numbers;
 use crate::extremes::{ends_of_numbers, ends_of_strings};
-use crate::kind::{Kind, kind_of};
+use crate::kind::{Kind, is_same_kind, kind_of};
 use crate::present::present_cells;
 use crate::wholes::wholes_of;
 use diff_tables::table::Table;
@@ -21,6 +21,7 @@ use polars_arrays_bytes::binary::BinaryArray;
 use polars_compare_extremes::kernel::MinMaxKernel;
 use schema_values::distinct::count_strings;
 use schema_values::numbers::{Values, number_values};
+use schema_values::part::SchemaPart;
 use std::alloc::Global;
 
 /// A summary of the cells of a column. A cell that is the word for no value is null, and any other
@@ -44,6 +45,22 @@ pub struct ColumnSchema {
     pub least: Option<Vec<u8>>,
     /// The greatest value, by the same order. `None` in the same cases.
     pub greatest: Option<Vec<u8>>,
+}
+
+impl SchemaPart for ColumnSchema {
+    ghost use Rattle.schema_columns.specs.Kinds.{same_kind};
+
+    ghost name_of = { λ s. s.name.items };
+
+    ghost same_kinds = { λ s t. same_kind s.kind t.kind };
+
+    fn name(&self) -> &[u8] {
+        &self.name
+    }
+
+    fn has_kinds_of(&self, other: &ColumnSchema) -> bool {
+        is_same_kind(self.kind, other.kind)
+    }
 }
 
 /// Returns the number of different byte strings, and the least and the greatest of them.

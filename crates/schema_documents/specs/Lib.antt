@@ -1,3 +1,4 @@
+pub mod Changes
 pub mod Grid
 pub mod JsonLines
 pub mod Said

@@ -1,24 +1,61 @@
 //! The schemas of paths as JSON lines.
 
+ghost use Rattle.std.specs.List.{flat_map};
 ghost use Rattle.std.specs.Prelude.{◌≡◌, ◌++◌, OnOk};
-ghost use Rattle.schema_documents.specs.JsonLines.{end_members, head_members, kind_members};
-ghost use Rattle.schema_documents.specs.JsonLines.{number_members, path_line, schema_lines};
+ghost use Rattle.schema_documents.specs.JsonLines.{end_members, head_members, hole_members};
+ghost use Rattle.schema_documents.specs.JsonLines.{kind_members, name_members, number_members};
+ghost use Rattle.schema_documents.specs.JsonLines.{path_line, schema_lines, skipped_member};
 
 use diff_json::strings::push_string;
 use schema_paths::paths::PathSchema;
+use schema_paths::read::DocumentSchema;
 use schema_report::json_lines::{push_count, push_number, push_value};
 use std::alloc::AllocError;
 
-/// Appends the members with a path, the number of documents, and what is not there.
-#[tactic(auto, unfolding(crate::specs::JsonLines::head_members))]
-fn push_head(out: &mut Vec<u8>, path: &PathSchema) -> Result<(), AllocError>
-    ensures { OnOk result (out.new.items ≡ out.old.items ++ head_members path.now) }
+/// Appends the members with a path and the number of documents.
+#[tactic(auto, unfolding(crate::specs::JsonLines::name_members))]
+fn push_name(out: &mut Vec<u8>, path: &PathSchema) -> Result<(), AllocError>
+    ensures { OnOk result (out.new.items ≡ out.old.items ++ name_members path.now) }
 {
     out.extend_from_slice(br#"{"path":"#)?;
     push_string(out, &path.path)?;
     push_number(out, br#","documents":"#, path.documents)?;
+    Ok(())
+}
+
+/// Appends the member with the number of lines that are passed over, if lines may be.
+fn push_skipped(out: &mut Vec<u8>, skip_bad: bool, count: usize) -> Result<(), AllocError>
+    ensures { OnOk result (out.new.items ≡ out.old.items ++ skipped_member skip_bad count) }
+{
+    if !skip_bad {
+        return Ok(());
+    }
+    push_number(out, br#","skipped":"#, count)
+}
+
+/// Appends the members with the numbers of nulls, and of documents without the path.
+#[tactic(auto, unfolding(crate::specs::JsonLines::hole_members))]
+fn push_holes(out: &mut Vec<u8>, path: &PathSchema) -> Result<(), AllocError>
+    ensures { OnOk result (out.new.items ≡ out.old.items ++ hole_members path.now) }
+{
     push_number(out, br#","null":"#, path.nulls)?;
     push_number(out, br#","missing":"#, path.missing)?;
+    Ok(())
+}
+
+/// Appends the members with a path, and with the numbers of documents, lines that are passed over,
+/// nulls, and documents without the path.
+fn push_head(
+    out: &mut Vec<u8>,
+    skip_bad: bool,
+    count: usize,
+    path: &PathSchema,
+) -> Result<(), AllocError>
+    ensures { OnOk result (out.new.items ≡ out.old.items ++ head_members skip_bad count path.now) }
+{
+    push_name(out, path)?;
+    push_skipped(out, skip_bad, count)?;
+    push_holes(out, path)?;
     Ok(())
 }
 
@@ -56,22 +93,40 @@ fn push_ends(out: &mut Vec<u8>, path: &PathSchema) -> Result<(), AllocError>
 }
 
 /// Appends a path as an object in a line.
-fn push_path(out: &mut Vec<u8>, path: &PathSchema) -> Result<(), AllocError>
-    ensures { OnOk result (out.new.items ≡ out.old.items ++ path_line path.now) }
+fn push_path(
+    out: &mut Vec<u8>,
+    skip_bad: bool,
+    count: usize,
+    path: &PathSchema,
+) -> Result<(), AllocError>
+    ensures { OnOk result (out.new.items ≡ out.old.items ++ path_line skip_bad count path.now) }
 {
-    push_head(out, path)?;
+    push_head(out, skip_bad, count, path)?;
     push_kinds(out, path)?;
     push_numbers(out, path)?;
     push_ends(out, path)?;
     Ok(())
 }
 
-/// Appends paths as JSON lines, an object for each.
-pub fn push_schema_json(out: &mut Vec<u8>, paths: &[PathSchema]) -> Result<(), AllocError>
-    ensures { OnOk result (out.new.items ≡ out.old.items ++ schema_lines paths.now) }
+/// Appends paths as JSON lines, an object for each. `count` lines are passed over.
+fn push_paths(
+    out: &mut Vec<u8>,
+    skip_bad: bool,
+    count: usize,
+    paths: &[PathSchema],
+) -> Result<(), AllocError>
+    ensures { OnOk result
+        (out.new.items ≡ out.old.items ++ flat_map (path_line skip_bad count) paths.now) }
 {
     for path in paths {
-        push_path(out, path)?;
+        push_path(out, skip_bad, count, path)?;
     }
     Ok(())
+}
+
+/// Appends the paths of documents as JSON lines, an object for each.
+pub fn push_schema_json(out: &mut Vec<u8>, schema: &DocumentSchema) -> Result<(), AllocError>
+    ensures { OnOk result (out.new.items ≡ out.old.items ++ schema_lines schema.now) }
+{
+    push_paths(out, schema.skip_bad, schema.skipped.len(), &schema.paths)
 }

@@ -1,7 +1,12 @@
-//! The schema of JSON documents, as text and as JSON lines.
+//! The schema of JSON documents, and the differences between two such schemas, as text and as JSON
+//! lines.
 #![tactic(auto)]
 
+pub mod changes_json;
+pub mod changes_text;
 mod grid;
 pub mod json_lines;
+mod kinds;
 pub mod said;
+mod skipped;
 pub mod text;

@@ -1,13 +1,12 @@
 //! The schema of documents, printed as text or as JSON lines.
 
-ghost use Rattle.std.specs.Prelude.{◌≡◌, ◌++◌, [], ℕ, List, Some, IfErr, OnOk};
-ghost use Rattle.document_rows.specs.Errors.{IsMemory, IsReadFault};
-ghost use Rattle.schema_paths.specs.Documents.{whole};
+ghost use Rattle.std.specs.Prelude.{◌≡◌, ◌++◌, ℕ, List, Some, IfErr, OnOk};
+ghost use Rattle.schema_paths.specs.Errors.{IsMemory, IsSchemaFault};
 ghost use Rattle.schema_documents.specs.Said.{SaysSchemaOf, form_text};
 
 use crate::json_lines::push_schema_json;
 use crate::text::push_schema;
-use document_rows::error::ReadError;
+use schema_paths::error::SchemaError;
 use schema_paths::read::{DocumentSchema, read_document_schema};
 use schema_run::said::Form;
 use std::alloc::Global;
@@ -20,40 +19,41 @@ fn push_form(
     file: &[u8],
     schema: &DocumentSchema,
     form: Form,
-) -> Result<(), ReadError>
+) -> Result<(), SchemaError>
     ensures ok { OnOk result (out.new.items ≡ out.old.items ++ form_text form file.now schema.now) }
     ensures fault { IfErr result IsMemory }
 {
     match form {
         Form::Text => match push_schema(alloc, out, file, schema) {
             Ok(()) => Ok(()),
-            Err(_) => Err(ReadError::Memory),
+            Err(_) => Err(SchemaError::Memory),
         },
-        Form::Json => match push_schema_json(out, &schema.paths) {
+        Form::Json => match push_schema_json(out, schema) {
             Ok(()) => Ok(()),
-            Err(_) => Err(ReadError::Memory),
+            Err(_) => Err(SchemaError::Memory),
         },
     }
 }
 
-/// Reads documents, one a line, and appends their schema, under the name of their file. Fails with
-/// `Line` only if a line is no document, with `Read` if the reader fails, and otherwise with
-/// `Memory`.
+/// Reads documents, one a line, and appends their schema, under the name of their file. Fails as
+/// `read_document_schema` of `schema_paths` does.
 pub fn push_schema_of<R: Read + Drop>(
     alloc: Global,
     out: &mut Vec<u8>,
     file: &[u8],
     input: R,
+    skip_bad: bool,
     form: Form,
-) -> Result<(), ReadError>
+) -> Result<(), SchemaError>
     ensures said { OnOk result
         ((text : List ℕ) → R.remaining input ≡ Some text → (said : List ℕ)
-        × (out.new.items ≡ out.old.items ++ said) × SaysSchemaOf text form file.now said) }
+        × (out.new.items ≡ out.old.items ++ said)
+        × SaysSchemaOf text skip_bad form file.now said) }
     ensures fault { IfErr result
         (λ error. (text : List ℕ) → R.remaining input ≡ Some text
-        → IsReadFault text whole [] error) }
+        → IsSchemaFault text skip_bad error) }
 {
-    let schema = read_document_schema(alloc, input)?;
+    let schema = read_document_schema(alloc, input, skip_bad)?;
     push_form(alloc, out, file, &schema, form)?;
     Ok(())
 }

@@ -6,6 +6,7 @@ ghost use Rattle.schema_documents.specs.Text.{documents_word, head_line, paths_w
 ghost use Rattle.schema_documents.specs.Text.{schema_text};
 
 use crate::grid::grid_of;
+use crate::skipped::push_skipped;
 use diff_words::decimals::push_decimal;
 use diff_words::words::push_word;
 use polars_arrays_bits::error::ComputeError;
@@ -50,7 +51,8 @@ fn push_head(
     Ok(())
 }
 
-/// Appends the schemas of the paths of a file, in a line each. The only error is `Memory`.
+/// Appends the schemas of the paths of a file, in a line each, and how many lines are passed over
+/// if some are. The only error is `Memory`.
 pub fn push_schema(
     alloc: Global,
     out: &mut Vec<u8>,
@@ -63,5 +65,6 @@ pub fn push_schema(
     push_head(out, file, schema.documents, schema.paths.len())?;
     let grid = grid_of(alloc, &schema.paths)?;
     push_aligned(alloc, out, &grid)?;
+    push_skipped(out, file, &schema.skipped)?;
     Ok(())
 }

@@ -1,11 +1,13 @@
 -- The schemas of the paths a and a[] in {"a": 7} and {"b": 1, "a": [8, 9]}, and the kinds of values.
 use Rattle.std.proofs.Common.{◌≡◌, List, [], ◌∷◌, length, refl}
 use Rattle.std.specs.List.{count_by}
-use Rattle.std.specs.Prelude.{codes, not}
+use Rattle.std.specs.Prelude.{codes, false, not, true}
 use Rattle.json.specs.Json.{Json, null, number, string, array, no_items, item}
 use Rattle.json_groups.specs.Groups.{all_parts, has, values_at}
 use Rattle.json_parts.specs.Parts.{Part, part}
+use Rattle.schema_paths.specs.Documents.{none_kept}
 use Rattle.schema_paths.specs.Kinds.{is_array, is_null, is_text, numbers_in}
+use Rattle.schema_paths.specs.Paths.{is_alike}
 
 abbrev list : Json
 list = array (item (number (codes "8")) (item (number (codes "9")) no_items))
@@ -35,3 +37,17 @@ one-text = refl
 
 their-numbers : numbers_in values ≡ codes "7" ∷ codes "1.50" ∷ []
 their-numbers = refl
+
+-- of three lines all are passed over, or two of them
+all-skipped : none_kept [] (1 ∷ 2 ∷ 3 ∷ []) ≡ true
+all-skipped = refl
+
+two-skipped : none_kept (2 ∷ []) (1 ∷ 3 ∷ []) ≡ false
+two-skipped = refl
+
+-- two counts
+both-some : is_alike 1 5 ≡ true
+both-some = refl
+
+one-none : is_alike 0 5 ≡ false
+one-none = refl

@@ -5,29 +5,30 @@ use Rattle.std.proofs.lemmas.List.Elements.{All-push}
 use Rattle.diff_tables.specs.Tables.{TableRows}
 use Rattle.document_rows.specs.Documents.{document_row, tree_of}
 use Rattle.document_rows.specs.Tables.{AreRowsOf, line_at}
+use Rattle.document_rows.specs.declared.reading.Reading.{Reading}
 use Rattle.json.specs.Json.{Json}
 use Rattle.json.specs.Tree.{HasNumbers}
 use Rattle.json_groups.specs.Groups.{HoldsDocuments}
 use Rattle.json_groups.specs.declared.groups.Groups.{Groups}
 use Rattle.json_parts.specs.Parts.{Part, parts_below}
-use Rattle.schema_paths.specs.Documents.{AreGathered, parts_in, whole}
+use Rattle.schema_paths.specs.Documents.{AreGathered, parts_in}
 use Rattle.schema_paths.specs.Kinds.{HasKinds}
 use Rattle.schema_paths.specs.declared.kinds.Kinds.{Kinds}
 
 -- there is a row for each line
-pub lines_many : (t : TableRows) (lines : List (List ℕ)) → AreRowsOf whole [] lines t → length t.rows ≡ length lines
-lines_many t lines rows = ap length rows.rows ∙ length-map lines (document_row [])
+pub lines_many : (reading : Reading) (t : TableRows) (lines : List (List ℕ)) → AreRowsOf reading [] lines t → length t.rows ≡ length lines
+lines_many reading t lines rows = ap length rows.rows ∙ length-map lines (document_row [])
 
-line_is : (t : TableRows) (lines : List (List ℕ)) → AreRowsOf whole [] lines t → (i : ℕ) → i < length lines → line_at t i ≡ get_or lines i []
-line_is t lines rows i low =
+line_is : (reading : Reading) (t : TableRows) (lines : List (List ℕ)) → AreRowsOf reading [] lines t → (i : ℕ) → i < length lines → line_at t i ≡ get_or lines i []
+line_is reading t lines rows i low =
     ap (λ (w : ℕ). get_or (get_or t.rows i []) (w - 1) []) rows.width
     ∙ ap (λ (rs : List (List (List ℕ))). get_or (get_or rs i []) 0 []) rows.rows ∙ ap (λ (r : List (List ℕ)). get_or r 0 []) (get_or-map (document_row []) lines i [] [] low)
 
 -- the lines of the first rows, and that of the next one
-pub line_more : (t : TableRows) (lines : List (List ℕ)) → AreRowsOf whole [] lines t → (i : ℕ) → i < length t.rows → take i lines ++ line_at t i ∷ [] ≡ take (i + 1) lines
-line_more t lines rows i within =
-    let low : i < length lines = omega (arith, within, lines_many t lines rows) in
-    ap (λ line. take i lines ++ line ∷ []) (line_is t lines rows i low) ∙ sym (take_more lines i [] low)
+pub line_more : (reading : Reading) (t : TableRows) (lines : List (List ℕ)) → AreRowsOf reading [] lines t → (i : ℕ) → i < length t.rows → take i lines ++ line_at t i ∷ [] ≡ take (i + 1) lines
+line_more reading t lines rows i within =
+    let low : i < length lines = omega (arith, within, lines_many reading t lines rows) in
+    ap (λ line. take i lines ++ line ∷ []) (line_is reading t lines rows i low) ∙ sym (take_more lines i [] low)
 
 -- the document of one line more
 pub gathered_more : (lines : List (List ℕ)) (line : List ℕ) (j : Json) (old new : Groups Kinds) → AreGathered lines old → j ≡ tree_of line → HasNumbers j

@@ -1,3 +1,4 @@
 pub mod Documents
+pub mod Errors
 pub mod Kinds
 pub mod Paths

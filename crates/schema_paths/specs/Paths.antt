@@ -2,9 +2,11 @@
 --
 -- In {"a": 7} and {"b": 1, "a": [8, 9]} the path a has a number, 7, and an array, and is missing in
 -- no document. The path a[] has two numbers, of which 8 is the least, and is missing in one
--- document.
+-- document. So a and a[] do not have the same kinds of values. In {"a": [9], "c": [7]} the paths
+-- a[] and c[] do, one number each, and so do a and c.
 use Rattle.std.specs.List.{count_by}
-use Rattle.std.specs.Prelude.{◌≡◌, ℕ, All, not, List, length, map, option_map}
+use Rattle.std.specs.Prelude.{◌≡◌, ◌==◌, ◌&&◌, ℕ, All, Bool, not, if◌then◌else◌, List, length}
+use Rattle.std.specs.Prelude.{map, option_map}
 use Rattle.json.specs.Json.{Json}
 use Rattle.json.specs.Tree.{HasNumbers}
 use Rattle.json_groups.specs.Groups.{all_parts, has, paths_of, values_at}
@@ -48,3 +50,13 @@ pub record IsSchemaOf (documents : List (List Part)) (s : PathSchema) : Type 0 w
 pub record AreSchemasOf (documents : List (List Part)) (schemas : List PathSchema) : Type 0 where
   pub paths : map (λ s. s.path.items) schemas ≡ paths_of (all_parts documents)
   pub each : All (IsSchemaOf documents) schemas
+
+-- two counts are both 0, or neither is
+abbrev pub is_alike : ℕ → ℕ → Bool
+is_alike m n = if m == 0 then n == 0 else not (n == 0)
+
+-- two paths have values of the same kinds: of each kind both have values, or neither has
+abbrev pub same_kinds : PathSchema → PathSchema → Bool
+same_kinds s t = is_alike s.nulls t.nulls && is_alike s.truths t.truths
+    && is_alike s.numbers t.numbers && is_alike s.texts t.texts
+    && is_alike s.objects t.objects && is_alike s.arrays t.arrays

@@ -2,6 +2,7 @@
 //! extremes of the numbers there.
 #![tactic(auto)]
 
+pub mod error;
 pub mod kinds;
 pub mod paths;
 pub mod read;

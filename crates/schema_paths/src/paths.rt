@@ -5,13 +5,14 @@ ghost use Rattle.polars_arrays_bits.specs.Errors.{IsMemory};
 ghost use Rattle.json_groups.specs.Groups.{AreGroupsOf, IsGroupOf};
 ghost use Rattle.json_parts.specs.Parts.{Part};
 ghost use Rattle.schema_paths.specs.Kinds.{HasKinds};
-ghost use Rattle.schema_paths.specs.Paths.{AreNumeric, AreSchemasOf, IsSchemaOf};
+ghost use Rattle.schema_paths.specs.Paths.{AreNumeric, AreSchemasOf, IsSchemaOf, is_alike};
 
 use crate::kinds::Kinds;
 use json_groups::group::Group;
 use polars_arrays_bits::error::ComputeError;
 use polars_arrays_flat::byte_rows::ByteRows;
 use schema_values::numbers::number_values;
+use schema_values::part::SchemaPart;
 use std::alloc::Global;
 
 /// A summary of the values at a path of documents.
@@ -42,6 +43,34 @@ pub struct PathSchema {
     pub least: Option<Vec<u8>>,
     /// The greatest number, as its first text. `None` if there is no number.
     pub greatest: Option<Vec<u8>>,
+}
+
+/// Returns whether two counts are both 0, or neither is.
+fn is_alike(left: usize, right: usize) -> bool
+    ensures { result ≡ is_alike left right }
+{
+    if left == 0 { right == 0 } else { right != 0 }
+}
+
+impl SchemaPart for PathSchema {
+    ghost use Rattle.schema_paths.specs.Paths.{same_kinds};
+
+    ghost name_of = { λ s. s.path.items };
+
+    ghost same_kinds = { same_kinds };
+
+    fn name(&self) -> &[u8] {
+        &self.path
+    }
+
+    fn has_kinds_of(&self, other: &PathSchema) -> bool {
+        is_alike(self.nulls, other.nulls)
+            && is_alike(self.truths, other.truths)
+            && is_alike(self.numbers, other.numbers)
+            && is_alike(self.texts, other.texts)
+            && is_alike(self.objects, other.objects)
+            && is_alike(self.arrays, other.arrays)
+    }
 }
 
 /// Returns the schema of the path of a group, which was made from this many documents. The only

@@ -1,17 +1,18 @@
 //! The schema of the documents of an input.
 
-ghost use Rattle.std.specs.Prelude.{◌≡◌, ◌<◌, ◌++◌, ◌∷◌, [], ℕ, List, Some, length, IfOk, OnOk};
-ghost use Rattle.std.specs.Prelude.{MatchResult};
-ghost use Rattle.document_rows.specs.Errors.{IsMemory, IsReadFault};
+ghost use Rattle.std.specs.Prelude.{◌≡◌, ◌<◌, ◌++◌, ◌∷◌, [], ℕ, Bool, false, List, Some, length};
+ghost use Rattle.std.specs.Prelude.{map, IfOk, OnOk, MatchResult};
 ghost use Rattle.document_rows.specs.Tables as tables;
-ghost use Rattle.schema_paths.specs.Documents.{AreGathered, IsSchemaOfLines};
-ghost use Rattle.schema_paths.specs.Documents.{IsSchemaOfText, whole};
+ghost use Rattle.schema_paths.specs.Documents.{AreGathered, IsSchemaOfText, none_kept, parts_in};
+ghost use Rattle.schema_paths.specs.Documents.{whole};
+ghost use Rattle.schema_paths.specs.Errors.{IsMemory, IsSchemaFault};
+ghost use Rattle.schema_paths.specs.Paths.{AreSchemasOf};
 
+use crate::error::SchemaError;
 use crate::kinds::Kinds;
 use crate::paths::{PathSchema, schemas_of};
 use diff_tables::table::Table;
 use document_rows::document::document_of;
-use document_rows::error::ReadError;
 use document_rows::read::{Documents, read_documents};
 use document_rows::reading::Reading;
 use json::Scratch;
@@ -25,6 +26,10 @@ use std::io::Read;
 pub struct DocumentSchema {
     /// The number of documents.
     pub documents: usize,
+    /// `true` if lines that are no documents are passed over.
+    pub skip_bad: bool,
+    /// The numbers of the lines that are passed over, since they are no documents.
+    pub skipped: Vec<u64>,
     /// Its paths, in the order in which they first come.
     pub paths: Vec<PathSchema>,
 }
@@ -51,10 +56,11 @@ fn add_row(
 
 /// Gathers the parts of the documents of a table.
 fn groups_of(alloc: Global, table: &Table) -> Result<Groups<Kinds>, AllocError>
-    requires { (lines : List (List ℕ)) × tables.AreRowsOf whole [] lines table.now }
+    requires { (skip_bad : Bool) × (lines : List (List ℕ))
+        × tables.AreRowsOf (whole skip_bad) [] lines table.now }
     ensures { IfOk result
-        (λ groups. (lines : List (List ℕ)) → tables.AreRowsOf whole [] lines table.now
-        → AreGathered lines groups) }
+        (λ groups. (skip_bad : Bool) (lines : List (List ℕ))
+        → tables.AreRowsOf (whole skip_bad) [] lines table.now → AreGathered lines groups) }
 {
     let mut scratch = Scratch::new(alloc);
     let mut groups = Groups::new(alloc);
@@ -64,42 +70,84 @@ fn groups_of(alloc: Global, table: &Table) -> Result<Groups<Kinds>, AllocError>
     Ok(groups)
 }
 
-/// Returns the schema of the documents of a table. The only error is `Memory`.
-fn table_schema(alloc: Global, table: &Table) -> Result<DocumentSchema, ReadError>
-    requires { (lines : List (List ℕ)) × tables.AreRowsOf whole [] lines table.now }
+/// Returns the schemas of the paths of the documents of a table. The only error is `Memory`.
+fn table_paths(alloc: Global, table: &Table) -> Result<Vec<PathSchema>, SchemaError>
+    requires { (skip_bad : Bool) × (lines : List (List ℕ))
+        × tables.AreRowsOf (whole skip_bad) [] lines table.now }
     ensures { MatchResult result
-        (λ schema. (lines : List (List ℕ)) → tables.AreRowsOf whole [] lines table.now
-        → IsSchemaOfLines lines schema) IsMemory }
+        (λ paths. (skip_bad : Bool) (lines : List (List ℕ))
+        → tables.AreRowsOf (whole skip_bad) [] lines table.now
+        → AreSchemasOf (map parts_in lines) paths.items) IsMemory }
 {
     part_laws();
     let gathered = groups_of(alloc, table)?;
     let groups = gathered.into_groups();
-    let documents = table.count();
-    match schemas_of(alloc, groups, documents) {
-        Ok(paths) => Ok(DocumentSchema { documents, paths }),
-        Err(_) => Err(ReadError::Memory),
+    match schemas_of(alloc, groups, table.count()) {
+        Ok(paths) => Ok(paths),
+        Err(_) => Err(SchemaError::Memory),
     }
 }
 
-/// The documents that are read: all of them, and each line has to be one.
-const WHOLE: Reading = Reading {
-    null_keys: false,
-    skip_bad: false,
-    part: None,
-};
+/// Returns whether no line is a document, and some are passed over.
+fn none_kept(read: &Documents) -> bool
+    ensures { result ≡ none_kept read.now.lines.items read.now.skipped.items }
+{
+    read.lines.is_empty() && !read.skipped.is_empty()
+}
 
-/// Reads the documents of an input, and returns the schemas of their paths. Fails as
-/// `read_documents` of `document_rows` does.
+/// Reads the documents of an input. Lines that are no documents are passed over, or they are
+/// errors.
+fn documents_in<R: Read + Drop>(
+    alloc: Global,
+    input: R,
+    skip_bad: bool,
+) -> Result<Documents, SchemaError>
+    ensures shape { IfOk result
+        (λ read. tables.HaveDocuments (whole skip_bad) [] read.table read.lines.items) }
+    ensures some { IfOk result (λ read. none_kept read.lines.items read.skipped.items ≡ false) }
+    ensures documents { MatchResult result
+        (λ read. (text : List ℕ) → R.remaining input ≡ Some text
+        → tables.AreDocumentsOf text (whole skip_bad) [] read.table read.lines.items
+        read.skipped.items)
+        (λ error. (text : List ℕ) → R.remaining input ≡ Some text
+        → IsSchemaFault text skip_bad error) }
+{
+    let reading = Reading {
+        null_keys: false,
+        skip_bad,
+        part: None,
+    };
+    match read_documents(alloc, input, &[], reading) {
+        Ok(read) => {
+            if none_kept(&read) {
+                return Err(SchemaError::AllSkipped);
+            }
+            Ok(read)
+        }
+        Err(cause) => Err(SchemaError::Read { cause }),
+    }
+}
+
+/// Reads the documents of an input, one a line, and returns the schemas of their paths. Fails with
+/// `Read` as `read_documents` of `document_rows` does: where `skip_bad` is set, no line is at
+/// fault. Then it fails with `AllSkipped` if there are lines, and none of them is a document.
 pub fn read_document_schema<R: Read + Drop>(
     alloc: Global,
     input: R,
-) -> Result<DocumentSchema, ReadError>
+    skip_bad: bool,
+) -> Result<DocumentSchema, SchemaError>
     ensures { MatchResult result
-        (λ schema. (text : List ℕ) → R.remaining input ≡ Some text → IsSchemaOfText text schema)
+        (λ schema. (text : List ℕ) → R.remaining input ≡ Some text
+        → IsSchemaOfText text skip_bad schema)
         (λ error. (text : List ℕ) → R.remaining input ≡ Some text
-        → IsReadFault text whole [] error) }
+        → IsSchemaFault text skip_bad error) }
 {
-    let documents = read_documents(alloc, input, &[], WHOLE)?;
-    let schema = table_schema(alloc, &documents.table)?;
-    Ok(schema)
+    let read = documents_in(alloc, input, skip_bad)?;
+    let paths = table_paths(alloc, &read.table)?;
+    Ok(DocumentSchema {
+        documents: read.table.count(),
+        skip_bad,
+        skipped: read.skipped,
+        paths,
+    })
 }

@@ -1,11 +1,13 @@
 -- Worked examples of the definitions.
 use Rattle.std.specs.Fmt.{digits}
-use Rattle.std.specs.Prelude.{◌≡◌, [], ◌∷◌, Some, None, codes, refl}
+use Rattle.std.specs.Prelude.{◌≡◌, ℕ, List, [], ◌∷◌, ◌++◌, take, Some, None, codes, refl}
+use Rattle.std.specs.Str.{bytes_eq}
 use Rattle.diff_words.specs.Quoted.{byte_text, quoted}
 use Rattle.diff_words.specs.Words.{word_text}
 use Rattle.schema_columns.specs.declared.kind.Kind.TheVariants.{Truth, Whole, Text}
 use Rattle.schema_report.specs.Aligned.{aligned}
-use Rattle.schema_report.specs.Changes.{kind_line}
+use Rattle.schema_report.specs.Changes.{changes_text, counts_of, named}
+use Rattle.schema_report.specs.ColumnChanges.{kind_line}
 use Rattle.schema_report.specs.Text.{head_line}
 use Rattle.schema_report.specs.Words.{value_text}
 
@@ -34,3 +36,22 @@ one-row = refl
 kinds-differ : kind_line (codes "paid") Truth Text ≡ codes "~ column paid  truth value -> text\n"
 unfolding kind_line word_text
 kinds-differ = refl
+
+-- parts whose name is their first letter, and whose kind is the second one
+abbrev name : List ℕ → List ℕ
+name part = take 1 part
+
+abbrev left : List (List ℕ)
+left = codes "ix" ∷ codes "nx" ∷ codes "ax" ∷ []
+
+abbrev right : List (List ℕ)
+right = codes "ax" ∷ codes "iy" ∷ codes "dx" ∷ []
+
+one-named : named name (codes "i") right ≡ Some (codes "iy")
+one-named = refl
+
+their-counts : counts_of name bytes_eq left right ≡ record { changed = 1; removed = 1; added = 1; same = 1 }
+their-counts = refl
+
+their-changes : changes_text name bytes_eq (λ side s. s ++ codes " alone ") (λ s t. s ++ t ++ codes " ") left right ≡ codes "ixiy nx alone dx alone "
+their-changes = refl

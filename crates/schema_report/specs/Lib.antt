@@ -1,5 +1,6 @@
 pub mod Aligned
 pub mod Changes
+pub mod ColumnChanges
 pub mod Grid
 pub mod JsonLines
 pub mod Text

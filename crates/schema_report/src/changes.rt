@@ -1,19 +1,17 @@
-//! Differences between the columns of two tables.
+//! Differences between the parts of two schemas, which are columns or paths.
 
 ghost use Rattle.std.specs.List.{count_by};
-ghost use Rattle.std.specs.Prelude.{◌≡◌, ◌++◌, OnOk};
-ghost use Rattle.schema_report.specs.Changes.{alone_line, change_line, changes_text, counts_line};
-ghost use Rattle.schema_report.specs.Changes.{counts_of, is_alone, is_changed, kind_line};
-ghost use Rattle.schema_report.specs.Changes.{kind_named, lone_line};
+ghost use Rattle.std.specs.Option.{option_copied};
+ghost use Rattle.std.specs.Prelude.{◌≡◌, ◌++◌, ℕ, List, OnOk};
+ghost use Rattle.diff_columns.specs.declared.error.Side.{Side};
+ghost use Rattle.schema_report.specs.Changes.{change_text, changes_text, counts_of, is_alone};
+ghost use Rattle.schema_report.specs.Changes.{is_changed, lone_text, named};
 
-use crate::words::push_kind;
-use diff_words::decimals::push_decimal;
-use diff_words::words::push_word;
-use schema_columns::column::ColumnSchema;
-use schema_columns::kind::{Kind, is_same_kind};
+use diff_columns::error::Side;
+use schema_values::part::SchemaPart;
 use std::alloc::AllocError;
 
-/// The numbers of columns that have another kind, are in one table alone, and are the same.
+/// The numbers of parts that have other kinds, are in one schema alone, and are the same.
 #[derive(Clone, Copy, Debug, PartialEq, Eq)]
 pub struct SchemaCounts {
     pub changed: usize,
@@ -22,64 +20,82 @@ pub struct SchemaCounts {
     pub same: usize,
 }
 
-/// Returns the kind of the first column that has this name.
-pub(crate) fn kind_named(columns: &[ColumnSchema], name: &[u8]) -> Option<Kind>
-    ensures { result ≡ kind_named name.now columns.now }
+/// A form in which differences between parts are written.
+pub trait ChangeForm<S: SchemaPart> {
+    // What is written of a part that one side has alone.
+    ghost alone: { Self → Side → S → List ℕ };
+
+    // What is written of a left and a right part whose kinds differ.
+    ghost changed: { Self → S → S → List ℕ };
+
+    /// Appends a part that one side has alone.
+    fn push_alone(&self, out: &mut Vec<u8>, side: Side, part: &S) -> Result<(), AllocError>
+        ensures { OnOk result (out.new.items ≡ out.old.items ++ alone self.now side part.now) };
+
+    /// Appends a left and a right part whose kinds differ.
+    fn push_changed(&self, out: &mut Vec<u8>, left: &S, right: &S) -> Result<(), AllocError>
+        ensures { OnOk result
+            (out.new.items ≡ out.old.items ++ changed self.now left.now right.now) };
+}
+
+/// Returns the first part that has this name.
+fn named<'a, S: SchemaPart>(parts: &'a [S], name: &[u8]) -> Option<&'a S>
+    ensures { option_copied result ≡ named S.name_of name.now parts.now }
 {
-    for column in columns {
-        if column.name.as_slice() == name {
-            return Some(column.kind);
+    for part in parts {
+        if part.name() == name {
+            return Some(part);
         }
     }
     None
 }
 
-/// Returns whether none of the other columns has the name of this column.
-pub(crate) fn is_alone(others: &[ColumnSchema], column: &ColumnSchema) -> bool
-    ensures { result ≡ is_alone others.now column.now }
+/// Returns whether none of the other parts has the name of this part.
+fn is_alone<S: SchemaPart>(others: &[S], part: &S) -> bool
+    ensures { result ≡ is_alone S.name_of others.now part.now }
 {
-    kind_named(others, &column.name).is_none()
+    named(others, part.name()).is_none()
 }
 
-/// Returns whether the first other column of this name has another kind.
-fn is_changed(others: &[ColumnSchema], column: &ColumnSchema) -> bool
-    ensures { result ≡ is_changed others.now column.now }
+/// Returns whether the first other part of this name has other kinds.
+fn is_changed<S: SchemaPart>(others: &[S], part: &S) -> bool
+    ensures { result ≡ is_changed S.name_of S.same_kinds others.now part.now }
 {
-    match kind_named(others, &column.name) {
-        Some(kind) => !is_same_kind(column.kind, kind),
+    match named(others, part.name()) {
+        Some(other) => !part.has_kinds_of(other),
         None => false,
     }
 }
 
-/// Returns how many columns are alone.
-fn count_alone(others: &[ColumnSchema], columns: &[ColumnSchema]) -> usize
-    ensures { result ≡ count_by (is_alone others.now) columns.now }
+/// Returns how many parts are alone.
+fn count_alone<S: SchemaPart>(others: &[S], parts: &[S]) -> usize
+    ensures { result ≡ count_by (is_alone S.name_of others.now) parts.now }
 {
     let mut count = 0;
-    for column in columns {
-        if is_alone(others, column) {
+    for part in parts {
+        if is_alone(others, part) {
             count += 1;
         }
     }
     count
 }
 
-/// Returns how many columns have another kind among the others.
-fn count_changed(others: &[ColumnSchema], columns: &[ColumnSchema]) -> usize
-    ensures { result ≡ count_by (is_changed others.now) columns.now }
+/// Returns how many parts have other kinds among the others.
+fn count_changed<S: SchemaPart>(others: &[S], parts: &[S]) -> usize
+    ensures { result ≡ count_by (is_changed S.name_of S.same_kinds others.now) parts.now }
 {
     let mut count = 0;
-    for column in columns {
-        if is_changed(others, column) {
+    for part in parts {
+        if is_changed(others, part) {
             count += 1;
         }
     }
     count
 }
 
-/// Returns the number of columns that differ in each way, and of those that are the same.
-pub fn counts_of(left: &[ColumnSchema], right: &[ColumnSchema]) -> SchemaCounts
-    ensures { result ≡ counts_of left.now right.now }
+/// Returns the number of parts that differ in each way, and of those that are the same.
+pub fn counts_of<S: SchemaPart>(left: &[S], right: &[S]) -> SchemaCounts
+    ensures { result ≡ counts_of S.name_of S.same_kinds left.now right.now }
 {
     let changed = count_changed(right, left);
     let removed = count_alone(right, left);
@@ -91,104 +107,63 @@ pub fn counts_of(left: &[ColumnSchema], right: &[ColumnSchema]) -> SchemaCounts
     }
 }
 
-/// Appends the line of a column that one file has alone.
-#[tactic(auto, unfolding(crate::specs::Changes::alone_line))]
-fn push_alone(out: &mut Vec<u8>, file: &[u8], name: &[u8]) -> Result<(), AllocError>
-    ensures { OnOk result (out.new.items ≡ out.old.items ++ alone_line file.now name.now) }
-{
-    out.extend_from_slice(b"! column ")?;
-    push_word(out, name)?;
-    out.extend_from_slice(b" only in ")?;
-    push_word(out, file)?;
-    out.push(b'\n')?;
-    Ok(())
-}
-
-/// Appends the line of a column whose kinds differ.
-#[tactic(auto, unfolding(crate::specs::Changes::kind_line))]
-fn push_kinds(out: &mut Vec<u8>, name: &[u8], left: Kind, right: Kind) -> Result<(), AllocError>
-    ensures { OnOk result (out.new.items ≡ out.old.items ++ kind_line name.now left right) }
-{
-    out.extend_from_slice(b"~ column ")?;
-    push_word(out, name)?;
-    out.extend_from_slice(b"  ")?;
-    push_kind(out, left)?;
-    out.extend_from_slice(b" -> ")?;
-    push_kind(out, right)?;
-    out.push(b'\n')?;
-    Ok(())
-}
-
-/// Appends the line of a left column, unless it is the same as the right one of its name.
-fn push_change(
+/// Appends a left part, unless it is the same as the right one of its name.
+fn push_change<S: SchemaPart, F: ChangeForm<S>>(
     out: &mut Vec<u8>,
-    file: &[u8],
-    right: &[ColumnSchema],
-    column: &ColumnSchema,
+    form: &F,
+    right: &[S],
+    part: &S,
 ) -> Result<(), AllocError>
     ensures { OnOk result
-        (out.new.items ≡ out.old.items ++ change_line file.now right.now column.now) }
+        (out.new.items ≡ out.old.items
+        ++ change_text S.name_of S.same_kinds (F.alone form.now) (F.changed form.now) right.now
+        part.now) }
 {
-    match kind_named(right, &column.name) {
-        None => push_alone(out, file, &column.name),
-        Some(kind) => {
-            if is_same_kind(column.kind, kind) {
+    match named(right, part.name()) {
+        None => form.push_alone(out, Side::Left, part),
+        Some(other) => {
+            if part.has_kinds_of(other) {
                 return Ok(());
             }
-            push_kinds(out, &column.name, column.kind, kind)
+            form.push_changed(out, part, other)
         }
     }
 }
 
-/// Appends the line of a right column, if the left file has none of its name.
-fn push_lone(
+/// Appends a right part, if the left schema has none of its name.
+fn push_lone<S: SchemaPart, F: ChangeForm<S>>(
     out: &mut Vec<u8>,
-    file: &[u8],
-    left: &[ColumnSchema],
-    column: &ColumnSchema,
+    form: &F,
+    left: &[S],
+    part: &S,
 ) -> Result<(), AllocError>
     ensures { OnOk result
-        (out.new.items ≡ out.old.items ++ lone_line file.now left.now column.now) }
+        (out.new.items ≡ out.old.items ++ lone_text S.name_of (F.alone form.now) left.now
+        part.now) }
 {
-    if is_alone(left, column) {
-        push_alone(out, file, &column.name)?;
+    if is_alone(left, part) {
+        form.push_alone(out, Side::Right, part)?;
     }
     Ok(())
 }
 
-/// Appends the line of the counts.
-#[tactic(auto, unfolding(crate::specs::Changes::counts_line))]
-fn push_counts(out: &mut Vec<u8>, counts: SchemaCounts) -> Result<(), AllocError>
-    ensures { OnOk result (out.new.items ≡ out.old.items ++ counts_line counts) }
-{
-    push_decimal(out, counts.changed)?;
-    out.extend_from_slice(b" changed, ")?;
-    push_decimal(out, counts.removed)?;
-    out.extend_from_slice(b" removed, ")?;
-    push_decimal(out, counts.added)?;
-    out.extend_from_slice(b" added, ")?;
-    push_decimal(out, counts.same)?;
-    out.extend_from_slice(b" the same.\n")?;
-    Ok(())
-}
-
-/// Appends the differences between the columns of two files, as text.
-pub fn push_changes(
+/// Appends the parts of two schemas that differ.
+pub fn push_changes<S: SchemaPart, F: ChangeForm<S>>(
     out: &mut Vec<u8>,
-    files: (&[u8], &[u8]),
-    left: &[ColumnSchema],
-    right: &[ColumnSchema],
+    form: &F,
+    left: &[S],
+    right: &[S],
 ) -> Result<(), AllocError>
     ensures { OnOk result
         (out.new.items ≡ out.old.items
-        ++ changes_text files.entry.0.now files.entry.1.now left.now right.now) }
+        ++ changes_text S.name_of S.same_kinds (F.alone form.now) (F.changed form.now) left.now
+        right.now) }
 {
-    for column in left {
-        push_change(out, files.0, right, column)?;
+    for part in left {
+        push_change(out, form, right, part)?;
     }
-    for column in right {
-        push_lone(out, files.1, left, column)?;
+    for part in right {
+        push_lone(out, form, left, part)?;
     }
-    push_counts(out, counts_of(left, right))?;
     Ok(())
 }

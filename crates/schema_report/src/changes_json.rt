@@ -1,22 +1,25 @@
 //! Differences between the columns of two tables, as JSON lines.
 
-ghost use Rattle.std.specs.Fmt.{decimal};
 ghost use Rattle.std.specs.Prelude.{◌≡◌, ◌++◌, OnOk};
-ghost use Rattle.schema_report.specs.Changes.{change_object, changes_json, counts_object};
-ghost use Rattle.schema_report.specs.Changes.{kind_object, lone_object};
+ghost use Rattle.schema_report.specs.ColumnChanges.{column_objects, counts_members};
+ghost use Rattle.schema_report.specs.ColumnChanges.{kind_object};
 
-use crate::changes::{SchemaCounts, counts_of, is_alone, kind_named};
+use crate::changes::{ChangeForm, SchemaCounts, counts_of, push_changes};
+use crate::json_lines::push_number;
 use crate::words::push_kind;
 use diff_columns::error::Side;
 use diff_json::columns::push_json_column;
 use diff_json::strings::push_string;
-use diff_words::decimals::push_decimal;
 use schema_columns::column::ColumnSchema;
-use schema_columns::kind::{Kind, is_same_kind};
+use schema_columns::kind::Kind;
 use std::alloc::AllocError;
 
+/// Objects of JSON, one a line.
+#[derive(Clone, Copy)]
+struct ColumnObjects;
+
 /// Appends the object of a column whose kinds differ.
-#[tactic(auto, unfolding(crate::specs::Changes::kind_object))]
+#[tactic(auto, unfolding(crate::specs::ColumnChanges::kind_object))]
 fn push_kinds(out: &mut Vec<u8>, name: &[u8], left: Kind, right: Kind) -> Result<(), AllocError>
     ensures { OnOk result (out.new.items ≡ out.old.items ++ kind_object name.now left right) }
 {
@@ -30,76 +33,56 @@ fn push_kinds(out: &mut Vec<u8>, name: &[u8], left: Kind, right: Kind) -> Result
     Ok(())
 }
 
-/// Appends the object of a left column, unless it is the same as the right one of its name.
-fn push_change(
-    out: &mut Vec<u8>,
-    right: &[ColumnSchema],
-    column: &ColumnSchema,
-) -> Result<(), AllocError>
-    ensures { OnOk result (out.new.items ≡ out.old.items ++ change_object right.now column.now) }
-{
-    match kind_named(right, &column.name) {
-        None => push_json_column(out, Side::Left, &column.name),
-        Some(kind) => {
-            if is_same_kind(column.kind, kind) {
-                return Ok(());
-            }
-            push_kinds(out, &column.name, column.kind, kind)
-        }
+impl ChangeForm<ColumnSchema> for ColumnObjects {
+    ghost use Rattle.diff_json.specs.Columns.{column_object};
+    ghost use Rattle.schema_report.specs.ColumnChanges.{kind_object};
+
+    ghost alone = { λ _ side s. column_object side s.name.items };
+
+    ghost changed = { λ _ s t. kind_object s.name.items s.kind t.kind };
+
+    fn push_alone(
+        &self,
+        out: &mut Vec<u8>,
+        side: Side,
+        part: &ColumnSchema,
+    ) -> Result<(), AllocError> {
+        push_json_column(out, side, &part.name)
+    }
+
+    fn push_changed(
+        &self,
+        out: &mut Vec<u8>,
+        left: &ColumnSchema,
+        right: &ColumnSchema,
+    ) -> Result<(), AllocError> {
+        push_kinds(out, &left.name, left.kind, right.kind)
     }
 }
 
-/// Appends the object of a right column, if the left file has none of its name.
-fn push_lone(
-    out: &mut Vec<u8>,
-    left: &[ColumnSchema],
-    column: &ColumnSchema,
-) -> Result<(), AllocError>
-    ensures { OnOk result (out.new.items ≡ out.old.items ++ lone_object left.now column.now) }
-{
-    if is_alone(left, column) {
-        push_json_column(out, Side::Right, &column.name)?;
-    }
-    Ok(())
-}
-
-/// Appends the text before a count, and the count.
-fn push_number(out: &mut Vec<u8>, before: &[u8], n: usize) -> Result<(), AllocError>
-    ensures { OnOk result (out.new.items ≡ out.old.items ++ before.now ++ decimal n) }
-{
-    out.extend_from_slice(before)?;
-    push_decimal(out, n)?;
-    Ok(())
-}
-
-/// Appends the object of the counts.
-#[tactic(auto, unfolding(crate::specs::Changes::counts_object))]
-fn push_counts(out: &mut Vec<u8>, counts: SchemaCounts) -> Result<(), AllocError>
-    ensures { OnOk result (out.new.items ≡ out.old.items ++ counts_object counts) }
+/// Appends the object of the counts without its end, so that members may follow.
+#[tactic(auto, unfolding(crate::specs::ColumnChanges::counts_members))]
+pub fn push_counts_members(out: &mut Vec<u8>, counts: SchemaCounts) -> Result<(), AllocError>
+    ensures { OnOk result (out.new.items ≡ out.old.items ++ counts_members counts) }
 {
     push_number(out, br#"{"kind":"counts","changed":"#, counts.changed)?;
     push_number(out, br#","removed":"#, counts.removed)?;
     push_number(out, br#","added":"#, counts.added)?;
     push_number(out, br#","same":"#, counts.same)?;
-    out.extend_from_slice(b"}\n")?;
     Ok(())
 }
 
 /// Appends the differences between the columns of two files, as JSON lines: an object for each
 /// difference, and one for the counts.
-pub fn push_changes_json(
+pub fn push_column_objects(
     out: &mut Vec<u8>,
     left: &[ColumnSchema],
     right: &[ColumnSchema],
 ) -> Result<(), AllocError>
-    ensures { OnOk result (out.new.items ≡ out.old.items ++ changes_json left.now right.now) }
+    ensures { OnOk result (out.new.items ≡ out.old.items ++ column_objects left.now right.now) }
 {
-    for column in left {
-        push_change(out, right, column)?;
-    }
-    for column in right {
-        push_lone(out, left, column)?;
-    }
-    push_counts(out, counts_of(left, right))?;
+    push_changes(out, &ColumnObjects, left, right)?;
+    push_counts_members(out, counts_of(left, right))?;
+    out.extend_from_slice(b"}\n")?;
     Ok(())
 }

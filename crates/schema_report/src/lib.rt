@@ -1,10 +1,12 @@
 //! The columns of a table, and the differences between the columns of two tables, as text and as
-//! JSON lines.
+//! JSON lines. The differences between any two schemas.
 #![tactic(auto)]
 
 pub mod aligned;
 pub mod changes;
 pub mod changes_json;
+pub mod changes_text;
+pub mod files;
 mod grid;
 pub mod json_lines;
 pub mod text;

@@ -1,4 +1,4 @@
-use Rattle.schema_report.specs.Changes.{kind_object}
+use Rattle.schema_report.specs.ColumnChanges.{kind_object}
 use Rattle.schema_report.proofs.Pieces.{piece}
 use Rattle.schema_report.proofs.changes_json.push_kinds.Goals as goal
 

@@ -1,6 +1,6 @@
-use Rattle.schema_report.specs.Changes.{counts_line}
+use Rattle.schema_report.specs.ColumnChanges.{counts_line}
 use Rattle.schema_report.proofs.Pieces.{piece}
-use Rattle.schema_report.proofs.changes.push_counts.Goals as goal
+use Rattle.schema_report.proofs.changes_text.push_counts.Goals as goal
 
 pub returns : goal.returns
 unfolding counts_line

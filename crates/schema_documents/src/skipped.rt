@@ -1,0 +1,74 @@
+//! The lines of files that are passed over, since they are no documents.
+
+ghost use Rattle.std.specs.Prelude.{◌≡◌, ◌++◌, OnOk};
+ghost use Rattle.document_words.specs.Skipped.{first_word, lines_word, skipped_members};
+ghost use Rattle.document_words.specs.Skipped.{skipped_text};
+
+use diff_words::decimals::push_decimal;
+use diff_words::words::push_word;
+use schema_report::json_lines::push_number;
+use std::alloc::AllocError;
+
+/// Returns the words behind the number of lines.
+fn lines_word(count: usize) -> &'static [u8]
+    ensures { result.now ≡ lines_word count }
+{
+    if count == 1 {
+        b" line of "
+    } else {
+        b" lines of "
+    }
+}
+
+/// Returns the words before the number of the first line, where `count` lines are passed over.
+fn first_word(count: usize) -> &'static [u8]
+    ensures { result.now ≡ first_word count }
+{
+    if count == 1 {
+        b" (line "
+    } else {
+        b" (the first is line "
+    }
+}
+
+/// Appends the number of lines of a file that are passed over, and the number of the first one.
+/// Appends nothing if there are none.
+#[tactic(auto, unfolding(document_words::specs::Skipped::skipped_text))]
+pub(crate) fn push_skipped(
+    out: &mut Vec<u8>,
+    file: &[u8],
+    numbers: &[u64],
+) -> Result<(), AllocError>
+    ensures { OnOk result (out.new.items ≡ out.old.items ++ skipped_text file.now numbers.now) }
+{
+    if numbers.is_empty() {
+        return Ok(());
+    }
+    out.extend_from_slice(b"Skipped ")?;
+    push_decimal(out, numbers.len())?;
+    out.extend_from_slice(lines_word(numbers.len()))?;
+    push_word(out, file)?;
+    out.extend_from_slice(first_word(numbers.len()))?;
+    push_decimal(out, numbers[0])?;
+    out.extend_from_slice(b").\n")?;
+    Ok(())
+}
+
+/// Appends how many lines of each file are passed over, as members of an object. Appends nothing if
+/// lines may not be passed over.
+#[tactic(auto, unfolding(document_words::specs::Skipped::skipped_members))]
+pub(crate) fn push_skipped_members(
+    out: &mut Vec<u8>,
+    skip_bad: bool,
+    left: usize,
+    right: usize,
+) -> Result<(), AllocError>
+    ensures { OnOk result (out.new.items ≡ out.old.items ++ skipped_members skip_bad left right) }
+{
+    if !skip_bad {
+        return Ok(());
+    }
+    push_number(out, br#","left_skipped":"#, left)?;
+    push_number(out, br#","right_skipped":"#, right)?;
+    Ok(())
+}
