@@ -1,5 +1,6 @@
 pub mod Examples
 pub mod Joins
+pub mod Lengths
 pub mod Options
 pub mod RowLists
 pub mod Refused
