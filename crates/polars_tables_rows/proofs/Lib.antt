@@ -5,3 +5,4 @@ pub mod Options
 pub mod RowLists
 pub mod Refused
 pub mod FirstWords
+pub mod Unmasked

@@ -4,13 +4,22 @@ ghost use Rattle.std.specs.Prelude.{◌≡◌, map};
 ghost use Rattle.std.specs.Str.{bytes_eq};
 ghost use Rattle.polars_tables_rows.specs.Tables.{find};
 
+/// Returns whether two texts are equal. It is a call of its own, so that a loop over texts of other
+/// lengths keeps them in registers.
+#[inline(never)]
+fn are_equal(left: &str, right: &str) -> bool
+    ensures { result ≡ bytes_eq left.now right.now }
+{
+    left == right
+}
+
 /// Returns whether two texts are equal. Texts of different lengths are not read.
 #[inline(always)]
 #[tactic(auto, using(crate::proofs::Lengths::apart))]
 pub(crate) fn is_same(left: &str, right: &str) -> bool
     ensures { result ≡ bytes_eq left.now right.now }
 {
-    left.len() == right.len() && left == right
+    left.len() == right.len() && are_equal(left, right)
 }
 
 /// Looks up a name in a table, and returns the value of the first row that has it.
