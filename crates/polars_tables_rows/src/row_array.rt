@@ -75,6 +75,7 @@ impl<T: RowNumber> RowArray for PrimitiveArray<T> {
 
     ghost value_row = { λ x. Int (T.value x) };
 
+    #[tactic(auto, using(crate::proofs::Unmasked::none_masked))]
     fn from_values(
         _alloc: Global,
         values: Vec<T>,
@@ -87,6 +88,9 @@ impl<T: RowNumber> RowArray for PrimitiveArray<T> {
             IsMemory }
     {
         let array = PrimitiveArray::from_vec(values);
+        if present.unset_bits() == 0 {
+            return Ok(array);
+        }
         Ok(array.with_validity(Some(present)))
     }
 

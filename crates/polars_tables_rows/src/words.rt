@@ -10,7 +10,8 @@ ghost use Rattle.polars_tables_rows.specs.declared.fault.LineError.TheVariants.{
 
 use crate::fault::{LineError, or_memory};
 use crate::row_array::RowArray;
-use polars_arrays_bits::bitmap::Bitmap;
+use crate::tables::is_same;
+use polars_arrays_bits::builder::BitmapBuilder;
 use std::alloc::Global;
 
 /// Returns the first word of a text and the text after it, or `None` if the text has no word. Words
@@ -37,7 +38,7 @@ pub fn next_word(text: &str) -> Option<(&str, &str)>
 fn is_bar(word: &str) -> bool
     ensures { result ≡ is_bar word.now }
 {
-    word == "|"
+    is_same(word, "|")
 }
 
 /// Parses a word as a value.
@@ -51,7 +52,7 @@ fn parse_value<A: RowArray>(word: &str) -> Option<A::Value>
 fn parse_row<A: RowArray>(word: &str) -> Option<Option<A::Value>>
     ensures { option_map (row_from A.value_row) result ≡ row_of A.kind word.now }
 {
-    if word == "null" {
+    if is_same(word, "null") {
         return Some(None);
     }
     parse_value::<A>(word).map(Some)
@@ -67,21 +68,23 @@ fn stored_value<V: Copy + Default>(row: Option<V>) -> V
     }
 }
 
-/// Creates the array of rows that were read. A row is null if its flag is not set.
+/// Creates the array of rows that were read. A row is null if its bit is not set.
 fn make_array<A: RowArray>(
     alloc: Global,
     values: Vec<A::Value>,
-    present: &[bool],
+    present: BitmapBuilder,
 ) -> Result<A, LineError>
-    requires { length present.now ≡ vec_len values }
+    requires { length present.bits ≡ vec_len values }
     ensures rows { IfOk result
         (λ array. rows_under (A.mask array) (A.slots array)
-        ≡ masked present.now (map A.value_row values.items)) }
+        ≡ masked present.bits (map A.value_row values.items)) }
     ensures fault { IfErr result (λ e. e ≡ Memory) }
 {
-    let bits = or_memory(Bitmap::from_bools(alloc, present))?;
-    or_memory(A::from_values(alloc, values, bits))
+    or_memory(A::from_values(alloc, values, present.freeze()))
 }
+
+/// The rows that a list has room for at first, so that a short one never grows.
+const ROOM: usize = 16;
 
 /// Returns the array of the first list of a text, and the text after the bar that ends the list, if
 /// there is one.
@@ -95,22 +98,23 @@ fn parse_list<'a, A: RowArray>(
     ensures fault { IfErr result (λ e. UnlessMemory e
         ((e ≡ LineError.Row) × (lists_of A.kind (words_of text.now) ≡ None))) }
 {
-    let mut values = Vec::new(alloc);
-    let mut present = Vec::new(alloc);
+    // A text has at most one word for each byte.
+    let mut present = or_memory(BitmapBuilder::with_capacity(alloc, text.len()))?;
+    let mut values = Vec::with_capacity(alloc, ROOM)?;
     let mut rest = text;
     'words: while let Some((word, more)) = next_word(rest) {
         if is_bar(word) {
-            let array = make_array(alloc, values, &present)?;
+            let array = make_array(alloc, values, present)?;
             return Ok((array, Some(more)));
         }
         let Some(row) = parse_row::<A>(word) else {
             return Err(LineError::Row);
         };
-        present.push(row.is_some())?;
+        present.push_reserved(row.is_some());
         values.push(stored_value(row))?;
         rest = more;
     }
-    let array = make_array(alloc, values, &present)?;
+    let array = make_array(alloc, values, present)?;
     Ok((array, None))
 }
 

@@ -21,13 +21,16 @@ fn push_row<A: RowArray>(text: &mut String, array: &A, i: usize) -> Result<(), A
     }
 }
 
+/// The bytes that a text of rows has room for at first, so that a short one never grows.
+const ROOM: usize = 64;
+
 /// Returns the rows of an array as words, separated by one space.
 pub fn write_rows<A: RowArray>(alloc: Global, array: &A) -> Result<String, AllocError>
     ensures { IfOk result
         (λ text. string_bytes text
         ≡ row_words (rows_under (A.mask array.now) (A.slots array.now))) }
 {
-    let mut text = String::new(alloc);
+    let mut text = String::with_capacity(alloc, ROOM)?;
     for i in 0..array.count() {
         if i > 0 {
             text.push_str(" ")?;

@@ -1,4 +1,4 @@
-use Rattle.std.proofs.Common.{◌≡◌, length, map}
+use Rattle.std.proofs.Common.{◌≡◌, ◌≤◌, length, map}
 use denote.Text.{Utf8}
 use denote.Shadow.{shadow}
 use Rattle.polars_arrays_flat.specs.StoredRows.{masked}
@@ -9,8 +9,9 @@ use Rattle.polars_tables_rows.proofs.words.parse_list.Given as goal
 abbrev pub invariant-words : goal.invariant-words
 invariant-words g l = record {
   utf8 : shadow (Utf8 l.rest);
-  rows : lists_of g.A.RowArray.kind (words_of l.text) ≡ in_front (masked l.present.items (map g.A.RowArray.value_row l.values.items)) (lists_of g.A.RowArray.kind (words_of l.rest));
-  as_long : length l.present.items ≡ length l.values.items;
+  rows : lists_of g.A.RowArray.kind (words_of l.text) ≡ in_front (masked l.present.bits (map g.A.RowArray.value_row l.values.items)) (lists_of g.A.RowArray.kind (words_of l.rest));
+  as_long : length l.present.bits ≡ length l.values.items;
+  room : length l.rest ≤ l.present.room;
 }
 
 abbrev pub decreases-words : goal.decreases-words
