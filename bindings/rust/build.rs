@@ -2,19 +2,25 @@
 //!
 //! The folder is the one that DUNKELVA_LIB_DIR names, else the one that pkg-config knows, else
 //! out/library of the checkout that this package is in. With DUNKELVA_STATIC=1 libdunkelva.a is
-//! linked, with DUNKELVA_STATIC=0 libdunkelva.so; else the first of the two that is there.
+//! linked, with DUNKELVA_STATIC=0 libdunkelva.so; else the first of the two that is there. With
+//! DOCS_RS none is looked for, since documentation needs no library.
 
 use std::env;
 use std::path::{Path, PathBuf};
 use std::process::{self, Command};
 
 fn main() {
-    for name in ["DUNKELVA_LIB_DIR", "DUNKELVA_STATIC", "PKG_CONFIG_PATH"] {
+    for name in [
+        "DOCS_RS",
+        "DUNKELVA_LIB_DIR",
+        "DUNKELVA_STATIC",
+        "PKG_CONFIG_PATH",
+    ] {
         println!("cargo:rerun-if-env-changed={}", name);
     }
     println!("cargo:rerun-if-changed=build.rs");
     if env::var_os("DOCS_RS").is_some() {
-        return; // documentation needs no library
+        return;
     }
     match find() {
         Ok((folder, kind)) => {
@@ -96,7 +102,7 @@ fn not_found(kinds: &[&str], folders: &[PathBuf]) -> String {
         "dunkelva: there is no {} in\n{}\n\
          Run `make library` in a checkout of Dunkelva, which needs the Rattle toolchain. Then run\n\
          `make install-library`, so that pkg-config finds the library, or set DUNKELVA_LIB_DIR\n\
-         to the folder out/library of the checkout.",
+         to the folder out/library of the checkout. DOCS_RS=1 makes the documentation without it.",
         files.join(" or "),
         places.join("\n")
     )

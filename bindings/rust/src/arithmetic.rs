@@ -2,9 +2,9 @@
 #![forbid(unsafe_code)]
 
 use crate::format::Integer;
-use crate::mask::zeros;
+use crate::structs::Typed;
 use crate::sys::{self, Wide};
-use crate::{Array, Error, Mask};
+use crate::{Error, Numbers};
 use std::os::raw::c_uint;
 
 /// An operation on two numbers. Results are wrapped to the type: in `i8` 100 and 100 are -56.
@@ -13,164 +13,100 @@ pub enum Operation {
     /// The sum.
     Add = 0,
     /// The difference.
-    Subtract = 1,
+    Sub = 1,
     /// The product.
-    Multiply = 2,
+    Mul = 2,
     /// The quotient, rounded down: -7 by 2 is -4. It is null where the divisor is 0, as it is of
     /// those below.
-    FloorDivide = 3,
-    /// The quotient, rounded toward 0: -7 by 2 is -3.
-    TruncatingDivide = 4,
+    FloorDiv = 3,
+    /// The quotient, rounded toward 0, as `/` of Rust is: -7 by 2 is -3.
+    TruncDiv = 4,
     /// The remainder of the division that rounds down: of -7 by 2 it is 1. It has the sign of the
-    /// divisor, or is 0.
-    Modulo = 5,
+    /// divisor, or is 0, unlike `%` of Rust.
+    Mod = 5,
 }
 
-/// Numbers that a call returns. Some may be null.
-#[derive(Clone, Debug, PartialEq, Eq)]
-pub struct Numbers<T> {
-    values: Vec<T>,
-    present: Mask,
+/// A side of an operation: numbers row by row, or one number for all rows.
+///
+/// Calls take what converts into it: `&Numbers<T>`, or a number of type `T`.
+#[derive(Clone, Copy, Debug)]
+pub enum Operand<'x, T: Integer> {
+    /// A number for each row, or null.
+    Rows(&'x Numbers<'x, T>),
+    /// The same number for all rows.
+    Number(T),
 }
 
-impl<T: Integer> Numbers<T> {
-    /// Makes numbers that a call writes, with a bit for each that is present.
-    fn written(rows: usize, call: impl FnOnce(&mut [T], &mut [u8]) -> i32) -> Result<Self, Error> {
-        let mut values = zeros(rows)?;
-        let present = Mask::written(rows, |present| call(&mut values, present))?;
-        let mut numbers = Numbers { values, present };
-        numbers.clear_nulls();
-        Ok(numbers)
-    }
-
-    /// Writes 0 for each null. The number that a call writes there means nothing.
-    fn clear_nulls(&mut self) {
-        if !self.present.all() {
-            for (value, is_present) in self.values.iter_mut().zip(self.present.iter()) {
-                if !is_present {
-                    *value = T::default();
-                }
-            }
-        }
-    }
-
-    /// Returns the number of rows.
-    pub fn len(&self) -> usize {
-        self.values.len()
-    }
-
-    /// Returns `true` if there is no row.
-    pub fn is_empty(&self) -> bool {
-        self.values.is_empty()
-    }
-
-    /// Returns the rows, with `None` for nulls.
-    pub fn iter(&self) -> impl ExactSizeIterator<Item = Option<T>> + '_ {
-        let rows = self.values.iter().zip(self.present.iter());
-        rows.map(|(&value, is_present)| Some(value).filter(|_| is_present))
-    }
-
-    /// Returns the numbers, with 0 for nulls.
-    pub fn values(&self) -> &[T] {
-        &self.values
-    }
-
-    /// Returns the rows that are not null.
-    pub fn present(&self) -> &Mask {
-        &self.present
-    }
-
-    /// Lends the rows as an array of plain numbers.
-    pub fn array(&self) -> Array<'_> {
-        let numbers = Array::numbers(&self.values);
-        numbers
-            .with_validity(self.present.bitmap())
-            .expect("there is a bit for each row")
+impl<'x, T: Integer> From<&'x Numbers<'_, T>> for Operand<'x, T> {
+    fn from(rows: &'x Numbers<'_, T>) -> Self {
+        Operand::Rows(rows)
     }
 }
 
-/// Calculates with the rows of two arrays of one type and one length. A result is null where one of
-/// the two rows is, or where the divisor is 0.
+impl<T: Integer> From<T> for Operand<'_, T> {
+    fn from(number: T) -> Self {
+        Operand::Number(number)
+    }
+}
+
+/// Calculates with numbers of one type, row by row, and wraps results to the type. A result is null
+/// where one of the two rows is, or where the divisor is 0.
+///
+/// One side can be a number, which stands for all rows. Two numbers are one row.
 ///
 /// Dates, times and decimals of 32 and 64 bits are taken as the numbers that they are kept as, of
-/// decimals without their scale.
+/// decimals without their scale. The result has plain numbers.
 ///
 /// # Errors
 ///
-/// [`Error::TypesDiffer`], if the arrays differ in type or length, or if `T` is not their type of
-/// numbers; [`Error::NotServed`] for other types than whole numbers of 8 to 64 bits, and what is
-/// kept as such; [`Error::NoMemory`].
+/// [`Error::LengthMismatch`], if both sides have rows and these are not as many;
+/// [`Error::TypeMismatch`], if the two sides have other formats; [`Error::NoMemory`].
 ///
 /// # Examples
 ///
 /// ```
-/// use dunkelva::{arithmetic, sum, Array, Error, Numbers, Operation};
+/// use dunkelva::{arithmetic, sum, Error, Numbers, Operation};
 ///
-/// let amounts: Array = [Some(7), Some(-7), None, Some(1)].into_iter().collect();
-/// let parts = Array::numbers(&[2, 2, 2, 0]);
-/// let each: Numbers<i32> = arithmetic(&amounts, Operation::FloorDivide, &parts)?;
-/// assert_eq!(each.iter().collect::<Vec<_>>(), [Some(3), Some(-4), None, None]);
-/// assert_eq!(sum(&each.array())?, Some(-1));
+/// let amounts: Numbers<i64> = [Some(7), Some(-7), None, Some(1)].into_iter().collect();
+/// let parts = Numbers::from(&[2, 2, 2, 0]);
+/// let each = arithmetic(&amounts, Operation::FloorDiv, &parts)?;
+/// assert!(each.iter().eq([Some(3), Some(-4), None, None]));
+/// assert_eq!(sum(&each)?, Some(-1));
+/// let rests = arithmetic(&amounts, Operation::Mod, 4)?;
+/// assert!(rests.iter().eq([Some(3), Some(1), None, Some(1)]));
 /// # Ok::<(), Error>(())
 /// ```
-pub fn arithmetic<T: Integer>(
-    left: &Array<'_>,
+pub fn arithmetic<'l, 'r, T: Integer>(
+    left: impl Into<Operand<'l, T>>,
     operation: Operation,
-    right: &Array<'_>,
-) -> Result<Numbers<T>, Error> {
-    if left.len() != right.len() {
-        return Err(Error::TypesDiffer);
+    right: impl Into<Operand<'r, T>>,
+) -> Result<Numbers<'static, T>, Error> {
+    match (left.into(), right.into()) {
+        (Operand::Rows(left), Operand::Rows(right)) => of_rows(left, operation, right),
+        (Operand::Rows(rows), Operand::Number(number)) => {
+            with_number(rows.typed(), rows.len(), (operation, Side::Right), number)
+        }
+        (Operand::Number(number), Operand::Rows(rows)) => {
+            with_number(rows.typed(), rows.len(), (operation, Side::Left), number)
+        }
+        (Operand::Number(left), Operand::Number(right)) => {
+            let one = Numbers::from(vec![left]);
+            with_number(one.typed(), 1, (operation, Side::Right), right)
+        }
     }
-    let (one, other) = (left.numbers_of::<T>()?, right.numbers_of::<T>()?);
+}
+
+fn of_rows<T: Integer>(
+    left: &Numbers<'_, T>,
+    operation: Operation,
+    right: &Numbers<'_, T>,
+) -> Result<Numbers<'static, T>, Error> {
+    left.has_length_of(right)?;
+    let (one, other) = (left.typed(), right.typed());
     Numbers::written(left.len(), |values, present| {
-        sys::arithmetic(operation as c_uint, &one, &other, values, present)
+        let status = sys::arithmetic(operation as c_uint, &one, &other, values, present);
+        Error::check_types(status, left, right)
     })
-}
-
-/// Calculates as [`arithmetic`] does with each row and one number, on the right.
-///
-/// # Errors
-///
-/// Those of [`arithmetic`].
-///
-/// # Examples
-///
-/// ```
-/// use dunkelva::{arithmetic_number, Array, Error, Operation};
-///
-/// let rests = arithmetic_number(&Array::numbers(&[-7_i64, 7]), Operation::Modulo, 4)?;
-/// assert_eq!(rests.values(), [1_i64, 3]);
-/// # Ok::<(), Error>(())
-/// ```
-pub fn arithmetic_number<T: Integer>(
-    array: &Array<'_>,
-    operation: Operation,
-    number: T,
-) -> Result<Numbers<T>, Error> {
-    with_number(array, (operation, Side::Right), number)
-}
-
-/// Calculates as [`arithmetic`] does with one number, on the left, and each row.
-///
-/// # Errors
-///
-/// Those of [`arithmetic`].
-///
-/// # Examples
-///
-/// ```
-/// use dunkelva::{number_arithmetic, Array, Error, Operation};
-///
-/// let left = number_arithmetic(10, Operation::Subtract, &Array::numbers(&[1_u8, 20]))?;
-/// assert_eq!(left.values(), [9_u8, 246]); // -10 is wrapped to 246
-/// # Ok::<(), Error>(())
-/// ```
-pub fn number_arithmetic<T: Integer>(
-    number: T,
-    operation: Operation,
-    array: &Array<'_>,
-) -> Result<Numbers<T>, Error> {
-    with_number(array, (operation, Side::Left), number)
 }
 
 /// The side of an operation on which a number stands.
@@ -180,66 +116,96 @@ enum Side {
 }
 
 fn with_number<T: Integer>(
-    array: &Array<'_>,
+    typed: Typed<'_, T>,
+    rows: usize,
     (operation, side): (Operation, Side),
     number: T,
-) -> Result<Numbers<T>, Error> {
-    let typed = array.numbers_of::<T>()?;
+) -> Result<Numbers<'static, T>, Error> {
     let number = Wide::of(number.into());
     let which = (operation as c_uint, side as c_uint);
-    Numbers::written(array.len(), |values, present| {
-        sys::arithmetic_number(which, &number, &typed, values, present)
+    Numbers::written(rows, |values, present| {
+        let status = sys::arithmetic_number(which, &number, &typed, values, present);
+        Error::check(status)
     })
+}
+
+/// Copies numbers from any address: adds 0 to them.
+pub(crate) fn copied<T: Integer>(
+    typed: Typed<'_, T>,
+    rows: usize,
+) -> Result<Numbers<'static, T>, Error> {
+    with_number(typed, rows, (Operation::Add, Side::Right), T::default())
 }
 
 /// Negates each row. In `i8` -128 is the negative of -128.
 ///
 /// # Errors
 ///
-/// Those of [`arithmetic`].
+/// [`Error::NoMemory`].
 ///
 /// # Examples
 ///
 /// ```
-/// use dunkelva::{negate, Array, Error, Numbers};
+/// use dunkelva::{wrapping_neg, Error, Numbers};
 ///
-/// let negative: Numbers<i8> = negate(&Array::numbers(&[5_i8, -128]))?;
+/// let negative = wrapping_neg(&Numbers::from(&[5_i8, -128]))?;
 /// assert_eq!(negative.values(), [-5, -128]);
 /// # Ok::<(), Error>(())
 /// ```
-pub fn negate<T: Integer>(array: &Array<'_>) -> Result<Numbers<T>, Error> {
-    signed(0, array)
+pub fn wrapping_neg<T: Integer>(rows: &Numbers<'_, T>) -> Result<Numbers<'static, T>, Error> {
+    signed(0, rows)
 }
 
 /// Takes the distance of each row from 0. In `i8` it is -128 for -128.
 ///
 /// # Errors
 ///
-/// Those of [`arithmetic`].
-pub fn absolute<T: Integer>(array: &Array<'_>) -> Result<Numbers<T>, Error> {
-    signed(1, array)
+/// [`Error::NoMemory`].
+///
+/// # Examples
+///
+/// ```
+/// use dunkelva::{wrapping_abs, Error, Numbers};
+///
+/// let distances = wrapping_abs(&Numbers::from(&[-5_i8, 7, -128]))?;
+/// assert_eq!(distances.values(), [5, 7, -128]);
+/// # Ok::<(), Error>(())
+/// ```
+pub fn wrapping_abs<T: Integer>(rows: &Numbers<'_, T>) -> Result<Numbers<'static, T>, Error> {
+    signed(1, rows)
 }
 
-fn signed<T: Integer>(sign: c_uint, array: &Array<'_>) -> Result<Numbers<T>, Error> {
-    let typed = array.numbers_of::<T>()?;
-    Numbers::written(array.len(), |values, present| {
-        sys::sign(sign, &typed, values, present)
+fn signed<T: Integer>(sign: c_uint, rows: &Numbers<'_, T>) -> Result<Numbers<'static, T>, Error> {
+    let typed = rows.typed();
+    Numbers::written(rows.len(), |values, present| {
+        Error::check(sys::sign(sign, &typed, values, present))
     })
 }
 
 macro_rules! operations {
-    ($($name:ident: $operation:ident, $what:literal;)*) => {
+    ($($name:ident: $operation:ident, $what:literal, $call:literal, $result:literal;)*) => {
         $(
-            #[doc = concat!($what, " two arrays: [`arithmetic`] with [`Operation::",
-                stringify!($operation), "`].")]
+            #[doc = concat!($what, ", row by row, and wraps the results: [`arithmetic`] with")]
+            #[doc = concat!("[`Operation::", stringify!($operation), "`].")]
             ///
             /// # Errors
             ///
             /// Those of [`arithmetic`].
-            pub fn $name<T: Integer>(
-                left: &Array<'_>,
-                right: &Array<'_>,
-            ) -> Result<Numbers<T>, Error> {
+            ///
+            /// # Examples
+            ///
+            /// ```
+            #[doc = concat!("use dunkelva::{", stringify!($name), ", Error, Numbers};")]
+            ///
+            /// let rows: Numbers<i8> = [Some(100), None, Some(-7)].into_iter().collect();
+            #[doc = concat!("let found = ", stringify!($name), $call, "?;")]
+            #[doc = concat!("assert!(found.iter().eq(", $result, "));")]
+            /// # Ok::<(), Error>(())
+            /// ```
+            pub fn $name<'l, 'r, T: Integer>(
+                left: impl Into<Operand<'l, T>>,
+                right: impl Into<Operand<'r, T>>,
+            ) -> Result<Numbers<'static, T>, Error> {
                 arithmetic(left, Operation::$operation, right)
             }
         )*
@@ -247,10 +213,13 @@ macro_rules! operations {
 }
 
 operations! {
-    add: Add, "Adds";
-    subtract: Subtract, "Subtracts";
-    multiply: Multiply, "Multiplies";
-    floor_divide: FloorDivide, "Divides, rounding down,";
-    truncating_divide: TruncatingDivide, "Divides, rounding toward 0,";
-    modulo: Modulo, "Finds the remainders of";
+    wrapping_add: Add, "Adds numbers", "(&rows, &rows)", "[Some(-56), None, Some(-14)]";
+    wrapping_sub: Sub, "Subtracts numbers", "(100, &rows)", "[Some(0), None, Some(107)]";
+    wrapping_mul: Mul, "Multiplies numbers", "(&rows, 3)", "[Some(44), None, Some(-21)]";
+    wrapping_floor_div: FloorDiv, "Divides numbers, rounding down", "(&rows, 2)",
+        "[Some(50), None, Some(-4)]";
+    wrapping_trunc_div: TruncDiv, "Divides numbers, rounding toward 0", "(&rows, 2)",
+        "[Some(50), None, Some(-3)]";
+    wrapping_mod: Mod, "Finds the remainders of the division that rounds down", "(&rows, 2)",
+        "[Some(0), None, Some(1)]";
 }

@@ -1,26 +1,22 @@
 //! Columns that are lent to the library.
 #![forbid(unsafe_code)]
 
-use crate::format::{is_kept_as, numbers_of, Integer, Number, Offset};
-use crate::lent::{Buffer, Content, Field, Lent};
-use crate::structs::{Structs, Typed};
+use crate::format::sealed::Sealed;
+use crate::format::{is_kept_as, numbers_of, Integer, Number};
+use crate::lent::{Buffer, Content, Lent};
 #[cfg(feature = "ffi")]
 use crate::sys::Foreign;
-use crate::{Bitmap, Error};
-use std::borrow::Cow;
+use crate::{Bitmap, Error, Mask, Numbers};
 use std::ffi::CString;
 use std::fmt;
 use std::sync::Arc;
-
-/// Levels of types in types, and types in all, that the library takes.
-const MOST_LEVELS: usize = 64;
-const MOST_TYPES: usize = 1 << 20;
 
 /// A column: rows of one type, in the layout of Arrow, in slices that are borrowed.
 ///
 /// Making an array copies nothing, except a validity that begins at another bit of its byte than
 /// the rows do. The calls that compare rows read numbers where they lie, and copy rows of other
 /// types, in blocks of about 16,384.
+///
 /// What a call would read is checked when an array is made, so that no call reads behind the end of
 /// a slice: offsets rise and end within their bytes or items, a validity has a bit for each row,
 /// the fields of a struct have its rows.
@@ -41,10 +37,10 @@ const MOST_TYPES: usize = 1 << 20;
 /// ```
 /// use dunkelva::{equal, Array, Error};
 ///
-/// let words = Array::texts(&[0, 3, 6, 9], b"onetwosix")?;
-/// let keys = Array::dictionary(&[2_u8, 0, 0], words)?;
-/// let same = equal(&keys, &keys.slice(0, 3)?)?;
-/// assert!(same.all());
+/// let lent = [1, 2, 3];
+/// let kept: Array = [Some(1), None, Some(3)].into_iter().collect();
+/// let same = equal(&Array::numbers(&lent), &kept)?;
+/// assert_eq!(same.iter().collect::<Vec<_>>(), [true, false, true]);
 /// # Ok::<(), Error>(())
 /// ```
 #[derive(Clone)]
@@ -53,220 +49,8 @@ pub struct Array<'a> {
     /// Rows of the buffers that come before the first row.
     pub(crate) offset: usize,
     pub(crate) content: Content<'a>,
-    levels: usize,
-    types: usize,
-}
-
-/// Makes arrays of one level.
-impl<'a> Array<'a> {
-    /// Lends numbers.
-    pub fn numbers<T: Number>(values: &'a [T]) -> Self {
-        Array::flat(values.len(), T::FORMAT, vec![Arc::new(values)])
-    }
-
-    /// Lends decimals of 128 bits, numbers of steps of `10^-scale`.
-    pub fn decimals(values: &'a [i128], precision: u8, scale: i8) -> Self {
-        let format = format!("d:{precision},{scale}\0").into_bytes();
-        Array::flat(values.len(), format, vec![Arc::new(values)])
-    }
-
-    /// Lends truth values.
-    pub fn booleans(values: Bitmap<'a>) -> Self {
-        let (first, bytes) = values.parts();
-        let mut array = Array::flat(values.len(), b"b\0".as_slice(), vec![Arc::new(bytes)]);
-        array.offset = first;
-        array
-    }
-
-    /// Lends texts: those of row `i` are the bytes from `offsets[i]` to `offsets[i + 1]`.
-    ///
-    /// Texts are compared as bytes. They are checked to be UTF-8 only with
-    /// [`Options::check_texts`](crate::Options::check_texts). Without offsets there is no row.
-    ///
-    /// # Errors
-    ///
-    /// [`Error::BadArray`], if the offsets go back, and [`Error::Length`], if they end behind the
-    /// bytes.
-    pub fn texts<O: Offset>(offsets: &'a [O], bytes: &'a [u8]) -> Result<Self, Error> {
-        let rows = rows_of(offsets, bytes.len(), "bytes")?;
-        Ok(Array::flat(
-            rows,
-            O::TEXTS,
-            vec![Arc::new(offsets), Arc::new(bytes)],
-        ))
-    }
-
-    /// Lends byte strings, as [`texts`](Array::texts) lends texts.
-    ///
-    /// # Errors
-    ///
-    /// Those of [`texts`](Array::texts).
-    pub fn binary<O: Offset>(offsets: &'a [O], bytes: &'a [u8]) -> Result<Self, Error> {
-        let rows = rows_of(offsets, bytes.len(), "bytes")?;
-        Ok(Array::flat(
-            rows,
-            O::BINARY,
-            vec![Arc::new(offsets), Arc::new(bytes)],
-        ))
-    }
-
-    /// Lends byte strings of `width` bytes each.
-    ///
-    /// # Errors
-    ///
-    /// [`Error::Length`], if there are fewer bytes than rows of this width.
-    pub fn fixed_size_binary(rows: usize, width: usize, bytes: &'a [u8]) -> Result<Self, Error> {
-        has_at_least("bytes", bytes.len(), rows.saturating_mul(width))?;
-        Ok(Array::flat(
-            rows,
-            format!("w:{width}\0").into_bytes(),
-            vec![Arc::new(bytes)],
-        ))
-    }
-
-    /// Makes rows that are null and have no other type.
-    pub fn nulls(rows: usize) -> Self {
-        Array::flat(rows, b"n\0".as_slice(), Vec::new())
-    }
-
-    /// Copies texts.
-    ///
-    /// # Errors
-    ///
-    /// [`Error::BadArray`], if all texts together have more than `i32::MAX` bytes.
-    pub fn from_texts<'t>(rows: impl IntoIterator<Item = Option<&'t str>>) -> Result<Self, Error> {
-        let (mut offsets, mut bytes, mut present) = (vec![0], Vec::new(), Vec::new());
-        for row in rows {
-            bytes.extend_from_slice(row.unwrap_or_default().as_bytes());
-            offsets.push(i32::try_from(bytes.len()).map_err(|_| Error::BadArray)?);
-            present.push(row.is_some());
-        }
-        let buffers: Vec<Buffer<'a>> = vec![Arc::new(offsets), Arc::new(bytes)];
-        Ok(Array::flat(present.len(), i32::TEXTS, buffers).with_present(&present))
-    }
-
-    pub(crate) fn flat(
-        rows: usize,
-        format: impl Into<Cow<'static, [u8]>>,
-        buffers: Vec<Buffer<'a>>,
-    ) -> Self {
-        let format = format.into();
-        let lent = Lent {
-            format,
-            validity: None,
-            buffers,
-            fields: Vec::new(),
-            entries: None,
-        };
-        Array {
-            rows,
-            offset: 0,
-            content: Content::Lent(Arc::new(lent)),
-            levels: 1,
-            types: 1,
-        }
-    }
-}
-
-/// Makes arrays of arrays.
-///
-/// Besides what each says, they return [`Error::BadStructs`] for more than 64 levels or 2^20 types.
-impl<'a> Array<'a> {
-    /// Lends lists: that of row `i` has the items from `offsets[i]` to `offsets[i + 1]`. Without
-    /// offsets there is no row.
-    ///
-    /// # Errors
-    ///
-    /// [`Error::BadArray`], if the offsets go back, and [`Error::Length`], if they end behind the
-    /// items.
-    pub fn list<O: Offset>(offsets: &'a [O], items: Array<'a>) -> Result<Self, Error> {
-        let rows = rows_of(offsets, items.rows, "items")?;
-        let buffers: Vec<Buffer<'a>> = vec![Arc::new(offsets)];
-        Array::nested(rows, O::LIST, buffers, Field::items(items), None)
-    }
-
-    /// Makes lists of `width` items each.
-    ///
-    /// # Errors
-    ///
-    /// [`Error::Length`], if there are fewer items than rows of this width.
-    pub fn fixed_size_list(rows: usize, width: usize, items: Array<'a>) -> Result<Self, Error> {
-        has_at_least("items", items.rows, rows.saturating_mul(width))?;
-        let format = format!("+w:{width}\0").into_bytes();
-        Array::nested(rows, format, Vec::new(), Field::items(items), None)
-    }
-
-    /// Makes structs of fields, each with a name and a column.
-    ///
-    /// # Errors
-    ///
-    /// [`Error::Length`], if a column has another number of rows, and [`Error::BadArgument`], if a
-    /// name has a byte 0.
-    pub fn structs<N: Into<Vec<u8>>>(
-        rows: usize,
-        fields: impl IntoIterator<Item = (N, Array<'a>)>,
-    ) -> Result<Self, Error> {
-        let field = |(name, array): (N, Array<'a>)| {
-            if array.rows != rows {
-                return Err(Error::Length {
-                    what: "rows of a field",
-                    has: array.rows,
-                    needs: rows,
-                });
-            }
-            let name = CString::new(name).map_err(|_| Error::BadArgument)?;
-            Ok(Field { name, array })
-        };
-        let fields = fields.into_iter().map(field).collect::<Result<_, _>>()?;
-        Array::nested(rows, b"+s\0".as_slice(), Vec::new(), fields, None)
-    }
-
-    /// Lends keys of a dictionary: row `i` is the entry `keys[i]`.
-    ///
-    /// A key that names no entry is refused by the calls, unless its row is null.
-    ///
-    /// # Errors
-    ///
-    /// Only those of all arrays of arrays.
-    pub fn dictionary<K: Integer>(keys: &'a [K], entries: Array<'a>) -> Result<Self, Error> {
-        let buffers: Vec<Buffer<'a>> = vec![Arc::new(keys)];
-        Array::nested(
-            keys.len(),
-            K::FORMAT,
-            buffers,
-            Vec::new(),
-            Some(Box::new(entries)),
-        )
-    }
-
-    fn nested(
-        rows: usize,
-        format: impl Into<Cow<'static, [u8]>>,
-        buffers: Vec<Buffer<'a>>,
-        fields: Vec<Field<'a>>,
-        entries: Option<Box<Array<'a>>>,
-    ) -> Result<Self, Error> {
-        let inside = || fields.iter().map(|it| &it.array).chain(entries.as_deref());
-        let levels = 1 + inside().map(|it| it.levels).max().unwrap_or(0);
-        let types = inside().fold(1, |types: usize, it| types.saturating_add(it.types));
-        if levels > MOST_LEVELS || types > MOST_TYPES {
-            return Err(Error::BadStructs);
-        }
-        let lent = Lent {
-            format: format.into(),
-            validity: None,
-            buffers,
-            fields,
-            entries,
-        };
-        Ok(Array {
-            rows,
-            offset: 0,
-            content: Content::Lent(Arc::new(lent)),
-            levels,
-            types,
-        })
-    }
+    pub(crate) levels: usize,
+    pub(crate) types: usize,
 }
 
 /// Changes and windows.
@@ -276,14 +60,26 @@ impl<'a> Array<'a> {
     ///
     /// # Errors
     ///
-    /// [`Error::Length`], if there is not one bit for each row; [`Error::BadArgument`] for
+    /// [`Error::Length`], if there is not one bit for each row; [`Error::Unsupported`] for
     /// [`nulls`](Array::nulls) and for columns of other crates, which have their own validity;
     /// [`Error::NoMemory`].
-    pub fn with_validity(mut self, present: Bitmap<'a>) -> Result<Self, Error> {
+    ///
+    /// # Examples
+    ///
+    /// ```
+    /// use dunkelva::{is_null, Array, Error, Mask};
+    ///
+    /// let prices = vec![500, 650, 800];
+    /// let is_known: Mask = prices.iter().map(|&it| it != 650).collect();
+    /// let prices = Array::numbers(&prices).with_validity(&is_known)?;
+    /// assert_eq!(is_null(&prices)?, !&is_known);
+    /// # Ok::<(), Error>(())
+    /// ```
+    pub fn with_validity(mut self, present: impl Into<Bitmap<'a>>) -> Result<Self, Error> {
+        let present = present.into();
         if present.len() != self.rows {
-            let what = "bits of the validity";
             return Err(Error::Length {
-                what,
+                what: "bits of the validity".into(),
                 has: present.len(),
                 needs: self.rows,
             });
@@ -296,7 +92,7 @@ impl<'a> Array<'a> {
         };
         self.lent()
             .filter(|it| it.has_validity())
-            .ok_or(Error::BadArgument)?
+            .ok_or(Error::Unsupported)?
             .validity = Some(validity);
         Ok(self)
     }
@@ -304,11 +100,11 @@ impl<'a> Array<'a> {
     /// Says what numbers of type `i32` or `i64` stand for, by a format of the
     /// [Arrow C data interface](https://arrow.apache.org/docs/format/CDataInterface.html): dates
     /// (`tdD`), times of a day, points in time (`tsu:UTC`), spans, decimals of 32 and 64 bits
-    /// (`d:9,2,64`).
+    /// (`d:9,2,32`, of up to 9 and 18 digits).
     ///
     /// # Errors
     ///
-    /// [`Error::BadArgument`], if the format is not one of these, or numbers of another width.
+    /// [`Error::BadFormat`], if the format is not one of these, or one of numbers of another width.
     ///
     /// # Examples
     ///
@@ -316,36 +112,83 @@ impl<'a> Array<'a> {
     /// use dunkelva::{equal, Array, Error};
     ///
     /// let days = Array::numbers(&[19_000_i32, 19_001]).with_format("tdD")?;
-    /// assert_eq!(equal(&days, &Array::numbers(&[19_000_i32, 19_001])), Err(Error::TypesDiffer));
+    /// let error = equal(&days, &Array::numbers(&[19_000_i32, 19_001])).unwrap_err();
+    /// assert_eq!(error.to_string(), "the types differ: tdD and i");
     /// # Ok::<(), Error>(())
     /// ```
     pub fn with_format(mut self, format: &str) -> Result<Self, Error> {
-        let lent = self
-            .lent()
-            .filter(|it| it.entries.is_none())
-            .ok_or(Error::BadArgument)?;
-        let with_end = CString::new(format).map_err(|_| Error::BadArgument)?;
-        if !is_kept_as(format, &lent.format) {
-            return Err(Error::BadArgument);
+        let fits = |lent: &Lent<'_>| lent.entries.is_none() && is_kept_as(format, &lent.format);
+        match (self.lent(), CString::new(format)) {
+            (Some(lent), Ok(with_end)) if fits(lent) => {
+                lent.format = with_end.into_bytes_with_nul().into();
+                Ok(self)
+            }
+            _ => Err(Error::BadFormat {
+                format: format.into(),
+                array: self.type_text(),
+            }),
         }
-        lent.format = with_end.into_bytes_with_nul().into();
-        Ok(self)
     }
 
     /// Returns `rows` rows, those from row `first` on. Nothing is copied.
     ///
     /// # Errors
     ///
-    /// [`Error::BadArgument`], if there are no such rows.
+    /// [`Error::OutOfBounds`], if there are no such rows.
+    ///
+    /// # Examples
+    ///
+    /// ```
+    /// use dunkelva::{sum, Array, Error};
+    ///
+    /// let numbers = vec![1, 20, 300, 4000];
+    /// let inner = Array::from(&numbers).slice(1, 2)?;
+    /// assert_eq!(sum(&inner)?, Some(320));
+    /// # Ok::<(), Error>(())
+    /// ```
     pub fn slice(&self, first: usize, rows: usize) -> Result<Self, Error> {
         if first > self.rows || rows > self.rows - first {
-            return Err(Error::BadArgument);
+            let len = self.rows;
+            return Err(Error::OutOfBounds { first, rows, len });
         }
         Ok(Array {
             rows,
             offset: self.offset + first,
             ..self.clone()
         })
+    }
+
+    /// Returns the rows as [`Numbers`], whose type is known at compile time.
+    ///
+    /// Nothing is copied, except numbers of a column of another crate that do not lie at a multiple
+    /// of their size.
+    ///
+    /// # Errors
+    ///
+    /// [`Error::TypeMismatch`], if the rows are numbers of another type; [`Error::Unsupported`], if
+    /// they are not kept as whole numbers of 8 to 64 bits; of a column of another crate also
+    /// [`Error::BadStructs`], [`Error::BadArray`] and [`Error::NoMemory`].
+    ///
+    /// # Examples
+    ///
+    /// ```
+    /// use dunkelva::{Array, Error, Numbers};
+    ///
+    /// let array: Array = [Some(7_i64), None].into_iter().collect();
+    /// let numbers: Numbers<i64> = array.to_numbers()?;
+    /// assert!(numbers.iter().eq([Some(7), None]));
+    /// assert!(matches!(array.to_numbers::<i32>(), Err(Error::TypeMismatch { .. })));
+    /// # Ok::<(), Error>(())
+    /// ```
+    pub fn to_numbers<T: Integer>(&self) -> Result<Numbers<'a, T>, Error> {
+        match self.plain_format() {
+            Some(plain) if plain == T::FORMAT => Numbers::of(self),
+            Some(_) => Err(Error::TypeMismatch {
+                left: self.type_text(),
+                right: text_of(T::FORMAT).into(),
+            }),
+            None => Err(Error::Unsupported),
+        }
     }
 
     /// Returns the number of rows.
@@ -356,6 +199,71 @@ impl<'a> Array<'a> {
     /// Returns `true` if there is no row.
     pub fn is_empty(&self) -> bool {
         self.rows == 0
+    }
+
+    /// Returns the format of the type, as the
+    /// [Arrow C data interface](https://arrow.apache.org/docs/format/CDataInterface.html) writes
+    /// it: `l` for `i64`, `+s` for structs. That of a dictionary is the format of its keys. It is
+    /// empty, if a column of another crate has none or one that is not UTF-8.
+    pub fn format(&self) -> &str {
+        match &self.content {
+            Content::Lent(lent) => text_of(&lent.format),
+            Content::Foreign(foreign) => text_of(foreign.format().unwrap_or_default()),
+        }
+    }
+
+    /// Refuses arrays that differ in length.
+    pub(crate) fn has_length_of(&self, other: &Array<'_>) -> Result<(), Error> {
+        let (left, right) = (self.rows, other.rows);
+        if left != right {
+            return Err(Error::LengthMismatch { left, right });
+        }
+        Ok(())
+    }
+
+    /// Returns the format, with those of the types inside. Of columns of other crates these are not
+    /// looked at.
+    pub(crate) fn type_text(&self) -> String {
+        let inside = match &self.content {
+            Content::Lent(lent) => lent.inside(),
+            Content::Foreign(foreign) if foreign.is_nested() => vec![String::from("..")],
+            Content::Foreign(_) => Vec::new(),
+        };
+        match &inside[..] {
+            [] => self.format().into(),
+            inside => format!("{}<{}>", self.format(), inside.join(", ")),
+        }
+    }
+
+    /// Returns the plain format of the whole numbers of 8 to 64 bits that the rows are kept as.
+    pub(crate) fn plain_format(&self) -> Option<&'static [u8]> {
+        let is_flat = match &self.content {
+            Content::Lent(lent) => lent.entries.is_none(),
+            Content::Foreign(foreign) => !foreign.is_nested(),
+        };
+        numbers_of(self.format().as_bytes()).filter(|_| is_flat)
+    }
+
+    /// Returns the numbers that are stored for the rows, if they are of this type.
+    pub(crate) fn values<T: Number>(&self) -> Option<&[T]> {
+        match &self.content {
+            Content::Lent(lent) => {
+                let values = T::seen(lent.buffers.first()?.slice())?;
+                values.get(self.offset..self.offset + self.rows)
+            }
+            Content::Foreign(_) => None,
+        }
+    }
+
+    /// Returns which rows are present by a validity, if there is one that is lent.
+    pub(crate) fn validity(&self) -> Option<Bitmap<'_>> {
+        match &self.content {
+            Content::Lent(lent) => {
+                let bytes = u8::seen(lent.validity.as_ref()?.slice())?;
+                Bitmap::new(bytes, self.offset, self.rows).ok()
+            }
+            Content::Foreign(_) => None,
+        }
     }
 
     /// Takes a column of another crate. `offset` rows of it come before the first.
@@ -370,20 +278,6 @@ impl<'a> Array<'a> {
         }
     }
 
-    /// Returns the structs of the array, if its rows are numbers of type `T`.
-    pub(crate) fn numbers_of<T: Integer>(&self) -> Result<Typed<'_, T>, Error> {
-        let plain = match &self.content {
-            Content::Lent(lent) if lent.entries.is_some() => None,
-            Content::Lent(lent) => numbers_of(lent.format.split_last().map_or(&[], |it| it.1)),
-            Content::Foreign(foreign) => foreign.format().and_then(numbers_of),
-        };
-        match plain {
-            None => Err(Error::NotServed),
-            Some(plain) if plain == T::FORMAT => Ok(Typed::new(Structs::of(self))),
-            Some(_) => Err(Error::TypesDiffer),
-        }
-    }
-
     /// Returns what the array lends, to be changed.
     fn lent(&mut self) -> Option<&mut Lent<'a>> {
         match &mut self.content {
@@ -392,87 +286,26 @@ impl<'a> Array<'a> {
         }
     }
 
-    /// Keeps a validity of its own.
-    pub(crate) fn with_present(mut self, present: &[bool]) -> Self {
-        let rows = present
-            .iter()
-            .enumerate()
-            .filter(|(_, is_present)| **is_present);
-        let mut bytes = vec![0_u8; present.len() / 8 + 1];
-        rows.for_each(|(row, _)| bytes[row / 8] |= 1 << (row % 8));
+    /// Keeps a validity of its own, which has a bit for each row.
+    pub(crate) fn with_present(mut self, present: Mask) -> Self {
         if let Some(lent) = self.lent() {
-            lent.validity = Some(Arc::new(bytes));
+            lent.validity = Some(Arc::new(present.into_bytes()));
         }
         self
     }
 }
 
-impl<'a, T: Number> From<&'a [T]> for Array<'a> {
-    fn from(values: &'a [T]) -> Self {
-        Array::numbers(values)
-    }
-}
-
-impl<T: Number> From<Vec<T>> for Array<'_> {
-    /// Keeps numbers.
-    fn from(values: Vec<T>) -> Self {
-        Array::flat(values.len(), T::FORMAT, vec![Arc::new(values)])
-    }
-}
-
-impl<T: Number> FromIterator<Option<T>> for Array<'_> {
-    /// Copies numbers, with nulls for `None`.
-    fn from_iter<I: IntoIterator<Item = Option<T>>>(rows: I) -> Self {
-        let (values, present): (Vec<T>, Vec<bool>) = rows
-            .into_iter()
-            .map(|row| (row.unwrap_or_default(), row.is_some()))
-            .unzip();
-        Array::from(values).with_present(&present)
-    }
-}
-
 impl fmt::Debug for Array<'_> {
     fn fmt(&self, f: &mut fmt::Formatter<'_>) -> fmt::Result {
-        let mut shown = f.debug_struct("Array");
-        if let Content::Lent(lent) = &self.content {
-            shown.field(
-                "format",
-                &String::from_utf8_lossy(&lent.format[..lent.format.len() - 1]),
-            );
-            for field in &lent.fields {
-                shown.field("field", &(&field.name, &field.array));
-            }
-            if let Some(entries) = &lent.entries {
-                shown.field("entries", entries);
-            }
-        }
-        shown.field("rows", &self.rows).finish_non_exhaustive()
+        f.debug_struct("Array")
+            .field("type", &self.type_text())
+            .field("rows", &self.rows)
+            .finish_non_exhaustive()
     }
 }
 
-/// Returns how many rows offsets make, if they rise and end within `has` bytes or items.
-fn rows_of<O: Offset>(offsets: &[O], has: usize, what: &'static str) -> Result<usize, Error> {
-    let (first, last) = match offsets {
-        [] => return Ok(0),
-        [first, ..] => (first.place(), offsets[offsets.len() - 1].place()),
-    };
-    // All are looked at, since a loop without an early end is the faster one.
-    let goes_back = offsets
-        .windows(2)
-        .fold(false, |found, it| found | (it[1] < it[0]));
-    match (first, last) {
-        (Some(_), Some(needs)) if !goes_back => {
-            has_at_least(what, has, needs)?;
-            Ok(offsets.len() - 1)
-        }
-        _ => Err(Error::BadArray),
-    }
-}
-
-/// Refuses a length that is too short.
-fn has_at_least(what: &'static str, has: usize, needs: usize) -> Result<(), Error> {
-    if has < needs {
-        return Err(Error::Length { what, has, needs });
-    }
-    Ok(())
+/// Returns the text of a format, without the byte 0 behind it.
+fn text_of(format: &[u8]) -> &str {
+    let format = format.strip_suffix(b"\0").unwrap_or(format);
+    std::str::from_utf8(format).unwrap_or_default()
 }

@@ -1,8 +1,10 @@
 //! Bits of a caller, one a row.
 #![forbid(unsafe_code)]
 
-use crate::mask::zeros;
+use crate::mask::{zeros, Mask};
 use crate::Error;
+use std::iter::FusedIterator;
+use std::ops::Range;
 
 /// Bits of a borrowed slice, one a row, as in a validity of Arrow: from the lowest bit of the first
 /// byte on.
@@ -34,7 +36,7 @@ impl<'a> Bitmap<'a> {
         let needs = first.saturating_add(rows);
         if needs > has {
             return Err(Error::Length {
-                what: "bits",
+                what: "bits".into(),
                 has,
                 needs,
             });
@@ -65,8 +67,18 @@ impl<'a> Bitmap<'a> {
     }
 
     /// Returns the bits, row by row.
-    pub fn iter(self) -> impl ExactSizeIterator<Item = bool> + 'a {
-        (0..self.rows).map(move |row| self.get(row) == Some(true))
+    pub fn iter(self) -> Bits<'a> {
+        Bits {
+            rows: 0..self.rows,
+            bitmap: self,
+        }
+    }
+
+    /// Returns how many rows have the bit 1.
+    pub fn count_set(self) -> usize {
+        let whole = (0..self.rows / 8).map(|at| self.byte(8 * at).count_ones() as usize);
+        let others = (self.rows / 8 * 8..self.rows).filter(|&row| self.get(row) == Some(true));
+        whole.sum::<usize>() + others.count()
     }
 
     /// Returns the bit of the first byte in which the rows begin, and the bytes.
@@ -96,6 +108,53 @@ impl<'a> Bitmap<'a> {
     }
 }
 
+impl<'a> From<&'a Mask> for Bitmap<'a> {
+    fn from(mask: &'a Mask) -> Self {
+        mask.bitmap()
+    }
+}
+
+impl<'a> IntoIterator for Bitmap<'a> {
+    type Item = bool;
+    type IntoIter = Bits<'a>;
+
+    fn into_iter(self) -> Bits<'a> {
+        self.iter()
+    }
+}
+
+/// The bits of a [`Bitmap`] or a [`Mask`], row by row.
+#[derive(Clone, Debug)]
+pub struct Bits<'a> {
+    rows: Range<usize>,
+    bitmap: Bitmap<'a>,
+}
+
+impl Iterator for Bits<'_> {
+    type Item = bool;
+
+    fn next(&mut self) -> Option<bool> {
+        self.rows.next().and_then(|row| self.bitmap.get(row))
+    }
+
+    fn nth(&mut self, skipped: usize) -> Option<bool> {
+        self.rows.nth(skipped).and_then(|row| self.bitmap.get(row))
+    }
+
+    fn size_hint(&self) -> (usize, Option<usize>) {
+        self.rows.size_hint()
+    }
+}
+
+impl DoubleEndedIterator for Bits<'_> {
+    fn next_back(&mut self) -> Option<bool> {
+        self.rows.next_back().and_then(|row| self.bitmap.get(row))
+    }
+}
+
+impl ExactSizeIterator for Bits<'_> {}
+impl FusedIterator for Bits<'_> {}
+
 #[cfg(test)]
 mod tests {
     use super::Bitmap;
@@ -108,6 +167,8 @@ mod tests {
         for first in 0..9 {
             for rows in [0, 1, 7, 8, 9, 63, 64, 65, 300] {
                 let bits = Bitmap::new(&bytes, first, rows).unwrap();
+                assert_eq!(bits.count_set(), bits.iter().filter(|it| *it).count());
+                assert_eq!(bits.iter().len(), rows);
                 for to in [0, 1, 5, 7, 8, 17] {
                     let moved = bits.moved(to).unwrap();
                     let again = Bitmap::new(&moved, to, rows).unwrap();

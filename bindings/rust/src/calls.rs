@@ -1,7 +1,6 @@
 //! Calls on arrays.
 #![forbid(unsafe_code)]
 
-use crate::mask::zeros;
 use crate::structs::Structs;
 use crate::sys::{self, Wide};
 use crate::{Array, Error, Mask};
@@ -9,16 +8,16 @@ use std::os::raw::c_uint;
 
 /// The way in which [`equal_with`] compares rows.
 #[derive(Clone, Copy, Debug, Default, PartialEq, Eq)]
-pub struct Options {
-    /// Serves floats too, and compares their bits: a NaN is equal to a NaN of the same bits, and
+pub struct EqualOptions {
+    /// Takes floats too, and compares their bits: a NaN is equal to a NaN of the same bits, and
     /// -0 is not equal to 0.
     pub floats_by_bits: bool,
     /// Checks that texts are UTF-8, which takes several times as long as the comparison. Without
-    /// it texts are compared as the bytes that they are.
+    /// it texts are compared as bytes.
     pub check_texts: bool,
 }
 
-impl Options {
+impl EqualOptions {
     fn flags(self) -> u32 {
         u32::from(self.floats_by_bits) | u32::from(self.check_texts) << 1
     }
@@ -31,7 +30,7 @@ pub enum Comparison {
     Equal = 0,
     /// They differ, or one of them is null.
     Unequal = 1,
-    /// The left one is less. This and those below hold of no null.
+    /// The left one is less. This and those below are false where one is null.
     Less = 2,
     /// The left one is not greater.
     LessOrEqual = 3,
@@ -54,14 +53,14 @@ pub enum BitOperation {
 
 /// Compares two arrays of one type and one length, row by row: `true` where both rows are the same.
 ///
-/// Null is the same as null alone. Nested rows are compared as trees: lists item by item, structs
-/// field by field, dictionaries by the entries that their keys name. Types are the same where their
-/// formats are, letter for letter, and the names of the fields of structs.
+/// Two nulls are equal; a null and a value are not. Nested rows are compared as trees: lists item
+/// by item, structs field by field, dictionaries by the entries that their keys name. Types are the
+/// same where their formats are, letter for letter, and the names of the fields of structs.
 ///
 /// # Errors
 ///
-/// [`Error::TypesDiffer`], if the arrays differ in type or length; [`Error::NotServed`] for floats,
-/// for which there is [`equal_with`], and other types that the library does not serve;
+/// [`Error::LengthMismatch`]; [`Error::TypeMismatch`]; [`Error::Unsupported`] for floats, for which
+/// there is [`equal_with`], and for types of other crates that the library does not take;
 /// [`Error::BadArray`] for a key that names no entry; [`Error::NoMemory`].
 ///
 /// # Examples
@@ -76,7 +75,7 @@ pub enum BitOperation {
 /// # Ok::<(), Error>(())
 /// ```
 pub fn equal(left: &Array<'_>, right: &Array<'_>) -> Result<Mask, Error> {
-    equal_with(left, right, Options::default())
+    equal_with(left, right, EqualOptions::default())
 }
 
 /// Compares as [`equal`] does: `true` where rows differ.
@@ -92,24 +91,31 @@ pub fn not_equal(left: &Array<'_>, right: &Array<'_>) -> Result<Mask, Error> {
 ///
 /// # Errors
 ///
-/// Those of [`equal`]; with [`Options::check_texts`] also [`Error::BadArray`], if a text is not
-/// UTF-8.
+/// Those of [`equal`]; with [`EqualOptions::check_texts`] also [`Error::BadArray`], if a text is
+/// not UTF-8.
 ///
 /// # Examples
 ///
 /// ```
-/// use dunkelva::{equal_with, Array, Error, Options};
+/// use dunkelva::{equal_with, Array, EqualOptions, Error};
 ///
 /// let left = Array::numbers(&[0.5, f64::NAN, 0.0]);
 /// let right = Array::numbers(&[0.5, f64::NAN, -0.0]);
-/// let same = equal_with(&left, &right, Options { floats_by_bits: true, ..Options::default() })?;
+/// let by_bits = EqualOptions { floats_by_bits: true, ..EqualOptions::default() };
+/// let same = equal_with(&left, &right, by_bits)?;
 /// assert_eq!(same.iter().collect::<Vec<_>>(), [true, true, false]);
 /// # Ok::<(), Error>(())
 /// ```
-pub fn equal_with(left: &Array<'_>, right: &Array<'_>, options: Options) -> Result<Mask, Error> {
+pub fn equal_with(
+    left: &Array<'_>,
+    right: &Array<'_>,
+    options: EqualOptions,
+) -> Result<Mask, Error> {
+    left.has_length_of(right)?;
     let (one, other) = (Structs::of(left), Structs::of(right));
     Mask::written(left.len(), |out| {
-        sys::equal(&one, &other, options.flags(), out)
+        let status = sys::equal(&one, &other, options.flags(), out);
+        Error::check_types(status, left, right)
     })
 }
 
@@ -122,10 +128,10 @@ pub fn equal_with(left: &Array<'_>, right: &Array<'_>, options: Options) -> Resu
 /// # Examples
 ///
 /// ```
-/// use dunkelva::{equal_counted, Array, Error, Options};
+/// use dunkelva::{equal_counted, Array, EqualOptions, Error};
 ///
 /// let lists = Array::list(&[0, 2, 3], Array::numbers(&[1, 2, 3]))?;
-/// let (same, comparisons) = equal_counted(&lists, &lists, Options::default())?;
+/// let (same, comparisons) = equal_counted(&lists, &lists, EqualOptions::default())?;
 /// assert!(same.all());
 /// assert_eq!(comparisons, 3);
 /// # Ok::<(), Error>(())
@@ -133,15 +139,14 @@ pub fn equal_with(left: &Array<'_>, right: &Array<'_>, options: Options) -> Resu
 pub fn equal_counted(
     left: &Array<'_>,
     right: &Array<'_>,
-    options: Options,
+    options: EqualOptions,
 ) -> Result<(Mask, u64), Error> {
-    if left.len() != right.len() {
-        return Err(Error::TypesDiffer);
-    }
+    left.has_length_of(right)?;
     let (one, other) = (Structs::of(left), Structs::of(right));
     let (flags, mut count) = (options.flags(), 0);
     let same = Mask::written(left.len(), |out| {
-        sys::equal_rows(&one, &other, flags, out, &mut count)
+        let status = sys::equal_rows(&one, &other, flags, out, &mut count);
+        Error::check_types(status, left, right)
     })?;
     Ok((same, count))
 }
@@ -150,8 +155,8 @@ pub fn equal_counted(
 ///
 /// # Errors
 ///
-/// [`Error::NotServed`] for types that the library does not serve; [`Error::BadArray`];
-/// [`Error::NoMemory`].
+/// [`Error::Unsupported`] for types of other crates that the library does not take;
+/// [`Error::BadArray`] for a key that names no entry; [`Error::NoMemory`].
 ///
 /// # Examples
 ///
@@ -159,28 +164,28 @@ pub fn equal_counted(
 /// use dunkelva::{is_null, Array, Error};
 ///
 /// let words = Array::from_texts([Some("a"), None, Some("b")])?;
-/// assert_eq!(is_null(&words)?.places().collect::<Vec<_>>(), [1]);
+/// assert_eq!(is_null(&words)?.set_indices().collect::<Vec<_>>(), [1]);
 /// # Ok::<(), Error>(())
 /// ```
 pub fn is_null(array: &Array<'_>) -> Result<Mask, Error> {
     let structs = Structs::of(array);
-    Mask::written(array.len(), |out| sys::is_null(&structs, out))
+    Mask::written(array.len(), |out| Error::check(sys::is_null(&structs, out)))
 }
 
 /// Compares two arrays of numbers of one type and one length, row by row.
 ///
-/// This call and those below serve whole numbers of 8 to 64 bits, and what is kept as such: dates,
+/// This call and those below take whole numbers of 8 to 64 bits, and what is kept as such: dates,
 /// times, points in time, spans, decimals of 32 and 64 bits.
 ///
 /// # Errors
 ///
-/// [`Error::TypesDiffer`], if the arrays differ in type or length; [`Error::NotServed`] for other
-/// types than numbers; [`Error::NoMemory`].
+/// [`Error::LengthMismatch`]; [`Error::TypeMismatch`]; [`Error::Unsupported`] for other types than
+/// numbers; [`Error::NoMemory`].
 ///
 /// # Examples
 ///
 /// ```
-/// use dunkelva::{compare, Array, Error, Comparison};
+/// use dunkelva::{compare, Array, Comparison, Error};
 ///
 /// let old: Array = [Some(1), Some(2), None].into_iter().collect();
 /// let less = compare(&old, Comparison::Less, &Array::numbers(&[2, 2, 2]))?;
@@ -188,9 +193,11 @@ pub fn is_null(array: &Array<'_>) -> Result<Mask, Error> {
 /// # Ok::<(), Error>(())
 /// ```
 pub fn compare(left: &Array<'_>, comparison: Comparison, right: &Array<'_>) -> Result<Mask, Error> {
+    left.has_length_of(right)?;
     let (one, other) = (Structs::of(left), Structs::of(right));
     Mask::written(left.len(), |out| {
-        sys::compare(comparison as c_uint, &one, &other, out)
+        let status = sys::compare(comparison as c_uint, &one, &other, out);
+        Error::check_types(status, left, right)
     })
 }
 
@@ -198,17 +205,19 @@ pub fn compare(left: &Array<'_>, comparison: Comparison, right: &Array<'_>) -> R
 ///
 /// # Errors
 ///
-/// [`Error::TypesDiffer`], if the array's type has no such number; [`Error::NotServed`] for other
-/// types than numbers; [`Error::NoMemory`].
+/// [`Error::NotRepresentable`], if the array's type has no such number; [`Error::Unsupported`] for
+/// other types than numbers; [`Error::NoMemory`].
 ///
 /// # Examples
 ///
 /// ```
-/// use dunkelva::{compare_number, Array, Error, Comparison};
+/// use dunkelva::{compare_number, Array, Comparison, Error};
 ///
 /// let bytes = Array::numbers(&[7_u8, 200]);
-/// assert_eq!(compare_number(&bytes, Comparison::Greater, 100)?.places().collect::<Vec<_>>(), [1]);
-/// assert_eq!(compare_number(&bytes, Comparison::Greater, 256), Err(Error::TypesDiffer));
+/// let large = compare_number(&bytes, Comparison::Greater, 100)?;
+/// assert_eq!(large.set_indices().collect::<Vec<_>>(), [1]);
+/// let error = compare_number(&bytes, Comparison::Greater, 256).unwrap_err();
+/// assert_eq!(error.to_string(), "the type C has no number 256");
 /// # Ok::<(), Error>(())
 /// ```
 pub fn compare_number(
@@ -216,19 +225,20 @@ pub fn compare_number(
     comparison: Comparison,
     number: impl Into<i128>,
 ) -> Result<Mask, Error> {
-    let structs = Structs::of(array);
-    let number = Wide::of(number.into());
+    let (structs, number) = (Structs::of(array), number.into());
     Mask::written(array.len(), |out| {
-        sys::compare_number(comparison as c_uint, &structs, &number, out)
+        let wide = Wide::of(number);
+        let status = sys::compare_number(comparison as c_uint, &structs, &wide, out);
+        Error::check_number(status, array, number)
     })
 }
 
-/// Adds the rows that are present. The sum is wrapped to the type of the array: in `i8` 100 and 100
-/// are -56. It is `None` where no row is present.
+/// Adds the rows that are not null. The sum is wrapped to the type of the array: in `i8` 100 and
+/// 100 are -56. It is `None`, if each row is null or there is none.
 ///
 /// # Errors
 ///
-/// [`Error::NotServed`] for other types than numbers; [`Error::NoMemory`].
+/// [`Error::Unsupported`] for other types than numbers; [`Error::NoMemory`].
 ///
 /// # Examples
 ///
@@ -246,7 +256,7 @@ pub fn sum(array: &Array<'_>) -> Result<Option<i128>, Error> {
     Ok(sum.number())
 }
 
-/// Finds the least and the greatest row that is present, if one is.
+/// Finds the least and the greatest row that is not null, if there is one.
 ///
 /// # Errors
 ///
@@ -267,7 +277,7 @@ pub fn min_max(array: &Array<'_>) -> Result<Option<(i128, i128)>, Error> {
     Ok(least.number().zip(greatest.number()))
 }
 
-/// Finds the least row that is present, if one is.
+/// Finds the least row that is not null, if there is one.
 ///
 /// # Errors
 ///
@@ -276,7 +286,7 @@ pub fn min(array: &Array<'_>) -> Result<Option<i128>, Error> {
     Ok(min_max(array)?.map(|(least, _)| least))
 }
 
-/// Finds the greatest row that is present, if one is.
+/// Finds the greatest row that is not null, if there is one.
 ///
 /// # Errors
 ///
@@ -285,7 +295,7 @@ pub fn max(array: &Array<'_>) -> Result<Option<i128>, Error> {
     Ok(min_max(array)?.map(|(_, greatest)| greatest))
 }
 
-/// Joins the bits of all rows that are present, if one is.
+/// Joins the bits of all rows that are not null, if there is one.
 ///
 /// # Errors
 ///
@@ -294,15 +304,15 @@ pub fn max(array: &Array<'_>) -> Result<Option<i128>, Error> {
 /// # Examples
 ///
 /// ```
-/// use dunkelva::{reduce, Array, Error, BitOperation};
+/// use dunkelva::{reduce_bits, Array, BitOperation, Error};
 ///
 /// let rows = Array::numbers(&[0b1100_u8, 0b0110]);
-/// assert_eq!(reduce(&rows, BitOperation::And)?, Some(0b0100));
-/// assert_eq!(reduce(&rows, BitOperation::Or)?, Some(0b1110));
-/// assert_eq!(reduce(&rows, BitOperation::Xor)?, Some(0b1010));
+/// assert_eq!(reduce_bits(&rows, BitOperation::And)?, Some(0b0100));
+/// assert_eq!(reduce_bits(&rows, BitOperation::Or)?, Some(0b1110));
+/// assert_eq!(reduce_bits(&rows, BitOperation::Xor)?, Some(0b1010));
 /// # Ok::<(), Error>(())
 /// ```
-pub fn reduce(array: &Array<'_>, operation: BitOperation) -> Result<Option<i128>, Error> {
+pub fn reduce_bits(array: &Array<'_>, operation: BitOperation) -> Result<Option<i128>, Error> {
     let mut result = Wide::default();
     Error::check(sys::reduce_bits(
         operation as c_uint,
@@ -310,52 +320,6 @@ pub fn reduce(array: &Array<'_>, operation: BitOperation) -> Result<Option<i128>
         &mut result,
     ))?;
     Ok(result.number())
-}
-
-macro_rules! counts {
-    ($($name:ident: $bits:literal, $what:literal, $result:literal;)*) => {
-        $(
-            #[doc = concat!("Counts the ", $what, " of each row. Of null rows there is no count.")]
-            ///
-            /// # Errors
-            ///
-            /// Those of [`sum`].
-            ///
-            /// # Examples
-            ///
-            /// ```
-            #[doc = concat!("use dunkelva::{", stringify!($name), ", Array, Error};")]
-            ///
-            /// let rows: Array = [Some(0b1110_0001_u8), None].into_iter().collect();
-            #[doc = concat!("let counts = ", stringify!($name), "(&rows)?;")]
-            #[doc = concat!("assert_eq!(counts, [Some(", $result, "), None]);")]
-            /// # Ok::<(), Error>(())
-            /// ```
-            pub fn $name(array: &Array<'_>) -> Result<Vec<Option<u32>>, Error> {
-                count_bits($bits, array)
-            }
-        )*
-    };
-}
-
-counts! {
-    count_ones: 0, "bits that are 1", "4";
-    count_zeros: 1, "bits that are 0", "4";
-    leading_ones: 2, "highest bits that are 1", "3";
-    leading_zeros: 3, "highest bits that are 0", "0";
-    trailing_ones: 4, "lowest bits that are 1", "1";
-    trailing_zeros: 5, "lowest bits that are 0", "0";
-}
-
-fn count_bits(bits: c_uint, array: &Array<'_>) -> Result<Vec<Option<u32>>, Error> {
-    let mut counts = zeros(array.len())?;
-    Error::check(sys::count_bits(bits, &Structs::of(array), &mut counts))?;
-    let nulls = is_null(array)?;
-    let mut present = zeros(array.len())?;
-    for ((to, count), is_null) in present.iter_mut().zip(counts).zip(nulls.iter()) {
-        *to = Some(count).filter(|_| !is_null);
-    }
-    Ok(present)
 }
 
 /// Returns the version of libdunkelva.

@@ -3,22 +3,64 @@
 //! A format ends with a byte 0, as C asks.
 #![forbid(unsafe_code)]
 
-mod sealed {
-    pub trait Sealed {}
+use std::fmt::Debug;
+
+pub(crate) mod sealed {
+    /// A type of the elements that buffers have.
+    pub trait Sealed: Copy + Send + Sync {
+        /// Lends elements.
+        fn lend(elements: &[Self]) -> Slice<'_>;
+
+        /// Returns the elements, if they are of this type.
+        fn seen(slice: Slice<'_>) -> Option<&[Self]>;
+    }
+
+    macro_rules! elements {
+        ($($kind:ident: $element:ty),*) => {
+            /// The elements of a buffer.
+            #[derive(Debug)]
+            pub enum Slice<'x> {
+                $($kind(&'x [$element])),*
+            }
+
+            $(
+                impl Sealed for $element {
+                    fn lend(elements: &[Self]) -> Slice<'_> {
+                        Slice::$kind(elements)
+                    }
+
+                    fn seen(slice: Slice<'_>) -> Option<&[Self]> {
+                        match slice {
+                            Slice::$kind(elements) => Some(elements),
+                            _ => None,
+                        }
+                    }
+                }
+            )*
+        };
+    }
+
+    elements! {
+        I8: i8, I16: i16, I32: i32, I64: i64, I128: i128,
+        U8: u8, U16: u16, U32: u32, U64: u64, U128: u128,
+        F32: f32, F64: f64
+    }
 }
 
 /// A type of numbers that an array keeps: `i8` to `i64`, `u8` to `u64`, `f32`, `f64`.
 ///
 /// Floats are compared by [`equal_with`](crate::equal_with) alone, with
-/// [`Options::floats_by_bits`](crate::Options::floats_by_bits).
-pub trait Number: sealed::Sealed + Copy + Default + Send + Sync + 'static {
+/// [`EqualOptions::floats_by_bits`](crate::EqualOptions::floats_by_bits).
+pub trait Number:
+    sealed::Sealed + Copy + Debug + Default + PartialEq + Send + Sync + 'static
+{
     #[doc(hidden)]
     const FORMAT: &'static [u8];
 }
 
-/// An integer type: `i8` to `i64`, `u8` to `u64`. Arithmetic serves these, and dictionaries have
+/// An integer type: `i8` to `i64`, `u8` to `u64`. Arithmetic is of these, and dictionaries have
 /// keys of one of them.
-pub trait Integer: Number + Into<i128> {}
+pub trait Integer: Number + Eq + Into<i128> {}
 
 /// A type of offsets of texts, byte strings and lists: `i32` or `i64`.
 pub trait Offset: Number + Ord {
@@ -35,7 +77,6 @@ pub trait Offset: Number + Ord {
 macro_rules! numbers {
     ($($number:ty = $format:literal),*) => {
         $(
-            impl sealed::Sealed for $number {}
             impl Number for $number {
                 const FORMAT: &'static [u8] = $format;
             }
@@ -100,23 +141,48 @@ pub(crate) fn is_kept_as(format: &str, plain: &[u8]) -> bool {
     matches!((bits, plain), (32, b"i\0") | (64, b"l\0"))
 }
 
-/// Returns how many bits a decimal of a format such as `d:9,2,32` has, if they are 32 or 64.
+/// Returns how many bits a decimal of a format such as `d:9,2,32` has, if they are 32 or 64, and 0
+/// for other formats. Decimals of 32 bits have up to 9 digits, those of 64 bits up to 18.
 fn decimal_bits(format: &str) -> u32 {
-    let parts: Vec<_> = format
-        .strip_prefix("d:")
-        .unwrap_or_default()
-        .split(',')
-        .collect();
-    match parts[..] {
-        [_, _, "32"] => 32,
-        [_, _, "64"] => 64,
-        _ => 0,
+    let parts = format.strip_prefix("d:").unwrap_or_default().split(',');
+    let (precision, scale, bits, most) = match parts.collect::<Vec<_>>()[..] {
+        [precision, scale, "32"] => (precision, scale, 32, 9),
+        [precision, scale, "64"] => (precision, scale, 64, 18),
+        _ => return 0,
+    };
+    let has_precision = digits(precision).map_or(false, |it| (1..=most).contains(&it));
+    let has_scale = digits(scale.strip_prefix('-').unwrap_or(scale)).is_some();
+    if has_precision && has_scale {
+        bits
+    } else {
+        0
     }
+}
+
+/// Returns the number that a text of digits alone has.
+fn digits(text: &str) -> Option<i32> {
+    let is_all = text.bytes().all(|it| it.is_ascii_digit());
+    text.parse().ok().filter(|_| is_all)
+}
+
+/// Returns the least and the greatest number of a plain format.
+pub(crate) fn bounds(plain: &[u8]) -> Option<(i128, i128)> {
+    macro_rules! find {
+        ($($number:ident),*) => {
+            $(
+                if plain == $number::FORMAT {
+                    return Some(($number::MIN.into(), $number::MAX.into()));
+                }
+            )*
+        };
+    }
+    find!(i8, i16, i32, i64, u8, u16, u32, u64);
+    None
 }
 
 #[cfg(test)]
 mod tests {
-    use super::{is_kept_as, numbers_of};
+    use super::{bounds, is_kept_as, numbers_of};
 
     #[test]
     fn formats_fit_the_width_of_their_numbers() {
@@ -151,6 +217,18 @@ mod tests {
             "d:9,2",
             "d:9,2,128",
             "d:9,2,32,",
+            "d:x,y,32",
+            "d:,2,32",
+            "d:9,,32",
+            "d:9,-,32",
+            "d:9,--2,32",
+            "d:+9,2,32",
+            "d:9,+2,32",
+            "d:9, 2,32",
+            "d:0,0,32",
+            "d:10,2,32",
+            "d:19,2,64",
+            "d:9,2147483648,64",
             "+s",
         ] {
             assert!(
@@ -167,6 +245,9 @@ mod tests {
             let plain = numbers_of(format.as_bytes()).unwrap();
             assert_eq!(plain, format!("{format}\0").as_bytes());
         }
+        assert_eq!(bounds(b"c\0"), Some((-128, 127)));
+        assert_eq!(bounds(b"S\0"), Some((0, 65_535)));
+        assert_eq!(bounds(b"f\0"), None);
         assert_eq!(numbers_of(b"tdD"), Some(&b"i\0"[..]));
         assert_eq!(numbers_of(b"tsu:UTC"), Some(&b"l\0"[..]));
         for format in [

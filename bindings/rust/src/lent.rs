@@ -1,6 +1,7 @@
 //! The memory that an array lends.
 #![forbid(unsafe_code)]
 
+use crate::format::sealed::{Sealed, Slice};
 use crate::sys::Foreign;
 use crate::Array;
 use std::borrow::Cow;
@@ -10,17 +11,26 @@ use std::sync::Arc;
 /// Elements that are borrowed or owned, and whose address stays the same.
 pub(crate) trait Elements: Send + Sync {
     fn start(&self) -> *const c_void;
+    fn slice(&self) -> Slice<'_>;
 }
 
-impl<T: Send + Sync> Elements for &[T] {
+impl<T: Sealed> Elements for &[T] {
     fn start(&self) -> *const c_void {
         self.as_ptr().cast()
     }
+
+    fn slice(&self) -> Slice<'_> {
+        T::lend(self)
+    }
 }
 
-impl<T: Send + Sync> Elements for Vec<T> {
+impl<T: Sealed> Elements for Vec<T> {
     fn start(&self) -> *const c_void {
         self.as_ptr().cast()
+    }
+
+    fn slice(&self) -> Slice<'_> {
+        T::lend(self)
     }
 }
 
@@ -50,6 +60,21 @@ impl Lent<'_> {
     /// Says whether rows of the type can be null by a validity.
     pub(crate) fn has_validity(&self) -> bool {
         *self.format != *b"n\0"
+    }
+
+    /// Returns the texts of the types inside: fields with their names, items, entries.
+    pub(crate) fn inside(&self) -> Vec<String> {
+        let is_struct = *self.format == *b"+s\0";
+        let field = |field: &Field<'_>| {
+            let text = field.array.type_text();
+            if is_struct {
+                format!("{}: {text}", field.name.to_string_lossy())
+            } else {
+                text
+            }
+        };
+        let entries = self.entries.iter().map(|it| it.type_text());
+        self.fields.iter().map(field).chain(entries).collect()
     }
 }
 

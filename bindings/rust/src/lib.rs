@@ -6,10 +6,14 @@ mod arithmetic;
 mod array;
 mod bitmap;
 mod calls;
+mod collect;
+mod counts;
 mod error;
 mod format;
 mod lent;
+mod make;
 mod mask;
+mod numbers;
 mod structs;
 #[allow(unsafe_code)]
 mod sys;
@@ -17,19 +21,22 @@ mod unique;
 mod views;
 
 pub use crate::arithmetic::{
-    absolute, add, arithmetic, arithmetic_number, floor_divide, modulo, multiply, negate,
-    number_arithmetic, subtract, truncating_divide, Numbers, Operation,
+    arithmetic, wrapping_abs, wrapping_add, wrapping_floor_div, wrapping_mod, wrapping_mul,
+    wrapping_neg, wrapping_sub, wrapping_trunc_div, Operand, Operation,
 };
 pub use crate::array::Array;
-pub use crate::bitmap::Bitmap;
+pub use crate::bitmap::{Bitmap, Bits};
 pub use crate::calls::{
-    compare, compare_number, count_ones, count_zeros, equal, equal_counted, equal_with, is_null,
-    leading_ones, leading_zeros, max, min, min_max, not_equal, reduce, sum, trailing_ones,
-    trailing_zeros, version, BitOperation, Comparison, Options,
+    compare, compare_number, equal, equal_counted, equal_with, is_null, max, min, min_max,
+    not_equal, reduce_bits, sum, version, BitOperation, Comparison, EqualOptions,
+};
+pub use crate::counts::{
+    count_ones, count_zeros, leading_ones, leading_zeros, trailing_ones, trailing_zeros,
 };
 pub use crate::error::Error;
 pub use crate::format::{Integer, Number, Offset};
 pub use crate::mask::Mask;
+pub use crate::numbers::{Numbers, Rows};
 pub use crate::unique::Unique;
 
 /// The structs of the Arrow C data interface, which [`Array::from_raw`] takes.

@@ -1,15 +1,28 @@
-//! Truth values that a call returns.
+//! Truth values, one a row.
 #![forbid(unsafe_code)]
 
+use crate::bitmap::Bits;
 use crate::{Bitmap, Error};
 use std::fmt;
-use std::ops::Not;
+use std::ops::{BitAnd, BitOr, BitXor, Not};
 
-/// A truth value for each row.
+/// A truth value for each row: what a comparison returns, a validity, or a column.
 ///
 /// It is kept as a validity of Arrow is: row `i` is bit `i % 8` of byte `i / 8`. The bits behind
 /// the last row are 0.
-#[derive(Clone, PartialEq, Eq, Hash)]
+///
+/// # Examples
+///
+/// ```
+/// use dunkelva::Mask;
+///
+/// let is_known: Mask = [true, true, false].into_iter().collect();
+/// let is_old: Mask = vec![false, true, true].into_iter().collect();
+/// let both = &is_known & &is_old;
+/// assert_eq!(both.set_indices().collect::<Vec<_>>(), [1]);
+/// assert!((is_known | is_old).all());
+/// ```
+#[derive(Clone, Default, PartialEq, Eq, Hash)]
 pub struct Mask {
     bytes: Vec<u8>,
     rows: usize,
@@ -17,10 +30,24 @@ pub struct Mask {
 
 impl Mask {
     /// Makes a mask whose bytes a call writes.
-    pub(crate) fn written(rows: usize, call: impl FnOnce(&mut [u8]) -> i32) -> Result<Mask, Error> {
+    pub(crate) fn written(
+        rows: usize,
+        call: impl FnOnce(&mut [u8]) -> Result<(), Error>,
+    ) -> Result<Mask, Error> {
         let mut bytes = zeros(rows / 8 + usize::from(rows % 8 != 0))?;
-        Error::check(call(&mut bytes))?;
+        call(&mut bytes)?;
         Ok(Mask { bytes, rows })
+    }
+
+    /// Appends a row.
+    pub(crate) fn push(&mut self, value: bool) {
+        if self.rows % 8 == 0 {
+            self.bytes.push(0);
+        }
+        if let Some(last) = self.bytes.last_mut() {
+            *last |= u8::from(value) << (self.rows % 8);
+        }
+        self.rows += 1;
     }
 
     /// Returns the number of rows.
@@ -39,12 +66,12 @@ impl Mask {
     }
 
     /// Returns the truth values, row by row.
-    pub fn iter(&self) -> impl ExactSizeIterator<Item = bool> + '_ {
-        (0..self.rows).map(move |row| self.get(row) == Some(true))
+    pub fn iter(&self) -> Bits<'_> {
+        self.bitmap().iter()
     }
 
     /// Returns how many rows are true.
-    pub fn count(&self) -> usize {
+    pub fn count_set(&self) -> usize {
         self.bytes
             .iter()
             .map(|byte| byte.count_ones() as usize)
@@ -53,7 +80,7 @@ impl Mask {
 
     /// Returns `true` if all rows are true, or if there is no row.
     pub fn all(&self) -> bool {
-        self.count() == self.rows
+        self.count_set() == self.rows
     }
 
     /// Returns `true` if a row is true.
@@ -61,8 +88,8 @@ impl Mask {
         self.bytes.iter().any(|&byte| byte != 0)
     }
 
-    /// Returns the places of the rows that are true, rising.
-    pub fn places(&self) -> impl Iterator<Item = usize> + '_ {
+    /// Returns the indices of the rows that are true, ascending.
+    pub fn set_indices(&self) -> impl Iterator<Item = usize> + '_ {
         self.iter()
             .enumerate()
             .filter(|(_, is_true)| *is_true)
@@ -79,7 +106,7 @@ impl Mask {
         self.bytes
     }
 
-    /// Lends the truth values as bits. An array can be made of these.
+    /// Lends the truth values as bits.
     pub fn bitmap(&self) -> Bitmap<'_> {
         Bitmap::new(&self.bytes, 0, self.rows).expect("a mask has a bit for each row")
     }
@@ -99,6 +126,100 @@ impl Not for Mask {
             }
         }
         self
+    }
+}
+
+impl Not for &Mask {
+    type Output = Mask;
+
+    /// Negates each truth value.
+    fn not(self) -> Mask {
+        !self.clone()
+    }
+}
+
+macro_rules! joined {
+    ($($operator:ident: $call:ident, $join:tt, $assign:tt, $what:literal;)*) => {
+        $(
+            impl $operator<&Mask> for Mask {
+                type Output = Mask;
+
+                #[doc = $what]
+                ///
+                /// # Panics
+                ///
+                /// If the masks differ in length.
+                fn $call(mut self, other: &Mask) -> Mask {
+                    assert_eq!(self.rows, other.rows, "the masks differ in length");
+                    for (byte, other) in self.bytes.iter_mut().zip(&other.bytes) {
+                        *byte $assign other;
+                    }
+                    self
+                }
+            }
+
+            impl $operator for Mask {
+                type Output = Mask;
+
+                #[doc = $what]
+                ///
+                /// # Panics
+                ///
+                /// If the masks differ in length.
+                fn $call(self, other: Mask) -> Mask {
+                    self $join &other
+                }
+            }
+
+            impl $operator for &Mask {
+                type Output = Mask;
+
+                #[doc = $what]
+                ///
+                /// # Panics
+                ///
+                /// If the masks differ in length.
+                fn $call(self, other: &Mask) -> Mask {
+                    self.clone() $join other
+                }
+            }
+        )*
+    };
+}
+
+joined! {
+    BitAnd: bitand, &, &=, "Returns the rows that are true in both masks.";
+    BitOr: bitor, |, |=, "Returns the rows that are true in one of the masks, or in both.";
+    BitXor: bitxor, ^, ^=, "Returns the rows that are true in one of the masks alone.";
+}
+
+impl Extend<bool> for Mask {
+    fn extend<I: IntoIterator<Item = bool>>(&mut self, values: I) {
+        values.into_iter().for_each(|value| self.push(value));
+    }
+}
+
+impl FromIterator<bool> for Mask {
+    fn from_iter<I: IntoIterator<Item = bool>>(values: I) -> Mask {
+        let mut mask = Mask::default();
+        mask.extend(values);
+        mask
+    }
+}
+
+impl From<Bitmap<'_>> for Mask {
+    /// Copies bits.
+    fn from(bits: Bitmap<'_>) -> Mask {
+        bits.iter().collect()
+    }
+}
+
+impl<'a> IntoIterator for &'a Mask {
+    type Item = bool;
+    type IntoIter = Bits<'a>;
+
+    fn into_iter(self) -> Bits<'a> {
+        self.iter()
     }
 }
 

@@ -142,7 +142,7 @@ impl<'x> Structs<'x> {
 }
 
 /// The structs of an array whose rows are numbers of type `T`, so that results of this type are
-/// written for it. [`Array::numbers_of`] alone makes them.
+/// written for it. [`Numbers`](crate::Numbers) alone makes them.
 pub(crate) struct Typed<'x, T> {
     pub(crate) structs: Structs<'x>,
     _rows: PhantomData<T>,

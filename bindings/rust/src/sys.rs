@@ -4,13 +4,14 @@
 //! ([`Structs`]). It writes to what it is lent for results alone, no more than their length, and
 //! keeps nothing. So the functions of this module are safe, except `from_raw`.
 
-use crate::format::Integer;
+use crate::format::{numbers_of, Integer};
 use crate::structs::{ArrowArray, ArrowSchema, Structs, Typed};
 use std::ffi::CStr;
 use std::marker::PhantomData;
-use std::mem::MaybeUninit;
+use std::mem::{align_of, size_of, MaybeUninit};
 use std::os::raw::{c_char, c_uint, c_void};
 use std::ptr::null_mut;
+use std::slice::from_raw_parts;
 
 /// A number of 128 bits, or none.
 #[repr(C)]
@@ -257,18 +258,46 @@ impl<'a> Foreign<'a> {
         self.schema
     }
 
-    /// Returns the format, without a byte 0 behind it. There is none for dictionaries, whose format
-    /// is that of their keys.
+    /// Returns the format, without a byte 0 behind it. That of a dictionary is that of its keys.
     pub(crate) fn format(&self) -> Option<&'a [u8]> {
-        if self.schema.format.is_null() || !self.schema.dictionary.is_null() {
+        if self.schema.format.is_null() {
             return None;
         }
         // SAFETY: the format of a schema that keeps the rules is a text that ends with a byte 0.
         Some(unsafe { CStr::from_ptr(self.schema.format) }.to_bytes())
     }
 
+    /// Says whether there are types inside: fields, items, or entries of a dictionary.
+    pub(crate) fn is_nested(&self) -> bool {
+        self.schema.n_children != 0 || !self.schema.dictionary.is_null()
+    }
+
     pub(crate) fn array(&self) -> &'a ArrowArray {
         self.array
+    }
+
+    /// Returns the first `rows` numbers of the buffers, those before the offset too, and their
+    /// validity, if there is one. Returns `None`, if the rows are fewer or are not kept as numbers
+    /// of type `T`, if these do not lie at a multiple of their size, or if the structs break the
+    /// rules.
+    pub(crate) fn numbers<T: Integer>(&self, rows: usize) -> Option<(&'a [T], Option<&'a [u8]>)> {
+        let array = self.array;
+        let all = usize::try_from(array.offset.checked_add(array.length)?).ok()?;
+        let is_of_type = self.format().and_then(numbers_of) == Some(T::FORMAT);
+        let has_buffers = array.n_buffers == 2 && !array.buffers.is_null();
+        if rows > all || self.is_nested() || !is_of_type || !has_buffers {
+            return None;
+        }
+        // SAFETY: there are two buffers.
+        let (bits, values) = unsafe { (*array.buffers, *array.buffers.add(1)) };
+        let is_aligned = values as usize % align_of::<T>() == 0;
+        if values.is_null() || !is_aligned || rows > isize::MAX as usize / size_of::<T>() {
+            return None;
+        }
+        let bytes = rows / 8 + usize::from(rows % 8 != 0);
+        // SAFETY: buffers of numbers are as long as the rows ask; nothing writes to them for 'a.
+        let bits = (!bits.is_null()).then(|| unsafe { from_raw_parts(bits.cast(), bytes) });
+        Some((unsafe { from_raw_parts(values.cast(), rows) }, bits))
     }
 }
 
@@ -287,10 +316,13 @@ impl<'a> crate::Array<'a> {
     /// buffers as long as these ask. For `'a` nothing releases the structs or writes to them or to
     /// what they point to, in this thread or another.
     ///
+    /// No argument binds `'a`: the compiler takes any lifetime that fits, so that the caller has to
+    /// see that the array, and what is made of it, does not outlive the structs and the buffers.
+    ///
     /// # Errors
     ///
-    /// [`Error::BadStructs`](crate::Error::BadStructs), if a pointer is null, or if the length or
-    /// the offset is below 0.
+    /// [`Error::BadStructs`](crate::Error::BadStructs), if a pointer is null, if a struct was
+    /// released, or if the length or the offset is below 0.
     pub unsafe fn from_raw(
         array: *const ArrowArray,
         schema: *const ArrowSchema,
@@ -298,6 +330,9 @@ impl<'a> crate::Array<'a> {
         // SAFETY: the caller promises it.
         let structs = unsafe { schema.as_ref().zip(array.as_ref()) };
         let (schema, array) = structs.ok_or(crate::Error::BadStructs)?;
+        if schema.release.is_none() || array.release.is_none() {
+            return Err(crate::Error::BadStructs);
+        }
         let place = |it| usize::try_from(it).map_err(|_| crate::Error::BadStructs);
         let (rows, offset) = (place(array.length)?, place(array.offset)?);
         Ok(Self::foreign(Foreign { schema, array }, rows, offset))

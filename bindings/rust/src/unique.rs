@@ -1,6 +1,7 @@
 //! States of distinct values.
 #![forbid(unsafe_code)]
 
+use crate::format::bounds;
 use crate::mask::zeros;
 use crate::structs::Structs;
 use crate::sys::{self, State, StateView, Wide};
@@ -23,7 +24,7 @@ use std::ops::RangeInclusive;
 /// others.append(&Array::numbers(&[10, 3]))?;
 /// seen.merge(&others)?;
 /// assert_eq!(seen.values()?, [3, 7, 10]);
-/// assert_eq!((seen.count()?, seen.has_null()), (4, true));
+/// assert_eq!((seen.count(), seen.has_null()), (4, true));
 /// assert_eq!(seen.append(&Array::numbers(&[5, 11])), Err(Error::OutOfRange));
 /// # Ok::<(), Error>(())
 /// ```
@@ -40,12 +41,15 @@ impl Unique {
     ///
     /// # Errors
     ///
-    /// [`Error::BadArgument`], if the ends are not in order, or if there are 2^64 - 1 numbers or
-    /// more between them; [`Error::NoMemory`], if there is no memory for a bit for each.
+    /// [`Error::BadRange`], if the ends are not in order, or if there are 2^64 - 1 numbers or more
+    /// between them; [`Error::NoMemory`], if there is no memory for a bit for each.
     pub fn new<N: Into<i128>>(range: RangeInclusive<N>) -> Result<Self, Error> {
         let (least, greatest) = range.into_inner();
         let (least, greatest) = (least.into(), greatest.into());
         let words = sys::unique_words(&Wide::of(least), &Wide::of(greatest));
+        if words == 0 {
+            return Err(Error::BadRange { least, greatest });
+        }
         let mut bits = zeros(words)?;
         Error::check(sys::unique_init(
             &Wide::of(least),
@@ -64,40 +68,43 @@ impl Unique {
     ///
     /// # Errors
     ///
-    /// They leave the state as it was: [`Error::OutOfRange`], if a row is a number outside of the
-    /// range; [`Error::TypesDiffer`], if the array's type lacks an end of the range;
-    /// [`Error::NotServed`] for other types; [`Error::NoMemory`].
+    /// They change nothing: [`Error::OutOfRange`], if a row is a number outside of the range;
+    /// [`Error::NotRepresentable`], if the array's type lacks an end of the range;
+    /// [`Error::Unsupported`] for other types; [`Error::NoMemory`].
     pub fn append(&mut self, array: &Array<'_>) -> Result<(), Error> {
         let structs = Structs::of(array);
-        self.change(|state| sys::unique_append(state, &structs))
+        let lowest = array.plain_format().and_then(bounds).map(|it| it.0);
+        let has_least = lowest.map_or(true, |it| it <= self.least);
+        let number = if has_least { self.greatest } else { self.least };
+        self.change(|state| Error::check_number(sys::unique_append(state, &structs), array, number))
     }
 
     /// Adds what another state has seen.
     ///
     /// # Errors
     ///
-    /// [`Error::TypesDiffer`], if the states have other ranges.
+    /// [`Error::RangeMismatch`], if the states have other ranges.
     pub fn merge(&mut self, other: &Unique) -> Result<(), Error> {
+        let (left, right) = (self.range(), other.range());
+        if left != right {
+            return Err(Error::RangeMismatch { left, right });
+        }
         let other = other.view();
-        self.change(|state| sys::unique_merge(state, &other))
+        self.change(|state| Error::check(sys::unique_merge(state, &other)))
     }
 
     /// Returns how many rows are distinct. Null is one of them, if it was seen.
-    ///
-    /// # Errors
-    ///
-    /// None that the state can cause.
-    pub fn count(&self) -> Result<u64, Error> {
-        Ok(self.counts()?.1)
+    pub fn count(&self) -> u64 {
+        self.counts().1
     }
 
-    /// Returns the values that were seen, rising.
+    /// Returns the values that were seen, ascending.
     ///
     /// # Errors
     ///
     /// [`Error::NoMemory`].
     pub fn values(&self) -> Result<Vec<i128>, Error> {
-        let count = usize::try_from(self.counts()?.0).map_err(|_| Error::NoMemory)?;
+        let count = usize::try_from(self.counts().0).map_err(|_| Error::NoMemory)?;
         let mut words = zeros(count)?;
         let mut has_null = 0;
         Error::check(sys::unique_finish(&self.view(), &mut words, &mut has_null))?;
@@ -128,16 +135,20 @@ impl Unique {
     }
 
     /// Counts the values that were seen, and the rows.
-    fn counts(&self) -> Result<(u64, u64), Error> {
+    fn counts(&self) -> (u64, u64) {
         let (mut values, mut rows) = (0, 0);
-        Error::check(sys::unique_count(&self.view(), &mut values, &mut rows))?;
-        Ok((values, rows))
+        Error::check(sys::unique_count(&self.view(), &mut values, &mut rows))
+            .expect("a state that the library made");
+        (values, rows)
     }
 
-    fn change(&mut self, call: impl FnOnce(&mut State<'_>) -> i32) -> Result<(), Error> {
+    fn change(
+        &mut self,
+        call: impl FnOnce(&mut State<'_>) -> Result<(), Error>,
+    ) -> Result<(), Error> {
         let ends = (Wide::of(self.least), Wide::of(self.greatest));
         let mut state = State::of(ends, &mut self.bits, self.has_null);
-        Error::check(call(&mut state))?;
+        call(&mut state)?;
         self.has_null = state.has_null();
         Ok(())
     }

@@ -2,7 +2,7 @@
 #![forbid(unsafe_code)]
 
 use crate::lent::Buffer;
-use crate::{Array, Error};
+use crate::{Array, Error, Mask};
 use std::sync::Arc;
 
 const TEXTS: &[u8] = b"vu\0";
@@ -55,12 +55,12 @@ impl<'a> Array<'a> {
     ///
     /// # Errors
     ///
-    /// [`Error::BadArray`], if a text has more than `i32::MAX` bytes, or the texts need more than
+    /// [`Error::TooLong`], if a text has more than `i32::MAX` bytes, or the texts need more than
     /// `i32::MAX` buffers.
     pub fn from_texts_as_views<'t>(
         rows: impl IntoIterator<Item = Option<&'t str>>,
     ) -> Result<Self, Error> {
-        let (mut views, mut present, mut buffers) = (Vec::new(), Vec::new(), Vec::new());
+        let (mut views, mut present, mut buffers) = (Vec::new(), Mask::default(), Vec::new());
         for row in rows {
             views.push(view_of(
                 row.unwrap_or_default().as_bytes(),
@@ -73,7 +73,7 @@ impl<'a> Array<'a> {
         let kept = buffers.into_iter().map(|it| Arc::new(it) as Buffer<'a>);
         let rows = views.len();
         let array = Array::views(TEXTS, rows, Arc::new(views), kept.collect(), sizes);
-        Ok(array.with_present(&present))
+        Ok(array.with_present(present))
     }
 
     fn views(
@@ -95,7 +95,7 @@ impl<'a> Array<'a> {
 /// Returns the view of a string. A long one is appended to the last buffer, or to a new one where
 /// that would then have more than `most` bytes.
 fn view_of(bytes: &[u8], buffers: &mut Vec<Vec<u8>>, most: usize) -> Result<u128, Error> {
-    let length = i32::try_from(bytes.len()).map_err(|_| Error::BadArray)?;
+    let length = i32::try_from(bytes.len()).map_err(|_| Error::TooLong)?;
     let mut view = [0; 16];
     view[..4].copy_from_slice(&length.to_le_bytes());
     if bytes.len() <= INSIDE {
@@ -106,9 +106,9 @@ fn view_of(bytes: &[u8], buffers: &mut Vec<Vec<u8>>, most: usize) -> Result<u128
     if !buffers.last().map_or(false, has_room) {
         buffers.push(Vec::new());
     }
-    let number = i32::try_from(buffers.len() - 1).map_err(|_| Error::BadArray)?;
+    let number = i32::try_from(buffers.len() - 1).map_err(|_| Error::TooLong)?;
     if let Some(buffer) = buffers.last_mut() {
-        let start = i32::try_from(buffer.len()).map_err(|_| Error::BadArray)?;
+        let start = i32::try_from(buffer.len()).map_err(|_| Error::TooLong)?;
         view[4..8].copy_from_slice(&bytes[..4]);
         view[8..12].copy_from_slice(&number.to_le_bytes());
         view[12..].copy_from_slice(&start.to_le_bytes());

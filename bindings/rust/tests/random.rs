@@ -10,8 +10,8 @@ use common::number_from;
 use common::row::{some_row, some_rows, some_type, Int, Row, Type, INTS};
 use dunkelva::{
     compare, compare_number, count_ones, count_zeros, equal, equal_counted, is_null, leading_ones,
-    leading_zeros, max, min, min_max, not_equal, reduce, sum, trailing_ones, trailing_zeros, Array,
-    BitOperation, Comparison, Error, Mask, Options,
+    leading_zeros, max, min, min_max, not_equal, reduce_bits, sum, trailing_ones, trailing_zeros,
+    Array, BitOperation, Comparison, EqualOptions, Error, Mask,
 };
 
 const LENGTHS: [usize; 9] = [0, 1, 7, 8, 9, 63, 64, 65, 200];
@@ -68,7 +68,7 @@ fn rows_of_all_types_are_equal_where_their_values_are() {
         let same = equal(&left, &right).expect(&told);
         assert_eq!(truths(&same), wanted, "{told}");
         assert_eq!(
-            same.count(),
+            same.count_set(),
             wanted.iter().filter(|it| **it).count(),
             "{told}"
         );
@@ -79,7 +79,7 @@ fn rows_of_all_types_are_equal_where_their_values_are() {
         );
         assert_eq!(equal(&right, &left), Ok(same), "{told}");
         assert!(equal(&left, &left.clone()).expect(&told).all(), "{told}");
-        let (counted, _) = equal_counted(&left, &right, Options::default()).expect(&told);
+        let (counted, _) = equal_counted(&left, &right, EqualOptions::default()).expect(&told);
         assert_eq!(truths(&counted), wanted, "{told}");
 
         let (first, second) = (chance.below(count + 1), chance.below(count + 1));
@@ -184,6 +184,23 @@ fn holds(test: Comparison, left: Option<i128>, right: Option<i128>) -> bool {
     }
 }
 
+fn lacks(int: Int, number: i128) -> Error {
+    let format = match (int.bits, int.is_signed) {
+        (8, true) => "c",
+        (16, true) => "s",
+        (32, true) => "i",
+        (64, true) => "l",
+        (8, false) => "C",
+        (16, false) => "S",
+        (32, false) => "I",
+        _ => "L",
+    };
+    Error::NotRepresentable {
+        number,
+        format: format.into(),
+    }
+}
+
 #[test]
 fn numbers_are_compared_as_in_rust() {
     each_case(200, |chance, case| {
@@ -216,7 +233,7 @@ fn numbers_are_compared_as_in_rust() {
                 let wanted = if is_one {
                     Ok(rows)
                 } else {
-                    Err(Error::TypesDiffer)
+                    Err(lacks(int, number))
                 };
                 assert_eq!(got, wanted, "{case} {test:?} {number}");
             }
@@ -245,24 +262,28 @@ fn numbers_are_reduced_as_in_rust() {
         );
         let joined = |join: fn(i128, i128) -> i128| Ok(present.iter().copied().reduce(join));
         assert_eq!(
-            reduce(&array, BitOperation::And),
+            reduce_bits(&array, BitOperation::And),
             joined(|l, r| l & r),
             "{case}"
         );
         assert_eq!(
-            reduce(&array, BitOperation::Or),
+            reduce_bits(&array, BitOperation::Or),
             joined(|l, r| l | r),
             "{case}"
         );
         assert_eq!(
-            reduce(&array, BitOperation::Xor),
+            reduce_bits(&array, BitOperation::Xor),
             joined(|l, r| l ^ r),
             "{case}"
         );
     });
 }
 
-type Count = fn(&Array<'_>) -> Result<Vec<Option<u32>>, Error>;
+type Count = fn(&Array<'_>) -> Result<dunkelva::Numbers<'static, u32>, Error>;
+
+fn counts(call: Count, array: &Array<'_>) -> Vec<Option<u32>> {
+    call(array).unwrap().iter().collect()
+}
 
 #[test]
 fn bits_are_counted_by_their_digits() {
@@ -279,7 +300,7 @@ fn bits_are_counted_by_their_digits() {
                 .into_iter()
                 .map(|it| it.map(count))
                 .collect();
-            assert_eq!(call(&array), Ok(wanted), "{case} {bit}");
+            assert_eq!(counts(call, &array), wanted, "{case} {bit}");
         }
         let ends: [(u8, Count, Count); 2] = [
             (1, leading_ones, trailing_ones),
@@ -293,13 +314,13 @@ fn bits_are_counted_by_their_digits() {
                 .into_iter()
                 .map(|it| it.map(first))
                 .collect();
-            assert_eq!(leading(&array), Ok(wanted), "{case} {bit}");
+            assert_eq!(counts(leading, &array), wanted, "{case} {bit}");
             let wanted: Vec<_> = numbers
                 .digits()
                 .into_iter()
                 .map(|it| it.map(last))
                 .collect();
-            assert_eq!(trailing(&array), Ok(wanted), "{case} {bit}");
+            assert_eq!(counts(trailing, &array), wanted, "{case} {bit}");
         }
     });
 }

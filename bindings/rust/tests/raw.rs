@@ -6,7 +6,7 @@ mod common;
 use common::digits;
 use dunkelva::ffi::{ArrowArray, ArrowSchema};
 use dunkelva::{
-    compare_number, equal, is_null, negate, sum, Array, Bitmap, Comparison, Error, Numbers,
+    compare_number, equal, is_null, sum, wrapping_neg, Array, Bitmap, Comparison, Error, Numbers,
 };
 use std::os::raw::{c_char, c_void};
 use std::ptr;
@@ -113,10 +113,55 @@ fn a_column_of_another_crate() -> Result<(), Error> {
         digits(&compare_number(&window, Comparison::Greater, 2)?),
         "001"
     );
-    assert_eq!(array.slice(1, 4).map(drop), Err(Error::BadArgument));
-    let negative: Numbers<i32> = negate(&array)?;
+    assert!(matches!(array.slice(1, 4), Err(Error::OutOfBounds { .. })));
+    Ok(())
+}
+
+#[test]
+fn numbers_of_a_column_of_another_crate() -> Result<(), Error> {
+    let present = [0b11_0111];
+    let values = VALUES;
+    let exported = Exported::new(b"i\0", &values, &present, 1, 4); // 1 2 null 4
+    let array = exported.array()?;
+    assert_eq!(array.format(), "i");
+    let numbers: Numbers<'_, i32> = array.to_numbers()?;
+    assert!(numbers.iter().eq([Some(1), Some(2), None, Some(4)]));
+    assert!(ptr::eq(numbers.values(), &values[1..5])); // nothing is copied
+    let negative = wrapping_neg(&numbers)?;
     assert!(negative.iter().eq([Some(-1), Some(-2), None, Some(-4)]));
-    assert_eq!(negate::<i64>(&array), Err(Error::TypesDiffer));
+    let window: Numbers<'_, i32> = array.slice(1, 3)?.to_numbers()?;
+    assert!(window.iter().eq([Some(2), None, Some(4)]));
+    assert!(matches!(
+        array.to_numbers::<i64>(),
+        Err(Error::TypeMismatch { .. })
+    ));
+    let exported = Exported::new(b"tdD\0", &VALUES, &present, 0, 6);
+    let days: Numbers<'_, i32> = exported.array()?.to_numbers()?;
+    assert_eq!(days.format(), "tdD");
+    assert_eq!(days.get(3), Some(None));
+    assert_eq!(days.get(5), Some(Some(9)));
+    Ok(())
+}
+
+#[test]
+fn numbers_at_any_address_and_without_a_validity() -> Result<(), Error> {
+    let present = [0b1011_u8];
+    // the numbers 1 to 4 in 32 bits, from the second byte of a number on
+    let bytes: Vec<u8> = (1..5_i32).flat_map(i32::to_le_bytes).collect();
+    let mut words = [0_u32; 5];
+    for (place, &byte) in bytes.iter().enumerate() {
+        words[(place + 1) / 4] |= u32::from(byte) << ((place + 1) % 4 * 8);
+    }
+    let start: *const c_void = words.as_ptr().cast();
+    let mut exported = Exported::new(b"i\0", &VALUES, &present, 1, 3);
+    exported._buffers[1] = start.cast::<u8>().wrapping_add(1).cast();
+    let copied: Numbers<'_, i32> = exported.array()?.to_numbers()?;
+    assert!(copied.iter().eq([Some(2), None, Some(4)]));
+    let mut exported = Exported::new(b"i\0", &VALUES, &present, 1, 3);
+    exported._buffers[0] = ptr::null();
+    let plain: Numbers<'_, i32> = exported.array()?.to_numbers()?;
+    assert!(plain.validity().is_none());
+    assert_eq!(plain.values(), [1, 2, 3]);
     Ok(())
 }
 
@@ -147,16 +192,23 @@ fn structs_that_are_refused() -> Result<(), Error> {
     }
     let mut exported = Exported::new(b"i\0", &VALUES, &[0xff], 0, 6);
     exported.schema.release = None;
+    assert_eq!(exported.array().map(drop), Err(Error::BadStructs));
+    let mut exported = Exported::new(b"i\0", &VALUES, &[0xff], 0, 6);
+    exported.array.release = None;
+    assert_eq!(exported.array().map(drop), Err(Error::BadStructs));
+    let mut exported = Exported::new(b"i\0", &VALUES, &[0xff], 0, 6);
+    exported.array.n_buffers = 1;
     let array = exported.array()?;
     assert_eq!(equal(&array, &array), Err(Error::BadStructs));
+    assert_eq!(array.to_numbers::<i32>(), Err(Error::BadStructs));
     let exported = Exported::new(b"+us:0\0", &VALUES, &[0xff], 0, 6);
     let array = exported.array()?;
-    assert_eq!(equal(&array, &array), Err(Error::NotServed));
-    assert_eq!(negate::<i32>(&array), Err(Error::NotServed));
+    assert_eq!(equal(&array, &array), Err(Error::Unsupported));
+    assert_eq!(array.to_numbers::<i32>(), Err(Error::Unsupported));
     let present = Bitmap::new(&[0xff], 0, 6)?;
     assert_eq!(
         array.with_validity(present).map(drop),
-        Err(Error::BadArgument)
+        Err(Error::Unsupported)
     );
     Ok(())
 }

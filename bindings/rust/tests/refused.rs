@@ -3,8 +3,8 @@
 mod common;
 
 use dunkelva::{
-    compare, compare_number, equal, equal_counted, is_null, min_max, sum, Array, Bitmap,
-    Comparison, Error, Options,
+    compare, compare_number, equal, equal_counted, is_null, min_max, sum, wrapping_add, Array,
+    Bitmap, Comparison, EqualOptions, Error, Numbers,
 };
 
 /// Returns the message of an error.
@@ -33,9 +33,8 @@ fn bits_that_are_too_few() {
 fn validities_of_another_length() {
     for rows in [2, 4] {
         let present = Bitmap::new(&[0xff], 0, rows).unwrap();
-        let what = "bits of the validity";
         let refused = Err(Error::Length {
-            what,
+            what: "bits of the validity".into(),
             has: rows,
             needs: 3,
         });
@@ -47,7 +46,7 @@ fn validities_of_another_length() {
     let present = Bitmap::new(&[0xff], 0, 2).unwrap();
     assert_eq!(
         Array::nulls(2).with_validity(present).map(drop),
-        Err(Error::BadArgument)
+        Err(Error::Unsupported)
     );
 }
 
@@ -71,16 +70,16 @@ fn offsets_that_lie() {
     ] {
         assert_eq!(
             Array::texts(&offsets, b"abc").map(drop),
-            Err(Error::BadArray)
+            Err(Error::BadOffsets)
         );
         let large = offsets.map(i64::from);
         assert_eq!(
             Array::binary(&large, b"abc").map(drop),
-            Err(Error::BadArray)
+            Err(Error::BadOffsets)
         );
         assert_eq!(
             Array::list(&large, Array::nulls(9)).map(drop),
-            Err(Error::BadArray)
+            Err(Error::BadOffsets)
         );
     }
 }
@@ -109,11 +108,11 @@ fn fields_of_other_lengths() {
         let fields = [("a", Array::nulls(2)), ("b", Array::nulls(count))];
         assert_eq!(
             message(Array::structs(2, fields)),
-            format!("the rows of a field have length {count}, and 2 is needed")
+            format!("the rows of the field \"b\" have length {count}, and 2 is needed")
         );
     }
     let named = Array::structs(1, [("a\0b", Array::nulls(1))]);
-    assert_eq!(named.map(drop), Err(Error::BadArgument));
+    assert_eq!(message(named), "the name \"a\\0b\" has a byte 0");
 }
 
 #[test]
@@ -121,26 +120,62 @@ fn windows_outside() {
     let array = Array::numbers(&[1, 2, 3]);
     assert_eq!(array.slice(3, 0).map(|it| it.len()), Ok(0));
     for (first, rows) in [(0, 4), (4, 0), (2, 2), (usize::MAX, 1), (1, usize::MAX)] {
-        assert_eq!(array.slice(first, rows).map(drop), Err(Error::BadArgument));
+        let outside = Error::OutOfBounds {
+            first,
+            rows,
+            len: 3,
+        };
+        assert_eq!(array.slice(first, rows).map(drop), Err(outside));
     }
+    assert_eq!(
+        message(array.slice(2, 2)),
+        "there are no 2 rows from row 2 on, of 3"
+    );
 }
 
 #[test]
 fn formats_that_do_not_fit() {
     let formats = [
-        "tdm", "l", "", "d:9,32", "d:9,2", "tdD\0", "tdDx", "+s", "w:4",
+        "tdm",
+        "l",
+        "",
+        "d:9,32",
+        "d:9,2",
+        "d:x,y,32",
+        "d:10,2,32",
+        "tdD\0",
+        "tdDx",
+        "+s",
+        "w:4",
     ];
     for format in formats {
+        let refused = Error::BadFormat {
+            format: format.into(),
+            array: "i".into(),
+        };
         let array = Array::numbers(&[1, 2]).with_format(format);
-        assert_eq!(array.map(drop), Err(Error::BadArgument), "{format:?}");
+        assert_eq!(array.map(drop), Err(refused), "{format:?}");
     }
     let days = Array::numbers(&[1, 2]).with_format("tdD").unwrap();
-    assert_eq!(days.with_format("tts").map(drop), Err(Error::BadArgument));
+    assert_eq!(
+        message(days.with_format("tts")),
+        "the format \"tts\" does not fit the type tdD"
+    );
     let keys = Array::dictionary(&[0_i32], Array::nulls(1)).unwrap();
-    assert_eq!(keys.with_format("tdD").map(drop), Err(Error::BadArgument));
-    // a format that the library can't read
-    let odd = Array::numbers(&[1_i64]).with_format("d:x,2,64").unwrap();
-    assert_eq!(equal(&odd, &odd), Err(Error::NotServed));
+    assert_eq!(
+        message(keys.with_format("tdD")),
+        "the format \"tdD\" does not fit the type i<n>"
+    );
+    // what is taken, the library can read
+    for (format, wide) in [("d:9,-2,32", false), ("d:18,0,64", true), ("tsu:", true)] {
+        let array = match wide {
+            true => Array::numbers(&[1_i64]).with_format(format),
+            false => Array::numbers(&[1_i32]).with_format(format),
+        };
+        let array = array.unwrap();
+        assert_eq!(array.format(), format);
+        assert!(equal(&array, &array).unwrap().all(), "{format}");
+    }
 }
 
 #[test]
@@ -157,34 +192,97 @@ fn keys_that_name_no_entry() {
 }
 
 #[test]
-fn types_and_lengths_that_differ() {
-    let (short, long) = (Array::numbers(&[1]), Array::numbers(&[1, 2]));
-    let wide = Array::numbers(&[1_i64]);
-    for other in [&long, &wide] {
-        assert_eq!(equal(&short, other), Err(Error::TypesDiffer));
-        assert_eq!(equal(other, &short), Err(Error::TypesDiffer));
-        assert_eq!(
-            compare(&short, Comparison::Less, other),
-            Err(Error::TypesDiffer)
-        );
-        let counted = equal_counted(&short, other, Options::default());
-        assert_eq!(counted, Err(Error::TypesDiffer));
+fn lengths_that_differ() {
+    let (short, long) = (Numbers::from(&[1]), Numbers::from(&[1, 2]));
+    let differ = Error::LengthMismatch { left: 1, right: 2 };
+    assert_eq!(differ.to_string(), "the lengths differ: 1 and 2");
+    assert_eq!(equal(&short, &long), Err(differ.clone()));
+    assert_eq!(
+        compare(&short, Comparison::Less, &long),
+        Err(differ.clone())
+    );
+    let counted = equal_counted(&short, &long, EqualOptions::default());
+    assert_eq!(counted, Err(differ.clone()));
+    assert_eq!(wrapping_add(&short, &long), Err(differ));
+    assert!(wrapping_add(&short, 1).is_ok() && wrapping_add(&long, 1).is_ok());
+}
+
+#[test]
+fn types_that_differ() {
+    let differ = |left: &Array<'_>, right: &Array<'_>, one: &str, other: &str| {
+        let differ = Error::TypeMismatch {
+            left: one.into(),
+            right: other.into(),
+        };
+        assert_eq!(equal(left, right), Err(differ.clone()));
+        let counted = equal_counted(left, right, EqualOptions::default());
+        assert_eq!(counted, Err(differ));
+        let told = format!("the types differ: {other} and {one}");
+        assert_eq!(message(equal(right, left)), told);
+    };
+    let (small, wide) = (Array::numbers(&[1]), Array::numbers(&[1_i64]));
+    differ(&small, &wide, "i", "l");
+    assert!(matches!(
+        compare(&small, Comparison::Less, &wide),
+        Err(Error::TypeMismatch { .. })
+    ));
+    let words: Array<'_> = ["a"].into_iter().collect();
+    let keys = Array::dictionary(&[0], words.clone()).unwrap();
+    differ(&small, &keys, "i", "i<u>");
+    let list = |items| Array::list(&[0, 1], items).unwrap();
+    differ(
+        &list(small.clone()),
+        &list(keys.clone()),
+        "+l<i>",
+        "+l<i<u>>",
+    );
+    let rows = |name, array| Array::structs(1, [("id", list(words.clone())), (name, array)]);
+    let (left, right) = (rows("n", small.clone()), rows("n", wide));
+    differ(
+        &left.unwrap(),
+        &right.unwrap(),
+        "+s<id: +l<u>, n: i>",
+        "+s<id: +l<u>, n: l>",
+    );
+    let (left, right) = (rows("n", small.clone()), rows("m", small));
+    differ(
+        &left.unwrap(),
+        &right.unwrap(),
+        "+s<id: +l<u>, n: i>",
+        "+s<id: +l<u>, m: i>",
+    );
+}
+
+#[test]
+fn numbers_that_a_type_lacks() {
+    let bytes = Array::numbers(&[1_i8]);
+    for number in [128, -129, i64::MAX] {
+        let lacks = Error::NotRepresentable {
+            number: number.into(),
+            format: "c".into(),
+        };
+        let found = compare_number(&bytes, Comparison::Less, number);
+        assert_eq!(found, Err(lacks));
     }
+    assert_eq!(
+        message(compare_number(&bytes, Comparison::Less, 128)),
+        "the type c has no number 128"
+    );
 }
 
 #[test]
 fn types_that_a_call_does_not_take() {
     let bytes = Array::binary(&[0, 1], b"a").unwrap();
-    assert_eq!(sum(&bytes), Err(Error::NotServed));
-    assert_eq!(min_max(&Array::numbers(&[1.5])), Err(Error::NotServed));
+    assert_eq!(sum(&bytes), Err(Error::Unsupported));
+    assert_eq!(min_max(&Array::numbers(&[1.5])), Err(Error::Unsupported));
     assert_eq!(
         compare_number(&bytes, Comparison::Less, 1),
-        Err(Error::NotServed)
+        Err(Error::Unsupported)
     );
-    assert_eq!(sum(&Array::decimals(&[1], 38, 0)), Err(Error::NotServed));
+    assert_eq!(sum(&Array::decimals(&[1], 38, 0)), Err(Error::Unsupported));
     assert_eq!(
         compare(&bytes, Comparison::Less, &bytes),
-        Err(Error::NotServed)
+        Err(Error::Unsupported)
     );
 }
 
@@ -195,16 +293,13 @@ fn types_that_are_too_many() {
         array = Array::list(&[0, 1], array).unwrap();
     }
     assert!(equal(&array, &array).unwrap().all());
-    assert_eq!(
-        Array::list(&[0, 1], array).map(drop),
-        Err(Error::BadStructs)
-    );
+    assert_eq!(Array::list(&[0, 1], array).map(drop), Err(Error::TooDeep));
     let mut array = Array::numbers(&[1]);
     for _ in 0..19 {
         array = Array::structs(1, [("a", array.clone()), ("b", array)]).unwrap();
     }
     let twice = [("a", array.clone()), ("b", array)];
-    assert_eq!(Array::structs(1, twice).map(drop), Err(Error::BadStructs));
+    assert_eq!(Array::structs(1, twice).map(drop), Err(Error::TooManyTypes));
 }
 
 #[test]
@@ -227,20 +322,50 @@ fn rows_that_are_too_many() {
 
 #[test]
 fn each_error_has_a_message() {
+    let text = String::from;
     let errors = [
-        Error::BadArray,
-        Error::TypesDiffer,
-        Error::NoRoom,
-        Error::NoMemory,
-        Error::NotServed,
-        Error::BadStructs,
-        Error::BadArgument,
+        Error::LengthMismatch { left: 1, right: 2 },
+        Error::TypeMismatch {
+            left: text("i"),
+            right: text("l"),
+        },
+        Error::RangeMismatch {
+            left: 0..=1,
+            right: 0..=2,
+        },
+        Error::NotRepresentable {
+            number: 128,
+            format: text("c"),
+        },
         Error::OutOfRange,
+        Error::BadRange {
+            least: 1,
+            greatest: 0,
+        },
         Error::Length {
-            what: "bits",
+            what: text("bits"),
             has: 1,
             needs: 2,
         },
+        Error::OutOfBounds {
+            first: 0,
+            rows: 2,
+            len: 1,
+        },
+        Error::BadOffsets,
+        Error::TooLong,
+        Error::BadFormat {
+            format: text("tdm"),
+            array: text("i"),
+        },
+        Error::BadName { name: text("a\0b") },
+        Error::TooDeep,
+        Error::TooManyTypes,
+        Error::Unsupported,
+        Error::BadArray,
+        Error::BadStructs,
+        Error::BadArgument,
+        Error::NoMemory,
         Error::Unknown(99),
     ];
     let mut messages: Vec<_> = errors.iter().map(ToString::to_string).collect();
@@ -251,5 +376,5 @@ fn each_error_has_a_message() {
         Error::Unknown(99).to_string(),
         "unknown status 99 of libdunkelva"
     );
-    let _: Box<dyn std::error::Error + Send + Sync> = Error::NotServed.into();
+    let _: Box<dyn std::error::Error + Send + Sync> = Error::Unsupported.into();
 }

@@ -13,24 +13,24 @@ use std::collections::BTreeSet;
 fn worked_rows() -> Result<(), Error> {
     let mut seen = Unique::new(-2..=3)?;
     assert_eq!(
-        (seen.values()?, seen.count()?, seen.has_null()),
+        (seen.values()?, seen.count(), seen.has_null()),
         (vec![], 0, false)
     );
     seen.append(&Array::numbers(&[3, -2, 3, 0]))?;
     assert_eq!(
-        (seen.values()?, seen.count()?, seen.has_null()),
+        (seen.values()?, seen.count(), seen.has_null()),
         (vec![-2, 0, 3], 3, false)
     );
     seen.append(&[None, Some(1_i8), None].into_iter().collect())?;
     assert_eq!(
-        (seen.values()?, seen.count()?, seen.has_null()),
+        (seen.values()?, seen.count(), seen.has_null()),
         (vec![-2, 0, 1, 3], 5, true)
     );
     let mut other = Unique::new(-2..=3)?;
     other.append(&Array::numbers(&[2_i64, 0]))?;
     other.merge(&seen)?;
     assert_eq!(
-        (other.values()?, other.count()?, other.has_null()),
+        (other.values()?, other.count(), other.has_null()),
         (vec![-2, 0, 1, 2, 3], 6, true)
     );
     assert_eq!(other.range(), -2..=3);
@@ -50,24 +50,38 @@ fn refused_rows_leave_a_state_as_it_was() -> Result<(), Error> {
         assert_eq!(seen.append(&rows), Err(Error::OutOfRange));
         assert_eq!(seen, before);
     }
-    assert_eq!(seen.append(&Array::numbers(&[0.5])), Err(Error::NotServed));
-    assert_eq!(seen.merge(&Unique::new(0..=10)?), Err(Error::TypesDiffer));
     assert_eq!(
-        Unique::new(0..=200)?.append(&Array::numbers(&[1_i8])),
-        Err(Error::TypesDiffer)
+        seen.append(&Array::numbers(&[0.5])),
+        Err(Error::Unsupported)
     );
+    let others = Error::RangeMismatch {
+        left: 0..=9,
+        right: 0..=10,
+    };
+    assert_eq!(seen.merge(&Unique::new(0..=10)?), Err(others));
+    let lacks = |number, format: &str| {
+        let format = format.into();
+        Err(Error::NotRepresentable { number, format })
+    };
+    let bytes = Array::numbers(&[1_i8]);
+    let positive = Array::numbers(&[1_u16]);
+    assert_eq!(Unique::new(0..=200)?.append(&bytes), lacks(200, "c"));
+    assert_eq!(Unique::new(-200..=200)?.append(&bytes), lacks(-200, "c"));
+    assert_eq!(Unique::new(150..=200)?.append(&bytes), lacks(200, "c"));
+    assert_eq!(Unique::new(-1..=200)?.append(&positive), lacks(-1, "S"));
     assert_eq!(seen, before);
     Ok(())
 }
 
 #[test]
 fn ranges_that_are_refused() {
+    let bad = |least, greatest| Err(Error::BadRange { least, greatest });
+    assert_eq!(Unique::new(std::ops::RangeInclusive::new(1, 0)), bad(1, 0));
+    assert_eq!(Unique::new(0..=u64::MAX), bad(0, u64::MAX.into()));
     assert_eq!(
-        Unique::new(std::ops::RangeInclusive::new(1, 0)),
-        Err(Error::BadArgument)
+        Unique::new(i128::MIN..=i128::MAX),
+        bad(i128::MIN, i128::MAX)
     );
-    assert_eq!(Unique::new(0..=u64::MAX), Err(Error::BadArgument));
-    assert_eq!(Unique::new(i128::MIN..=i128::MAX), Err(Error::BadArgument));
     assert_eq!(Unique::new(0..=u64::MAX / 4), Err(Error::NoMemory));
 }
 
@@ -107,7 +121,7 @@ fn random_rows() {
         let other = states.pop().unwrap();
         let mut seen = states.pop().unwrap();
         seen.merge(&other).unwrap();
-        assert_eq!(seen.count(), Ok(wanted.len() as u64), "{case}");
+        assert_eq!(seen.count(), wanted.len() as u64, "{case}");
         assert_eq!(seen.has_null(), wanted.remove(&None), "{case}");
         let values: Vec<_> = wanted.into_iter().flatten().collect();
         assert_eq!(seen.values(), Ok(values), "{case}");

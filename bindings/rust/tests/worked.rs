@@ -5,21 +5,25 @@ mod common;
 use common::digits;
 use dunkelva::{
     compare, compare_number, count_ones, equal, equal_counted, equal_with, is_null, leading_zeros,
-    max, min, min_max, not_equal, reduce, sum, trailing_ones, version, Array, BitOperation, Bitmap,
-    Comparison, Error, Options,
+    max, min, min_max, not_equal, reduce_bits, sum, trailing_ones, version, Array, BitOperation,
+    Bitmap, Comparison, EqualOptions, Error,
 };
 
-const FLOATS: Options = Options {
+const FLOATS: EqualOptions = EqualOptions {
     floats_by_bits: true,
     check_texts: false,
 };
-const CHECKED: Options = Options {
+const CHECKED: EqualOptions = EqualOptions {
     floats_by_bits: false,
     check_texts: true,
 };
 
 fn same(left: &Array<'_>, right: &Array<'_>) -> Result<String, Error> {
     equal(left, right).map(|it| digits(&it))
+}
+
+fn have_other_types(left: &Array<'_>, right: &Array<'_>) -> bool {
+    matches!(equal(left, right), Err(Error::TypeMismatch { .. }))
 }
 
 #[test]
@@ -92,10 +96,8 @@ fn texts_and_byte_strings() -> Result<(), Error> {
     assert_eq!(same(&texts, &lent)?, "1110");
     let large = Array::texts(&[0_i64, 1, 3], b"abc")?;
     assert_eq!(same(&large, &Array::texts(&[0_i64, 2, 3], b"abc")?)?, "00");
-    assert_eq!(
-        same(&large, &Array::texts(&[0_i32, 1, 3], b"abc")?),
-        Err(Error::TypesDiffer)
-    );
+    let small = Array::texts(&[0_i32, 1, 3], b"abc")?;
+    assert!(have_other_types(&large, &small));
     let binary = Array::binary(&[0, 1, 3], &[0, 1, 2])?;
     assert_eq!(
         same(&binary, &Array::binary(&[0, 1, 3], &[0, 1, 3])?)?,
@@ -141,7 +143,7 @@ fn views_of_texts_and_byte_strings() -> Result<(), Error> {
     assert_eq!(same(&made.slice(2, 3)?, &lent.slice(1, 3)?)?, "000");
     let bytes = Array::binary_views(&views, &buffers).with_validity(present)?;
     assert_eq!(same(&bytes, &bytes)?, "11111");
-    assert_eq!(same(&bytes, &lent), Err(Error::TypesDiffer));
+    assert!(have_other_types(&bytes, &lent));
     // a view that leads behind its buffer
     let mut others = views;
     others[3] = number(*b"\x0d\0\0\0thir\x01\0\0\0\x03\0\0\0");
@@ -171,7 +173,7 @@ fn texts_are_checked_if_asked() -> Result<(), Error> {
 fn floats_are_compared_by_their_bits_if_asked() -> Result<(), Error> {
     let left = Array::numbers(&[1.5, f64::NAN, 0.0]);
     let right = Array::numbers(&[1.5, f64::NAN, -0.0]);
-    assert_eq!(same(&left, &right), Err(Error::NotServed));
+    assert_eq!(same(&left, &right), Err(Error::Unsupported));
     assert_eq!(digits(&equal_with(&left, &right, FLOATS)?), "110");
     let halves = Array::numbers(&[0.5_f32]);
     assert_eq!(digits(&equal_with(&halves, &halves, FLOATS)?), "1");
@@ -190,7 +192,7 @@ fn lists() -> Result<(), Error> {
     assert_eq!(same(&left.slice(1, 2)?, &right.slice(1, 2)?)?, "01");
     let large = Array::list(&[0_i64, 1, 3], Array::numbers(&[1, 2, 3]))?;
     assert_eq!(same(&large, &large)?, "11");
-    assert_eq!(same(&large, &left.slice(0, 2)?), Err(Error::TypesDiffer));
+    assert!(have_other_types(&large, &left.slice(0, 2)?));
     // [1, 2] [3, 4] and [1, 2] [3, null]
     let whole = Array::fixed_size_list(2, 2, Array::numbers(&[1, 2, 3, 4]))?;
     let items: Array<'_> = [Some(1), Some(2), Some(3), None].into_iter().collect();
@@ -214,7 +216,7 @@ fn structs() -> Result<(), Error> {
     assert_eq!(same(&left, &right)?, "101");
     assert_eq!(same(&left.slice(2, 1)?, &right.slice(2, 1)?)?, "1");
     let named = |name: &str| Array::structs(1, [(name, Array::numbers(&[1]))]);
-    assert_eq!(same(&named("a")?, &named("b")?), Err(Error::TypesDiffer));
+    assert!(have_other_types(&named("a")?, &named("b")?));
     let empty = Array::structs::<&str>(2, [])?;
     assert_eq!(same(&empty, &empty)?, "11");
     Ok(())
@@ -234,7 +236,7 @@ fn dictionaries() -> Result<(), Error> {
     assert_eq!(digits(&is_null(&left)?), "0010");
     assert_eq!(digits(&is_null(&right)?), "0010");
     let other = Array::dictionary(&[0_i8, 0, 0, 0], Array::from_texts([Some("a")])?)?;
-    assert_eq!(same(&left, &other), Err(Error::TypesDiffer));
+    assert!(have_other_types(&left, &other));
     Ok(())
 }
 
@@ -242,7 +244,7 @@ fn dictionaries() -> Result<(), Error> {
 fn comparisons_are_counted() -> Result<(), Error> {
     let left = Array::list(&[0, 2, 3], Array::numbers(&[1, 2, 3]))?;
     let right = Array::list(&[0, 2, 3], Array::numbers(&[1, 5, 3]))?;
-    let (found, comparisons) = equal_counted(&left, &right, Options::default())?;
+    let (found, comparisons) = equal_counted(&left, &right, EqualOptions::default())?;
     assert_eq!((digits(&found).as_str(), comparisons), ("01", 3));
     Ok(())
 }
@@ -292,9 +294,9 @@ fn reductions() -> Result<(), Error> {
     assert_eq!(min_max(&rows)?, Some((-3, 100)));
     assert_eq!((min(&rows)?, max(&rows)?), (Some(-3), Some(100)));
     // 100 is 0b0110_0100, -3 is 0b1111_1101
-    assert_eq!(reduce(&rows, BitOperation::And)?, Some(100));
-    assert_eq!(reduce(&rows, BitOperation::Or)?, Some(-3));
-    assert_eq!(reduce(&rows, BitOperation::Xor)?, Some(-3));
+    assert_eq!(reduce_bits(&rows, BitOperation::And)?, Some(100));
+    assert_eq!(reduce_bits(&rows, BitOperation::Or)?, Some(-3));
+    assert_eq!(reduce_bits(&rows, BitOperation::Xor)?, Some(-3));
     let greatest = Array::numbers(&[u64::MAX, 0]);
     assert_eq!(sum(&greatest)?, Some(i128::from(u64::MAX)));
     assert_eq!(min_max(&greatest)?, Some((0, i128::from(u64::MAX))));
@@ -303,7 +305,7 @@ fn reductions() -> Result<(), Error> {
         (
             sum(&none)?,
             min_max(&none)?,
-            reduce(&none, BitOperation::Or)?
+            reduce_bits(&none, BitOperation::Or)?
         ),
         (None, None, None)
     );
@@ -314,9 +316,9 @@ fn reductions() -> Result<(), Error> {
 #[test]
 fn counts_of_bits() -> Result<(), Error> {
     let rows: Array<'_> = [Some(0b0001_0111_u8), None, Some(0)].into_iter().collect();
-    assert_eq!(count_ones(&rows)?, [Some(4), None, Some(0)]);
-    assert_eq!(leading_zeros(&rows)?, [Some(3), None, Some(8)]);
-    assert_eq!(trailing_ones(&rows)?, [Some(3), None, Some(0)]);
+    assert!(count_ones(&rows)?.iter().eq([Some(4), None, Some(0)]));
+    assert!(leading_zeros(&rows)?.iter().eq([Some(3), None, Some(8)]));
+    assert!(trailing_ones(&rows)?.iter().eq([Some(3), None, Some(0)]));
     Ok(())
 }
 
@@ -342,7 +344,7 @@ fn masks() -> Result<(), Error> {
     let numbers: Vec<u16> = (0..20).collect();
     let big = compare_number(&Array::numbers(&numbers), Comparison::GreaterOrEqual, 17)?;
     assert_eq!(
-        (big.len(), big.count(), big.any(), big.all()),
+        (big.len(), big.count_set(), big.any(), big.all()),
         (20, 3, true, false)
     );
     assert_eq!(
@@ -350,7 +352,7 @@ fn masks() -> Result<(), Error> {
         (Some(false), Some(true), None)
     );
     assert_eq!(big.as_bytes(), [0, 0, 0b1110]);
-    assert_eq!(big.places().collect::<Vec<_>>(), [17, 18, 19]);
+    assert_eq!(big.set_indices().collect::<Vec<_>>(), [17, 18, 19]);
     let truths = Array::booleans(big.bitmap());
     assert_eq!(same(&truths, &truths.clone())?, "1".repeat(20));
     let small = !big.clone();

@@ -1,0 +1,48 @@
+//! Counts of the bits of each row.
+#![forbid(unsafe_code)]
+
+use crate::mask::zeros;
+use crate::structs::Structs;
+use crate::{is_null, sys, Array, Error, Numbers};
+use std::os::raw::c_uint;
+
+macro_rules! counts {
+    ($($name:ident: $bits:literal, $what:literal, $result:literal;)*) => {
+        $(
+            #[doc = concat!("Counts the ", $what, " of each row. Returns null for null rows.")]
+            ///
+            /// # Errors
+            ///
+            /// [`Error::Unsupported`] for other types than numbers; [`Error::NoMemory`].
+            ///
+            /// # Examples
+            ///
+            /// ```
+            #[doc = concat!("use dunkelva::{", stringify!($name), ", Array, Error};")]
+            ///
+            /// let rows: Array = [Some(0b1110_0001_u8), None].into_iter().collect();
+            #[doc = concat!("let counts = ", stringify!($name), "(&rows)?;")]
+            #[doc = concat!("assert!(counts.iter().eq([Some(", $result, "), None]));")]
+            /// # Ok::<(), Error>(())
+            /// ```
+            pub fn $name(array: &Array<'_>) -> Result<Numbers<'static, u32>, Error> {
+                count_bits($bits, array)
+            }
+        )*
+    };
+}
+
+counts! {
+    count_ones: 0, "bits that are 1", "4";
+    count_zeros: 1, "bits that are 0", "4";
+    leading_ones: 2, "highest bits that are 1", "3";
+    leading_zeros: 3, "highest bits that are 0", "0";
+    trailing_ones: 4, "lowest bits that are 1", "1";
+    trailing_zeros: 5, "lowest bits that are 0", "0";
+}
+
+fn count_bits(bits: c_uint, array: &Array<'_>) -> Result<Numbers<'static, u32>, Error> {
+    let mut counts = zeros(array.len())?;
+    Error::check(sys::count_bits(bits, &Structs::of(array), &mut counts))?;
+    Ok(Numbers::kept(counts, !is_null(array)?))
+}

@@ -1,0 +1,280 @@
+//! Columns of numbers of a type that is known at compile time.
+#![forbid(unsafe_code)]
+
+use crate::arithmetic::copied;
+use crate::bitmap::Bits;
+use crate::format::{Integer, Number};
+use crate::lent::Content;
+use crate::mask::zeros;
+use crate::structs::{Structs, Typed};
+use crate::{Array, Bitmap, Error, Mask};
+use std::fmt;
+use std::iter::FusedIterator;
+use std::marker::PhantomData;
+use std::ops::Deref;
+use std::slice;
+
+/// An [`Array`] of numbers of type `T`, which are borrowed or owned. Some may be null.
+///
+/// Arithmetic takes and returns these, so that types are checked when a program is compiled. All
+/// other calls take them as arrays.
+///
+/// # Examples
+///
+/// ```
+/// use dunkelva::{max, wrapping_add, Array, Error, Numbers};
+///
+/// let prices = vec![500_i64, 650, 800];
+/// let prices = Numbers::from(&prices);
+/// let dearer = wrapping_add(&prices, 50)?;
+/// assert_eq!(dearer.values(), [550, 700, 850]);
+/// assert_eq!(max(&dearer)?, Some(850));
+/// let articles = Array::structs(3, [("price", Array::from(dearer))])?;
+/// # Ok::<(), Error>(())
+/// ```
+///
+/// ```compile_fail,E0277
+/// # use dunkelva::{wrapping_add, Numbers};
+/// let prices: Numbers<i64> = vec![500, 650].into();
+/// let dearer = wrapping_add(&prices, 50_i32);
+/// ```
+#[derive(Clone)]
+pub struct Numbers<'a, T> {
+    /// An array that is lent, whose rows are kept as numbers of type `T`.
+    array: Array<'a>,
+    of: PhantomData<T>,
+}
+
+impl<'a, T: Number> Numbers<'a, T> {
+    /// Returns the numbers, whatever is stored under nulls. In a result of a call that is 0.
+    pub fn values(&self) -> &[T] {
+        self.array.values().expect("numbers of this type")
+    }
+
+    /// Returns which rows are not null. Without a validity there is no null.
+    pub fn validity(&self) -> Option<Bitmap<'_>> {
+        self.array.validity()
+    }
+
+    /// Returns a row, which is `Some(None)` for a null, or `None` if there is no such row.
+    pub fn get(&self, row: usize) -> Option<Option<T>> {
+        let is_present = self.validity().map_or(Some(true), |it| it.get(row));
+        let value = self.values().get(row)?;
+        Some(Some(*value).filter(|_| is_present == Some(true)))
+    }
+
+    /// Returns the rows, with `None` for nulls.
+    pub fn iter(&self) -> Rows<'_, T> {
+        Rows {
+            values: self.values().iter(),
+            validity: self.validity().map(Bitmap::iter),
+        }
+    }
+
+    /// Says which rows are present, as [`Array::with_validity`] does.
+    ///
+    /// # Errors
+    ///
+    /// [`Error::Length`], if there is not one bit for each row; [`Error::NoMemory`].
+    ///
+    /// # Examples
+    ///
+    /// ```
+    /// use dunkelva::{Error, Mask, Numbers};
+    ///
+    /// let is_known: Mask = [true, false].into_iter().collect();
+    /// let numbers = Numbers::from(vec![7_u8, 8]).with_validity(&is_known)?;
+    /// assert!(numbers.iter().eq([Some(7), None]));
+    /// # Ok::<(), Error>(())
+    /// ```
+    pub fn with_validity(self, present: impl Into<Bitmap<'a>>) -> Result<Self, Error> {
+        self.array.with_validity(present).map(Numbers::kept_as)
+    }
+
+    /// Says what the numbers stand for, as [`Array::with_format`] does.
+    ///
+    /// # Errors
+    ///
+    /// Those of [`Array::with_format`].
+    pub fn with_format(self, format: &str) -> Result<Self, Error> {
+        self.array.with_format(format).map(Numbers::kept_as)
+    }
+
+    /// Returns `rows` rows, those from row `first` on. Nothing is copied.
+    ///
+    /// # Errors
+    ///
+    /// [`Error::OutOfBounds`], if there are no such rows.
+    pub fn slice(&self, first: usize, rows: usize) -> Result<Self, Error> {
+        self.array.slice(first, rows).map(Numbers::kept_as)
+    }
+
+    /// Returns the array.
+    pub fn into_array(self) -> Array<'a> {
+        self.array
+    }
+
+    /// Takes an array that is lent, whose rows are kept as numbers of type `T`.
+    fn kept_as(array: Array<'a>) -> Self {
+        Numbers {
+            array,
+            of: PhantomData,
+        }
+    }
+}
+
+impl<'a, T: Integer> Numbers<'a, T> {
+    /// Takes an array whose plain format is that of `T`.
+    pub(crate) fn of(array: &Array<'a>) -> Result<Self, Error> {
+        let foreign = match &array.content {
+            Content::Lent(_) => return Ok(Numbers::kept_as(array.clone())),
+            Content::Foreign(foreign) => foreign,
+        };
+        let (first, rows) = (array.offset, array.rows);
+        let numbers = match foreign.numbers::<T>(first.saturating_add(rows)) {
+            Some((values, None)) => Array::numbers(values).slice(first, rows)?,
+            Some((values, Some(bytes))) => Array::numbers(values)
+                .with_validity(Bitmap::new(bytes, 0, values.len())?)?
+                .slice(first, rows)?,
+            None => copied(Typed::<T>::new(Structs::of(array)), rows)?.into_array(),
+        };
+        let numbers = Numbers::kept_as(numbers);
+        if array.format().as_bytes() == T::FORMAT.strip_suffix(b"\0").unwrap_or_default() {
+            return Ok(numbers);
+        }
+        numbers.with_format(array.format())
+    }
+
+    /// Makes numbers that a call writes, with a bit for each that is present.
+    pub(crate) fn written(
+        rows: usize,
+        call: impl FnOnce(&mut [T], &mut [u8]) -> Result<(), Error>,
+    ) -> Result<Self, Error> {
+        let mut values = zeros(rows)?;
+        let present = Mask::written(rows, |present| call(&mut values, present))?;
+        Ok(Numbers::kept(values, present))
+    }
+
+    /// Keeps numbers, with 0 for nulls.
+    pub(crate) fn kept(mut values: Vec<T>, present: Mask) -> Self {
+        if present.all() {
+            return Numbers::from(values);
+        }
+        for (value, is_present) in values.iter_mut().zip(&present) {
+            if !is_present {
+                *value = T::default();
+            }
+        }
+        Numbers::kept_as(Array::from(values).with_present(present))
+    }
+
+    /// Returns the structs of the array.
+    pub(crate) fn typed(&self) -> Typed<'_, T> {
+        Typed::new(Structs::of(&self.array))
+    }
+}
+
+impl<'a, T> Deref for Numbers<'a, T> {
+    type Target = Array<'a>;
+
+    fn deref(&self) -> &Array<'a> {
+        &self.array
+    }
+}
+
+impl<'a, T> From<Numbers<'a, T>> for Array<'a> {
+    fn from(numbers: Numbers<'a, T>) -> Self {
+        numbers.array
+    }
+}
+
+impl<'a, T: Number> From<&'a [T]> for Numbers<'a, T> {
+    /// Lends numbers.
+    fn from(values: &'a [T]) -> Self {
+        Numbers::kept_as(Array::from(values))
+    }
+}
+
+impl<'a, T: Number, const N: usize> From<&'a [T; N]> for Numbers<'a, T> {
+    /// Lends numbers.
+    fn from(values: &'a [T; N]) -> Self {
+        Numbers::kept_as(Array::from(values))
+    }
+}
+
+impl<'a, T: Number> From<&'a Vec<T>> for Numbers<'a, T> {
+    /// Lends numbers.
+    fn from(values: &'a Vec<T>) -> Self {
+        Numbers::kept_as(Array::from(values))
+    }
+}
+
+impl<T: Number> From<Vec<T>> for Numbers<'_, T> {
+    /// Keeps numbers.
+    fn from(values: Vec<T>) -> Self {
+        Numbers::kept_as(Array::from(values))
+    }
+}
+
+impl<T: Number> FromIterator<T> for Numbers<'_, T> {
+    /// Copies numbers.
+    fn from_iter<I: IntoIterator<Item = T>>(rows: I) -> Self {
+        Numbers::kept_as(Array::from_iter(rows))
+    }
+}
+
+impl<T: Number> FromIterator<Option<T>> for Numbers<'_, T> {
+    /// Copies numbers, with nulls for `None`.
+    fn from_iter<I: IntoIterator<Item = Option<T>>>(rows: I) -> Self {
+        Numbers::kept_as(Array::from_iter(rows))
+    }
+}
+
+impl<T: Number> PartialEq for Numbers<'_, T> {
+    /// Returns `true` if the formats and the rows are the same. What is stored under nulls is not
+    /// looked at.
+    fn eq(&self, other: &Self) -> bool {
+        self.format() == other.format() && self.iter().eq(other.iter())
+    }
+}
+
+impl<T: Integer> Eq for Numbers<'_, T> {}
+
+impl<T: Number> fmt::Debug for Numbers<'_, T> {
+    fn fmt(&self, f: &mut fmt::Formatter<'_>) -> fmt::Result {
+        f.debug_list().entries(self.iter()).finish()
+    }
+}
+
+impl<'n, T: Number> IntoIterator for &'n Numbers<'_, T> {
+    type Item = Option<T>;
+    type IntoIter = Rows<'n, T>;
+
+    fn into_iter(self) -> Rows<'n, T> {
+        self.iter()
+    }
+}
+
+/// The rows of [`Numbers`], with `None` for nulls.
+#[derive(Clone, Debug)]
+pub struct Rows<'n, T> {
+    values: slice::Iter<'n, T>,
+    validity: Option<Bits<'n>>,
+}
+
+impl<T: Number> Iterator for Rows<'_, T> {
+    type Item = Option<T>;
+
+    fn next(&mut self) -> Option<Option<T>> {
+        let value = self.values.next()?;
+        let is_present = self.validity.as_mut().map_or(Some(true), Iterator::next);
+        Some(Some(*value).filter(|_| is_present == Some(true)))
+    }
+
+    fn size_hint(&self) -> (usize, Option<usize>) {
+        self.values.size_hint()
+    }
+}
+
+impl<T: Number> ExactSizeIterator for Rows<'_, T> {}
+impl<T: Number> FusedIterator for Rows<'_, T> {}
