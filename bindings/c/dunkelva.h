@@ -108,6 +108,12 @@ int32_t dunkelva_equal(const struct ArrowSchema *left_type, const struct ArrowAr
                        const struct ArrowSchema *right_type, const struct ArrowArray *right,
                        uint32_t flags, uint8_t *out, size_t out_bytes);
 
+/* Compares two columns in the same way, and writes a byte for each row in place of a bit: byte i of
+ * `out` is 1 or 0. `out` takes as many bytes as there are rows. */
+int32_t dunkelva_equal_bytes(const struct ArrowSchema *left_type, const struct ArrowArray *left,
+                             const struct ArrowSchema *right_type, const struct ArrowArray *right,
+                             uint32_t flags, uint8_t *out, size_t out_len);
+
 /* Compares `rows` rows of two columns, those from row `left_first` and from row `right_first` on.
  * So batches that end at different rows can be compared.
  *

@@ -3,6 +3,9 @@
 
 #include <stdlib.h>
 #include <string.h>
+#ifdef __SSE2__
+#include <emmintrin.h>
+#endif
 
 /* Rows of two columns, and their results, which are kept here until all windows are done. */
 struct pair {
@@ -62,8 +65,56 @@ static int32_t compare_windows(struct pair *pair) {
   return DUNKELVA_OK;
 }
 
-/* Compares the rows of two opened columns into memory of the pair. */
-static int32_t compare(struct pair *pair, size_t out_bytes) {
+/* How results are written: a bit for each row, or a byte. */
+enum form { AS_BITS, AS_BYTES };
+
+/* Returns how many bytes the results of rows take. */
+static size_t room_for(enum form form, int64_t rows) {
+  return (size_t)(form == AS_BITS ? bytes_for_bits(rows) : rows);
+}
+
+/* Writes a byte, 0 or 1, for each bit of a word. */
+static void spread_word(uint64_t word, uint8_t *bytes) {
+#ifdef __SSE2__
+  const __m128i places = _mm_set1_epi64x((int64_t)0x8040201008040201U);
+  const __m128i one = _mm_set1_epi8(1);
+  __m128i bits = _mm_set_epi64x(0, (int64_t)word);
+  __m128i twice = _mm_unpacklo_epi8(bits, bits); /* each byte of the word two times */
+  __m128i low = _mm_unpacklo_epi16(twice, twice);
+  __m128i high = _mm_unpackhi_epi16(twice, twice);
+  /* eight times each, two bytes of the word in one vector */
+  const __m128i all[4] = {_mm_unpacklo_epi32(low, low), _mm_unpackhi_epi32(low, low),
+                          _mm_unpacklo_epi32(high, high), _mm_unpackhi_epi32(high, high)};
+  for (size_t k = 0; k < 4; k++) {
+    __m128i truths = _mm_min_epu8(_mm_and_si128(all[k], places), one);
+    _mm_storeu_si128((__m128i *)(void *)(bytes + 16 * k), truths);
+  }
+#else
+  for (int i = 0; i < 64; i++) {
+    bytes[i] = (uint8_t)(word >> i & 1);
+  }
+#endif
+}
+
+/* Writes the results of some rows, which are done. */
+static void give(const struct pair *pair, enum form form, uint8_t *out) {
+  if (form == AS_BITS) {
+    memcpy(out, pair->words, (size_t)bytes_for_bits(pair->rows));
+    return;
+  }
+  size_t rows = (size_t)pair->rows;
+  size_t whole = rows / 64;
+  for (size_t k = 0; k < whole; k++) {
+    spread_word(pair->words[k], out + 64 * k);
+  }
+  for (size_t i = 64 * whole; i < rows; i++) {
+    out[i] = (uint8_t)(pair->words[whole] >> (i % 64) & 1);
+  }
+}
+
+/* Compares the rows of two opened columns into memory of the pair. `out_bytes` is the room for
+ * results. */
+static int32_t compare(struct pair *pair, enum form form, size_t out_bytes) {
   if (!dunkelva_same_formats(pair->left.type, pair->right.type) ||
       pair->left.extent.parts != pair->right.extent.parts) {
     return DUNKELVA_TYPES_DIFFER;
@@ -72,11 +123,35 @@ static int32_t compare(struct pair *pair, size_t out_bytes) {
       !has_rows(pair->right.array, pair->right_first, pair->rows)) {
     return DUNKELVA_BAD_ARGUMENT;
   }
-  if (out_bytes < (size_t)bytes_for_bits(pair->rows)) {
+  if (out_bytes < room_for(form, pair->rows)) {
     return DUNKELVA_NO_ROOM;
   }
   pair->words = malloc(((size_t)words_for_bits(pair->rows) + 1) * sizeof *pair->words);
   return pair->words == NULL ? DUNKELVA_NO_MEMORY : compare_windows(pair);
+}
+
+/* Opens both columns, compares some of their rows, and writes the results. */
+static int32_t compare_columns(struct pair *pair, const struct ArrowSchema *left_type,
+                               const struct ArrowArray *left, const struct ArrowSchema *right_type,
+                               const struct ArrowArray *right, uint32_t flags, enum form form,
+                               uint8_t *out, size_t out_bytes) {
+  TRY(dunkelva_check_flags(flags));
+  if (out == NULL && pair->rows > 0) {
+    return DUNKELVA_BAD_ARGUMENT;
+  }
+  int32_t left_status = dunkelva_open(&pair->left, left_type, left, flags);
+  int32_t right_status = dunkelva_open(&pair->right, right_type, right, flags);
+  int32_t status = left_status != DUNKELVA_OK ? left_status : right_status;
+  if (status == DUNKELVA_OK) {
+    status = compare(pair, form, out_bytes);
+  }
+  if (status == DUNKELVA_OK && pair->rows > 0) {
+    give(pair, form, out);
+  }
+  free(pair->words);
+  dunkelva_close(&pair->left);
+  dunkelva_close(&pair->right);
+  return status;
 }
 
 int32_t dunkelva_equal_rows(const struct ArrowSchema *left_type, const struct ArrowArray *left,
@@ -88,39 +163,35 @@ int32_t dunkelva_equal_rows(const struct ArrowSchema *left_type, const struct Ar
                       .right_first = right_first,
                       .rows = rows,
                       .comparisons = comparisons == NULL ? NULL : &counted};
-  TRY(dunkelva_check_flags(flags));
-  if (out == NULL && rows > 0) {
-    return DUNKELVA_BAD_ARGUMENT;
+  TRY(compare_columns(&pair, left_type, left, right_type, right, flags, AS_BITS, out, out_bytes));
+  if (comparisons != NULL) {
+    *comparisons = counted;
   }
-  int32_t left_status = dunkelva_open(&pair.left, left_type, left, flags);
-  int32_t right_status = dunkelva_open(&pair.right, right_type, right, flags);
-  int32_t status = left_status != DUNKELVA_OK ? left_status : right_status;
-  if (status == DUNKELVA_OK) {
-    status = compare(&pair, out_bytes);
-  }
-  if (status == DUNKELVA_OK) {
-    if (rows > 0) {
-      memcpy(out, pair.words, (size_t)bytes_for_bits(rows));
-    }
-    if (comparisons != NULL) {
-      *comparisons = counted;
-    }
-  }
-  free(pair.words);
-  dunkelva_close(&pair.left);
-  dunkelva_close(&pair.right);
-  return status;
+  return DUNKELVA_OK;
 }
 
-int32_t dunkelva_equal(const struct ArrowSchema *left_type, const struct ArrowArray *left,
-                       const struct ArrowSchema *right_type, const struct ArrowArray *right,
-                       uint32_t flags, uint8_t *out, size_t out_bytes) {
+/* Compares all rows of two columns of one length. */
+static int32_t compare_all(const struct ArrowSchema *left_type, const struct ArrowArray *left,
+                           const struct ArrowSchema *right_type, const struct ArrowArray *right,
+                           uint32_t flags, enum form form, uint8_t *out, size_t out_bytes) {
   if (left == NULL || right == NULL) {
     return DUNKELVA_BAD_STRUCTS;
   }
   if (left->length != right->length) {
     return DUNKELVA_TYPES_DIFFER;
   }
-  return dunkelva_equal_rows(left_type, left, 0, right_type, right, 0, left->length, flags, out,
-                             out_bytes, NULL);
+  struct pair pair = {.rows = left->length};
+  return compare_columns(&pair, left_type, left, right_type, right, flags, form, out, out_bytes);
+}
+
+int32_t dunkelva_equal(const struct ArrowSchema *left_type, const struct ArrowArray *left,
+                       const struct ArrowSchema *right_type, const struct ArrowArray *right,
+                       uint32_t flags, uint8_t *out, size_t out_bytes) {
+  return compare_all(left_type, left, right_type, right, flags, AS_BITS, out, out_bytes);
+}
+
+int32_t dunkelva_equal_bytes(const struct ArrowSchema *left_type, const struct ArrowArray *left,
+                             const struct ArrowSchema *right_type, const struct ArrowArray *right,
+                             uint32_t flags, uint8_t *out, size_t out_len) {
+  return compare_all(left_type, left, right_type, right, flags, AS_BYTES, out, out_len);
 }

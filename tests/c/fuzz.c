@@ -412,6 +412,25 @@ static bool bit_of(const uint8_t *bits, int64_t row) {
   return (bits[row / 8] >> (row % 8) & 1) != 0;
 }
 
+/* Compares two columns of one length as bits and as bytes. */
+static void try_bytes(struct side left, struct side right, uint32_t flags) {
+  uint8_t bits[ROOM];
+  uint8_t bytes[8 * ROOM];
+  memset(bytes, 0xA5, sizeof bytes);
+  int32_t status =
+      dunkelva_equal(left.type, left.array, right.type, right.array, flags, bits, ROOM);
+  int32_t other = dunkelva_equal_bytes(left.type, left.array, right.type, right.array, flags, bytes,
+                                       sizeof bytes);
+  require(status == other, "bits and bytes have one status");
+  int64_t rows = status == DUNKELVA_OK ? left.array->length : 0;
+  for (int64_t row = 0; row < rows; row++) {
+    require(bytes[row] == bit_of(bits, row), "a byte for each bit");
+  }
+  for (size_t i = (size_t)rows; i < sizeof bytes; i++) {
+    require(bytes[i] == 0xA5, "nothing else is written");
+  }
+}
+
 /* Tries the calls on columns of one level. */
 static void try_flat(struct side left, struct side right) {
   uint8_t bits[ROOM];
@@ -543,6 +562,7 @@ int LLVMFuzzerTestOneInput(const uint8_t *data, size_t size) {
   }
   right.array = make_array(right.type, rows);
   try_pair(left, right, flags);
+  try_bytes(left, right, flags);
   try_flat(left, right);
   try_arithmetic(left, right);
   try_state(left);

@@ -23,10 +23,12 @@ static int32_t status_of(const struct made *left, const struct made *right, uint
                         sizeof out);
 }
 
-/* Compares two columns: `wanted` has a character for each row, 1 where the rows are the same. */
+/* Compares two columns, as bits and as bytes: `wanted` has a character for each row, 1 where the
+ * rows are the same. */
 static void equal_by(const char *what, const struct made *left, const struct made *right,
                      const char *wanted, uint32_t flags) {
   uint8_t out[16] = {0};
+  uint8_t bytes[129] = {0};
   char got[129] = {0};
   int32_t status = dunkelva_equal(&left->type, &left->array, &right->type, &right->array, flags,
                                   out, sizeof out);
@@ -34,6 +36,12 @@ static void equal_by(const char *what, const struct made *left, const struct mad
     got[row] = (char)('0' + (out[row / 8] >> (row % 8) & 1));
   }
   count(status == DUNKELVA_OK && strcmp(got, wanted) == 0, what);
+  status = dunkelva_equal_bytes(&left->type, &left->array, &right->type, &right->array, flags,
+                                bytes, strlen(wanted));
+  for (size_t row = 0; row < strlen(wanted); row++) {
+    got[row] = (char)('0' + bytes[row]);
+  }
+  count(status == DUNKELVA_OK && strcmp(got, wanted) == 0 && bytes[strlen(wanted)] == 0, what);
 }
 
 static void equal(const char *what, const struct made *left, const struct made *right,
@@ -416,6 +424,40 @@ static void try_arguments(void) {
     count(strcmp(dunkelva_status_text(status), dunkelva_status_text(-1)) != 0,
           "a text of each status");
   }
+}
+
+/* Results as bytes, of columns that end at each place of a word. */
+static void try_bytes(void) {
+  enum { ROWS = 200 };
+  int32_t left[ROWS];
+  int32_t right[ROWS];
+  uint8_t out[ROWS + 1];
+  for (int32_t row = 0; row < ROWS; row++) {
+    left[row] = row;
+    right[row] = row % 3 == 0 || row % 64 == 63 ? row : -1;
+  }
+  for (int32_t rows = 0; rows <= ROWS; rows++) {
+    struct made *one = numbers(rows, NULL, left);
+    struct made *two = numbers(rows, NULL, right);
+    memset(out, 0x55, sizeof out);
+    bool holds = rows == 0 || dunkelva_equal_bytes(&one->type, &one->array, &two->type, &two->array,
+                                                   0, out, (size_t)rows - 1) == DUNKELVA_NO_ROOM;
+    holds = holds && out[0] == 0x55;
+    holds = holds && dunkelva_equal_bytes(&one->type, &one->array, &two->type, &two->array, 0, out,
+                                          (size_t)rows) == DUNKELVA_OK;
+    for (int32_t row = 0; row < rows; row++) {
+      holds = holds && out[row] == (row % 3 == 0 || row % 64 == 63);
+    }
+    count(holds && out[rows] == 0x55, "a byte for each row");
+  }
+  struct made *one = numbers(ROWS, NULL, left);
+  struct made *two = numbers(ROWS - 1, NULL, left);
+  count(dunkelva_equal_bytes(&one->type, &one->array, &two->type, &two->array, 0, out,
+                             sizeof out) == DUNKELVA_TYPES_DIFFER,
+        "bytes of columns of two lengths");
+  count(dunkelva_equal_bytes(&one->type, &one->array, &one->type, &one->array, 0, NULL,
+                             sizeof out) == DUNKELVA_BAD_ARGUMENT,
+        "no bytes");
 }
 
 /* Columns of several windows: rows that differ at the ends of windows, and a fault in the last one.
@@ -827,6 +869,7 @@ int main(void) {
     try_null_entries();
     try_broken_structs();
     try_arguments();
+    try_bytes();
     try_many_rows();
   }
   printf("%d passed, %d failed\n", passed, failed);

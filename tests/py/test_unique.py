@@ -83,9 +83,8 @@ def test_beside_the_widest_state(count: int) -> None:
         assert dunkelva.n_unique([*rows, None]) == 4
 
 
-def test_steps(monkeypatch: pytest.MonkeyPatch) -> None:
-    """The bits of a state are looked at in steps, of which the last one is shorter."""
-    monkeypatch.setattr("dunkelva._unique._STEP", 2)
+def test_ends_of_words() -> None:
+    """States whose last number lies at each end of a word and beside it."""
     for count in (1, 64, 127, 128, 129, 256, 300):
         state = dunkelva.Unique(-5, count - 6)
         rows = [row - 5 for row in range(count) if row % 7 in (0, 3) or row == count - 1]

@@ -68,20 +68,10 @@ def declare(name: str, *parts: Any) -> Any:
 LIBRARY = _load()
 COLUMN = (ctypes.POINTER(ArrowSchema), ctypes.POINTER(ArrowArray))
 BITS = (ctypes.c_void_p, ctypes.c_size_t)
-_equal = declare("dunkelva_equal", *COLUMN, *COLUMN, ctypes.c_uint32, *BITS)
+_equal_bytes = declare("dunkelva_equal_bytes", *COLUMN, *COLUMN, ctypes.c_uint32, *BITS)
 _equal_rows = declare("dunkelva_equal_rows", *COLUMN, ctypes.c_int64, *COLUMN, ctypes.c_int64,
                       ctypes.c_int64, ctypes.c_uint32, *BITS, ctypes.c_void_p)
 VERSION: str = LIBRARY.dunkelva_version().decode()
-
-
-def _status(left: Chunk, left_first: int, right: Chunk, right_first: int, rows: int, flags: int,
-            out: npt.NDArray[np.uint8]) -> int:
-    if left_first == right_first == 0 and rows == left.rows == right.rows:
-        return int(_equal(left.schema, left.array, right.schema, right.array, flags,
-                          address_of(out), out.size))
-    return int(_equal_rows(
-        left.schema, left.array, left_first, right.schema, right.array, right_first, rows, flags,
-        address_of(out), out.size, None))
 
 
 def _said(status: int) -> str:
@@ -109,7 +99,7 @@ def _explained(status: int, left: Chunk, right: Chunk, flags: int, what: str) ->
     if status == _TYPES_DIFFER:
         return TypesDiffer(what + _said(status))
     for side, chunk in (("left", left), ("right", right)):
-        again = _status(chunk, 0, chunk, 0, len(chunk), flags, bits_for(len(chunk)))
+        again, _ = _compared(chunk, 0, chunk, 0, len(chunk), flags)
         if again == _NOT_SERVED and chunk.type.has_floats() and not flags & FLOATS_BY_BITS:
             return NotServed(
                 f"{what}{side} is {chunk.type}: floats are compared with floats_by_bits=True alone "
@@ -119,14 +109,26 @@ def _explained(status: int, left: Chunk, right: Chunk, flags: int, what: str) ->
     return refusal(status, what + "left", left.type)
 
 
+def _compared(left: Chunk, left_first: int, right: Chunk, right_first: int, rows: int,
+              flags: int) -> Tuple[int, npt.NDArray[Any]]:
+    """Compares rows of two arrays, and returns a status and, where it is 0, truth values."""
+    if left_first == right_first == 0 and rows == left.rows == right.rows:
+        same: npt.NDArray[Any] = np.empty(rows, np.bool_)
+        return int(_equal_bytes(left.schema, left.array, right.schema, right.array, flags,
+                                address_of(same), rows)), same
+    bits = bits_for(rows)
+    status = int(_equal_rows(left.schema, left.array, left_first, right.schema, right.array,
+                             right_first, rows, flags, address_of(bits), bits.size, None))
+    return status, unpacked(bits, rows)
+
+
 def compare_rows(left: Chunk, left_first: int, right: Chunk, right_first: int, rows: int,
                  flags: int, what: str) -> npt.NDArray[np.bool_]:
     """Compares rows of two arrays. `what` begins the message of an exception."""
-    out = bits_for(rows)
-    status = _status(left, left_first, right, right_first, rows, flags, out)
+    status, same = _compared(left, left_first, right, right_first, rows, flags)
     if status:
         raise _explained(status, left, right, flags, what)
-    return unpacked(out, rows)
+    return same
 
 
 def bits_for(rows: int) -> npt.NDArray[np.uint8]:

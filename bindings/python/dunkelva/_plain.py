@@ -11,13 +11,13 @@ from typing import Any, Dict, List, Optional
 import numpy as np
 import numpy.typing as npt
 
-from ._library import LIBRARY, unpacked
+from ._library import LIBRARY
 from ._structs import ArrowArray, address_of, make, make_schema
 from ._types import NUMBERS, flat_type
 
 # Its arguments are values of ctypes that were made before, which takes less time than checks of
-# their types in each call.
-_equal: Any = LIBRARY["dunkelva_equal"]
+# their types in each call. It writes a byte for each row, as numpy keeps truth values.
+_equal: Any = LIBRARY["dunkelva_equal_bytes"]
 _equal.restype = ctypes.c_int32
 
 # The schema of each type of numbers. Floats have none: they are compared by a flag alone.
@@ -26,17 +26,15 @@ _KEPT = {np.dtype(kind): make_schema(flat_type(form)) for form, kind in NUMBERS.
 _SCHEMAS: Dict[Any, ctypes.c_void_p] = {
     kind: ctypes.c_void_p(ctypes.addressof(schema)) for kind, schema in _KEPT.items()}
 
-# Words of a struct of an array, in which its length is the first, and the most rows whose bits fit
-# into memory that is kept.
+# Words of a struct of an array, in which its length is the first.
 _WORDS = ctypes.sizeof(ArrowArray) // 8
-_FEW_ROWS = 1 << 17
-_ROOM, _NO_FLAGS = ctypes.c_size_t(_FEW_ROWS // 8), ctypes.c_uint32(0)
+_NO_FLAGS = ctypes.c_uint32(0)
 
 
 class _Call:
-    """Memory of one call: both structs, each with pointers to its two buffers, and bits."""
+    """Memory of one call: both structs, each with pointers to its two buffers, and arguments."""
 
-    __slots__ = ("words", "left", "right", "bits", "out")
+    __slots__ = ("words", "left", "right", "out", "room")
 
     def __init__(self) -> None:
         self.words: Any = (ctypes.c_int64 * (2 * (_WORDS + 2)))()
@@ -48,8 +46,7 @@ class _Call:
             ArrowArray.from_address(at).buffers = ctypes.cast(
                 at + 8 * _WORDS, ctypes.POINTER(ctypes.c_void_p))
         self.left, self.right = map(ctypes.c_void_p, places)
-        self.bits: npt.NDArray[np.uint8] = np.empty(_FEW_ROWS // 8, np.uint8)
-        self.out = ctypes.c_void_p(address_of(self.bits))
+        self.out, self.room = ctypes.c_void_p(), ctypes.c_size_t()
 
 
 # Calls that are not running. A thread takes one out, so that no two use the same.
@@ -64,18 +61,18 @@ def equal_plain(left: npt.NDArray[Any], right: npt.NDArray[Any]) -> Optional[npt
     rows, kind = left.size, left.dtype
     schema = _SCHEMAS.get(kind)
     if (schema is None or right.dtype != kind or left.shape != (rows,) or right.shape != (rows,)
-            or not 0 < rows <= _FEW_ROWS or not left.flags.c_contiguous
-            or not right.flags.c_contiguous):
+            or rows == 0 or not left.flags.c_contiguous or not right.flags.c_contiguous):
         return None
     try:
         call = _IDLE.pop()
     except IndexError:
         call = _Call()
+    same: npt.NDArray[np.bool_] = np.empty(rows, np.bool_)
     words = call.words
-    words[0] = words[_WORDS + 2] = rows
+    words[0] = words[_WORDS + 2] = call.room.value = rows
     words[_WORDS + 1] = address_of(left)
     words[2 * _WORDS + 3] = address_of(right)
-    status = _equal(schema, call.left, schema, call.right, _NO_FLAGS, call.out, _ROOM)
-    same = unpacked(call.bits, rows) if status == 0 else None
+    call.out.value = address_of(same)
+    status = _equal(schema, call.left, schema, call.right, _NO_FLAGS, call.out, call.room)
     _IDLE.append(call)
-    return same
+    return same if status == 0 else None

@@ -8,7 +8,7 @@ from typing import TYPE_CHECKING, Any, Optional, Tuple
 import numpy as np
 import numpy.typing as npt
 
-from ._library import COLUMN, LIBRARY, NotServed, TypesDiffer, declare, refusal, unpacked
+from ._library import COLUMN, LIBRARY, NotServed, TypesDiffer, declare, refusal
 from ._numbers import NUMBER, Number, _column, extremes
 from ._rows import Unfit, build
 from ._sources import Table, read, typed
@@ -21,9 +21,6 @@ __all__ = ["Unique", "unique", "n_unique"]
 # The most words of 64 bits that `unique` takes for a state: one for each row, but at least these.
 # Where the range of a column needs more, its rows are sorted.
 _FEW_WORDS = 1 << 13
-
-# Words whose bits are looked at in one step.
-_STEP = 1 << 16
 
 # Rows that are read in one step. numpy reads them twice for the ends of a range, and the library
 # twice for a state: the second time from a cache.
@@ -42,6 +39,7 @@ _init = declare("dunkelva_unique_init", _STATE, NUMBER, NUMBER, ctypes.c_void_p,
 _append = declare("dunkelva_unique_append", _STATE, *COLUMN)
 _merge = declare("dunkelva_unique_merge", _STATE, _STATE)
 _count = declare("dunkelva_unique_count", _STATE, _WHOLE, _WHOLE)
+_finish = declare("dunkelva_unique_finish", _STATE, ctypes.c_void_p, ctypes.c_size_t, _WHOLE)
 _words = LIBRARY.dunkelva_unique_words
 _words.restype, _words.argtypes = ctypes.c_size_t, (NUMBER, NUMBER)
 
@@ -181,17 +179,24 @@ class Unique:
         """Whether a null was seen."""
         return bool(self._state.has_null)
 
+    def _listed(self, spare: int) -> npt.NDArray[Any]:
+        """Returns the values that were seen, ascending, and some zeros behind them."""
+        count, null = len(self), ctypes.c_uint64()
+        words: npt.NDArray[np.uint64] = np.empty(count + spare, np.uint64)
+        words[count:] = 0
+        self._check(_finish(self._state, address_of(words), count, ctypes.byref(null)), "state")
+        numbers = words.view(np.int64).astype(self._type.number() or "i8", copy=False)
+        return _as_rows(numbers, self._type)
+
     @property
     def values(self) -> npt.NDArray[Any]:
         """The values that were seen, ascending, as an array of the state's type."""
-        places = _places_of_ones(self._bits, self._ends[1] - self._ends[0] + 1).view(np.uint64)
-        places += np.uint64(self._ends[0] & 2 ** 64 - 1)
-        numbers = places.view(np.int64).astype(self._type.number() or "i8", copy=False)
-        return _as_rows(numbers, self._type)
+        return self._listed(0)
 
     def finish(self) -> Masked:
         """Returns the values as a masked array, with a null last if one was seen."""
-        return _with_null(self.values, self.has_null)
+        null = self.has_null
+        return _with_null(self._listed(int(null)), null)
 
     def __getstate__(self) -> Tuple[Type, Tuple[int, int], bytes, bool]:
         return self._type, self._ends, self._bits.tobytes(), self.has_null
@@ -207,16 +212,6 @@ class Unique:
         return f"<Unique of {self._type} from {self.low!r} to {self.high!r}: {len(self)}{null}>"
 
 
-def _places_of_ones(words: npt.NDArray[np.uint64], count: int) -> npt.NDArray[np.int64]:
-    """Returns which of the first bits of words are 1."""
-    found = []
-    for at in range(0, len(words), _STEP):
-        some = words[at:at + _STEP].view(np.uint8)
-        places = np.flatnonzero(unpacked(some, min(count - 64 * at, 64 * _STEP)))
-        found.append(places + 64 * at if at else places)
-    return found[0] if len(found) == 1 else np.concatenate(found)
-
-
 def _as_rows(numbers: npt.NDArray[Any], kind: Type) -> npt.NDArray[Any]:
     """Returns numbers as rows of the type that keeps them."""
     if kind.format in NUMBERS:
@@ -230,14 +225,12 @@ def _as_rows(numbers: npt.NDArray[Any], kind: Type) -> npt.NDArray[Any]:
 
 
 def _with_null(values: npt.NDArray[Any], null: bool) -> Masked:
-    """Returns values as a masked array, with a null behind them if there is one."""
+    """Returns values as a masked array. The last one stands for a null, if there is one."""
+    mask = np.zeros(values.size, np.bool_)
+    if null:
+        mask[-1] = True
     masked: Any = np.ma.MaskedArray
-    if not null:
-        array: Masked = masked(values, mask=np.zeros(values.size, np.bool_))
-        return array
-    mask = np.zeros(values.size + 1, np.bool_)
-    mask[-1] = True
-    array = masked(np.concatenate([values, np.zeros(1, values.dtype)]), mask=mask)
+    array: Masked = masked(values, mask=mask)
     return array
 
 
@@ -307,6 +300,8 @@ def unique(column: object) -> Masked:
     if state is not None:
         return state.finish()
     numbers, null = _sorted(held)
+    if null:
+        numbers = np.concatenate([numbers, np.zeros(1, numbers.dtype)])
     return _with_null(_as_rows(numbers, held.type), null)
 
 
