@@ -22,7 +22,7 @@ module _ (least : ℤ) (n : ℕ) (words : List ℕ) where
   abbrev pub slots : List Bool
   slots = window 0 n words
 
-  length-slots : length slots ≡ n
+  pub length-slots : length slots ≡ n
   length-slots = length-map-range_with_len (λ i. bit_of words (0 + i)) 0 n
 
   pub slot-bit : (i : ℕ) → i < n → get_or slots i false ≡ bit_of words i

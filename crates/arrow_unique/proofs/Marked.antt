@@ -1,8 +1,8 @@
 -- Words whose bits are set for rows.
-use Rattle.std.proofs.Common.{◌≡◌, ◌<◌, ◌≤◌, ◌+◌, ◌∙◌, ◌||◌, ◌++◌, ℕ, Bool, true, false, cond, not, eqb, List, [], ◌∷◌, length, take, pos, count_by, refl, sym, ap, ap₂, subst, arith}
+use Rattle.std.proofs.Common.{◌≡◌, ◌<◌, ◌≤◌, ◌+◌, ◌∙◌, ◌||◌, ◌++◌, ℕ, Bool, true, false, cond, not, eqb, List, [], ◌∷◌, length, take, drop, pos, count_by, refl, sym, ap, ap₂, subst, arith}
 use Rattle.std.specs.Prelude.{ℤ, ◌+ℤ◌, ◌-ℤ◌, ◌≤ℤ◌, ◌^◌}
 use Rattle.std.specs.Ordering.{int_eq}
-use Rattle.std.proofs.Math.Nat.{mod-eq_of_lt}
+use Rattle.std.proofs.Math.Seq.{take-add}
 use Rattle.std.proofs.lemmas.Bool.{cases_eq, cases_lt}
 use Rattle.std.proofs.lemmas.Bool.Decides.{Decides-int_eq}
 use Rattle.std.proofs.lemmas.Int.{ints}
@@ -11,13 +11,13 @@ use Rattle.std.proofs.lemmas.List.Folds.{list_any-append}
 use Rattle.std.proofs.lemmas.List.Recursion.{is_count_by}
 use Rattle.polars_arrays_flat.specs.ArrayRows.{is_null, null_total}
 use Rattle.polars_arrays_flat.specs.Row.{Row, Null, Int}
-use Rattle.polars_arrays_flat.specs.StoredRows.{kept, row}
+use Rattle.polars_arrays_flat.specs.StoredRows.{row}
 use Rattle.polars_arrays_words.specs.Bits.{IsWritten, bit_of}
 use Rattle.polars_compute_slots.proofs.Marked.{map_range, place-is}
 use Rattle.polars_compute_slots.proofs.States.{or-false, or-groups, or-true}
 use Rattle.polars_compute_slots.specs.Slots.{HasSlot, place}
 use Rattle.polars_compute_slots.specs.State.{State, any_null, appended, holds, is_value}
-use Rattle.arrow_unique.specs.Memory.{AreMarked, Holds, low_word, state_in}
+use Rattle.arrow_unique.specs.Memory.{AreMarked, Holds, state_in}
 use mathlib.Core.Logic.{⊎_elim}
 
 -- ---- one row
@@ -29,10 +29,11 @@ marked-none least n words = record {
   rest = λ p le. refl;
 }
 
-marked-null : (least : ℤ) (n : ℕ) (words : List ℕ) → AreMarked least n (Null ∷ []) words words
-marked-null least n words = record {
+-- rows none of which has a value
+pub marked-rows : (least : ℤ) (n : ℕ) (rows : List Row) (words : List ℕ) → ((v : ℤ) → holds rows v ≡ false) → AreMarked least n rows words words
+marked-rows least n rows words out = record {
   count = refl;
-  seen = λ i lt. sym (or-false (bit_of words i));
+  seen = λ i lt. sym (ap (λ b. bit_of words i || b) (out (least +ℤ pos i)) ∙ or-false (bit_of words i));
   rest = λ p le. refl;
 }
 
@@ -56,7 +57,7 @@ number-bit least m n k i old new w above is =
     ∙ sym (ap (λ b. bit_of old i || (b || false)) (not-true (int_eq (least +ℤ pos i) m) (λ e. value ((Decides-int_eq (least +ℤ pos i) m).0 e))) ∙ or-false (bit_of old i)))
     (cases_eq i k)
 
-marked-number : (least m : ℤ) (n k : ℕ) (old new : List ℕ) → IsWritten old new k (k + 1) true → HasSlot least n (Int m) → k ≡ place least m → AreMarked least n (Int m ∷ []) old new
+pub marked-number : (least m : ℤ) (n k : ℕ) (old new : List ℕ) → IsWritten old new k (k + 1) true → HasSlot least n (Int m) → k ≡ place least m → AreMarked least n (Int m ∷ []) old new
 marked-number least m n k old new w fit is =
     let far = place-is least m fit.0 in
     let k_is : pos k ≡ m -ℤ least = ap pos is ∙ far in
@@ -66,41 +67,35 @@ marked-number least m n k old new w fit is =
       rest = λ p le. w.above p (omega (arith, ints, fit.1));
     }
 
--- ---- one row, present or not
+-- ---- rows, one after another
 
-low-place : (least m : ℤ) (n : ℕ) → n < 2 ^ 64 → HasSlot least n (Int m) → low_word (m -ℤ least) ≡ place least m
-low-place least m n few fit =
-    let far = place-is least m fit.0 in
-    let small : place least m < 2 ^ 64 = omega (arith, ints, far, fit.1) in
-    ap low_word (sym far) ∙ mod-eq_of_lt small
-
-bits-stay : (p : ℕ) (old new : List ℕ) → IsWritten old new p (p + 1) (bit_of old p || false) → (i : ℕ) → bit_of new i ≡ bit_of old i
-bits-stay p old new w i =
-    ⊎_elim
-    (λ (here : i ≡ p). w.within i (omega arith) (omega arith) ∙ or-false (bit_of old p) ∙ ap (bit_of old) (sym here))
-    (λ (apart : i ≡ p → ⊥). ⊎_elim (λ before. w.below i before) (λ past. w.above i (omega arith)) (cases_lt i p))
-    (cases_eq i p)
-
--- a bit that is joined with the row's presence
-pub marked-row : (least m : ℤ) (n p : ℕ) (present : Bool) (old new : List ℕ) → n < 2 ^ 64 → p ≡ low_word (m -ℤ least) → HasSlot least n (kept present (Int m)) → IsWritten old new p (p + 1) (bit_of old p || present) → AreMarked least n (kept present (Int m) ∷ []) old new
-marked-row least m n p true old new few is fit w =
-    marked-number least m n p old new (subst (λ (b : Bool). IsWritten old new p (p + 1) b) (or-true (bit_of old p)) w) fit (is ∙ low-place least m n few fit)
-marked-row least m n p false old new few is fit w =
+-- rows that have the values of others, and of one row more
+pub marked-then : (least : ℤ) (n : ℕ) (rows more : List Row) (r : Row) (old mid new : List ℕ) → AreMarked least n rows old mid → AreMarked least n (r ∷ []) mid new → ((v : ℤ) → holds more v ≡ (holds rows v || is_value v r)) → AreMarked least n more old new
+marked-then least n rows more r old mid new before one is =
     record {
-      count = w.count;
-      seen = λ i lt. bits-stay p old new w i ∙ sym (or-false (bit_of old i));
-      rest = λ q le. bits-stay p old new w q;
+      count = one.count ∙ before.count;
+      seen = λ j low.
+          let v = least +ℤ pos j in
+          one.seen j low
+          ∙ ap₂ ◌||◌ (before.seen j low) (or-false (is_value v r))
+          ∙ sym (or-groups (bit_of old j) (holds rows v) (is_value v r))
+          ∙ ap (λ b. bit_of old j || b) (sym (is v));
+      rest = λ p le. one.rest p le ∙ before.rest p le;
     }
 
--- a row without a slot among those of the numbers
-pub marked-out : (least m : ℤ) (n p : ℕ) (present : Bool) (words : List ℕ) → n < 2 ^ 64 → p ≡ low_word (m -ℤ least) → HasSlot least n (kept present (Int m)) → (p < n → ⊥) → AreMarked least n (kept present (Int m) ∷ []) words words
-marked-out least m n p true words few is fit out =
-    let far = place-is least m fit.0 in
-    let at = low-place least m n few fit in
-    absurd (out (omega (arith, ints, far, fit.1, is, at)))
-marked-out least m n p false words few is fit out = marked-null least n words
-
--- ---- rows, one after another
+-- a block of rows more
+pub marked-block : (least : ℤ) (n : ℕ) (rows : List Row) (old mid new : List ℕ) (at k : ℕ) → AreMarked least n (take at rows) old mid → AreMarked least n (take k (drop at rows)) mid new → AreMarked least n (take (at + k) rows) old new
+marked-block least n rows old mid new at k before block =
+    record {
+      count = block.count ∙ before.count;
+      seen = λ j low.
+          let v = least +ℤ pos j in
+          block.seen j low
+          ∙ ap (λ b. b || holds (take k (drop at rows)) v) (before.seen j low)
+          ∙ sym (or-groups (bit_of old j) (holds (take at rows) v) (holds (take k (drop at rows)) v))
+          ∙ ap (λ b. bit_of old j || b) (sym (ap (λ (rs : List Row). holds rs v) (take-add at k rows) ∙ list_any-append (is_value v) (take at rows) (take k (drop at rows))));
+      rest = λ p le. block.rest p le ∙ before.rest p le;
+    }
 
 pub marked-more : (least : ℤ) (n : ℕ) (rows : List Row) (r : Row) (old mid new : List ℕ) (i : ℕ) → AreMarked least n (take i rows) old mid → AreMarked least n (r ∷ []) mid new → i < length rows → row rows i ≡ r → AreMarked least n (take (i + 1) rows) old new
 marked-more least n rows r old mid new i before one lt is =

@@ -1,21 +1,21 @@
 //! Rows of columns that are appended to states.
 
 ghost use Rattle.std.specs.Option.{option_copied};
-ghost use Rattle.std.specs.Prelude.{◌≡◌, ◌<◌, ◌≤◌, ◌+◌, ◌*◌, ◌||◌, ◌-ℤ◌, [], ◌∷◌, false};
-ghost use Rattle.std.specs.Prelude.{length, IsTrue};
-ghost use Rattle.arrow_unique.specs.Memory.{AreMarked, Holds, low_word, state_in};
+ghost use Rattle.std.specs.Prelude.{◌≡◌, ◌↔◌, ◌<◌, ◌≤◌, ◌*◌, ◌≤ℤ◌, ℤ, false, length, IsTrue};
+ghost use Rattle.arrow_unique.specs.Memory.{Holds, state_in};
 ghost use Rattle.polars_arrays_flat.specs.ArrayRows.{number_rows};
 ghost use Rattle.polars_arrays_flat.specs.Row.{Int};
 ghost use Rattle.polars_arrays_flat.specs.StoredRows.{kept, number_slots, rows_under};
 ghost use Rattle.polars_arrays_flat.specs.Validity.{HasBits};
-ghost use Rattle.polars_arrays_words.specs.Bits.{IsWritten, bit_of};
-ghost use Rattle.polars_compute_slots.specs.Slots.{HasSlot, HaveSlots};
+ghost use Rattle.polars_compute_slots.specs.Slots.{HasSlot};
 ghost use Rattle.polars_compute_slots.specs.State.{appended, are_within, is_within, numbers_from};
 
+use crate::marking::mark_rows;
 use arrow_columns::column::Column;
 use polars_arrays_bits::bitmap::Bitmap;
 use polars_arrays_flat::validity::is_present;
-use polars_arrays_words::words::WORD_BITS;
+use polars_arrays_numbers::comparison::{Comparison, LessOrEqual};
+use polars_arrays_numbers::native_type::greatest_value;
 use polars_compute_slots::number::UniqueNumber;
 use polars_compute_slots::span::Span;
 
@@ -28,15 +28,47 @@ fn accepts_row<T: UniqueNumber>(span: &Span<T>, present: bool, number: T) -> boo
     !present | span.holds(number)
 }
 
-// Returns whether each number lies in a range, present or not. Its loop has no branch and looks at no
-// validity, so that it takes a fifth of the time of `accepts_rows`.
+// Returns whether a number lies between two others or is one of them. It is compiled without a
+// branch.
+#[inline(always)]
+fn lies_between<T: UniqueNumber>(least: T, greatest: T, number: T) -> bool
+    ensures between { IsTrue result
+        ↔ (T.value least ≤ℤ T.value number) × (T.value number ≤ℤ T.value greatest) }
+    ensures high { T.value number ≤ℤ T.high }
+{
+    // Has no effect at run time. The proof learns from it that the number is one of the type.
+    let _whole = number.whole();
+    LessOrEqual.compare(least, number) & LessOrEqual.compare(number, greatest)
+}
+
+// Returns the last number of a range, or of the type if the range goes on behind it.
+fn last_number<T: UniqueNumber>(span: &Span<T>) -> T
+    requires { 0 < span.now.count }
+    ensures { (m : ℤ) → m ≤ℤ T.high → (HasSlot (T.value span.now.least) span.now.count (Int m)
+        ↔ (T.value span.now.least ≤ℤ m) × (m ≤ℤ T.value result)) }
+{
+    let last = span.least.whole() + (span.count - 1) as i128;
+    let greatest = greatest_value::<T>();
+    if last < greatest.whole() {
+        T::of_whole(last)
+    } else {
+        greatest
+    }
+}
+
+// Returns whether each number lies in a range, present or not. Its loop has no branch, looks at no
+// validity and compares numbers as wide as they are, so that it takes a small part of the time of
+// `accepts_rows`.
 fn holds_all<T: UniqueNumber>(span: &Span<T>, numbers: &[T]) -> bool
+    requires { 0 < span.now.count }
     ensures { result ≡ are_within (numbers_from (T.value span.now.least) span.now.count)
         (number_slots T.value numbers.now) }
 {
+    let least = span.least;
+    let last = last_number(span);
     let mut all = true;
     for i in 0..numbers.len() {
-        all &= span.holds(numbers[i]);
+        all &= lies_between(least, last, numbers[i]);
     }
     all
 }
@@ -61,65 +93,10 @@ fn accepts<T: UniqueNumber>(span: &Span<T>, numbers: &[T], validity: Option<&Bit
     ensures { result ≡ are_within (numbers_from (T.value span.now.least) span.now.count)
         (rows_under (option_copied validity.entry) (number_slots T.value numbers.now)) }
 {
+    if span.count == 0 {
+        return accepts_rows(span, numbers, validity);
+    }
     holds_all(span, numbers) || accepts_rows(span, numbers, validity)
-}
-
-// Returns how far a number lies above another one: the lower 64 bits of the distance, in two's
-// complement. If the number has a slot in the range from the other one on, that is its slot.
-#[inline(always)]
-fn low_distance<T: UniqueNumber>(least: T, number: T) -> usize
-    ensures { result ≡ low_word (T.value number -ℤ T.value least) }
-{
-    let distance = number.whole() - least.whole();
-    (distance.cast_unsigned() & 0xFFFF_FFFF_FFFF_FFFF) as usize
-}
-
-// Sets bit `p` if `value` is true. It is compiled without a branch.
-#[inline(always)]
-fn join_bit(words: &mut [u64], p: usize, value: bool)
-    requires { p < 64 * length words.old }
-    ensures { IsWritten words.old words.new p (p + 1) (bit_of words.old p || value) }
-{
-    let word = words[p / WORD_BITS];
-    let mask = 1u64 << (p % WORD_BITS);
-    words[p / WORD_BITS] = if value { word | mask } else { word };
-}
-
-// Sets the bit of a row's number, if the row is present. What is stored under a null is looked at
-// too, and changes nothing: so there is no branch that depends on the row.
-#[inline(always)]
-fn mark_row<T: UniqueNumber>(words: &mut [u64], span: &Span<T>, present: bool, number: T)
-    requires fit { HasSlot (T.value span.now.least) span.now.count
-        (kept present (Int (T.value number))) }
-    requires room { span.now.count ≤ 64 * length words.old }
-    ensures { AreMarked (T.value span.now.least) span.now.count
-        (kept present (Int (T.value number)) ∷ []) words.old words.new }
-{
-    let count = span.count;
-    let p = low_distance(span.least, number);
-    if p < count {
-        join_bit(words, p, present);
-    }
-}
-
-// Sets the bits of the present rows.
-fn mark_rows<T: UniqueNumber>(
-    words: &mut [u64],
-    span: &Span<T>,
-    numbers: &[T],
-    validity: Option<&Bitmap>,
-)
-    requires bits { HasBits (length numbers.now) (option_copied validity) }
-    requires fit { HaveSlots (T.value span.now.least) span.now.count
-        (rows_under (option_copied validity) (number_slots T.value numbers.now)) }
-    requires room { span.now.count ≤ 64 * length words.old }
-    ensures { AreMarked (T.value span.now.least) span.now.count
-        (rows_under (option_copied validity.entry) (number_slots T.value numbers.now))
-        words.old words.new }
-{
-    for i in 0..numbers.len() {
-        mark_row(words, span, is_present(validity, i), numbers[i]);
-    }
 }
 
 /// Appends the rows of a column to a state of the numbers of a range: sets the bits of the numbers

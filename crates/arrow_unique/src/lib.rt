@@ -3,6 +3,8 @@
 #![tactic(auto)]
 
 pub mod appending;
+mod first_bits;
 pub mod listing;
+mod marking;
 pub mod merging;
 pub mod range;

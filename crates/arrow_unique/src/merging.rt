@@ -4,48 +4,10 @@ ghost use Rattle.std.specs.Prelude.{◌≤◌, ◌*◌, ℤ, length};
 ghost use Rattle.arrow_unique.specs.Memory.{AreJoined, Holds, state_in};
 ghost use Rattle.polars_compute_slots.specs.State.{merged};
 
+use crate::first_bits::FirstBits;
 use polars_arrays_words::changes::{JoinedWith, WordChange, change_inner_words, change_words};
 use polars_arrays_words::operators::Or;
-use polars_arrays_words::source::{Aligned, BitSource};
-use polars_arrays_words::words::{WORD_BITS, low_bits};
-
-// The first `count` bits of words, and zeros after them.
-#[derive(Drop)]
-struct FirstBits<'a> {
-    words: &'a [u64],
-    count: usize,
-}
-
-impl BitSource for FirstBits<'_> {
-    ghost use Rattle.std.specs.Prelude.{◌&&◌, ◌/◌, length, ltb, min};
-    ghost use Rattle.polars_arrays_words.specs.Bits.{bit_of};
-
-    ghost bit = { λ s i. ltb i s.count && bit_of s.words.now i };
-
-    ghost inner = { λ s. min (length s.words.now) (s.count / 64) };
-
-    #[inline]
-    fn inner_words(&self) -> usize {
-        self.words.len().min(self.count / WORD_BITS)
-    }
-
-    #[inline(always)]
-    fn inner_word(&self, k: usize) -> u64 {
-        self.words[k]
-    }
-
-    #[inline]
-    fn word(&self, k: usize) -> u64 {
-        let word = Aligned { words: self.words }.word(k);
-        if k < self.count / WORD_BITS {
-            word
-        } else if k == self.count / WORD_BITS {
-            word & low_bits(self.count % WORD_BITS)
-        } else {
-            0
-        }
-    }
-}
+use polars_arrays_words::words::WORD_BITS;
 
 // Sets the bits that are set among the first bits of other words.
 fn join_words(words: &mut [u64], others: &[u64], count: usize)

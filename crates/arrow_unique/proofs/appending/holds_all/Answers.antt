@@ -1,4 +1,4 @@
-use Rattle.std.proofs.Common.{◌∙◌, ◌&&◌, ap, ap₂, sym, arith}
+use Rattle.std.proofs.Common.{◌≡◌, ◌∙◌, ◌&&◌, ap, ap₂, sym, arith}
 use Rattle.std.proofs.lemmas.List.{take_all}
 use Rattle.std.proofs.lemmas.List.Folds.{list_all_more}
 use Rattle.polars_arrays_flat.specs.Row.{Null}
@@ -15,8 +15,11 @@ loop-i-preserved g c =
     let n = c.args.span.now.count in
     let slots = number_slots value c.args.numbers.now in
     let long = length-slots value c.args.numbers.now in
+    let m = value c.index-numbers-i.result in
     let is = row-slots value c.args.numbers.now c.loop-i.i c.index-numbers-i.result c.loop-i-test.true c.index-numbers-i.is in
-    let held = holds-within least (value c.index-numbers-i.result) n c.holds-all.result c.holds-all.ensures in
+    let bounds = c.last_number-last.ensures m c.lies_between-all.ensures.high in
+    let between = c.lies_between-all.ensures.between in
+    let held = holds-within least m n c.lies_between-all.result ((λ yes. bounds.1 (between.0 yes)), (λ slot. between.1 (bounds.0 slot))) in
     ap₂ ◌&&◌ c.loop-i.invariant (held ∙ sym (ap (is_within (numbers_from least n)) is))
     ∙ sym (list_all_more (is_within (numbers_from least n)) slots c.loop-i.i Null (omega (arith, long, c.loop-i-test.true)))
 

@@ -1,54 +1,60 @@
-use Rattle.std.proofs.Common.{◌≡◌, ◌<◌, ◌∙◌, ◌+◌, ◌++◌, ℕ, ℤ, List, sym, ap, ap₂, arith, length, map, drop, true}
-use Rattle.std.specs.Int.{w128}
-use Rattle.std.proofs.lemmas.Int.{to_z-of_z}
-use Rattle.polars_arrays_words.specs.Bits.{bit_of}
-use Rattle.polars_compute_slots.proofs.Sets.{members}
+use Rattle.std.proofs.Common.{◌≡◌, ◌<◌, ◌≤◌, ◌∙◌, ◌+◌, ◌*◌, ◌-◌, ◌^◌, ℕ, ℤ, bit_and, length, subst, sym, ap, pos, arith}
+use Rattle.std.specs.Int.{w64, w128, trailing_zeros}
+use Rattle.std.specs.Prelude.{◌+ℤ◌}
+use Rattle.std.proofs.lemmas.Int.{ints, to_z-of_z}
 use Rattle.polars_compute_slots.specs.State.{set_of}
+use Rattle.arrow_unique.proofs.Lowest.{less-left}
+use Rattle.arrow_unique.proofs.Seen.{has-room, left-next, left-word, listed-all, listed-end, listed-next, listed-none, listed-word, place-in}
 use Rattle.arrow_unique.specs.Memory.{low_word, state_in}
-use Rattle.arrow_unique.proofs.Listed.{length-more, listed-more, members-le, set-is, slots}
 use Rattle.arrow_unique.proofs.listing.list.Goals as goal
 use mir.Val.{of_z, to_z}
 
-pub put_if-n-requires : goal.put_if-n-requires
-put_if-n-requires c found =
-    let least = to_z w128 (of_z w128 c.args.least) in
-    let same : least ≡ c.args.least = to_z-of_z w128 c.args.least c.ranges.least in
-    let here : 0 + c.loop-i.i ≡ c.loop-i.i = omega arith in
-    let bit = c.bit_from-is_seen.ensures ∙ ap (bit_of c.args.words.now) here in
-    let more = length-more least c.args.count c.args.words.now c.loop-i.i c.loop-i.n true c.loop-i-test.true (sym found ∙ bit) c.loop-i.invariant.place in
-    let most = members-le least c.args.count c.args.words.now (c.loop-i.i + 1) (omega (arith, c.loop-i-test.true)) in
-    let all = ap (λ (l : ℤ). length (members l (slots c.args.least c.args.count c.args.words.now) c.args.count)) same ∙ sym (ap length (set-is c.args.least c.args.count c.args.words.now 0)) in
-    omega (arith, more, most, all, c.requires.room 0, c.loop-i.auto.out)
+pub loop-k-init : goal.loop-k-init
+loop-k-init c = listed-none (to_z w128 (of_z w128 c.args.least)) c.args.count c.args.words.now c.args.out.now
 
-pub loop-i-preserved : goal.loop-i-preserved
-loop-i-preserved c =
+pub loop-rest-init : goal.loop-rest-init
+loop-rest-init c =
+    let least = to_z w128 (of_z w128 c.args.least) in (
+      listed-word least c.args.count c.args.words.now c.args.out.now c.loop-k.k c.word-rest.result c.loop-k.n c.loop-k.out (omega arith) c.word-rest.ensures c.loop-k.invariant,
+      left-word least c.args.count c.args.words.now c.loop-k.k c.word-rest.result c.word-rest.ensures,
+    )
+
+pub low_word_at-requires : goal.low_word_at-requires
+low_word_at-requires c =
+    let inside = place-in (to_z w128 (of_z w128 c.args.least)) c.args.count c.args.words.now c.loop-k.k c.loop-rest.rest (omega (arith, c.loop-rest-test.true)) (omega arith) c.loop-rest.invariant.1 in
+    omega (arith, ints, inside, c.requires.numbers)
+
+pub bounds-out-n : goal.bounds-out-n
+bounds-out-n c =
     let least = to_z w128 (of_z w128 c.args.least) in
-    let zero : 0 + c.loop-i.i ≡ c.loop-i.i = omega arith in
-    let bit = c.bit_from-is_seen.ensures ∙ ap (bit_of c.args.words.now) zero in
     let same : least ≡ c.args.least = to_z-of_z w128 c.args.least c.ranges.least in
-    let most = members-le least c.args.count c.args.words.now (c.loop-i.i + 1) (omega (arith, c.loop-i-test.true)) in
-    let all = ap (λ (l : ℤ). length (members l (slots c.args.least c.args.count c.args.words.now) c.args.count)) same ∙ sym (ap length (set-is c.args.least c.args.count c.args.words.now 0)) in
-    let room : c.bit_from-is_seen.result ≡ true → c.loop-i.n < length c.args.out.now =
-    λ found.
-    let more = length-more least c.args.count c.args.words.now c.loop-i.i c.loop-i.n true c.loop-i-test.true (sym found ∙ bit) c.loop-i.invariant.place in
-    omega (arith, more, most, all, c.requires.room 0) in
-    record {
-      place =
-          c.put_if-n.ensures.place
-          ∙ length-more least c.args.count c.args.words.now c.loop-i.i c.loop-i.n c.bit_from-is_seen.result c.loop-i-test.true bit c.loop-i.invariant.place;
-      listed =
-          c.put_if-n.ensures.out
-          ∙ listed-more least c.args.count c.args.words.now c.loop-i.i c.loop-i.n c.low_word_at.result c.bit_from-is_seen.result c.args.out.now c.loop-i.out c.loop-i-test.true bit c.loop-i.invariant.place
-          room c.low_word_at.ensures c.loop-i.invariant.listed
-          ∙ ap (λ k. map low_word (members least (slots least c.args.count c.args.words.now) (c.loop-i.i + 1)) ++ drop k c.args.out.now) (sym c.put_if-n.ensures.place);
-    }
+    let room = ap (λ (l : ℤ). length (set_of (state_in l c.args.count c.args.words.now 0))) same in
+    let has = has-room least c.args.count c.args.words.now c.loop-k.k c.loop-rest.rest (omega (arith, c.loop-rest-test.true)) (omega arith) c.loop-rest.invariant.1 c.args.out.now c.loop-rest.n 0 c.loop-rest.out c.loop-rest.invariant.0 (omega (arith, room, c.requires.room 0)) in
+    omega (arith, has, c.loop-rest.auto.out, c.loop-k.auto.out)
+
+pub loop-rest-preserved : goal.loop-rest-preserved
+loop-rest-preserved c =
+    let least = to_z w128 (of_z w128 c.args.least) in
+    let same : least ≡ c.args.least = to_z-of_z w128 c.args.least c.ranges.least in
+    let rest = c.loop-rest.rest in
+    let some : 0 < rest = omega (arith, c.loop-rest-test.true) in
+    let fits : rest < 2 ^ 64 = omega arith in
+    let small : bit_and rest (rest - 1) < 2 ^ 64 = omega (arith, less-left rest some) in
+    let room = ap (λ (l : ℤ). length (set_of (state_in l c.args.count c.args.words.now 0))) same in
+    let has = has-room least c.args.count c.args.words.now c.loop-k.k rest some fits c.loop-rest.invariant.1 c.args.out.now c.loop-rest.n 0 c.loop-rest.out c.loop-rest.invariant.0 (omega (arith, room, c.requires.room 0)) in (
+      listed-next least c.args.count c.args.words.now c.loop-k.k rest some fits c.loop-rest.invariant.1 c.args.out.now c.loop-rest.n c.low_word_at.result c.loop-rest.out small c.loop-rest.invariant.0 has c.low_word_at.ensures,
+      left-next least c.args.count c.args.words.now c.loop-k.k rest some fits c.loop-rest.invariant.1 small,
+    )
+
+pub loop-rest-smaller : goal.loop-rest-smaller
+loop-rest-smaller c = less-left c.loop-rest.rest (omega (arith, c.loop-rest-test.true))
+
+pub loop-k-preserved : goal.loop-k-preserved
+loop-k-preserved c =
+    listed-end (to_z w128 (of_z w128 c.args.least)) c.args.count c.args.words.now c.args.out.now c.loop-k.k c.loop-rest.rest c.loop-rest.n c.loop-rest.out (omega (arith, c.loop-rest-test.false)) c.loop-rest.invariant.0
 
 pub returns : goal.returns
 returns c flag =
     let least = to_z w128 (of_z w128 c.args.least) in
     let same : least ≡ c.args.least = to_z-of_z w128 c.args.least c.ranges.least in
-    let done : c.loop-i.i ≡ c.args.count = omega (arith, c.loop-i.auto.i-end, c.loop-i-test.false) in
-    let seen : members least (slots least c.args.count c.args.words.now) c.loop-i.i ≡ set_of (state_in c.args.least c.args.count c.args.words.now flag) =
-    ap₂ (λ (l : ℤ) (k : ℕ). members l (slots c.args.least c.args.count c.args.words.now) k) same done ∙ sym (set-is c.args.least c.args.count c.args.words.now flag) in
-    c.loop-i.invariant.listed
-    ∙ ap₂ (λ (vs : List ℤ) (k : ℕ). map low_word vs ++ drop k c.args.out.now) seen (c.loop-i.invariant.place ∙ ap length seen)
+    rw same at (listed-all least c.args.count c.args.words.now c.args.out.now (64 * c.loop-k.k) c.loop-k.n flag c.loop-k.out (omega (arith, c.loop-k-test.false)) c.loop-k.invariant)

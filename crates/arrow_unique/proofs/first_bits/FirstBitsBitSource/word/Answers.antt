@@ -1,5 +1,5 @@
 use Rattle.arrow_unique.proofs.Joined.{last-word}
-use Rattle.arrow_unique.proofs.merging.FirstBitsBitSource.word.Goals as goal
+use Rattle.arrow_unique.proofs.first_bits.FirstBitsBitSource.word.Goals as goal
 
 pub returns-then-k-self-2 : goal.returns-then-k-self-2
 returns-then-k-self-2 c =

@@ -1,0 +1,143 @@
+//! Bits of states that are set for rows.
+
+ghost use Rattle.std.specs.Option.{option_copied};
+ghost use Rattle.std.specs.Prelude.{◌≡◌, ◌<◌, ◌≤◌, ◌+◌, ◌*◌, [], ◌∷◌, ℕ, true, false, length};
+ghost use Rattle.arrow_unique.specs.Memory.{AreMarked};
+ghost use Rattle.polars_arrays_flat.specs.Row.{Int};
+ghost use Rattle.polars_arrays_flat.specs.StoredRows.{masked, number_slots, rows_under};
+ghost use Rattle.polars_arrays_flat.specs.Validity.{HasBits};
+ghost use Rattle.polars_arrays_words.specs.Bits.{IsWritten, first_of, is_bit};
+ghost use Rattle.polars_compute_slots.specs.Slots.{HasSlot, HaveSlots};
+
+use polars_arrays_bits::bit_mask::BitMask;
+use polars_arrays_bits::bitmap::Bitmap;
+use polars_arrays_words::words::WORD_BITS;
+use polars_compute_slots::number::UniqueNumber;
+use polars_compute_slots::span::Span;
+
+// Sets bit `p`.
+#[inline(always)]
+fn set_bit(words: &mut [u64], p: usize)
+    requires { p < 64 * length words.old }
+    ensures { IsWritten words.old words.new p (p + 1) true }
+{
+    let word = words[p / WORD_BITS];
+    words[p / WORD_BITS] = word | 1u64 << (p % WORD_BITS);
+}
+
+// Sets the bit of a number.
+#[inline(always)]
+fn mark_number<T: UniqueNumber>(words: &mut [u64], span: &Span<T>, number: T)
+    requires fit { HasSlot (T.value span.now.least) span.now.count (Int (T.value number)) }
+    requires room { span.now.count ≤ 64 * length words.old }
+    ensures { AreMarked (T.value span.now.least) span.now.count (Int (T.value number) ∷ [])
+        words.old words.new }
+{
+    set_bit(words, span.slot(number));
+}
+
+// Sets the bits of numbers.
+#[inline(always)]
+fn mark_all<T: UniqueNumber>(words: &mut [u64], span: &Span<T>, numbers: &[T])
+    requires fit { HaveSlots (T.value span.now.least) span.now.count
+        (number_slots T.value numbers.now) }
+    requires room { span.now.count ≤ 64 * length words.old }
+    ensures { AreMarked (T.value span.now.least) span.now.count (number_slots T.value numbers.now)
+        words.old words.new }
+{
+    for i in 0..numbers.len() {
+        mark_number(words, span, numbers[i]);
+    }
+}
+
+// Sets the bits of the present rows among up to 64. A row is present if its bit of a word is 1: the
+// loop goes from one such bit to the next.
+#[inline(always)]
+fn mark_some<T: UniqueNumber>(words: &mut [u64], span: &Span<T>, numbers: &[T], present: u64)
+    requires few { length numbers.now ≤ 64 }
+    requires zeros { (i : ℕ) → length numbers.now ≤ i → i < 64 → is_bit present i ≡ false }
+    requires fit { HaveSlots (T.value span.now.least) span.now.count
+        (masked (first_of (is_bit present) (length numbers.now))
+        (number_slots T.value numbers.now)) }
+    requires room { span.now.count ≤ 64 * length words.old }
+    ensures { AreMarked (T.value span.now.least) span.now.count
+        (masked (first_of (is_bit present) (length numbers.now)) (number_slots T.value numbers.now))
+        words.old words.new }
+{
+    let mut rest = present;
+    while rest != 0 {
+        let i = rest.trailing_zeros() as usize;
+        mark_number(words, span, numbers[i]);
+        rest &= rest - 1;
+    }
+}
+
+// Sets the bits of the present rows among up to 64. A row is present if its bit of a word is 1.
+#[inline(always)]
+fn mark_word<T: UniqueNumber>(words: &mut [u64], span: &Span<T>, numbers: &[T], present: u64)
+    requires few { length numbers.now ≤ 64 }
+    requires zeros { (i : ℕ) → length numbers.now ≤ i → i < 64 → is_bit present i ≡ false }
+    requires fit { HaveSlots (T.value span.now.least) span.now.count
+        (masked (first_of (is_bit present) (length numbers.now))
+        (number_slots T.value numbers.now)) }
+    requires room { span.now.count ≤ 64 * length words.old }
+    ensures { AreMarked (T.value span.now.least) span.now.count
+        (masked (first_of (is_bit present) (length numbers.now)) (number_slots T.value numbers.now))
+        words.old words.new }
+{
+    if present == u64::MAX {
+        mark_all(words, span, numbers);
+    } else {
+        mark_some(words, span, numbers, present);
+    }
+}
+
+// Sets the bits of the present rows, 64 rows at a time. A row is present if its bit is 1.
+fn mark_masked<T: UniqueNumber>(
+    words: &mut [u64],
+    span: &Span<T>,
+    numbers: &[T],
+    mask: &BitMask<'_>,
+)
+    requires bits { length mask.now ≡ length numbers.now }
+    requires fit { HaveSlots (T.value span.now.least) span.now.count
+        (masked mask.now (number_slots T.value numbers.now)) }
+    requires room { span.now.count ≤ 64 * length words.old }
+    ensures { AreMarked (T.value span.now.least) span.now.count
+        (masked mask.now (number_slots T.value numbers.now)) words.old words.new }
+{
+    let blocks = numbers.len() / WORD_BITS;
+    for k in 0..blocks {
+        let at = WORD_BITS * k;
+        mark_word(words, span, &numbers[at..at + WORD_BITS], mask.word(k));
+    }
+    let at = WORD_BITS * blocks;
+    let rest = numbers.len() - at;
+    mark_word(
+        words,
+        span,
+        &numbers[at..at + rest],
+        mask.few_bits(at, rest),
+    );
+}
+
+/// Sets the bits of the numbers that are present. What is stored under a null is not looked at.
+pub fn mark_rows<T: UniqueNumber>(
+    words: &mut [u64],
+    span: &Span<T>,
+    numbers: &[T],
+    validity: Option<&Bitmap>,
+)
+    requires bits { HasBits (length numbers.now) (option_copied validity) }
+    requires fit { HaveSlots (T.value span.now.least) span.now.count
+        (rows_under (option_copied validity) (number_slots T.value numbers.now)) }
+    requires room { span.now.count ≤ 64 * length words.old }
+    ensures { AreMarked (T.value span.now.least) span.now.count
+        (rows_under (option_copied validity.entry) (number_slots T.value numbers.now))
+        words.old words.new }
+{
+    match validity {
+        Some(bits) => mark_masked(words, span, numbers, &BitMask::from_bitmap(bits)),
+        None => mark_all(words, span, numbers),
+    }
+}
