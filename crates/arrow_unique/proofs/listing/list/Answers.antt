@@ -1,11 +1,10 @@
-use Rattle.std.proofs.Common.{◌≡◌, ◌<◌, ◌≤◌, ◌∙◌, ◌+◌, ◌*◌, ◌-◌, ◌^◌, ℕ, ℤ, bit_and, length, subst, sym, ap, pos, arith}
-use Rattle.std.specs.Int.{w64, w128, trailing_zeros}
-use Rattle.std.specs.Prelude.{◌+ℤ◌}
+use Rattle.std.proofs.Common.{◌≡◌, ◌<◌, ◌*◌, ◌-◌, ◌^◌, ℤ, bit_and, length, ap, arith}
+use Rattle.std.specs.Int.{w128}
 use Rattle.std.proofs.lemmas.Int.{ints, to_z-of_z}
 use Rattle.polars_compute_slots.specs.State.{set_of}
 use Rattle.arrow_unique.proofs.Lowest.{less-left}
 use Rattle.arrow_unique.proofs.Seen.{has-room, left-next, left-word, listed-all, listed-end, listed-next, listed-none, listed-word, place-in}
-use Rattle.arrow_unique.specs.Memory.{low_word, state_in}
+use Rattle.arrow_unique.specs.Memory.{state_in}
 use Rattle.arrow_unique.proofs.listing.list.Goals as goal
 use mir.Val.{of_z, to_z}
 

@@ -1,6 +1,5 @@
-use Rattle.std.proofs.Common.{◌≡◌, ◌∙◌, ◌<◌, ◌-◌, Bool, List, true, false, length, bit_and, refl, sym, ap, subst, arith}
+use Rattle.std.proofs.Common.{◌∙◌, ◌<◌, ◌-◌, Bool, List, true, false, length, bit_and, sym, subst, arith}
 use Rattle.std.specs.Int.{w64, trailing_zeros}
-use Rattle.std.proofs.lemmas.Bool.{cases_lt}
 use Rattle.polars_arrays_flat.specs.Row.{Int}
 use Rattle.polars_arrays_flat.specs.StoredRows.{masked, number_slots}
 use Rattle.polars_arrays_words.specs.Bits.{first_of, is_bit}

@@ -1,4 +1,4 @@
-use Rattle.std.proofs.Common.{◌≡◌, ◌<◌, ℕ, true, length}
+use Rattle.std.proofs.Common.{◌≡◌, ℕ, true, length}
 use Rattle.polars_arrays_flat.specs.StoredRows.{masked, number_slots}
 use Rattle.polars_arrays_words.specs.Bits.{first_of, is_bit}
 use Rattle.arrow_unique.proofs.Present.{is_done}

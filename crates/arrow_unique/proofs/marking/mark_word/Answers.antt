@@ -1,4 +1,4 @@
-use Rattle.std.proofs.Common.{◌≡◌, ◌∙◌, ℕ, List, length, sym, ap, subst}
+use Rattle.std.proofs.Common.{◌∙◌, ℕ, List, length, sym, ap, subst}
 use Rattle.polars_arrays_flat.specs.Row.{Row}
 use Rattle.polars_arrays_flat.specs.StoredRows.{masked, number_slots}
 use Rattle.polars_arrays_words.specs.Bits.{first_of, is_bit}
