@@ -1,13 +1,13 @@
 //! The schemas of files: `dunkelva schema FILE`, and `dunkelva diff --schema-only LEFT RIGHT`.
 
 use crate::command::with_option;
+use crate::error::Result;
 use crate::files::open;
 use crate::kinds::{hold_documents, names_documents};
 use crate::options::{Takes, options};
 use crate::outputs::refuse_own_output;
 use crate::trouble::{csv_trouble, read_trouble};
 use crate::words::csv_options;
-use anyhow::{Result, anyhow};
 use clap::{Arg, ArgMatches, Command};
 use diff_csv::options::CsvOptions;
 use schema_documents::said as documents;
@@ -106,7 +106,7 @@ fn null_in<'m>(matches: &'m ArgMatches<'_>) -> Option<&'m [u8]> {
 /// Refuses a file whose name says that it has JSON.
 fn refuse_documents(file: &str) -> Result<()> {
     if names_documents(file) {
-        return Err(anyhow!("--schema-only is for CSV files alone").context(file));
+        return Err(trouble!("--schema-only is for CSV files alone").context(file));
     }
     Ok(())
 }
@@ -134,7 +134,7 @@ fn print_text(rt: &HostRuntime, text: &[u8], status: u8) -> Result<u8> {
     match out.write_all(text) {
         Ok(()) => Ok(status),
         Err(cause) if cause.kind() == ErrorKind::BrokenPipe => Ok(TROUBLE),
-        Err(cause) => Err(anyhow!("{cause}").context("standard output")),
+        Err(cause) => Err(trouble!("{cause}").context("standard output")),
     }
 }
 
@@ -142,11 +142,11 @@ fn print_text(rt: &HostRuntime, text: &[u8], status: u8) -> Result<u8> {
 fn refuse_of_tables(matches: &ArgMatches<'_>) -> Result<()> {
     for option in ["null", "delimiter"] {
         if matches.contains_id(option) {
-            return Err(anyhow!("--{option} is for CSV files alone"));
+            return Err(trouble!("--{option} is for CSV files alone"));
         }
     }
     if matches.get_flag("no-header") {
-        return Err(anyhow!("--no-header is for CSV files alone"));
+        return Err(trouble!("--no-header is for CSV files alone"));
     }
     Ok(())
 }
@@ -208,7 +208,7 @@ fn refuse_others(matches: &ArgMatches<'_>) -> Result<()> {
             _ => OTHERS.contains(&option.id) && matches.contains_id(option.id),
         };
         if is_given {
-            return Err(anyhow!("--{} can't be used with --schema-only", option.id));
+            return Err(trouble!("--{} can't be used with --schema-only", option.id));
         }
     }
     Ok(())
@@ -262,7 +262,7 @@ pub(crate) fn compare_schemas(
 ) -> Result<u8> {
     refuse_others(matches)?;
     if left == "-" && right == "-" {
-        return Err(anyhow!("only one of the two files can be standard input"));
+        return Err(trouble!("only one of the two files can be standard input"));
     }
     refuse_own_output(rt, &[left, right])?;
     let has_standard = left == "-" || right == "-";
