@@ -20,6 +20,11 @@ fn names_lines(name: &str) -> bool {
     has_extension(name, ".ndjson") || has_extension(name, ".jsonl")
 }
 
+/// Returns whether a file of this name holds documents.
+fn names_documents(name: &str) -> bool {
+    names_lines(name) || has_extension(name, ".json")
+}
+
 /// Refuses a file whose name does not say whether each of its lines is a document, or all of them
 /// are one.
 fn refuse_json(name: &str) -> Result<()> {
