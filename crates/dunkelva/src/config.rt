@@ -75,7 +75,7 @@ fn push_choice(
     value: &Value,
 ) -> Result<()> {
     let text = text_of(name, value)?;
-    if choices.contains(&text) {
+    if (&*choices).contains(&text) {
         return push_text(words, alloc, name, value);
     }
     let error = trouble!("{name} takes {}, not {}", Choices(choices), quoted(text));

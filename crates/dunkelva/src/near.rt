@@ -38,9 +38,9 @@ fn from_end(name: &[u8], place: usize) -> Option<&u8> {
     name.get(name.len().checked_sub(place.saturating_add(1))?)
 }
 
-/// Returns the number of bytes that two names have in common at their ends.
-fn common_end(one: &[u8], other: &[u8]) -> usize {
-    let most = one.len().min(other.len());
+/// Returns the number of bytes that two names have in common at their ends, or `most` if there are
+/// more.
+fn common_end(one: &[u8], other: &[u8], most: usize) -> usize {
     for i in 0..most {
         if !are_alike(from_end(one, i), from_end(other, i)) {
             return i;
@@ -57,9 +57,9 @@ pub(crate) fn differ_by_case(one: &[u8], other: &[u8]) -> bool {
 /// Returns whether two names differ in a few bytes at one place.
 pub(crate) fn are_near(one: &[u8], other: &[u8]) -> bool {
     let start = common_start(one, other);
-    let one = one.get(start..).unwrap_or(&[]);
-    let other = other.get(start..).unwrap_or(&[]);
-    let end = common_end(one, other);
-    let is_other = one.len().max(other.len()).saturating_sub(end) <= MOST_OTHER;
-    is_other && start.saturating_add(end) >= LEAST_COMMON
+    let most = one.len().min(other.len()).saturating_sub(start);
+    let end = common_end(one, other, most);
+    let common = start.saturating_add(end);
+    let longer = one.len().max(other.len());
+    longer.saturating_sub(common) <= MOST_OTHER && common >= LEAST_COMMON
 }
