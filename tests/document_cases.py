@@ -268,13 +268,36 @@ FILES = (
     ([], b"{}\n{}\n", b"{}\n", 1, "- row 2  left.ndjson line 2\n0 changed, 1 removed, 0 added, 1 the same."),
     ([], b'{"a":1}\n{"a":2}\n', b'{"a":2}\n{"a":1}\n', 1,
      "~ row 1  a 1 -> 2\n~ row 2  a 2 -> 1\n2 changed, 0 removed, 0 added, 0 the same."),
-    ([], b"\n", b"", 2, "left.ndjson: line 1, column 1: not valid JSON"),
-    ([], b"{}\n\n", b"{}\n", 2, "left.ndjson: line 2, column 1: not valid JSON"),
-    ([], b"{}\n", b"{}\n\n{}\n", 2, "right.ndjson: line 2, column 1: not valid JSON"),
-    ([], b"{}\n", b"{}\r\n\r\n", 2, "right.ndjson: line 2, column 2: not valid JSON"),
+    ([], b"\n", b"", 2, "left.ndjson: line 1, column 1: not valid JSON: the line is empty"),
+    ([], b"{}\n\n", b"{}\n", 2, "left.ndjson: line 2, column 1: not valid JSON: the line is empty"),
+    ([], b"{}\n", b"{}\n\n{}\n", 2, "right.ndjson: line 2, column 1: not valid JSON: the line is empty"),
+    ([], b"{}\n", b"{}\r\n\r\n", 2, "right.ndjson: line 2, column 2: not valid JSON: the line is empty"),
+    ([], b"{}\n", b"{}\n \t\r\n", 2, "right.ndjson: line 2, column 4: not valid JSON: the line is empty"),
+    ([], b"{}\n", b"{}\n\x0b\n", 2, "right.ndjson: line 2, column 1: not valid JSON"),
+    # numbers that other programs write
+    ([], b'{"a":NaN}\n', b"", 2, "left.ndjson: line 1, column 6: not valid JSON: JSON has no NaN"),
+    ([], b"{}\n", b'{"a":1}\n{"\xc3\xa9":[1, Infinity]}\n', 2,
+     "right.ndjson: line 2, column 10: not valid JSON: JSON has no Infinity"),
+    ([], b"{}\n", b'{"a":-Infinity}\n', 2, "right.ndjson: line 1, column 6: not valid JSON: JSON has no -Infinity"),
+    ([], b"{}\n", b'{"a":nan}\n', 2, "right.ndjson: line 1, column 6: not valid JSON"),
+    # files that are no lines of documents
+    ([], b'[{"a":1},{"a":2}]\n', b"", 2, "left.ndjson: line 1, column 1: not a JSON object: the file begins with a list: "
+     "jq -c '.[]' makes a line of each item"),
+    ([], b"{}\n", b' [\n{"a":1}\n]\n', 2, "right.ndjson: line 1, column 2: not valid JSON: the file begins with a list: "
+     "jq -c '.[]' makes a line of each item"),
+    ([], b"{}\n", b"{}\n[1]\n", 2, "right.ndjson: line 2, column 1: not a JSON object"),
+    ([], b'{\r\n  "a": 1\r\n}\r\n', b"", 2, "left.ndjson: line 1, column 3: not valid JSON: the file has documents of many "
+     "lines: jq -c . makes a line of each"),
+    ([], b'\xef\xbb\xbf{"a":1}\n', b"", 2, "left.ndjson: line 1, column 1: not valid JSON: the file begins with a byte order "
+     "mark: remove it, as tail -c +4 does"),
+    ([], b"{}\n", b'{}\n\xef\xbb\xbf{"a":1}\n', 2, "right.ndjson: line 2, column 1: not valid JSON"),
+    # another file is no reason
+    ([], b"\x1f\x8b\x08\0", b"{}\n", 2, "left.ndjson: it is compressed by gzip: unpack it, as in <(zcat FILE)"),
+    ([], b"x\n", b"\x1f\x8b\x08\0", 2, "left.ndjson: line 1, column 1: not valid JSON"),
     ([], b"{}\r{}\n", b"", 2, "left.ndjson: line 1, column 4: not valid JSON"),
     ([], b'{"a":\n1}\n', b"", 2, "left.ndjson: line 1, column 6: not valid JSON"),
-    ([], b"\xef\xbb\xbf", b"", 2, "left.ndjson: line 1, column 1: not valid JSON"),
+    ([], b"\xef\xbb\xbf", b"", 2, "left.ndjson: line 1, column 1: not valid JSON: the file begins with a byte order mark: "
+     "remove it, as tail -c +4 does"),
     ([], b"{}\n{}\0", b"", 2, "left.ndjson: line 2, column 3: not valid JSON"),
     (["--key", "id"], b'{"id":1.0,"a":1}\n{"id":"1","a":2}\n{"id":null,"a":3}\n',
      b'{"id":null,"a":3}\n{"id":"1","a":0}\n{"id":1e0,"a":1}', 1,
@@ -446,7 +469,8 @@ TROUBLES = (
     (["missing.ndjson", "good.ndjson"], "missing.ndjson: "),
     (["good.ndjson", "missing.jsonl"], "missing.jsonl: "),
     (["--input", "ndjson", "-", "-"], "only one of the two files can be standard input"),
-    (["good.ndjson", "table.csv"], '"good.ndjson" and "table.csv" have two formats by their names: give --input'),
+    (["good.ndjson", "table.csv"], 'a CSV file and a JSON file can\'t be compared: if "table.csv" or "good.ndjson" has '
+     "another format than its name says, give --input\n"),
     (["--key", "id", "--key", "n,id", "good.ndjson", "good.ndjson"], '--key has "id" twice'),
     (["--ignore", "a[]", "table.csv", "table.csv"], '--ignore: neither file has a column named "a[]"'),
     (["good.json", "good.ndjson"], "good.json: give --input ndjson where each line is a JSON document"),
@@ -454,7 +478,7 @@ TROUBLES = (
     (["--input", "xml", "good.ndjson", "good.ndjson"], "xml"),
     (["--input", "ndjson", "good.ndjson", "table.csv"], "table.csv: line 1, column 1: not valid JSON"),
     (["--input", "csv", "--key", "nope", "good.ndjson", "good.ndjson"], 'no column is named "nope"'),
-    (["--limit", "many", "good.ndjson", "good.ndjson"], "many"),
+    (["--limit", "many", "good.ndjson", "good.ndjson"], '--limit takes a whole number such as 100, or 0 for all, not "many"\n'),
     (["--format", "xml", "good.ndjson", "good.ndjson"], "xml"),
     (["--color", "sometimes", "good.ndjson", "good.ndjson"], "sometimes"),
     (["--unique", "good.ndjson", "good.ndjson"], "--key"),
@@ -466,8 +490,11 @@ TROUBLES = (
     *(([option, f"id{word}", "good.ndjson", "good.ndjson"], f"{option}{said}") for word, said in (
         ("", " takes a path and a bound such as"), ("0.1", " takes a path and a bound such as"),
         ("=", ': the bound "" is not a number'), ("=x", ': the bound "x" is not a number'),
-        ("=+1", ': the bound "+1" is not'), ("=.5", ': the bound ".5" is not'), ("=01", ': the bound "01" is not'),
-        ("=1.", ': the bound "1." is not'), ("=1 ", ': the bound "1 " is not'), ("=1%", ': the bound "1%" is not'),
+        ("=+1", ': the bound "+1" is not'), ("=.5", ': the bound ".5" is not a number: write 0.5\n'),
+        ("=01", ': the bound "01" is not'), ("=1.", ': the bound "1." is not'), ("=1 ", ': the bound "1 " is not'),
+        ("=1%", ': the bound "1%" is not a number: '),
+        ("=0,25", ' takes a path and a bound such as items[].price=0.01, not "25": decimals stand behind a point, and a '
+         "comma parts two tolerances\n"),
         ("=-1", ': the bound "-1" is negative'), ("=-0", ': the bound "-0" is negative'),
         *((f"={bound}", f': the bound "{bound}" has an exponent of more than 30 digits')
           for bound in (f"1e{WIDE}", f"1e-{WIDE}")),

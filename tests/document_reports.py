@@ -312,6 +312,28 @@ def fault_text(number, line, what):
     )
 
 
+def hint_of(number, line, what):
+    """Returns the hint behind what is said of a line that is no document, or an empty text. It is said of
+    files that can be read once more."""
+    try:
+        text = line.decode()
+    except UnicodeDecodeError:
+        return ""
+    if what not in (NO_JSON, NO_OBJECT):
+        return ""
+    bare = text.strip(" \t\r")
+    if number == 1 and text[:1] == "\ufeff":
+        return ": the file begins with a byte order mark: remove it, as tail -c +4 does"
+    if number == 1 and bare[:1] == "[":
+        return ": the file begins with a list: jq -c '.[]' makes a line of each item"
+    if number == 1 and bare == "{":
+        return ": the file has documents of many lines: jq -c . makes a line of each"
+    if not bare:
+        return ": the line is empty"
+    word = re.match("-?Infinity|NaN", text[place_of(text, what) :])
+    return f": JSON has no {word[0]}" if word else ""
+
+
 # ---- reading
 
 
@@ -332,7 +354,7 @@ def faults_of(value, keys):
     ]
 
 
-def documents_of(content, options):
+def documents_of(content, options, is_read_again=True):
     """Returns the documents of a file. Raises a Fault of the first line that is none, where none is
     passed over."""
     lines = content.split(b"\n")
@@ -341,7 +363,8 @@ def documents_of(content, options):
         value, is_json = tree_of(line)
         said = faults_of(value, keys) if is_json else [NO_JSON]
         if said and not options.get("skip_bad"):
-            raise Fault(*(fault_text(number, line, what) for what in said))
+            hints = [hint_of(number, line, what) if is_read_again else "" for what in said]
+            raise Fault(*(fault_text(number, line, what) + hint for what, hint in zip(said, hints)))
         if said:
             documents.skipped.append(number)
         else:
@@ -676,7 +699,7 @@ def faults_said(pair):
     said, sides = [], []
     for file, content in zip(named_files(pair.options), (pair.left_bytes, pair.right_bytes)):
         try:
-            sides.append(documents_of(content, pair.options))
+            sides.append(documents_of(content, pair.options, file != "-"))
         except Fault as fault:
             said += [f"{file}: {what}" for what in fault.said]
     skipping = [

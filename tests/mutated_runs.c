@@ -285,9 +285,11 @@ static const char *fault_of(const ran *it) {
 
 /* Returns how long a fault is without its hint, which depends on whether a file can be read twice. */
 static size_t fault_length(const char *fault) {
-    static const char *const hints[] = {": the columns are ", ": for JSON lines give --input ndjson"};
+    static const char *const hints[] = {": the columns are ", ": for JSON lines give --input ndjson", ": did you mean ",
+                                        ": is ", ": it looks like JSON lines", ": the file ", ": the line is empty",
+                                        ": JSON has no ", ": \""};
     size_t length = strcspn(fault, "\n");
-    for (int it = 0; it < 2; it++) {
+    for (size_t it = 0; it < sizeof hints / sizeof *hints; it++) {
         const char *hint = strstr(fault, hints[it]);
         if (hint && (size_t)(hint - fault) < length) length = (size_t)(hint - fault);
     }

@@ -388,7 +388,7 @@ def is_right(ran, pair, has_lines=True):
     if said:
         # a list of columns may follow
         start = f"dunkelva: {said}".encode("latin-1")
-        ends = ran.said[len(start) :].startswith((b"\n", b": the columns of "))
+        ends = ran.said[len(start) :].startswith((b"\n", b": the columns of ", b": did you mean ", b": is "))
         return ran.status == 2 and not ran.printed and ran.said.startswith(start) and ends
     if wide_number(pair):
         return ran.status == 2 and not ran.printed and b"more than 30 digits" in ran.said

@@ -1,12 +1,13 @@
 #!/usr/bin/env python3
 """Joins the reports of all parts of two files, as JSON lines, to the report of the whole.
 
-usage: join_parts.py LEFT REPORT.. [-- OPTION..]
+usage: join_parts.py LEFT RIGHT REPORT.. [-- OPTION..]
 
-LEFT is the left file, and an option is one that the parts were compared with. Of CSV the first
-record of LEFT says in which order the columns are. A report is a file of what `dunkelva diff LEFT
-RIGHT --partition I/N --format json --limit 0 OPTION..` printed, and all N of them are needed, the
-first part's first. Prints what a run without `--partition` prints.
+LEFT and RIGHT are the files, and an option is one that the parts were compared with. Of CSV the
+first record of LEFT says in which order the columns are. A report is a file of what `dunkelva diff
+LEFT RIGHT --partition I/N --format json --limit 0 OPTION..` printed, and all N of them are needed,
+the first part's first. Prints what a run without `--partition` prints. Where `--skip-bad` skipped
+every line of a file, that is said on standard error, as by such a run, and the status is 2.
 
 Differences stand in the order of the whole: changed rows by their left row, then removed ones, then
 added ones by their row; documents by their lines. Each report has this order, so that no more than
@@ -16,6 +17,7 @@ each part has.
 import csv
 import heapq
 import json
+import os
 import re
 import sys
 
@@ -27,6 +29,7 @@ COUNTS = re.compile(
     rb'\{"kind":"counts","changed":(\d+),"removed":(\d+),"added":(\d+),"same":(\d+),"not_shown":(\d+),?'
     rb'(?:"columns":\{(.*)\})?("left_skipped":\d+,"right_skipped":\d+)?\}\n'
 )
+SKIPPED = re.compile(rb'"left_skipped":(\d+),"right_skipped":(\d+)')
 COLUMN = re.compile(rb'("(?:[^"\\]|\\.)*"):(\d+)')
 
 
@@ -120,13 +123,44 @@ def joined(reports, left, options):
     yield counts_of(counts, names)
 
 
+def last_line(report):
+    """Returns the last line of a file with a report."""
+    size, length = report.seek(0, os.SEEK_END), 1 << 12
+    while True:
+        report.seek(max(size - length, 0))
+        lines = report.read().splitlines(True)
+        if len(lines) > 1 or length >= size:
+            report.seek(0)
+            return lines[-1]
+        length *= 2
+
+
+def refusal_of(names, lines):
+    """Returns what is said where every line of a file was skipped, or None, by the names of both
+    files and the lines with the counts of all parts."""
+    counts = [[int(count) for count in COUNTS.fullmatch(line).groups()[:4]] for line in lines]
+    kept = [
+        sum(changed + removed + same for changed, removed, _, same in counts),
+        sum(changed + added + same for changed, _, added, same in counts),
+    ]
+    skipped = SKIPPED.search(lines[0])
+    for side, name in enumerate(names):
+        if skipped and int(skipped[side + 1]) and not kept[side]:
+            return f"dunkelva: {name}: --skip-bad would skip every line"
+    return None
+
+
 def main(words):
-    """Prints the report of the whole."""
+    """Prints the report of the whole. Returns the status 2 where there is none, and else 0."""
     end = words.index("--") if "--" in words else len(words)
-    left, reports, options = words[0], words[1:end], words[end + 1 :]
+    names, reports, options = words[:2], words[2:end], words[end + 1 :]
     files = [open(report, "rb") for report in reports]
-    sys.stdout.buffer.writelines(joined(files, left, options))
+    if refusal := refusal_of(names, [last_line(file) for file in files]):
+        print(refusal, file=sys.stderr)
+        return 2
+    sys.stdout.buffer.writelines(joined(files, names[0], options))
+    return 0
 
 
 if __name__ == "__main__":
-    main(sys.argv[1:])
+    sys.exit(main(sys.argv[1:]))

@@ -65,6 +65,11 @@ def main():
             sys.stderr.buffer.write(said)
             return status
     reports = [report.splitlines(True) for _, report, _ in ran]
+    if refusal := join_parts.refusal_of(words[:2], [report[-1] for report in reports]):
+        print(refusal, file=sys.stderr)
+        return 2
+    said = [line for _, _, lines in ran for line in lines.splitlines(True)]
+    sys.stderr.buffer.writelines(dict.fromkeys(said))
     sys.stdout.buffer.writelines(join_parts.joined(reports, words[0], words[2:]))
     return max(status for status, _, _ in ran)
 

@@ -2,7 +2,7 @@
 
 use crate::options::{CliOption, Takes, options};
 use crate::schema::schema_command;
-use clap::{Arg, ArgAction, Command, value_parser};
+use clap::{Arg, ArgAction, Command};
 use std::alloc::{AllocError, Global};
 
 /// The version of the program. `CHANGELOG.md` says what each version brought.
@@ -25,9 +25,7 @@ fn taking<'a>(arg: Arg<'a>, takes: Takes) -> Arg<'a> {
     match takes {
         Takes::Nothing => arg.action(ArgAction::SetTrue),
         Takes::Text => arg,
-        Takes::Number => arg
-            .value_parser(value_parser!(usize))
-            .allow_negative_numbers(true),
+        Takes::Number => arg.allow_negative_numbers(true),
         Takes::Word(words) => arg.value_parser(words),
         Takes::Texts | Takes::List => arg.action(ArgAction::Append),
     }

@@ -3,10 +3,14 @@
 //! The file is TOML. It has each option by its name, and the two files as `left` and `right`.
 //! Options of the command line take the place of those that the file sets.
 
+use crate::error::{Error, Result};
+use crate::names::quoted;
+use crate::near::{are_near, differ_by_case};
 use crate::options::{CliOption, Takes, options};
-use anyhow::{Error, Result, anyhow};
+use crate::refusals::form_advice;
 use std::alloc::{AllocError, Global};
-use std::fs;
+use std::fmt::{Display, Formatter};
+use std::{fmt, fs};
 use toml::{Table, Value};
 
 /// The settings of a file.
@@ -20,7 +24,7 @@ pub(crate) struct Config {
 
 /// Returns the error for a value that its option does not take.
 fn misfit(name: &str, takes: &str, value: &Value) -> Error {
-    anyhow!("{name} takes {takes}, not this {}", value.type_str())
+    trouble!("{name} takes {takes}, not this {}", value.type_str())
 }
 
 /// Returns the text that a value is.
@@ -46,6 +50,39 @@ fn push_text(words: &mut Vec<String>, alloc: Global, name: &str, value: &Value) 
     let text = text_of(name, value)?;
     words.push(format!(in alloc; "--{name}={text}")?)?;
     Ok(())
+}
+
+/// The words that an option takes, in a message.
+#[derive(Clone, Copy)]
+struct Choices<'a>(&'a [&'a str]);
+
+impl Display for Choices<'_> {
+    fn fmt<W: fmt::Write>(&self, f: &mut Formatter<W>) -> fmt::Result {
+        for (i, word) in self.0.iter().enumerate() {
+            f.write_str(if i == 0 { "" } else { " or " })?;
+            f.write_str(word)?;
+        }
+        Ok(())
+    }
+}
+
+/// Appends the word of an option that takes one of some words.
+fn push_choice(
+    words: &mut Vec<String>,
+    alloc: Global,
+    name: &str,
+    choices: &[&str],
+    value: &Value,
+) -> Result<()> {
+    let text = text_of(name, value)?;
+    if (&*choices).contains(&text) {
+        return push_text(words, alloc, name, value);
+    }
+    let error = trouble!("{name} takes {}, not {}", Choices(choices), quoted(text));
+    match form_advice(text) {
+        Some(advice) if name == "format" => Err(error.hint(advice)),
+        _ => Err(error),
+    }
 }
 
 /// Appends the word of an option that takes a number.
@@ -106,7 +143,8 @@ fn push_option(
 ) -> Result<()> {
     match option.takes {
         Takes::Nothing => push_switch(words, alloc, option.id, value),
-        Takes::Text | Takes::Word(_) => push_text(words, alloc, option.id, value),
+        Takes::Text => push_text(words, alloc, option.id, value),
+        Takes::Word(choices) => push_choice(words, alloc, option.id, choices, value),
         Takes::Number => push_number(words, alloc, option.id, value),
         Takes::List => push_texts(words, alloc, option.id, value),
         Takes::Texts => push_bounds(words, alloc, option.id, value),
@@ -126,13 +164,31 @@ fn is_known(name: &str) -> bool {
     name == "left" || name == "right"
 }
 
+/// Returns the option whose name is nearly this one, if there is one. A name that differs by case
+/// or by underscores alone comes first.
+fn option_near(name: &str) -> Option<&'static str> {
+    let mut near = None;
+    for option in options() {
+        let id = option.id.as_bytes();
+        if differ_by_case(id, name.as_bytes()) {
+            return Some(option.id);
+        }
+        if near.is_none() && are_near(id, name.as_bytes()) {
+            near = Some(option.id);
+        }
+    }
+    near
+}
+
 /// Refuses settings whose names are unknown.
 fn refuse_unknown(table: &Table) -> Result<()> {
     for (name, _) in table {
         if !is_known(name) {
-            return Err(anyhow!(
-                "a file of options can't set {name:?}: it sets options by their names, as schema-only"
-            ));
+            let error = trouble!("a file of options can't set {}", quoted(name));
+            return match option_near(name) {
+                Some(id) if id != CONFIG => Err(error.hint(format_args!("did you mean {id:?}?"))),
+                _ => Err(error.hint("it sets options by their names, as schema-only")),
+            };
         }
     }
     Ok(())
@@ -218,12 +274,34 @@ fn line_at(text: &str, place: usize) -> usize {
         .saturating_add(1)
 }
 
+/// Returns whether a line of TOML sets a text without quotes, alone or in a list.
+fn lacks_quotes(line: &str) -> bool {
+    let Some((_, value)) = line.split_once('=') else {
+        return false;
+    };
+    let value = value.trim_start_matches(['[', ' ', '\t']);
+    let is_word = value.starts_with(|c: char| c.is_alphabetic() || c == '_');
+    let word = value
+        .split([',', ']', '#', ' ', '\t'])
+        .next()
+        .unwrap_or("")
+        .trim();
+    is_word && !["true", "false", "inf", "nan"].contains(&word)
+}
+
 /// Returns the error for a text that is not TOML.
 fn no_table(text: &str, error: &toml::de::Error) -> Error {
-    match error.span() {
-        Some(span) => anyhow!("line {}: {}", line_at(text, span.start), error.message()),
-        None => anyhow!("out of memory"),
+    let Some(span) = error.span() else {
+        return trouble!("out of memory");
+    };
+    let number = line_at(text, span.start);
+    let line = text.lines().nth(number.saturating_sub(1));
+    if line.is_some_and(lacks_quotes) {
+        return trouble!("line {number}: put text in quotes, as in key = \"id\"").hint(
+            error.message(),
+        );
     }
+    trouble!("line {number}: {}", error.message())
 }
 
 /// Reads the settings of a file, without the options that the command line gives.
@@ -248,6 +326,18 @@ pub(crate) fn config_for(rt: &HostRuntime, words: &[String]) -> Result<Config> {
     match read_config(rt, path, words) {
         Ok(config) => Ok(config),
         Err(error) => Err(error.context(path)),
+    }
+}
+
+/// Returns an error, with the name of the file of options if it is about an option that this sets.
+/// `words` are those of the command line.
+pub(crate) fn with_file(error: Error, config: &Config, words: &[String]) -> Error {
+    let is_set = error
+        .option()
+        .is_some_and(|option| is_given(&config.words, option));
+    match file_given(words) {
+        Some(path) if is_set && error.file().is_none() => error.context(path),
+        _ => error,
     }
 }
 
@@ -285,9 +375,9 @@ pub(crate) fn named_files<'a>(
         (None, _, (Some(left), Some(right))) => Ok((left, right)),
         (Some(right), None, (Some(left), None)) => Ok((left, right)),
         (Some(left), None, (None, Some(right))) => Ok((left, right)),
-        (Some(file), None, (Some(_), Some(_))) => Err(anyhow!(
+        (Some(file), None, (Some(_), Some(_))) => Err(trouble!(
             "two files are compared: {file:?} is a third one beside those that --config sets"
         )),
-        _ => Err(anyhow!("two files are compared: give LEFT and RIGHT")),
+        _ => Err(trouble!("two files are compared: give LEFT and RIGHT")),
     }
 }

@@ -1,6 +1,6 @@
 //! The files that are compared.
 
-use anyhow::{Result, anyhow};
+use crate::error::Result;
 use diff_run::run::Input;
 use std::io::{Read, StdinLock};
 use std::os::fd::AsRawFd;
@@ -43,11 +43,11 @@ fn open_file(rt: &HostRuntime, name: &str, is_beside: bool) -> Result<fs::File> 
     match fs::open(rt, name) {
         Ok(file) => {
             if is_beside && file.as_raw_fd() == 0 {
-                return Err(anyhow!("standard input is closed"));
+                return Err(trouble!("standard input is closed"));
             }
             Ok(file)
         }
-        Err(error) => Err(anyhow!("{error}").context(name)),
+        Err(error) => Err(trouble!("{error}").context(name)),
     }
 }
 

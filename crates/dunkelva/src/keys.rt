@@ -2,8 +2,9 @@
 
 ghost use Rattle.std.specs.Prelude.{◌≡◌, length};
 
+use crate::error::Result;
+use crate::names::quoted;
 use crate::rules::no_path;
-use anyhow::{Result, anyhow};
 use clap::ArgMatches;
 use dunkelva_options::lists::split_lists;
 use json_paths::parse::parse_path;
@@ -23,7 +24,7 @@ pub(crate) fn refuse_repeated(keys: &[&[u8]]) -> Result<()> {
     for i in 0..keys.len() {
         if keys[..i].contains(&keys[i]) {
             let name = str::from_utf8(keys[i]).unwrap_or("-");
-            return Err(anyhow!("--key has {name:?} twice"));
+            return Err(trouble!("--key has {} twice", quoted(name)));
         }
     }
     Ok(())

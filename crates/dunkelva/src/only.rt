@@ -95,8 +95,8 @@ impl<'p> Search<'p> {
         !self.found.contains(&false)
     }
 
-    /// Looks for the patterns in an ordinary file until all are found. Returns `None` if it can't be
-    /// read once more.
+    /// Looks for the patterns in an ordinary file until all are found. Returns `None` if it can't
+    /// be read once more.
     fn read_file(&mut self, rt: &HostRuntime, file: &str) -> Option<()> {
         let source = open_again(rt, file)?;
         let reader = BufReader::new(rt.alloc(), source).ok()?;
@@ -127,8 +127,8 @@ fn search_files<'p>(
     Some(search)
 }
 
-/// Prints a warning for each path of `--only` at which no document of two ordinary files has a part.
-/// `patterns` are these paths.
+/// Prints a warning for each path of `--only` at which no document of two ordinary files has a
+/// part. `patterns` are these paths.
 pub(crate) fn warn_of_unknown(
     rt: &HostRuntime,
     matches: &ArgMatches<'_>,

@@ -1,7 +1,7 @@
 //! Refusals of outputs that are inputs too, since a report would be written over them.
 
+use crate::error::Result;
 use crate::tasks::Target;
-use anyhow::{Result, anyhow};
 use std::fs;
 use std::os::unix::fs::MetadataExt;
 
@@ -28,7 +28,7 @@ fn input_at<'a>(rt: &HostRuntime, path: &str, inputs: &[&'a str]) -> Option<&'a 
 /// Refuses to write to standard output where that is one of the inputs.
 pub(crate) fn refuse_own_output(rt: &HostRuntime, inputs: &[&str]) -> Result<()> {
     match input_at(rt, "/dev/stdout", inputs) {
-        Some(input) => Err(anyhow!("standard output is the input {input:?}")),
+        Some(input) => Err(trouble!("standard output is the input {input:?}")),
         None => Ok(()),
     }
 }
@@ -43,7 +43,7 @@ pub(crate) fn refuse_own_target(
         return refuse_own_output(rt, inputs);
     };
     match input_at(rt, path, inputs) {
-        Some(input) => Err(anyhow!("--html would write over the input {input:?}").context(path)),
+        Some(input) => Err(trouble!("--html would write over the input {input:?}").context(path)),
         None => Ok(()),
     }
 }

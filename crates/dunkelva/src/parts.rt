@@ -1,7 +1,8 @@
 //! The part of the rows or documents that is compared.
 
+use crate::error::Result;
+use crate::names::quoted;
 use crate::words::Names;
-use anyhow::{Result, anyhow};
 use clap::ArgMatches;
 use diff_parts::part::Part;
 
@@ -22,8 +23,9 @@ fn refuse_numbers(matches: &ArgMatches<'_>, names: &Names<'_>) -> Result<()> {
     }
     for key in &names.keys {
         if !names.texts.contains(key) {
-            return Err(anyhow!(
-                "with --partition and --numbers all key columns have to be among --text"
+            let name = quoted(str::from_utf8(key).unwrap_or("-"));
+            return Err(trouble!(
+                "with --partition and --numbers keys are compared as text: add --text {name}"
             ));
         }
     }
@@ -33,11 +35,11 @@ fn refuse_numbers(matches: &ArgMatches<'_>, names: &Names<'_>) -> Result<()> {
 /// Refuses the options that do not go with sorted files, whose rows are merged as they are written.
 pub(crate) fn refuse_unsorted(matches: &ArgMatches<'_>) -> Result<()> {
     if matches.get_flag("numbers") {
-        return Err(anyhow!("--sorted does not go with --numbers"));
+        return Err(trouble!("--sorted does not go with --numbers"));
     }
     for option in ["partition", "tolerance", "relative-tolerance"] {
         if matches.contains_id(option) {
-            return Err(anyhow!("--sorted does not go with --{option}"));
+            return Err(trouble!("--sorted does not go with --{option}"));
         }
     }
     Ok(())
@@ -58,6 +60,9 @@ pub(crate) fn part_of(matches: &ArgMatches<'_>) -> Result<Option<Part>> {
     };
     match named_part(text) {
         Some(part) => Ok(Some(part)),
-        None => Err(anyhow!("--partition takes I/N such as 1/8, with I from 1 to N, not {text:?}")),
+        None => Err(trouble!(
+            "--partition takes I/N such as 1/8, with I from 1 to N, not {}",
+            quoted(text)
+        )),
     }
 }

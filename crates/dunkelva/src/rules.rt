@@ -1,6 +1,7 @@
 //! The rules for documents that the words of the command line give.
 
-use anyhow::{Error, Result, anyhow};
+use crate::error::{Error, Result};
+use crate::names::quoted;
 use clap::ArgMatches;
 use dunkelva_options::lists::split_lists;
 use json_changes::changes::{Rules, Tolerance};
@@ -9,6 +10,7 @@ use json_paths::parse::parse_pattern;
 use json_paths::pattern::Pattern;
 use json_tolerances::bounds::Bound;
 use json_tolerances::closeness::Margin;
+use json_tolerances::error::BoundError;
 use std::alloc::Global;
 
 /// The option whose bounds are numbers.
@@ -20,9 +22,10 @@ pub(crate) const RELATIVE: &str = "relative-tolerance";
 /// Returns the error for a word that is not a path. The example is a path that the option takes.
 pub(crate) fn no_path(error: PathError, option: &str, example: &str, word: &str) -> Error {
     match error {
-        PathError::Memory => anyhow!("out of memory"),
-        PathError::Invalid => anyhow!(
-            "--{option} takes paths such as order.id or {example}, not {word:?}"
+        PathError::Memory => trouble!("out of memory"),
+        PathError::Invalid => trouble!(
+            "--{option} takes paths such as order.id or {example}, not {}",
+            quoted(word)
         ),
     }
 }
@@ -49,12 +52,56 @@ fn push_patterns(
     Ok(())
 }
 
+/// Returns the number in front of a percent sign, if it is one that an exponent may follow.
+fn without_percent(word: &str) -> Option<&str> {
+    let number = word.strip_suffix('%')?;
+    let is_plain = !number.contains(['e', 'E']) && Bound::read(number).is_ok();
+    is_plain.then_some(number)
+}
+
+/// Returns whether a text is a number that lacks the 0 before its point.
+fn lacks_zero(word: &str) -> bool {
+    match word.strip_prefix('.') {
+        Some(rest) => is_digits(rest),
+        None => false,
+    }
+}
+
+/// Returns whether a text is digits alone.
+fn is_digits(text: &str) -> bool {
+    !text.is_empty() && text.bytes().all(|byte| byte.is_ascii_digit())
+}
+
+/// Returns the error for a word that is no bound, with what may be meant.
+fn no_bound(option: &str, word: &str, error: BoundError) -> Error {
+    let trouble = trouble!("--{option}: the bound {} {error}", quoted(word));
+    if lacks_zero(word) {
+        return trouble.hint(format_args!("write 0{word}"));
+    }
+    match without_percent(word) {
+        Some(number) if option == RELATIVE => trouble.hint(format_args!("write {number}e-2")),
+        Some(number) => trouble.hint(format_args!(
+            "for a percentage give --{RELATIVE} NAME={number}e-2"
+        )),
+        None => trouble,
+    }
+}
+
+/// Returns the error for a word that has no bound. `takes` says what the option takes.
+pub(crate) fn without_bound(option: &str, takes: &str, word: &str) -> Error {
+    let error = trouble!("--{option} takes {takes}, not {}", quoted(word));
+    if is_digits(word) {
+        return error.hint("decimals stand behind a point, and a comma parts two tolerances");
+    }
+    error
+}
+
 /// Returns the margin that a word of an option writes.
 pub(crate) fn margin_of(option: &str, word: &str) -> Result<Margin> {
     match Bound::read(word) {
         Ok(bound) if option == RELATIVE => Ok(Margin::Relative(bound)),
         Ok(bound) => Ok(Margin::Absolute(bound)),
-        Err(error) => Err(anyhow!("--{option}: the bound {word:?} {error}")),
+        Err(error) => Err(no_bound(option, word, error)),
     }
 }
 
@@ -62,9 +109,8 @@ pub(crate) fn margin_of(option: &str, word: &str) -> Result<Margin> {
 /// bound.
 fn tolerance_of(alloc: Global, option: &str, word: &str) -> Result<Tolerance> {
     let Some((path, number)) = word.rsplit_once('=') else {
-        return Err(anyhow!(
-            "--{option} takes a path and a bound such as items[].price=0.01, not {word:?}"
-        ));
+        let takes = "a path and a bound such as items[].price=0.01";
+        return Err(without_bound(option, takes, word));
     };
     let margin = margin_of(option, number)?;
     let pattern = pattern_of(alloc, option, path)?;

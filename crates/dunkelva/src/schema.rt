@@ -1,13 +1,13 @@
 //! The schema of a file: `dunkelva schema FILE`.
 
 use crate::command::with_option;
+use crate::error::Result;
 use crate::files::open;
 use crate::kinds::hold_documents;
 use crate::options::options;
 use crate::outputs::refuse_own_output;
 use crate::trouble::{csv_trouble, schema_trouble};
 use crate::words::csv_options;
-use anyhow::{Result, anyhow};
 use clap::{Arg, ArgMatches, Command};
 use diff_csv::options::CsvOptions;
 use schema_documents::said as documents;
@@ -86,7 +86,7 @@ pub(crate) fn print_text(rt: &HostRuntime, text: &[u8], status: u8) -> Result<u8
     match out.write_all(text) {
         Ok(()) => Ok(status),
         Err(cause) if cause.kind() == ErrorKind::BrokenPipe => Ok(TROUBLE),
-        Err(cause) => Err(anyhow!("{cause}").context("standard output")),
+        Err(cause) => Err(trouble!("{cause}").context("standard output")),
     }
 }
 
@@ -94,11 +94,11 @@ pub(crate) fn print_text(rt: &HostRuntime, text: &[u8], status: u8) -> Result<u8
 pub(crate) fn refuse_of_tables(matches: &ArgMatches<'_>) -> Result<()> {
     for option in ["null", "delimiter"] {
         if matches.contains_id(option) {
-            return Err(anyhow!("--{option} is for CSV files alone"));
+            return Err(trouble!("--{option} is for CSV files alone"));
         }
     }
     if matches.get_flag("no-header") {
-        return Err(anyhow!("--no-header is for CSV files alone"));
+        return Err(trouble!("--no-header is for CSV files alone"));
     }
     Ok(())
 }
@@ -106,7 +106,7 @@ pub(crate) fn refuse_of_tables(matches: &ArgMatches<'_>) -> Result<()> {
 /// Refuses an option that only documents have.
 pub(crate) fn refuse_of_documents(matches: &ArgMatches<'_>) -> Result<()> {
     if matches.get_flag("skip-bad") {
-        return Err(anyhow!("--skip-bad is for JSON documents alone"));
+        return Err(trouble!("--skip-bad is for JSON documents alone"));
     }
     Ok(())
 }

@@ -1,5 +1,6 @@
 //! The schemas of two files, compared: `dunkelva diff --schema-only LEFT RIGHT`.
 
+use crate::error::Result;
 use crate::files::open;
 use crate::kinds::hold_documents;
 use crate::options::{Takes, options};
@@ -7,7 +8,6 @@ use crate::outputs::refuse_own_output;
 use crate::schema::{form_in, null_in, print_text, refuse_of_documents, refuse_of_tables};
 use crate::trouble::{csv_trouble, schema_trouble};
 use crate::words::csv_options;
-use anyhow::{Result, anyhow};
 use clap::ArgMatches;
 use diff_csv::options::CsvOptions;
 use schema_documents::changes_json::push_document_objects;
@@ -80,7 +80,7 @@ fn refuse_others(matches: &ArgMatches<'_>) -> Result<()> {
             _ => OTHERS.contains(&option.id) && matches.contains_id(option.id),
         };
         if is_given {
-            return Err(anyhow!("--{} can't be used with --schema-only", option.id));
+            return Err(trouble!("--{} can't be used with --schema-only", option.id));
         }
     }
     Ok(())
@@ -153,7 +153,7 @@ pub(crate) fn compare_schemas(
 ) -> Result<u8> {
     refuse_others(matches)?;
     if left == "-" && right == "-" {
-        return Err(anyhow!("only one of the two files can be standard input"));
+        return Err(trouble!("only one of the two files can be standard input"));
     }
     refuse_own_output(rt, &[left, right])?;
     let is_beside = left == "-" || right == "-";

@@ -1,10 +1,10 @@
 //! Comparisons of two inputs, and the forms of their reports.
 
+use crate::error::Result;
 use crate::files::{Source, open, total_of};
 use crate::hints::explained;
 use crate::progress::{Cleared, Counted, Progress};
 use crate::trouble::{document_trouble, sorted_trouble, table_trouble};
-use anyhow::{Result, anyhow};
 use diff_aligned::aligned::{Sheet, push_aligned};
 use diff_keys::outcome::Outcome;
 use diff_markdown::markdown::push_markdown;
@@ -92,7 +92,7 @@ fn unwritten(cause: io::Error) -> Result<Ending> {
     if cause.kind() == ErrorKind::BrokenPipe {
         return Ok(Ending::Unread);
     }
-    Err(anyhow!("{cause}").context("standard output"))
+    Err(trouble!("{cause}").context("standard output"))
 }
 
 /// Returns the end of a comparison of tables with this result.
@@ -220,7 +220,7 @@ fn print_text(
 fn write_page(rt: &HostRuntime, page: &[u8], path: &str, ending: Ending) -> Result<Ending> {
     match fs::write(rt, path, page) {
         Ok(()) => Ok(ending),
-        Err(error) => Err(anyhow!("{error}").context(path)),
+        Err(error) => Err(trouble!("{error}").context(path)),
     }
 }
 
@@ -309,7 +309,7 @@ pub(crate) fn compare_named(
     target: Target<'_>,
 ) -> Result<u8> {
     if left == "-" && right == "-" {
-        return Err(anyhow!("only one of the two files can be standard input"));
+        return Err(trouble!("only one of the two files can be standard input"));
     }
     let has_standard = left == "-" || right == "-";
     let names = (left, right);
@@ -317,6 +317,6 @@ pub(crate) fn compare_named(
     let right = open(rt, right, has_standard)?;
     match compare(rt, left, right, names, task, target) {
         Ok(status) => Ok(status),
-        Err(error) => Err(explained(rt, error, names.0, names.1)),
+        Err(error) => Err(explained(rt, error, &[names.0, names.1])),
     }
 }

@@ -1,8 +1,9 @@
 //! The tolerances for columns that the words of the command line give.
 
-use crate::rules::{ABSOLUTE, RELATIVE, margin_of};
+use crate::error::Result;
+use crate::names::quoted;
+use crate::rules::{ABSOLUTE, RELATIVE, margin_of, without_bound};
 use crate::words::unquoted;
-use anyhow::{Result, anyhow};
 use clap::ArgMatches;
 use diff_tolerances::cells::Tolerance;
 use dunkelva_options::lists::split_lists;
@@ -11,7 +12,10 @@ use std::alloc::Global;
 /// Refuses a column that is a key, since keys are compared exactly.
 fn refuse_key(option: &str, column: &str, keys: &[&[u8]]) -> Result<()> {
     if keys.contains(&column.as_bytes()) {
-        return Err(anyhow!("--{option}: {column:?} is a key, and keys are compared exactly"));
+        return Err(trouble!(
+            "--{option}: {} is a key, and keys are compared exactly",
+            quoted(column)
+        ));
     }
     Ok(())
 }
@@ -20,9 +24,8 @@ fn refuse_key(option: &str, column: &str, keys: &[&[u8]]) -> Result<()> {
 /// a bound.
 fn tolerance_of<'a>(option: &str, word: &'a str, keys: &[&[u8]]) -> Result<Tolerance<'a>> {
     let Some((column, number)) = word.rsplit_once('=') else {
-        return Err(anyhow!(
-            "--{option} takes a column and a bound such as amount=0.01, not {word:?}"
-        ));
+        let takes = "a column and a bound such as amount=0.01";
+        return Err(without_bound(option, takes, word));
     };
     let column = unquoted(column);
     refuse_key(option, column, keys)?;

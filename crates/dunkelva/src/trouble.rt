@@ -1,8 +1,10 @@
 //! Errors for files that can't be compared.
 
-use crate::names::columns_of;
+use crate::error::{About, Error};
+use crate::files::open_again;
+use crate::hints::begins_object;
+use crate::names::{column_name, columns_hint, quoted};
 use crate::rules::{ABSOLUTE, RELATIVE};
-use anyhow::{Error, anyhow};
 use diff_columns::error::{ColumnError, Side};
 use diff_csv::error::CsvError;
 use diff_csv::options::CsvOptions;
@@ -33,7 +35,7 @@ fn other_length(line: u64, found: u64, expected: u64, csv: CsvOptions) -> Error 
         "first record"
     };
     let fields = if found == 1 { "field" } else { "fields" };
-    anyhow!("line {line} has {found} {fields}, the {first} has {expected}")
+    trouble!("line {line} has {found} {fields}, the {first} has {expected}")
 }
 
 /// Returns the error for a CSV file that can't be read.
@@ -43,8 +45,9 @@ pub(crate) fn csv_trouble(cause: CsvError, csv: CsvOptions) -> Error {
             line,
             expected,
             found,
-        } => other_length(line, found, expected, csv),
-        other => anyhow!("{other}"),
+        } => other_length(line, found, expected, csv).about(About::Records),
+        CsvError::OpenQuote { .. } => trouble!("{cause}").about(About::Records),
+        other => trouble!("{other}"),
     }
 }
 
@@ -53,18 +56,30 @@ fn text_of(name: &[u8]) -> &str {
     str::from_utf8(name).unwrap_or("-")
 }
 
+/// Returns whether a file is an ordinary one without any byte.
+fn is_empty(rt: &HostRuntime, file: &str) -> bool {
+    open_again(rt, file).is_some_and(|source| source.size() == Some(0))
+}
+
 /// Returns the error for a key that is not the name of a column of this file.
 fn no_key(rt: &HostRuntime, file: &str, key: usize, options: &Options<'_>) -> Error {
-    let name = match options.choice.keys.get(key) {
-        Some(name) => text_of(name),
-        None => return anyhow!("a key column is missing"),
+    let Some(name) = options.choice.keys.get(key) else {
+        return trouble!("a key column is missing");
     };
-    match columns_of(rt, file, options.csv) {
-        Some(names) => anyhow!("no column is named {name:?}: the columns are {names}"),
-        None if file == "-" => {
-            anyhow!("no column is named {name:?}: for JSON lines give --input ndjson")
-        }
-        None => anyhow!("no column is named {name:?}"),
+    let name = text_of(name);
+    let error = trouble!("no column is named {}", quoted(name));
+    if file == "-" {
+        return error.hint("for JSON lines give --input ndjson");
+    }
+    if begins_object(rt, file) {
+        return error.about(About::Records);
+    }
+    if is_empty(rt, file) {
+        return error.hint("the file is empty");
+    }
+    match columns_hint(rt, file, options.csv, name, false) {
+        Some(hint) => error.hint(hint),
+        None => error,
     }
 }
 
@@ -95,12 +110,13 @@ fn unknown_column(
     name: &str,
     csv: CsvOptions,
 ) -> Error {
-    match columns_of(rt, file, csv) {
-        Some(names) => anyhow!(
-            "--{option}: neither file has a column named {name:?}: the columns of {file} are \
-             {names}"
-        ),
-        None => anyhow!("--{option}: neither file has a column named {name:?}"),
+    let error = trouble!(
+        "--{option}: neither file has a column named {}",
+        quoted(name)
+    );
+    match columns_hint(rt, file, csv, name, true) {
+        Some(hint) => error.hint(hint),
+        None => error,
     }
 }
 
@@ -112,7 +128,7 @@ fn no_tolerance_column(rt: &HostRuntime, file: &str, place: usize, options: &Opt
             let name = text_of(tolerance.column);
             unknown_column(rt, file, option_of(tolerance), name, options.csv)
         }
-        None => anyhow!("--{ABSOLUTE}: neither file has a column of this name"),
+        None => trouble!("--{ABSOLUTE}: neither file has a column of this name"),
     }
 }
 
@@ -130,21 +146,32 @@ fn no_column(
     let (option, names) = names_in(list, options);
     match names.get(place) {
         Some(name) => unknown_column(rt, file, option, text_of(name), options.csv),
-        None => anyhow!("--{option}: neither file has a column of this name"),
+        None => trouble!("--{option}: neither file has a column of this name"),
     }
 }
 
 /// Returns the error for two rows or documents that have the same key.
 fn one_key(first: u64, again: u64) -> Error {
-    anyhow!("lines {first} and {again} have the same key")
+    trouble!("lines {first} and {again} have the same key")
 }
 
 /// Returns the error for a number in the column of this name, whose exponent is too wide.
 fn wide_exponent(line: u64, name: &[u8]) -> Error {
-    anyhow!(
+    trouble!(
         "line {line}: a number in column {:?} has an exponent of more than 30 digits: see --text",
         text_of(name)
     )
+}
+
+/// Returns the error for a column of a file whose name an earlier one has.
+fn name_twice(rt: &HostRuntime, file: &str, column: usize, options: &Options<'_>) -> Error {
+    let number = column.saturating_add(1);
+    let error = trouble!("column {number} has the name of an earlier column");
+    match column_name(rt, file, options.csv, column) {
+        Some(_) if begins_object(rt, file) => error.about(About::Records),
+        Some(name) => error.hint(quoted(&name)),
+        None => error,
+    }
 }
 
 /// Returns the error for columns that can't be matched, with the file as context.
@@ -155,16 +182,15 @@ fn columns_trouble(
     options: &Options<'_>,
 ) -> Error {
     match cause {
-        ColumnError::NameTwice { side, column } => anyhow!(
-            "column {} has the name of an earlier column",
-            column.saturating_add(1)
-        )
-        .context(file_of(files, side)),
+        ColumnError::NameTwice { side, column } => {
+            let file = file_of(files, side);
+            name_twice(rt, file, column, options).context(file)
+        }
         ColumnError::NoKey { side, key } => {
             let file = file_of(files, side);
             no_key(rt, file, key, options).context(file)
         }
-        ColumnError::Memory => anyhow!("out of memory"),
+        ColumnError::Memory => trouble!("out of memory"),
     }
 }
 
@@ -189,7 +215,7 @@ pub(crate) fn table_trouble(
         RunError::Choice {
             cause: ChoiceError::NoColumn { list, name },
         } => no_column(rt, text_of(files.0), list, name, options),
-        other => anyhow!("{other}"),
+        other => trouble!("{other}"),
     }
 }
 
@@ -198,7 +224,7 @@ pub(crate) fn table_trouble(
 pub(crate) fn sorted_trouble(error: SortedError, files: (&[u8], &[u8])) -> Error {
     match error {
         SortedError::Falls { side, line } => {
-            anyhow!(
+            trouble!(
                 "the row at line {line} has a lesser key than the row before it: sort by bytes, as \
                  LC_ALL=C sort does"
             )
@@ -207,7 +233,7 @@ pub(crate) fn sorted_trouble(error: SortedError, files: (&[u8], &[u8])) -> Error
         SortedError::KeyTwice { side, first, again } => {
             one_key(first, again).context(file_of(files, side))
         }
-        other => anyhow!("{other}"),
+        other => trouble!("{other}"),
     }
 }
 
@@ -215,21 +241,25 @@ pub(crate) fn sorted_trouble(error: SortedError, files: (&[u8], &[u8])) -> Error
 fn fault_text(fault: LineFault, keys: &[&[u8]]) -> Error {
     match fault {
         LineFault::NoPart { key } => match keys.get(key) {
-            Some(name) => anyhow!("the key {:?} is missing", text_of(name)),
-            None => anyhow!("a key is missing"),
+            Some(name) => trouble!("the key {} is missing", quoted(text_of(name))),
+            None => trouble!("a key is missing"),
         },
-        LineFault::Invalid => anyhow!("not valid JSON"),
-        LineFault::NoObject => anyhow!("not a JSON object"),
-        other => anyhow!("{other}"),
+        LineFault::Invalid => trouble!("not valid JSON"),
+        LineFault::NoObject => trouble!("not a JSON object"),
+        other => trouble!("{other}"),
     }
 }
 
 /// Returns the error for a line that is not a document.
 fn line_trouble(line: u64, column: Option<u64>, fault: LineFault, keys: &[&[u8]]) -> Error {
     let text = fault_text(fault, keys);
-    match column {
-        Some(column) => anyhow!("line {line}, column {column}: {text}"),
-        None => anyhow!("line {line}: {text}"),
+    let Some(column) = column else {
+        return trouble!("line {line}: {text}");
+    };
+    let error = trouble!("line {line}, column {column}: {text}");
+    match fault {
+        LineFault::Invalid | LineFault::NoObject => error.about(About::Line { line, column }),
+        _ => error,
     }
 }
 
@@ -242,7 +272,7 @@ fn read_trouble(cause: ReadError, keys: &[&[u8]]) -> Error {
             column,
             fault,
         } => line_trouble(line, column, fault, keys),
-        other => anyhow!("{other}"),
+        other => trouble!("{other}"),
     }
 }
 
@@ -253,8 +283,8 @@ const ALL_SKIPPED: &str = "--skip-bad would skip every line";
 pub(crate) fn schema_trouble(error: SchemaError) -> Error {
     match error {
         SchemaError::Read { cause } => read_trouble(cause, &[]),
-        SchemaError::AllSkipped => anyhow!("{ALL_SKIPPED}"),
-        SchemaError::Memory => anyhow!("out of memory"),
+        SchemaError::AllSkipped => trouble!("{ALL_SKIPPED}"),
+        SchemaError::Memory => trouble!("out of memory"),
     }
 }
 
@@ -273,8 +303,8 @@ pub(crate) fn document_trouble(
             one_key(first, again).context(file_of(files, side))
         }
         DocumentError::AllSkipped { side } => {
-            anyhow!("{ALL_SKIPPED}").context(file_of(files, side))
+            trouble!("{ALL_SKIPPED}").context(file_of(files, side))
         }
-        other => anyhow!("{other}"),
+        other => trouble!("{other}"),
     }
 }

@@ -1,9 +1,10 @@
 //! The settings that the words of the command line give.
 
+use crate::error::Result;
 use crate::keys::refuse_repeated;
 use crate::kinds::usual_delimiter;
+use crate::names::quoted;
 use crate::tasks::Target;
-use anyhow::{Result, anyhow};
 use clap::ArgMatches;
 use clap::parser::ValueSource;
 use diff_csv::options::{CsvOptions, is_delimiter};
@@ -95,10 +96,13 @@ fn delimiter_of(text: &str) -> Result<u8> {
     let byte = match text.as_bytes() {
         b"\\t" => b'\t',
         [byte] => *byte,
-        _ => return Err(anyhow!("--delimiter takes one byte, or \\t for a tab, not {text:?}")),
+        _ => return Err(trouble!(
+            "--delimiter takes one byte, or \\t for a tab, not {}",
+            quoted(text)
+        )),
     };
     if !is_delimiter(byte) {
-        return Err(anyhow!(
+        return Err(trouble!(
             "--delimiter can be neither a quote nor the end of a line, as {text:?} is"
         ));
     }
@@ -117,6 +121,18 @@ pub(crate) fn csv_options(matches: &ArgMatches<'_>, left: &str, right: &str) -> 
     })
 }
 
+/// Returns the whole number that an option is given, or its default. Fails with what the option
+/// takes if it is none.
+fn number_of(matches: &ArgMatches<'_>, option: &str, takes: &str) -> Result<Option<usize>> {
+    let Some(text) = matches.get_str(option) else {
+        return Ok(None);
+    };
+    match text.parse::<usize>() {
+        Ok(number) => Ok(Some(number)),
+        Err(_) => Err(trouble!("--{option} takes {takes}, not {}", quoted(text))),
+    }
+}
+
 /// The most differences in a page, where no other number is given.
 const MOST_IN_PAGE: usize = 10_000;
 
@@ -125,13 +141,13 @@ const LEAST_WIDTH: usize = 40;
 
 /// Returns the width of the terminal, if aligned columns are asked for. Fails if it is too small.
 fn width_of(matches: &ArgMatches<'_>) -> Result<Option<usize>> {
-    let Some(width) = matches.get_one::<usize>("width") else {
-        return Ok(None);
-    };
-    if width < LEAST_WIDTH {
-        return Err(anyhow!("--width takes {LEAST_WIDTH} columns or more, not {width}"));
+    let width = number_of(matches, "width", "a whole number of columns such as 100")?;
+    if let Some(width) = width
+        && width < LEAST_WIDTH
+    {
+        return Err(trouble!("--width takes {LEAST_WIDTH} columns or more, not {width}"));
     }
-    Ok(Some(width))
+    Ok(width)
 }
 
 /// Returns the destination and the form of the report.
@@ -148,18 +164,19 @@ pub(crate) fn target_of<'a>(rt: &HostRuntime, matches: &ArgMatches<'a>) -> Resul
 }
 
 /// Returns the number of differences to print. On the command line the limit 0 stands for all.
-pub(crate) fn limit_of(matches: &ArgMatches<'_>) -> usize {
+pub(crate) fn limit_of(matches: &ArgMatches<'_>) -> Result<usize> {
+    let limit = number_of(matches, "limit", "a whole number such as 100, or 0 for all")?;
     if matches.get_flag("summary") {
-        return 0;
+        return Ok(0);
     }
     let is_given = matches.value_source("limit") == Some(ValueSource::CommandLine);
     if matches.contains_id("html") && !is_given {
-        return MOST_IN_PAGE;
+        return Ok(MOST_IN_PAGE);
     }
-    match matches.get_one::<usize>("limit") {
-        Some(0) => usize::MAX,
-        Some(limit) => limit,
-        None => 20,
+    match limit {
+        Some(0) => Ok(usize::MAX),
+        Some(limit) => Ok(limit),
+        None => Ok(20),
     }
 }
 
