@@ -55,12 +55,13 @@ pub fn count_by_column(
     comparison: &Comparison,
 ) -> Result<Vec<usize>, AllocError>
     requires sides { AreSides sides.now }
-    requires comparison { IsComparison sides.now.keys.items (compared_left sides.now) (compared_right sides.now)
-        comparison.now }
+    requires comparison { IsComparison sides.now.keys.items (compared_left sides.now)
+        (compared_right sides.now) comparison.now }
     ensures counts { IfOk result
         (λ counts. counts.items
         ≡ column_counts sides.now comparison.now.matching comparison.now.changed.items) }
-    ensures as_many { IfOk result (λ counts. length counts.items ≡ length (naming_of sides.now).names) }
+    ensures as_many { IfOk result
+        (λ counts. length counts.items ≡ length (naming_of sides.now).names) }
 {
     let counts = counts_of(alloc, sides, comparison)?;
     Ok(counts)

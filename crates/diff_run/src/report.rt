@@ -99,8 +99,8 @@ fn push_all(
     options: &Options<'_>,
 ) -> Result<(), AllocError>
     requires sides { AreSides sides.now }
-    requires comparison { IsComparison sides.now.keys.items (compared_left sides.now) (compared_right sides.now)
-        comparison.now }
+    requires comparison { IsComparison sides.now.keys.items (compared_left sides.now)
+        (compared_right sides.now) comparison.now }
     ensures { IfOk result
         (λ _. out.new.items ≡ out.old.items
         ++ differences_text options.now.format sides.now comparison.now

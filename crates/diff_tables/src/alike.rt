@@ -122,8 +122,8 @@ fn push_unlike<L: Offset, R: Offset>(
     requires right { NameRowsOf width (offset_strings R.value right.now) right_rows.now }
     requires rise { start ≤ end }
     requires within { end ≤ length left_rows.now }
-    requires as_long { TellLengths width (offset_strings L.value left.now) (offset_strings R.value right.now)
-        left_rows.now right_rows.now start end as_long.now }
+    requires as_long { TellLengths width (offset_strings L.value left.now)
+        (offset_strings R.value right.now) left_rows.now right_rows.now start end as_long.now }
     ensures { OnOk result
         (ListsAllBut
         (AreSameCells width (offset_strings L.value left.now) (offset_strings R.value right.now)

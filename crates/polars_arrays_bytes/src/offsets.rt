@@ -120,7 +120,8 @@ pub(crate) fn string_on<'a, O: Offset>(
     requires row { i < row_count offsets.now }
     requires good { IsGoodRow (length values.now) (places O.value offsets.now) i }
     ensures within { result.1 ≤ length result.0.now }
-    ensures string { take result.1 result.0.now ≡ string_between (places O.value offsets.now) values.now i }
+    ensures string { take result.1 result.0.now
+        ≡ string_between (places O.value offsets.now) values.now i }
 {
     let (from, to) = (offsets[i].place(), offsets[i + 1].place());
     (&values[from..], to - from)

@@ -31,8 +31,8 @@ pub fn law_leaves()
 pub fn law_rows()
     ensures lists { (a : ListArray) → IsGood (List a) → rows (List a)
         ≡ rows_under (list_validity a) (stored_lists a) }
-    ensures fixed_lists { (a : FixedSizeListArray) → IsGood (FixedSizeList a) → rows (FixedSizeList a)
-        ≡ rows_under (fixed_validity a) (stored_fixed_lists a) }
+    ensures fixed_lists { (a : FixedSizeListArray) → IsGood (FixedSizeList a)
+        → rows (FixedSizeList a) ≡ rows_under (fixed_validity a) (stored_fixed_lists a) }
     ensures structs { (a : StructArray) → IsGood (Struct a) → rows (Struct a)
         ≡ rows_under (struct_validity a) (stored_structs a) }
     ensures entries { (a : DictionaryArray) → IsGood (Dictionary a)

@@ -164,7 +164,8 @@ pub trait TotalEqKernel: Sized + Array {
     }
 
     // Arrays that can be compared have equal lengths.
-    ghost comparable_law: { (a b : Self) → comparable a b → length (Self.slots a) ≡ length (Self.slots b) };
+    ghost comparable_law: { (a b : Self) → comparable a b → length (Self.slots a)
+        ≡ length (Self.slots b) };
 
     // No scalar is Null, if the kind has broadcasts.
     ghost scalar_law: { (s : Self.Scalar) → IsTrue broadcasts → scalar_row s ≢ Null };

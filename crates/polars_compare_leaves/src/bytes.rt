@@ -219,7 +219,8 @@ struct StringsAgainst<'a, L, E> {
 }
 
 impl<'a, L: ByteRows, E: ByteComparison> TruthValues for StringsAgainst<'a, L, E> {
-    ghost values = { λ a. map (λ row. E.rows row (Bytes a.right.now)) (byte_slots (L.strings a.left.now)) };
+    ghost values = { λ a. map
+        (λ row. E.rows row (Bytes a.right.now)) (byte_slots (L.strings a.left.now)) };
 
     #[inline(always)]
     fn len(&self) -> usize {

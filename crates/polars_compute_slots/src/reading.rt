@@ -64,7 +64,8 @@ impl ReadCounts {
 // Returns the counts of slots if no value means null.
 fn whole_counts<S: Slots>(slots: &S, count: usize) -> ReadCounts
     requires { length (S.set_slots slots.now) ≡ count + 1 }
-    ensures counted { (least : ℤ) → IsCounted (slot_state least count (S.set_slots slots.now)) result }
+    ensures counted { (least : ℤ)
+        → IsCounted (slot_state least count (S.set_slots slots.now)) result }
     ensures few { result.seen ≤ count }
 {
     ReadCounts {

@@ -63,7 +63,8 @@ pub fn keys_fit(values: &AnyArray) -> bool
 // only for more than 127 keys.
 fn new_keys(alloc: Global, n: usize) -> Result<PrimitiveRangedUniqueState<u32>, ComputeError>
     requires { n ≤ 2 ^ 32 }
-    ensures state { MatchResult result (λ state. state ≡ new_state (numbers_from (pos 0) n)) IsMemory }
+    ensures state { MatchResult result
+        (λ state. state ≡ new_state (numbers_from (pos 0) n)) IsMemory }
     ensures few { n ≤ 127 → IsOk result }
 {
     match n {

@@ -116,7 +116,8 @@ fn copy_all<S: RecordedState>(
 // Returns whether a state accepts an array.
 fn is_accepted<S: RangedUniqueKernel>(state: &S, array: &S::Array) -> bool
     ensures taken { IsTrue result → IsTrue (S.is_taken array.now) }
-    ensures within { IsTrue result → IsTrue (are_within (range_of (S.state state.now)) (S.fed array.now)) }
+    ensures within { IsTrue result
+        → IsTrue (are_within (range_of (S.state state.now)) (S.fed array.now)) }
 {
     state.accepts(array)
 }
