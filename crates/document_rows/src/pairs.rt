@@ -99,7 +99,8 @@ pub fn differing_pairs(
     requires comparison { (columns : List ℕ)
         × IsComparison columns left.now.rows right.now.rows comparison.now }
     ensures { IfOk result (λ pairs. ListsRising (IsOtherDocument (rules_view rules.now)
-        left.now right.now comparison.now.matching.left_rows.items comparison.now.matching.right_rows.items)
+        left.now right.now comparison.now.matching.left_rows.items
+        comparison.now.matching.right_rows.items)
         (length comparison.now.matching.left_rows.items) pairs.items) }
 {
     let mut scratches = Scratches::new(alloc)?;

@@ -1,16 +1,18 @@
 //! Trees of states, in postfix notation: leaves of some words each, and `+`, which joins the two
 //! trees before it.
 //!
-//! - `merge_tree_numbers TYPE MIN MAX TREE`: the states merged, in the form of `seen`; a leaf is A:
-//!   a state of the numbers from MIN to MAX, to which A is appended
-//! - `merge_tree_truths TREE`: the states merged; a leaf is A: a state of truth values, to which A
-//!   is appended
-//! - `merge_tree_keys TREE`: the states merged; a leaf is V A: a state of the keys of the entries
-//!   V, to which A is appended
-//! - `one_range_numbers TYPE TREE`: whether all leaves have one range; a leaf is MIN MAX: a new
-//!   state of these numbers
-//! - `one_range_keys TREE`: whether all leaves have one range; a leaf is V: a new state of the keys
-//!   of these entries
+//! The states merged, in the form of `seen`:
+//!
+//! - `merge_tree_numbers TYPE MIN MAX TREE`; a leaf A is a state of the numbers from MIN to MAX, to
+//!   which A is appended
+//! - `merge_tree_truths TREE`; a leaf A is a state of truth values, to which A is appended
+//! - `merge_tree_keys TREE`; a leaf V A is a state of the keys of the entries V, to which A is
+//!   appended
+//!
+//! Whether all leaves have one range:
+//!
+//! - `one_range_numbers TYPE TREE`; a leaf MIN MAX is a new state of these numbers
+//! - `one_range_keys TREE`; a leaf V is a new state of the keys of these entries
 
 ghost use Rattle.recorded_text.specs.Cases.{HasGoodArrays};
 
