@@ -188,7 +188,8 @@ def compact(value, string=string_text):
     if isinstance(value, list):
         return f"[{','.join(compact(child, string) for child in value)}]"
     if isinstance(value, Object):
-        return f"{{{','.join(f'{string(name)}:{compact(child, string)}' for name, child in value.members)}}}"
+        members = (f"{string(name)}:{compact(child, string)}" for name, child in value.members)
+        return f"{{{','.join(members)}}}"
     return json.dumps(value)
 
 
@@ -313,8 +314,8 @@ def fault_text(number, line, what):
 
 
 def hint_of(number, line, what):
-    """Returns the hint behind what is said of a line that is no document, or an empty text. It is said of
-    files that can be read once more."""
+    """Returns the hint behind what is said of a line that is no document, or an empty text. It is
+    said of files that can be read once more."""
     try:
         text = line.decode()
     except UnicodeDecodeError:
@@ -753,8 +754,8 @@ def warnings(words, left, right):
         if documents and not any(has_part(it, steps_of(word)) for it in documents)
     ]
     return b"".join(
-        f"dunkelva: warning: --only: no document has a part at {table_reports.in_quotes(word)}\n".encode()
-        for word in lacking
+        f"dunkelva: warning: --only: no document has a part at {quoted}\n".encode()
+        for quoted in map(table_reports.in_quotes, lacking)
     )
 
 

@@ -2,8 +2,9 @@
 from their rows.
 
 usage: nested.py FILE..    prints the files, with the answers that are found here
-       nested.py --check   finds the answers anew to all questions of data/ on arrays in which a dictionary lies, and on
-                           states of keys, and compares them with those that stand there; status 1 where one differs
+       nested.py --check   finds the answers anew to all questions of data/ on arrays in which a
+                           dictionary lies, and on states of keys, and compares them with those that
+                           stand there; status 1 where one differs
 
 What the calls mean, and which rows are null, is said by `slices_arrays.py`, `slices_answers.py` and
 `states.py`; here are the arrays that words make, and the calls that no slice is asked. Arrays that

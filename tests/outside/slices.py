@@ -2,7 +2,8 @@
 rows.
 
 usage: slices.py --part              prints the file data/slices.txt: questions, and their answers
-       slices.py --all PROGRAM       asks a built program of all slices; status 1 where an answer is another one
+       slices.py --all PROGRAM       asks a built program of all slices; status 1 where an answer is
+                                     another one
 
 Of each kind there is an array of 70 rows, of which every third is null (of null arrays each), over
 stored values that are no row of it. It is sliced at each place from 0 to 70, with the lengths 0, 1,
