@@ -128,7 +128,7 @@ SAME = (
     (b"{}", b"{\r\t }"), (b'[{"a":[1]},-0]', b'[ {"a" : [1.0] } , 0 ]'),
 )
 
-# values that differ, and what is told of a member a with them
+# values that differ, and the line printed for a member a with them
 DIFFERENT = (
     (b"1", b'"1"', 'a 1 -> "1"'), (b"0", b"null", "a 0 -> null"), (b"0", b"false", "a 0 -> false"),
     (b'""', b"null", 'a "" -> null'), (b"[]", b"{}", "a [] -> {}"),
@@ -170,7 +170,7 @@ DIFFERENT = (
     (b'{"z":{"y":1,"x":-0.0}}', b'{"z":0}', 'a.z {"y":1,"x":-0.0} -> 0'),
 )
 
-# options, two numbers, and what is told of them as members a, or None
+# options, two numbers, and whether their difference, as members a, is printed
 CLOSE = (
     (["--tolerance", "a=0.01"], "0.30", "0.31", False),
     (["--tolerance", "a=0.01"], "0.31", "0.3", False),
@@ -243,7 +243,7 @@ TOLERANCES = (
     (["--tolerance", "b=1", "--ignore", "a"], b'{"a":1,"b":1}', b'{"a":2,"b":3}', "b 1 -> 3"),
 )
 
-# rules, two documents, and what is told of them, if anything
+# rules, two documents, and the differences printed, or None
 RULES = (
     (["--ignore", "a"], b'{"a":1,"b":1}', b'{"a":2,"b":2}', "b 1 -> 2"),
     (["--ignore", "a"], b'{"a":1}', b'{"a":2}', None),

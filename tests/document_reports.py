@@ -29,7 +29,7 @@ WORD = re.compile(r"true|false|null|-?(?:0|[1-9][0-9]*)(?:\.[0-9]+)?(?:[eE][-+]?
 NO_JSON, NO_OBJECT, TWICE = "not valid JSON", "not a JSON object", "an object has a name twice"
 WIDE = "an exponent has more than 30 digits"
 
-# a difference between two values: where it is, and both parts, of which one may be missing
+# a difference between two values: where it is, and both parts; one may be missing
 Change = collections.namedtuple("Change", "path left right")
 # the pairs of rows that changed with their changes, the rows without a partner, and how many pairs
 # are the same

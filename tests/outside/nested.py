@@ -30,7 +30,7 @@ from slices_arrays import (
     is_null,
 )
 
-# those whose answer is no matter of rows, or that answer bits at null rows too
+# those whose result is no matter of rows, or that return bits at null rows too
 OTHERS = (
     "dtype",
     "clone_type",
@@ -63,7 +63,7 @@ STATES = (
     "stored_keys",
 )
 
-# what is made by a loop, or has more entries than a list holds: `deep.py` answers these
+# what is made by a loop, or has more entries than a list holds: `deep.py` computes these
 ELSEWHERE = ("deep_mixed.txt",)
 
 

@@ -30,7 +30,7 @@ from slices_kinds import ALL_KINDS, DictKind, FixedListKind, Keeper, ListKind, N
 
 ROWS = 70
 LENGTHS = (0, 1, 63, 64, 65)
-# the places of the part that is stored as data, of which each array has every second one
+# the places of the part that is stored as data; each array has every second one
 PLACES = (0, 1, 2, 3, 5, 6, 7, 31, 62, 63, 64, 65, 69, 70)
 # of the questions beside the first three the part asks every fourth one
 SHARE = 4

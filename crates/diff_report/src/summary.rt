@@ -19,7 +19,7 @@ use polars_arrays_bytes::binary::BinaryArray;
 use polars_arrays_flat::byte_rows::ByteRows;
 use std::alloc::AllocError;
 
-/// How many rows of each kind a comparison has.
+/// The counts of a comparison: pairs of partners, and rows without a partner.
 #[derive(Clone, Copy)]
 pub struct Totals {
     /// The pairs of partners that differ.

@@ -87,7 +87,7 @@ fn matched<L: Read + Drop, R: Read + Drop>(
     }
 }
 
-/// Matches the columns of two inputs by their names, of which the options choose some.
+/// Matches the columns of two inputs by name, those that the options choose.
 pub fn heads_of<L: Read + Drop, R: Read + Drop>(
     alloc: Global,
     left: &Source<L>,

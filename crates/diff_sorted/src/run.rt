@@ -76,7 +76,7 @@ fn lent<'a>(frame: &'a Frame, options: &Options<'_>) -> frame::Frame<'a>
     }
 }
 
-/// Merges the rows of two sorted inputs, and tells a report of them.
+/// Merges the rows of two sorted inputs, and returns the report that received them.
 fn told_of<'f, L: Read + Drop, R: Read + Drop>(
     alloc: Global,
     left: Source<L>,
@@ -149,7 +149,7 @@ fn outcome_of(options: &Options<'_>, layout: &Layout, report: &SortedReport<'_>)
     outcome_by(report.is_same(), are_shared(options, layout))
 }
 
-/// Returns the report of two inputs of which all rows were told.
+/// Returns the whole report of two inputs from `told`, which received all their rows.
 fn report_of(
     alloc: Global,
     heads: &Heads,

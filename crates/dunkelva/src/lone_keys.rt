@@ -1,4 +1,4 @@
-//! Tables of which no column but the key is compared.
+//! Tables with no column but the key compared.
 //!
 //! Rows of one key are then the same, whatever else stands in them. So such a comparison is
 //! reported, on standard error, once it has ended.
