@@ -34,7 +34,7 @@ fn with_row(rooms: Rooms, row: &Row) -> Rooms
     }
 }
 
-/// Returns the columns that each part of some rows needs.
+/// Returns the widest that each part of a row is, among these rows.
 fn needed(rows: &[Row]) -> Rooms
     ensures { result ≡ needed no_rooms (rows_view rows.now) }
 {

@@ -31,7 +31,7 @@ pub(crate) fn class_of(key: &[u8], count: usize) -> usize
     (key_hash(key) % count as u64) as usize
 }
 
-/// Returns all rows of a table, which all wait.
+/// Returns the chains of all rows of a table: each still waits for a partner.
 pub(crate) fn all_waiting<R: ByteRows>(alloc: Global, keys: &R) -> Result<Waiting, AllocError>
     requires { length (R.strings keys.now) ≤ 2 ^ 32 }
     ensures { IfOk result

@@ -38,7 +38,7 @@ impl Drop for Heads {
     }
 }
 
-/// Returns why two inputs are not compared, where their columns are not matched.
+/// Returns the error of a run whose columns can't be matched.
 fn fault_of(error: ColumnError) -> RunError
     ensures { result ≡ fault_of error }
 {

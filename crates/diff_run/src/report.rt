@@ -124,7 +124,7 @@ fn outcome_of(options: &Options<'_>, layout: &Layout, comparison: &Comparison) -
     outcome::outcome_of(&comparison.matching, &comparison.changed, is_shared)
 }
 
-/// Returns the report of two sides.
+/// Compares two sides, and returns the report and its outcome.
 pub(crate) fn report_of(
     alloc: Global,
     sides: &Sides,

@@ -104,8 +104,8 @@ fn lengths_agree<L: Offset, R: Offset>(
     Ok(flags)
 }
 
-/// Appends the pairs from `start` up to `end` that are not stored alike. `as_long` says for each
-/// pair whether the strings of its two rows have the same lengths.
+/// Appends the places of the pairs from `start` up to `end` that are not stored alike. `as_long`
+/// says for each pair whether the strings of its two rows have the same lengths.
 fn push_unlike<L: Offset, R: Offset>(
     places: &mut Vec<usize>,
     left: &BinaryArray<L>,
@@ -144,7 +144,8 @@ fn push_unlike<L: Offset, R: Offset>(
     Ok(())
 }
 
-/// Lists the pairs of rows of `width` strings each that are not stored alike.
+/// Returns the places of the pairs of rows, of `width` strings each, that are not stored with the
+/// same lengths and bytes. The rows of each pair that is left out are the same.
 pub(crate) fn unlike_pairs<L: Offset, R: Offset>(
     alloc: Global,
     left: &BinaryArray<L>,

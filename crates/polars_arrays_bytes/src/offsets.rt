@@ -89,7 +89,7 @@ fn is_good_row<O: Offset>(offsets: &[O], n: usize, row: usize) -> bool
     bounds(offsets[row], offsets[row + 1], n)
 }
 
-// Returns whether two offsets bound a row of `n` bytes.
+// Returns whether `from` and `to` bound a row within `n` bytes: 0 <= from <= to <= n.
 fn bounds<O: Offset>(from: O, to: O, n: usize) -> bool
     ensures { IsTrue result ↔ Bounds n (natural_of (O.value from)) (natural_of (O.value to)) }
 {

@@ -37,7 +37,7 @@ pub trait MinMaxKernel {
         Some((least, greatest))
     }
 
-    /// Returns what `min_ignore_nan_kernel` does.
+    /// Returns the least present row, as `min_ignore_nan_kernel` does: no row is a NaN.
     final fn min_propagate_nan_kernel(&self) -> Option<Self::Scalar>
         ensures { MatchOption result (NonePresent (rows self.now))
             (λ found. IsLeast (rows self.now) (scalar_row found)) }

@@ -27,7 +27,7 @@ pub trait ByteComparison {
     // The comparison of rows.
     ghost rows: { Row → Row → Bool };
 
-    /// Compares two byte strings.
+    /// Returns whether the comparison holds of two byte strings.
     fn compare(&self, left: &[u8], right: &[u8]) -> bool
         ensures { result ≡ rows (Bytes left.now) (Bytes right.now) };
 

@@ -136,8 +136,8 @@ fn list_values<T: UniqueNumber, S: Slots, N: NullValues>(
     Ok(numbers)
 }
 
-/// Lists the values that were seen and do not mean null, ascending, and a null if one was seen or a
-/// value that means null was. The error is `Memory`.
+/// Returns an array of the values that were seen, ascending, without those that mean null. A null
+/// comes last if a null was seen, or a value that means null. The error is `Memory`.
 pub fn list_read<T: UniqueNumber, S: Slots, N: NullValues>(
     alloc: Global,
     slots: &S,

@@ -139,7 +139,7 @@ fn array_of(keys: PrimitiveArray<u32>, entries: Box<AnyArray>) -> DictionaryArra
     array
 }
 
-// Creates the array of keys over entries, which it puts in a box. The error is `Memory`.
+// Returns the dictionary array with these keys and entries. The error is `Memory`.
 fn keyed_array(
     alloc: Global,
     keys: PrimitiveArray<u32>,
