@@ -2,8 +2,8 @@
 the rows are.
 
 usage: deep.py                  prints the file data/deep_mixed.txt: questions, and their answers
-       deep.py --all PROGRAM    asks a built program those questions, and those that are too large for
-                                the gate: 5,000 levels, structs of 10,000 fields, and 10,000,000
+       deep.py --all PROGRAM    asks a built program those questions, and those that are too large
+                                for the gate: 5,000 levels, structs of 10,000 fields, and 10,000,000
                                 items. Prints the time of each case, and ends with status 1 where an
                                 answer differs
 

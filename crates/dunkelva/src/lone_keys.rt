@@ -62,7 +62,7 @@ fn asks_keys_alone(choice: &Choice<'_>) -> bool {
     }
 }
 
-/// Returns whether the keys of two files alone are compared, although one of them has other columns.
+/// Returns whether only the keys of two files are compared, although one of them has other columns.
 /// Returns `None` if a file can't be read once more.
 fn are_keys_alone(
     rt: &HostRuntime,
