@@ -26,7 +26,7 @@ fn count_pair(counts: &mut Vec<usize>, sides: &Sides, i: usize, j: usize)
     }
 }
 
-/// Counts for each column the pairs at the changed places that differ in it.
+/// Returns for each column the number of changed pairs that differ in it.
 fn counts_of(
     alloc: Global,
     sides: &Sides,

@@ -52,7 +52,7 @@ fn are_below(numbers: &[usize], bound: usize) -> bool
     true
 }
 
-/// Returns the number behind `n`.
+/// Returns `n + 1`, or an error if it overflows.
 fn one_more(n: usize) -> Result<usize, AllocError>
     ensures { IfOk result (λ m. m ≡ suc n) }
 {

@@ -81,7 +81,7 @@ fn is_within<O: Offset>(offset: O, n: usize) -> bool
     }
 }
 
-// Returns whether a row is good over `n` bytes.
+// Returns whether the two offsets of a row do not fall and lie within `n` bytes.
 fn is_good_row<O: Offset>(offsets: &[O], n: usize, row: usize) -> bool
     requires { row + 1 < length offsets.now }
     ensures { IsTrue result ↔ IsGoodRow n (places O.value offsets.now) row }

@@ -69,7 +69,7 @@ impl<T: Copy> PrimitiveArray<T> {
         self.values.as_mut_slice()
     }
 
-    // Returns what `is_owned` does, through a `&mut`.
+    // Returns the result of `is_owned`, through a `&mut`.
     fn owns(&mut self) -> bool
         ensures unchanged { self.new ≡ self.old }
         ensures owned { result ≡ self.old.owned }

@@ -108,7 +108,7 @@ pub(crate) struct Matches {
 }
 
 impl Matches {
-    /// Creates matches that know no list.
+    /// Creates matches of no lists: none is known yet.
     pub(crate) fn none() -> Matches
         ensures { result.len ≡ 0 }
     {

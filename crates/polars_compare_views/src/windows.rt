@@ -165,7 +165,8 @@ impl<'a, E: ViewComparison> TruthValues for ViewsAgainst<'a, E> {
     }
 }
 
-/// Compares each stored row with a byte string. The error is `Memory`.
+/// Returns a bit for each stored row, set where the comparison holds of it and the byte string. The
+/// error is `Memory`.
 pub fn compare_view_bytes<E: ViewComparison>(
     alloc: Global,
     comparison: &E,

@@ -105,7 +105,7 @@ pub fn read_counts<T: UniqueNumber, S: Slots, N: NullValues>(
     counts
 }
 
-// Lists the values that were seen and do not mean null, ascending, with room for one more.
+// Returns the values that were seen and do not mean null, ascending, with room for one more.
 fn list_values<T: UniqueNumber, S: Slots, N: NullValues>(
     alloc: Global,
     slots: &S,

@@ -125,7 +125,8 @@ fn boxed<T: Drop>(alloc: Global, value: T) -> Result<Box<T>, ComputeError>
     Ok(boxed)
 }
 
-// Creates the array of keys over entries. Each key must name an entry; the result is good.
+// Returns the dictionary array with these keys and entries, which is good. Each key must name an
+// entry.
 fn array_of(keys: PrimitiveArray<u32>, entries: Box<AnyArray>) -> DictionaryArray
     requires good { IsGood entries.value }
     requires named { AreKeys (len_of entries.value) (DictKeys.UInt32 keys) }
