@@ -15,7 +15,9 @@ ghost use Rattle.polars_arrays_nested.specs.StoredRows.{stored_lists, stored_str
 ghost use Rattle.polars_arrays_nested.specs.declared.any_array.AnyArray.{List, FixedSizeList};
 ghost use Rattle.polars_arrays_nested.specs.declared.any_array.AnyArray.{Struct, Dictionary};
 ghost use Rattle.polars_arrays_nested.specs.declared.dictionary.DictionaryArray.{DictionaryArray};
-ghost use Rattle.polars_arrays_nested.specs.declared.fixed_size_list.FixedSizeListArray.{FixedSizeListArray};
+ghost use Rattle.polars_arrays_nested.specs.declared.fixed_size_list.FixedSizeListArray.{
+  FixedSizeListArray,
+};
 ghost use Rattle.polars_arrays_nested.specs.declared.list.ListArray.{ListArray};
 ghost use Rattle.polars_arrays_nested.specs.declared.struct_array.StructArray.{StructArray};
 
