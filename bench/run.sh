@@ -78,16 +78,19 @@ is_proved() {
 }
 
 # Builds the library where a source has changed. Where rt ci has run, what it proved is compiled;
-# else all is proved first.
+# else all is proved first. What was proved for one level is compiled for the other one.
 build_library() {
-    local archive="$built/libbench_kernels.a" cpu="--cpu=x86-64-$level"
+    local archive="$built/libbench_kernels.a" made="$crates/bench_kernels/out/libbench_kernels"
+    local build=("$here/../packaging/build_archive" bench_kernels "$level")
     [ -f "$archive" ] && [ -z "$(newer "$archive" "$crates" "$crates.txt")" ] && return
     echo "building the library, for x86-64-$level" >&2
-    if ! is_proved || ! "$here/../packaging/build_archive" bench_kernels "$cpu"; then
+    if ! is_proved || ! "${build[@]}"; then
         echo "proving what it is made of first, which takes half an hour or more" >&2
-        (cd "$crates/bench_kernels" && rt lib "$cpu" | tail -n 1) >&2
+        (cd "$crates/bench_kernels" && rt lib | tail -n 1) >&2
+        "${build[@]}"
     fi
-    mv "$crates/bench_kernels/out/libbench_kernels.a" "$archive"
+    [ "$level" = v2 ] || made+=".$level"
+    mv "$made.a" "$archive"
 }
 
 # Builds the program where a file has changed. The peers are at their best: no jump of theirs

@@ -103,4 +103,15 @@ bool dunkelva_is_numbers(const struct column *column);
 /* Returns how many rows of a column are handed over at a time, a multiple of 64. */
 int64_t dunkelva_window(const struct column *column);
 
+/* What a processor has, as the instruction cpuid says, and which registers the system saves. */
+struct processor {
+  uint32_t first;    /* ecx of leaf 1 */
+  uint32_t seventh;  /* ebx of leaf 7 */
+  uint32_t extended; /* ecx of leaf 0x80000001 */
+  uint32_t saved;    /* the lower half of XCR0 */
+};
+
+/* Returns whether a processor runs code for x86-64-v3. */
+bool dunkelva_has_v3(const struct processor *processor);
+
 #endif
