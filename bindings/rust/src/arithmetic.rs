@@ -16,13 +16,13 @@ pub enum Operation {
     Sub = 1,
     /// The product.
     Mul = 2,
-    /// The quotient, rounded down: -7 by 2 is -4. It is null where the divisor is 0, as it is of
-    /// those below.
+    /// The quotient, rounded down: -7 by 2 is -4. It is null where the divisor is 0.
     FloorDiv = 3,
-    /// The quotient, rounded toward 0, as `/` of Rust is: -7 by 2 is -3.
+    /// The quotient, rounded toward 0, as `/` of Rust is: -7 by 2 is -3. It is null where the
+    /// divisor is 0.
     TruncDiv = 4,
     /// The remainder of the division that rounds down: of -7 by 2 it is 1. It has the sign of the
-    /// divisor, or is 0, unlike `%` of Rust.
+    /// divisor, or is 0, unlike `%` of Rust. It is null where the divisor is 0.
     Mod = 5,
 }
 

@@ -105,7 +105,7 @@ impl<'a> Array<'a> {
             Content::Lent(lent) if !lent.has_validity() => return Err(Error::unsupported(&self)),
             Content::Lent(_) => {}
         }
-        let validity = present.from_bit(self.offset)?;
+        let validity = present.starting_at(self.offset)?;
         Ok(self.keeping(validity))
     }
 

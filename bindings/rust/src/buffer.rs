@@ -106,7 +106,7 @@ impl<'a> BitBuffer<'a> {
 
     /// Returns memory in which the rows begin at bit `first`. It is a copy where they begin at
     /// another bit, if there is memory for it.
-    pub(crate) fn from_bit(self, first: usize) -> Result<Shared<'a>, Error> {
+    pub(crate) fn starting_at(self, first: usize) -> Result<Shared<'a>, Error> {
         Ok(match self {
             BitBuffer::Borrowed(bits) if bits.parts().0 == first => shared(bits.parts().1),
             BitBuffer::Owned(mask) if first == 0 => shared(mask.into_bytes()),

@@ -30,13 +30,13 @@ pub enum Comparison {
     Equal = 0,
     /// They differ, or one of them is null.
     Unequal = 1,
-    /// The left one is less. This and those below are false where one is null.
+    /// The left one is less, and none is null.
     Less = 2,
-    /// The left one is not greater.
+    /// The left one is less or the same, and none is null.
     LessOrEqual = 3,
-    /// The left one is greater.
+    /// The left one is greater, and none is null.
     Greater = 4,
-    /// The left one is not less.
+    /// The left one is greater or the same, and none is null.
     GreaterOrEqual = 5,
 }
 
