@@ -11,7 +11,8 @@ use std::ops::RangeInclusive;
 /// Types are formats of the
 /// [Arrow C data interface](https://arrow.apache.org/docs/format/CDataInterface.html), with the
 /// types inside: `l`, `+l<u>`, `+s<id: l, name: u>`; of a dictionary the keys and the entries,
-/// `C<u>`. Messages have the names of Arrow too: `l (Int64)`, `+l<u> (List(Utf8))`.
+/// `C<u>`. A field's name stands in quotes where it has other characters than letters, digits and
+/// `_`. Messages have the names of Arrow too: `l (Int64)`, `+l<u> (List(Utf8))`.
 #[derive(Clone, Debug, PartialEq, Eq, Hash)]
 #[non_exhaustive]
 pub enum Error {

@@ -205,6 +205,11 @@ fn structs_that_are_refused() -> Result<(), Error> {
     let array = exported.array()?;
     assert_eq!(equal(&array, &array), Err(Error::BadStructs));
     assert_eq!(array.to_numbers::<i32>(), Err(Error::BadStructs));
+    Ok(())
+}
+
+#[test]
+fn types_that_are_refused() -> Result<(), Error> {
     let exported = Exported::new(b"+us:0\0", &VALUES, &[0xff], 0, 6);
     let array = exported.array()?;
     let unsupported = Error::Unsupported {
@@ -219,11 +224,15 @@ fn structs_that_are_refused() -> Result<(), Error> {
     assert_eq!(equal(&array, &numbers), Err(unsupported.clone()));
     assert_eq!(equal(&numbers, &array), Err(unsupported.clone()));
     assert_eq!(array.to_numbers::<i32>(), Err(unsupported));
+    Ok(())
+}
+
+#[test]
+fn a_validity_that_is_refused() -> Result<(), Error> {
+    let exported = Exported::new(b"i\0", &VALUES, &[0xff], 0, 6);
     let present = Bitmap::new(&[0xff], 0, 6)?;
-    assert_eq!(
-        array.with_validity(present).map(drop),
-        Err(Error::ForeignValidity)
-    );
+    let refused = exported.array()?.with_validity(present);
+    assert_eq!(refused.map(drop), Err(Error::ForeignValidity));
     Ok(())
 }
 
