@@ -312,6 +312,24 @@ def fault_text(number, line, what):
     )
 
 
+MOST_NAMES, MOST_BYTES = 12, 60
+
+
+def cut_name(name):
+    """Returns a name in quotes, cut if it is long."""
+    start = name.encode()[:MOST_BYTES].decode(errors="ignore")
+    return table_reports.in_quotes(start) + (".." if start != name else "")
+
+
+def members_hint(line):
+    """Returns the hint behind what is said of a key that a document lacks."""
+    names = [name for name, _ in tree_of(line)[0].members]
+    if not names:
+        return ""
+    more = f" and {len(names) - MOST_NAMES} more" if len(names) > MOST_NAMES else ""
+    return f": the document has {', '.join(map(cut_name, names[:MOST_NAMES]))}{more}"
+
+
 def hint_of(number, line, what):
     """Returns the hint behind what is said of a line that is no document, or an empty text. It is said of
     files that can be read once more."""
@@ -319,6 +337,8 @@ def hint_of(number, line, what):
         text = line.decode()
     except UnicodeDecodeError:
         return ""
+    if what.endswith(" is missing") and isinstance(tree_of(line)[0], Object):
+        return members_hint(line)
     if what not in (NO_JSON, NO_OBJECT):
         return ""
     bare = text.strip(" \t\r")
