@@ -15,9 +15,10 @@ use std::sync::Arc;
 ///
 /// An array borrows the slices that it is made of, and owns the vectors and masks, none of which it
 /// copies: [`Buffer`](crate::Buffer) and [`BitBuffer`] say what converts into numbers, offsets,
-/// keys, bytes, truth values and validities. Views and columns of other crates are borrowed always.
-/// What is collected, or made by `from_texts` and its like, is copied, and owned. An array that
-/// owns all that it is made of is an `Array<'static>`, which a function can return.
+/// keys, bytes, truth values and validities. What [`text_views`](Array::text_views),
+/// [`binary_views`](Array::binary_views) and `from_raw` take is borrowed always. What is collected,
+/// or taken by [`from_texts`](Array::from_texts) and its like, is copied, and the copy is owned. An
+/// array that owns all that it is made of is an `Array<'static>`, which a function can return.
 ///
 /// A validity is copied where it does not begin at the bit at which the rows begin, as those of a
 /// [`slice`](Array::slice). The calls that compare rows read numbers where they lie, and copy rows
