@@ -342,6 +342,7 @@ fn of_two(
     Mask::written(left.len(), |out| match call(&one, &other, out) {
         2 => Err(Error::types_differ(left, right)),
         5 => {
+            // It is the right one's type, if the left one is supported beside itself.
             let is_left = call(&one, &one, out) == 5;
             Err(Error::unsupported(if is_left { left } else { right }))
         }
