@@ -96,9 +96,10 @@ class Maker:
         shape = self.random.randrange(10)
         if shape < 4:
             return None
-        digits = f"{self.random.getrandbits(n or 1) | (self.random.getrandbits(n or 1) if shape < 8 else 0):0{n}b}"[
-            :n
-        ]
+        bits = self.random.getrandbits(n or 1)
+        if shape < 8:
+            bits |= self.random.getrandbits(n or 1)
+        digits = f"{bits:0{n}b}"[:n]
         return n * str(shape % 2) if shape == 9 else digits
 
     def put_validity(self, n, present):

@@ -29,7 +29,7 @@ WORD = re.compile(r"true|false|null|-?(?:0|[1-9][0-9]*)(?:\.[0-9]+)?(?:[eE][-+]?
 NO_JSON, NO_OBJECT, TWICE = "not valid JSON", "not a JSON object", "an object has a name twice"
 WIDE = "an exponent has more than 30 digits"
 
-# a difference between two values: where it is, and both parts, of which one may be missing
+# a difference between two values: where it is, and both parts; one may be missing
 Change = collections.namedtuple("Change", "path left right")
 # the pairs of rows that changed with their changes, the rows without a partner, and how many pairs
 # are the same
@@ -188,7 +188,8 @@ def compact(value, string=string_text):
     if isinstance(value, list):
         return f"[{','.join(compact(child, string) for child in value)}]"
     if isinstance(value, Object):
-        return f"{{{','.join(f'{string(name)}:{compact(child, string)}' for name, child in value.members)}}}"
+        members = (f"{string(name)}:{compact(child, string)}" for name, child in value.members)
+        return f"{{{','.join(members)}}}"
     return json.dumps(value)
 
 
@@ -331,8 +332,8 @@ def members_hint(line):
 
 
 def hint_of(number, line, what):
-    """Returns the hint behind what is said of a line that is no document, or an empty text. It is said of
-    files that can be read once more."""
+    """Returns the hint behind what is said of a line that is no document, or an empty text. It is
+    said of files that can be read once more."""
     try:
         text = line.decode()
     except UnicodeDecodeError:
@@ -773,8 +774,8 @@ def warnings(words, left, right):
         if documents and not any(has_part(it, steps_of(word)) for it in documents)
     ]
     return b"".join(
-        f"dunkelva: warning: --only: no document has a part at {table_reports.in_quotes(word)}\n".encode()
-        for word in lacking
+        f"dunkelva: warning: --only: no document has a part at {quoted}\n".encode()
+        for quoted in map(table_reports.in_quotes, lacking)
     )
 
 

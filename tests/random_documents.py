@@ -521,7 +521,10 @@ def made_bound(numbers, relative, chance):
     )
     tens = tens + chance.choice((0, 0, 0, -1, 1, len(digits), 400, -400))
     tens = max(min(tens, BIGGEST), -BIGGEST)
-    return f"{chance.choice(('0', '1', '2', '3', '5', '8', '9.0', '0.9', '20', '999999999999999999'))}e{tens}"
+    digits = chance.choice(
+        ("0", "1", "2", "3", "5", "8", "9.0", "0.9", "20", "999999999999999999")
+    )
+    return f"{digits}e{tens}"
 
 
 def made_tolerances(values, chance):

@@ -96,7 +96,8 @@ static int fault_of(long number, long fails, int is_interrupted) {
 static void change(const char *name, const char *by) {
     int file = open(name, O_WRONLY | O_APPEND);
     if (file < 0) abort();
-    if (by ? syscall(SYS_write, file, by, strlen(by)) < 0 : ftruncate(file, number_of("CHANGE_TO"))) abort();
+    if (by ? syscall(SYS_write, file, by, strlen(by)) < 0 : ftruncate(file, number_of("CHANGE_TO")))
+        abort();
     close(file);
 }
 

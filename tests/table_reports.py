@@ -294,7 +294,10 @@ def wide_number(pair):
         for line, row in zip(table.lines, rows):
             for name, cell in zip(found.names, row):
                 if options["numbers"] and name not in options.get("texts", []) and is_wide(cell):
-                    return f"{file}: line {line} has a number in column {name} whose exponent has more than 30 digits"
+                    return (
+                        f"{file}: line {line} has a number in column {name} whose exponent has "
+                        "more than 30 digits"
+                    )
     return None
 
 
@@ -406,7 +409,9 @@ def is_right(ran, pair, has_lines=True):
     if said:
         # a list of columns may follow
         start = f"dunkelva: {said}".encode("latin-1")
-        ends = ran.said[len(start) :].startswith((b"\n", b": the columns of ", b": did you mean ", b": is "))
+        ends = ran.said[len(start) :].startswith(
+            (b"\n", b": the columns of ", b": did you mean ", b": is ")
+        )
         return ran.status == 2 and not ran.printed and ran.said.startswith(start) and ends
     if wide_number(pair):
         return ran.status == 2 and not ran.printed and b"more than 30 digits" in ran.said

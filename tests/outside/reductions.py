@@ -1,7 +1,8 @@
 """The answers to questions on counts of bits, reductions, sums and extremes, found from lists of
 rows.
 
-usage: reductions.py             prints the file data/reductions_sweeps.txt: questions, and their answers
+usage: reductions.py             prints the file data/reductions_sweeps.txt: questions, and their
+                                 answers
        reductions.py FILE..      prints the files, with the answers that are found here
 
 A row is a whole number, a truth value, a byte string or null. The bits of a number are those of the

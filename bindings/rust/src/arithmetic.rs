@@ -33,7 +33,7 @@ pub enum Operation {
 pub enum Operand<'x, T: Integer> {
     /// A number for each row, or null.
     Rows(&'x Numbers<'x, T>),
-    /// The same number for all rows.
+    /// One number for all rows.
     Number(T),
 }
 
@@ -59,7 +59,7 @@ impl<T: Integer> From<T> for Operand<'_, T> {
 ///
 /// # Errors
 ///
-/// [`Error::LengthMismatch`], if both sides have rows and these are not as many;
+/// [`Error::LengthMismatch`], if both sides have rows, but not the same number of them;
 /// [`Error::TypeMismatch`], if the two sides have other formats; [`Error::NoMemory`].
 ///
 /// # Examples

@@ -78,9 +78,9 @@ pub enum Error {
     SliceOutOfBounds {
         /// The first row that was asked for.
         first: usize,
-        /// How many rows were asked for.
+        /// The number of rows that was asked for.
         rows: usize,
-        /// How many rows the array has.
+        /// The number of rows of the array.
         len: usize,
     },
     /// An offset is less than the one before it, or less than 0.

@@ -44,7 +44,7 @@ pub record AreRows (p : Part) (n : ℕ) (all : List (Option ℕ)) : Type 0 where
 abbrev pub GoodStrings : List (Option ℕ) → Part → Type 0
 GoodStrings all p = AreRows p (length p.u8s.now) all
 
--- byte strings between places, of which each alone is UTF-8
+-- byte strings between places, each of them UTF-8
 pub record AreTextRows (p : Part) (all : List (Option ℕ)) : Type 0 where
   pub rows : GoodStrings all p
   pub texts : All IsUtf8 (strings_between all p.u8s.now)

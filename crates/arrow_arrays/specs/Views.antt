@@ -1,6 +1,6 @@
 -- Views of a part, and the byte strings that they lead to (the Arrow layout). The view 1 0 0 0 97
 -- and eleven zeros leads to the row `a`; with a 1 among these zeros it leads to none
--- (`LeadsToRow`). Of a part with two rows, of which only the first is present, this view and
+-- (`LeadsToRow`). Of a part with two rows, the first one present and the second null, this view and
 -- sixteen other bytes are views (`AreViews`), and the byte 97 between the places 0, 1, 1 is what is
 -- gathered of them (`AreGathered`).
 use Rattle.std.specs.Prelude.{◌≡◌, ◌+◌, ◌*◌, ◌^◌, ◌<◌, ℕ, Bool, true, false, List, [], Option, Some}

@@ -80,7 +80,7 @@ fn push_text(
     Ok(())
 }
 
-/// Appends the lines of rows.
+/// Appends rows as lines, in columns that fit the width of the sheet.
 #[tactic(auto, unfolding(crate::specs::Aligned::row_lines))]
 fn push_rows(
     alloc: Global,

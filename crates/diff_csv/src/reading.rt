@@ -122,8 +122,8 @@ impl<R: Read + Drop> Records<R> {
         self.from.saturating_sub(1).saturating_sub(lag)
     }
 
-    /// Gives the next record in `row`. Returns the line at which it begins, or `None` where there
-    /// is no more record.
+    /// Reads the next record into `row`. Returns the line on which it begins, or `None` if there
+    /// are no more.
     pub(crate) fn read(&mut self, row: &mut Box<ByteRecord>) -> Result<Option<u64>, CsvError>
         ensures told { MatchResult result
             (λ line. (options : CsvOptions) (text : List ℕ) (rows : List (List (List ℕ)))

@@ -19,7 +19,7 @@ use polars_arrays_bytes::binary::BinaryArray;
 use polars_arrays_flat::byte_rows::ByteRows;
 use std::alloc::AllocError;
 
-/// How many rows of each kind a comparison has.
+/// The counts of a comparison: pairs of partners, and rows without a partner.
 #[derive(Clone, Copy)]
 pub struct Totals {
     /// The pairs of partners that differ.
@@ -116,7 +116,8 @@ fn push_if_counted(
         (out.new.items ≡ out.old.items
         ++ (if is_counted counts.now column then gap (codes ", ") written
         ++ count_text (offset_strings (λ x. x) names.now) counts.now column else [])) }
-    ensures count { IfOk result (λ n. n ≡ written + (if is_counted counts.now column then 1 else 0)) }
+    ensures count { IfOk result
+        (λ n. n ≡ written + (if is_counted counts.now column then 1 else 0)) }
 {
     if counts[column] == 0 {
         return Ok(written);

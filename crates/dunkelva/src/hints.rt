@@ -9,7 +9,7 @@ use std::io::{BufRead, BufReader, Read};
 /// The characters of JSON that may stand between tokens in a line.
 const BLANKS: [char; 3] = [' ', '\t', '\r'];
 
-/// What JSON has no numbers for, each with its hint.
+/// Words of other formats for numbers that JSON lacks, each with its hint.
 const NO_NUMBERS: [(&str, &str); 3] = [
     ("NaN", "JSON has no NaN"),
     ("Infinity", "JSON has no Infinity"),

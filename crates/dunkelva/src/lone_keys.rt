@@ -1,4 +1,4 @@
-//! Tables of which no column but the key is compared.
+//! Tables with no column but the key compared.
 //!
 //! Rows of one key are then the same, whatever else stands in them. So such a comparison is
 //! reported, on standard error, once it has ended.
@@ -62,7 +62,7 @@ fn asks_keys_alone(choice: &Choice<'_>) -> bool {
     }
 }
 
-/// Returns whether the keys of two files alone are compared, although one of them has other columns.
+/// Returns whether only the keys of two files are compared, although one of them has other columns.
 /// Returns `None` if a file can't be read once more.
 fn are_keys_alone(
     rt: &HostRuntime,

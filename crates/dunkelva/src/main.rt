@@ -61,10 +61,10 @@ use document_run::options::DocumentOptions;
 use std::env;
 use std::process::ExitCode;
 
-/// The status where the files can't be compared.
+/// The exit status if the files can't be compared.
 const TROUBLE: u8 = 2;
 
-/// Compares two CSV files.
+/// Compares two CSV files, writes the report to the target, and returns the exit status.
 fn diff_tables(
     rt: &HostRuntime,
     matches: &ArgMatches<'_>,
@@ -105,7 +105,7 @@ fn diff_tables(
     Ok(status)
 }
 
-/// Compares two files of documents.
+/// Compares two files of documents, writes the report to the target, and returns the exit status.
 fn diff_documents(
     rt: &HostRuntime,
     matches: &ArgMatches<'_>,

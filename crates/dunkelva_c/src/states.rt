@@ -105,7 +105,8 @@ fn append_numbers<T: UniqueNumber>(
     ensures appended { IfOk result (IsAppended range.now.least range.now.count
         (rows_lent T.value part.now values.now) words.old words.new flag.old flag.new) }
     ensures kept { OnErr result ((words.new ≡ words.old) × (flag.new ≡ flag.old)) }
-    ensures refused { IfErr result (IsTrueNumbersFault T.low T.high range.now.least range.now.greatest
+    ensures refused { IfErr result
+        (IsTrueNumbersFault T.low T.high range.now.least range.now.greatest
         (length values.now) part.now) }
 {
     let Some(least) = least_in::<T>(range) else {

@@ -88,7 +88,8 @@ fn quoted_end(bytes: &[u8], start: usize) -> Option<usize>
 /// Returns the text that a string of JSON writes.
 fn unquoted(alloc: Global, quoted: &str) -> Result<String, PathError>
     ensures read { IfOk result (λ name. document quoted.now ≡ Some (string (string_bytes name))) }
-    ensures invalid { IfErr result (λ e. IsInvalid e → (k : _) → document quoted.now ≢ Some (string k)) }
+    ensures invalid { IfErr result
+        (λ e. IsInvalid e → (k : _) → document quoted.now ≢ Some (string k)) }
 {
     let mut scratch = Scratch::new(alloc);
     match Value::parse(alloc, quoted, &mut scratch) {

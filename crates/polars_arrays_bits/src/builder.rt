@@ -35,7 +35,8 @@ impl Model for BitmapBuilder {
 
     ghost view = { λ b. record { bits = window 0 b.len b.words.items; room = b.room } };
 
-    ghost invariant = { λ b. (b.len + b.room ≤ 64 * length b.words.items) × (b.len + b.room < 2 ^ 64) };
+    ghost invariant = { λ b. (b.len + b.room ≤ 64 * length b.words.items)
+        × (b.len + b.room < 2 ^ 64) };
 }
 
 impl BitmapBuilder {

@@ -144,7 +144,8 @@ fn push_counted<V: CountedValues>(words: &mut Vec<u64>, values: &V, count: usize
     requires room { count ≤ vec_capacity words.old }
     requires none { words.old.items ≡ [] }
     ensures words { AreWords (λ i. get_or (V.values values.now) i false) count words.new.items }
-    ensures counted { steps.new ≡ steps.old + cost_of (V.costs values.now) 0 (length (V.values values.now)) }
+    ensures counted { steps.new
+        ≡ steps.old + cost_of (V.costs values.now) 0 (length (V.values values.now)) }
 {
     let len = values.len();
     for k in 0..count {

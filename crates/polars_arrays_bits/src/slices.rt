@@ -43,7 +43,8 @@ impl<'a, L: Copy, R: Copy, E: Comparison<L, R>> TruthValues for Pairs<'a, L, R, 
     }
 }
 
-/// Compares the elements of two slices of equal length, place by place. The error is `Memory`.
+/// Returns a bit for each place of two slices of equal length, set where the comparison holds of
+/// the two elements. The error is `Memory`.
 pub fn compare_pairs<L: Copy, R: Copy, E: Comparison<L, R>>(
     alloc: Global,
     comparison: &E,

@@ -105,7 +105,8 @@ impl StructArray {
     /// Returns the array of field `i`.
     pub fn column(&self, i: usize) -> &AnyArray
         requires { i < length (columns self.now) }
-        ensures column { (other : AnyArray) → slice_index_or (columns self.now) i other ≡ result.now }
+        ensures column { (other : AnyArray) → slice_index_or (columns self.now) i other
+            ≡ result.now }
         ensures good { IsGood (Struct self.now) → IsGood result.now
             × (len_of result.now ≡ len_of (Struct self.now)) }
         ensures smaller { size-AnyArray result.now < size-StructArray self.now }

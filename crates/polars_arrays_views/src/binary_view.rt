@@ -206,7 +206,8 @@ impl Array for BinaryViewArray {
         null_count(&self.validity)
     }
 
-    ghost null_law = { λ a b i within is_null. absurd (byte_slots-present (view_strings a) i within is_null) };
+    ghost null_law = { λ a b i within is_null. absurd
+        (byte_slots-present (view_strings a) i within is_null) };
 }
 
 impl ByteRows for BinaryViewArray {

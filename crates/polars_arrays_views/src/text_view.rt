@@ -175,7 +175,8 @@ impl Array for Utf8ViewArray {
         self.binary.null_count()
     }
 
-    ghost null_law = { λ a b i within is_null. absurd (byte_slots-present (view_strings a) i within is_null) };
+    ghost null_law = { λ a b i within is_null. absurd
+        (byte_slots-present (view_strings a) i within is_null) };
 }
 
 impl ByteRows for Utf8ViewArray {

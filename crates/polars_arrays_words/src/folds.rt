@@ -187,7 +187,8 @@ pub struct Blocks<'a> {
 impl TruthValues for Blocks<'_> {
     ghost use Rattle.polars_arrays_words.specs.Bits.{first_of};
 
-    ghost values = { λ b. first_of (block_true b.width (λ p. bit_of b.words.now (b.by + p))) b.count };
+    ghost values = { λ b. first_of (block_true b.width (λ p. bit_of b.words.now (b.by + p)))
+        b.count };
 
     #[inline(always)]
     fn len(&self) -> usize {

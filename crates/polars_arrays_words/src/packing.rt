@@ -96,7 +96,8 @@ fn pack_by_flags<V: TruthValues>(values: &V, at: usize, count: usize) -> u64
 pub fn put(word: u64, more: u64, by: usize) -> u64
     requires { by < 64 }
     ensures below { (i : ℕ) → i < by → is_bit result i ≡ is_bit word i }
-    ensures above { (i : ℕ) → i < 64 - by → is_bit result (by + i) ≡ (is_bit word (by + i) || is_bit more i) }
+    ensures above { (i : ℕ) → i < 64 - by → is_bit result (by + i)
+        ≡ (is_bit word (by + i) || is_bit more i) }
 {
     word | (more << by)
 }

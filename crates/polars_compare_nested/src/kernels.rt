@@ -40,12 +40,15 @@ pub fn array_tot_eq_missing_kernel_counted<K: LeafKernel>(
     requires one_type { type_of left.now ≡ type_of right.now }
     requires one_length { len_of left.now ≡ len_of right.now }
     ensures told { MatchResult result (SameRows true K.agree left.now right.now) IsMemory }
-    ensures trees { IsEquality K.agree → MatchResult result (SameTrees true left.now right.now) IsMemory }
+    ensures trees { IsEquality K.agree
+        → MatchResult result (SameTrees true left.now right.now) IsMemory }
     ensures counted { IfOk result
         (λ _. K.count steps.new
         ≡ K.count steps.old + tally left.now right.now 0 0 (len_of left.now)) }
-    ensures within_left { tally left.now right.now 0 0 (len_of left.now) ≤ leaves left.now 0 (len_of left.now) }
-    ensures within_right { tally left.now right.now 0 0 (len_of left.now) ≤ leaves right.now 0 (len_of right.now) }
+    ensures within_left { tally left.now right.now 0 0 (len_of left.now) ≤ leaves left.now 0
+        (len_of left.now) }
+    ensures within_right { tally left.now right.now 0 0 (len_of left.now) ≤ leaves right.now 0
+        (len_of right.now) }
     ensures kept { K.count steps.old ≤ K.count steps.new }
 {
     law_tally();
@@ -66,12 +69,15 @@ pub fn array_tot_ne_missing_kernel_counted<K: LeafKernel>(
     requires one_type { type_of left.now ≡ type_of right.now }
     requires one_length { len_of left.now ≡ len_of right.now }
     ensures told { MatchResult result (SameRows false K.agree left.now right.now) IsMemory }
-    ensures trees { IsEquality K.agree → MatchResult result (SameTrees false left.now right.now) IsMemory }
+    ensures trees { IsEquality K.agree
+        → MatchResult result (SameTrees false left.now right.now) IsMemory }
     ensures counted { IfOk result
         (λ _. K.count steps.new
         ≡ K.count steps.old + tally left.now right.now 0 0 (len_of left.now)) }
-    ensures within_left { tally left.now right.now 0 0 (len_of left.now) ≤ leaves left.now 0 (len_of left.now) }
-    ensures within_right { tally left.now right.now 0 0 (len_of left.now) ≤ leaves right.now 0 (len_of right.now) }
+    ensures within_left { tally left.now right.now 0 0 (len_of left.now) ≤ leaves left.now 0
+        (len_of left.now) }
+    ensures within_right { tally left.now right.now 0 0 (len_of left.now) ≤ leaves right.now 0
+        (len_of right.now) }
     ensures kept { K.count steps.old ≤ K.count steps.new }
 {
     law_tally();
@@ -99,8 +105,10 @@ pub fn array_tot_eq_missing_kernel_with_steps(
     ensures trees { MatchResult result (SameTrees true left.now right.now) IsMemory }
     ensures counted { IfOk result
         (λ _. steps.new ≡ steps.old + tally left.now right.now 0 0 (len_of left.now)) }
-    ensures within_left { tally left.now right.now 0 0 (len_of left.now) ≤ leaves left.now 0 (len_of left.now) }
-    ensures within_right { tally left.now right.now 0 0 (len_of left.now) ≤ leaves right.now 0 (len_of right.now) }
+    ensures within_left { tally left.now right.now 0 0 (len_of left.now) ≤ leaves left.now 0
+        (len_of left.now) }
+    ensures within_right { tally left.now right.now 0 0 (len_of left.now) ≤ leaves right.now 0
+        (len_of right.now) }
     ensures kept { steps.old ≤ steps.new }
 {
     array_tot_eq_missing_kernel_counted(alloc, left, right, steps)

@@ -40,7 +40,8 @@ macro_rules! compare_leaves {
     (($alloc:expr, $left:expr, $a:expr, $right:expr, $b:expr, $n:expr),
         $($windows:ident: $($kind:ident)+);+) => {
         match $left {
-            $($(AnyArray::$kind(left) => $windows($alloc, left, $a, downcast!($right, $kind), $b, $n),)+)+
+            $($(AnyArray::$kind(left) =>
+                $windows($alloc, left, $a, downcast!($right, $kind), $b, $n),)+)+
             _ => unreachable!(),
         }
     };

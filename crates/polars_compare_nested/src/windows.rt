@@ -149,7 +149,8 @@ fn push_next<K: LeafKernel>(
     requires windows { AreWindows (List left.now) a (List right.now) b n }
     requires some { 1 ≤ n }
     requires room { n ≤ bits.old.room }
-    requires leaves { IsTrue leaves → AreLeavesWithoutNulls (list_values left.now) (list_values right.now) }
+    requires leaves { IsTrue leaves
+        → AreLeavesWithoutNulls (list_values left.now) (list_values right.now) }
     requires known { AreKnown left.now a right.now b n matches.old }
     ensures some { MatchResult result (λ rows. 1 ≤ rows) IsMemory }
     ensures within { IfOk result (λ rows. rows ≤ n) }

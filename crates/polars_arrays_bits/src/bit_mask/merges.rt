@@ -153,8 +153,8 @@ impl BitMask<'_> {
         q.merge(alloc, l, r, MergeNe)
     }
 
-    /// Returns what `merge_eq` does, with equality of the values given as truth values. They are
-    /// joined with the masks while they are packed, without a bitmap of their own. The error is
+    /// Returns the result of `merge_eq`, with equality of the values given as truth values. They
+    /// are joined with the masks while they are packed, without a bitmap of their own. The error is
     /// `Memory`.
     pub fn merge_eq_values<V: TruthValues>(
         alloc: Global,
@@ -170,8 +170,8 @@ impl BitMask<'_> {
         l.merge_placed(alloc, MergeEq, Packed { values: q }, r)
     }
 
-    /// Returns what `merge_ne` does, with inequality of the values given as truth values. The error
-    /// is `Memory`.
+    /// Returns the result of `merge_ne`, with inequality of the values given as truth values. The
+    /// error is `Memory`.
     pub fn merge_ne_values<V: TruthValues>(
         alloc: Global,
         q: &V,
