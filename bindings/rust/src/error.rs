@@ -71,7 +71,7 @@ pub enum Error {
         end: usize,
         /// `"bytes"` or `"items"`.
         what: &'static str,
-        /// How many bytes or items there are.
+        /// The number of bytes or items.
         has: usize,
     },
     /// An array has no rows for a slice.
