@@ -52,7 +52,7 @@ fn is_not_negative(view: &View) -> bool
 }
 
 /// Returns the `len` bytes of a row that lies in its view, or None if other bytes than zeros are
-/// behind it.
+/// after it.
 #[inline(always)]
 fn short_row(bytes: &[u8], len: usize) -> Option<&[u8]>
     requires size { length bytes.now ≡ 16 }

@@ -1,4 +1,4 @@
-//! Numbers, each behind the text that names it.
+//! Numbers, each after the text that names it.
 
 ghost use Rattle.std.specs.Prelude.{◌≡◌, ◌++◌, OnOk};
 
