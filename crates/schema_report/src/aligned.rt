@@ -103,8 +103,8 @@ fn push_line(out: &mut Vec<u8>, table: &Table, widths: &[usize], i: usize) -> Re
     Ok(())
 }
 
-/// Appends the rows of a table in a line each, with blanks after the cells of each column up to
-/// its longest one, and two more before the next column.
+/// Appends the rows of a table in a line each. After a cell come blanks up to the longest cell of
+/// its column, and two more before the next column.
 pub fn push_aligned(alloc: Global, out: &mut Vec<u8>, table: &Table) -> Result<(), AllocError>
     ensures { OnOk result
         (out.new.items ≡ out.old.items ++ aligned table.now.width table.now.rows) }
