@@ -201,7 +201,7 @@ impl TruthValues for Blocks<'_> {
         all_set(self.words, self.by, self.width * i, self.width)
     }
 
-    // Packs bit by bit, since each value reads bits of two words.
+    // Packs in registers, since each value reads bits of two words.
     #[inline(always)]
     fn packs_by_bit(&self) -> bool {
         true
