@@ -225,7 +225,7 @@ impl ByteRows for BinaryViewArray {
     ghost slots_law = { λ a. refl };
 }
 
-// Returns the first row whose view describes no row of these buffers.
+// Returns the first row whose view is not good over these buffers.
 fn first_bad_view(views: &[View], buffers: &[Buffer<u8>]) -> Option<usize>
     ensures { MatchOption result (All (GoodView (contents buffers.now)) views.now)
         (IsFirstBadView (contents buffers.now) views.now) }
