@@ -15,7 +15,7 @@ whole. Of one array it is the first of these that holds:
    no row, and is itself at least 0 and at most that number; else it is row 0.
 3. Field i does not fit: column i has not as many rows as the struct, or not the type of the field;
    where all pairs fit and there are more of the one than of the other, i is the lesser count.
-4. View i is not good: a row of at most 12 bytes stands in the view, with zeros behind it; a longer
+4. View i is not good: a row of at most 12 bytes stands in the view, with zeros after it; a longer
    one stands in the buffer of that number, from the offset on and whole, and its first four bytes
    stand in the view too.
 5. Row i is not UTF-8, of texts: the bytes of that row by themselves.
@@ -443,7 +443,7 @@ def array_of(words):
 
 
 def named_array(words):
-    """The array of a line, behind its name and the sign: behind it no word stands."""
+    """The array of a line, after its name and the sign: after it no word stands."""
     words.take("shared")
     array = array_of(words)
     if not words.are_read():

@@ -45,7 +45,7 @@ BAD_VALUES = (b"", b"NaN", b"Infinity", b"-Infinity", b"nan", b"01", b"-01", b"0
               b'"\xf0\x8f\xbf\xbf"', b'"\xf4\x90\x80\x80"', b'"\xf5\x80\x80\x80"',
               b'"\xf0\x9f\x98"', b'"\\u00\xff1"')
 
-# lines that are no document with the key id, and what is said of them behind their number
+# lines that are no document with the key id, and what is said of them after their number
 FAULTS = (
     *((b'{"id":1,"a":%s}' % value, NO_JSON) for value in BAD_VALUES),
     *((line, NO_JSON) for line in (

@@ -245,7 +245,7 @@ def kind_of(found):
 
 
 def tokens_of(text):
-    """Makes the tokens of a text, each with its kind and its place: a string and a colon behind it
+    """Makes the tokens of a text, each with its kind and its place: a string and a colon after it
     are a name."""
     return (
         (kind_of(found), found.start(), found[1] or found[0]) for found in LEXEME.finditer(text)
@@ -323,7 +323,7 @@ def cut_name(name):
 
 
 def members_hint(line):
-    """Returns the hint behind what is said of a key that a document lacks."""
+    """Returns the hint after what is said of a key that a document lacks."""
     names = [name for name, _ in tree_of(line)[0].members]
     if not names:
         return ""
@@ -332,7 +332,7 @@ def members_hint(line):
 
 
 def hint_of(number, line, what):
-    """Returns the hint behind what is said of a line that is no document, or an empty text. It is
+    """Returns the hint after what is said of a line that is no document, or an empty text. It is
     said of files that can be read once more."""
     try:
         text = line.decode()

@@ -17,7 +17,7 @@ and of each is asked:
 
 Some cases make structs of fields and columns that need not fit (`struct_try_new`). Beside these
 every 50th text has its words dropped, exchanged or replaced, or its bytes changed, and goes to the
-program in a run of its own, behind a good case: the run ends with status 1 and names the line if it
+program in a run of its own, after a good case: the run ends with status 1 and names the line if it
 can't be read, and else goes on. Last come arrays nested up to 3,000 deep: those runs end with
 status 0 or 1, whatever the depth that can be read, and print only right answers.
 
@@ -211,7 +211,7 @@ def mutated(chance):
 
 
 def case_that_ends(chance, given):
-    """A text behind a good case, in a run of its own; whether it can be read, and if so what is
+    """A text after a good case, in a run of its own; whether it can be read, and if so what is
     printed."""
     before = array_case(chance, text_of(good_array(chance)), heading="# before")
     data = given.replace(b"\n", b" ")

@@ -279,7 +279,7 @@ static const char *wrong_alone(const ran *it) {
     return differ != it->status ? "a status that is not that of the counts" : NULL;
 }
 
-/* Returns what is said behind the name of a file. */
+/* Returns what is said after the name of a file. */
 static const char *fault_of(const ran *it) {
     const char *at = strstr(it->said + strlen("dunkelva: "), ": ");
     return at ? at : it->said;

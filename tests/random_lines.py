@@ -226,7 +226,7 @@ class Mutation:
             words.insert(self.random.randrange(min(2, len(words)), len(words) + 1), "|")
 
     def other_number(self, words):
-        """A row at an end of a type, behind it, or anywhere."""
+        """A row at an end of a type, past it, or anywhere."""
         kind = self.random.choice(TYPES[:-1]) if self.is_one_in(6) or len(words) < 2 else words[1]
         i = self.place(words, 2)
         if i is None or words[i] == "|":

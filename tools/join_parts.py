@@ -53,7 +53,7 @@ def document_place_of(line):
 
 
 def option_of(options, name):
-    """Returns what stands behind an option, if it is given."""
+    """Returns what stands after an option, if it is given."""
     for at, word in enumerate(options):
         if word == name:
             return options[at + 1]

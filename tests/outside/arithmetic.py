@@ -32,7 +32,7 @@ def floor_quotient(a, b):
 
 
 def truncated_quotient(a, b):
-    """a / b without what stands behind the point."""
+    """a / b without what stands after the point."""
     quotient = abs(a) // abs(b)
     return quotient if (a < 0) == (b < 0) else -quotient
 
@@ -331,7 +331,7 @@ class Chance:
         return wrapped(kind, self.random.choice((size, -size)))
 
     def array(self, name, kind, n, kept=""):
-        """An array of n rows, which may begin behind other rows, and of which some may be null."""
+        """An array of n rows, which may begin after other rows, and of which some may be null."""
         at = self.random.randint(0, 9)
         count = at + n + self.random.randint(0, 3)
         values = [self.number(kind) for _ in range(count)]

@@ -362,7 +362,7 @@ def many_lists_case(lists):
 
 
 def one_width_case(width, lists, kind, last):
-    """So many lists of one length behind three items that no list has, but the last list has `last`
+    """So many lists of one length after three items that no list has, but the last list has `last`
     items more. Every eleventh item differs on the right. The same of lists from the sixth on."""
     places = [3 + width * i for i in range(lists)] + [3 + width * lists + last]
     count = places[-1]

@@ -46,7 +46,7 @@ def spans(kind):
 
 
 class Chunks(Columns):
-    """Chunks of columns at random, which begin behind other rows, over any values."""
+    """Chunks of columns at random, which begin after other rows, over any values."""
 
     def chance(self, share):
         return self.random.random() < share

@@ -131,7 +131,7 @@ pub record GoodPart (p : Part) (cs : List Column) : Type 0 where
   pub children : p.children ≤ length cs
   pub rows : GoodRows (kind_number p.kind) p (take p.children cs)
 
--- each part is good before the columns of those behind it
+-- each part is good before the columns of those after it
 abbrev pub AllGood : List Part → Type 0
 AllGood [] = ⊤
 AllGood (p ∷ rest) = GoodPart p (columns_of rest) × AllGood rest

@@ -33,7 +33,7 @@ pub record NotNegative (v : List ℕ) : Type 0 where
   pub offset : view_offset v < 2 ^ 31
 
 -- a view leads to a row: one of more than 12 bytes lies in its buffer and begins with the prefix, a
--- shorter one has zeros behind it
+-- shorter one has zeros after it
 pub record LeadsToRow (buffers : List (List ℕ)) (v : List ℕ) : Type 0 where
   pub good : GoodView buffers v
   pub long : 12 < view_len v → NotNegative v

@@ -45,7 +45,7 @@ fn compare_parts(alloc: Global, left: &[Part<'_>], right: &[Part<'_>]) -> Result
 }
 
 /// Sets bit `i` of `out` if rows `i` of two lent arrays are the same tree, where null is the same
-/// as null alone, and all bits behind the last row to 0. The first of `comparisons` becomes the
+/// as null alone, and all bits past the last row to 0. The first of `comparisons` becomes the
 /// number of leaves that were compared, at most the greatest `u64`.
 ///
 /// On an error both slices are unchanged. It is `Parts` if one of the arrays cannot be made,

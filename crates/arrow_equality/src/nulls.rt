@@ -47,7 +47,7 @@ fn part_nulls(alloc: Global, parts: &[Part<'_>]) -> Result<Bitmap, Refused>
     Ok(bits)
 }
 
-/// Sets bit `i` of `out` if row `i` of a lent array is null, and all bits behind the last row to 0.
+/// Sets bit `i` of `out` if row `i` of a lent array is null, and all bits past the last row to 0.
 /// `count` becomes the number of null rows.
 ///
 /// On an error both are unchanged. It is `Parts` if the array cannot be made, `Room` if `out` has

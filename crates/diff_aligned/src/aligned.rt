@@ -30,7 +30,7 @@ pub struct Sheet<'a> {
     pub right: &'a str,
 }
 
-/// Appends what lines add to the report: texts before the rows, rows, and texts behind them.
+/// Appends what lines add to the report: texts before the rows, rows, and texts after them.
 fn push_lines(
     alloc: Global,
     head: &mut Vec<u8>,

@@ -43,7 +43,7 @@ fn push_name_word(alloc: Global, words: &mut Vec<Vec<char>>, name: &str) -> Resu
     Ok(())
 }
 
-/// Appends a count and the text behind it, as one word.
+/// Appends a count and the text after it, as one word.
 fn push_count(
     alloc: Global,
     words: &mut Vec<Vec<char>>,

@@ -16,7 +16,7 @@ use diff_lines::line::{Kind, read_line};
 use json::{Scratch, Value};
 use std::alloc::{AllocError, Global};
 
-/// Appends what a line of a kind adds to the report: texts before the rows, rows, or texts behind
+/// Appends what a line of a kind adds to the report: texts before the rows, rows, or texts after
 /// them.
 fn push_by_kind(
     alloc: Global,

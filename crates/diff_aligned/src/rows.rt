@@ -28,7 +28,7 @@ pub(crate) enum Mark {
     Added,
 }
 
-/// A row of a report. Behind its key stands either a note, or a part and its two sides.
+/// A row of a report. After its key stands either a note, or a part and its two sides.
 #[derive(Drop)]
 pub(crate) struct Row {
     pub(crate) mark: Mark,

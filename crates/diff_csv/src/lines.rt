@@ -28,13 +28,13 @@ pub(crate) fn line_of(record: &ByteRecord, from: u64, end: u64) -> u64 {
 }
 
 /// Returns whether a reader that stands at `behind` read one byte alone from `place` on. Of the
-/// mark behind a text this is the quote: its line feed ended the last record.
+/// mark after a text this is the quote: its line feed ended the last record.
 pub(crate) fn is_one_byte(place: Option<Position>, behind: Position) -> bool {
     place.map_or(false, |at| behind.byte() <= at.byte().saturating_add(1))
 }
 
 /// Returns the number of lines by which the reader lags: 1 if it has read no more line feeds than
-/// those in the fields of the first record, and otherwise 0. The reader stands at `place`, behind
+/// those in the fields of the first record, and otherwise 0. The reader stands at `place`, after
 /// that record.
 pub(crate) fn lag_behind(first: &ByteRecord, place: Position) -> u64 {
     if place.line() <= feeds_in(first).saturating_add(1) {

@@ -22,7 +22,7 @@ use std::mem;
 pub(crate) enum Ahead {
     /// The first one, which was read before any row was given.
     First,
-    /// The one behind those that were read.
+    /// The one after those that were read.
     Later,
     /// None: all rows are given.
     End,
@@ -106,7 +106,7 @@ impl<R: Read + Drop> RowReader<R> {
         })
     }
 
-    /// Gives the row behind those that were read in `row`.
+    /// Gives the row after those that were read in `row`.
     fn read_later(&mut self, row: &mut Box<ByteRecord>) -> Result<Option<u64>, CsvError>
         requires { self.old.ahead ≡ Later }
         ensures told { MatchResult result

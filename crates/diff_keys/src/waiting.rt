@@ -88,7 +88,7 @@ impl Waiting {
         self.take_behind(keys, key, head)
     }
 
-    /// Takes the first row of a key out of those that wait behind the first one of its class, which
+    /// Takes the first row of a key out of those that wait after the first one of its class, which
     /// has another key.
     #[inline(never)]
     fn take_behind<R: ByteRows>(&mut self, keys: &R, key: &[u8], head: u32) -> Option<u32>

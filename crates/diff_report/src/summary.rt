@@ -1,4 +1,4 @@
-//! The summary behind the lines.
+//! The summary after the lines.
 
 ghost use Rattle.std.specs.Fmt.{decimal};
 ghost use Rattle.std.specs.Prelude.{◌≡◌, ◌==◌, ◌<◌, ◌≤◌, ◌+◌, ◌++◌, [], if◌then◌else◌, length};
@@ -48,7 +48,7 @@ impl Totals {
         }
     }
 
-    /// Returns how many differences there are.
+    /// Returns how many differences there are. In 128 bits, where the sum can't overflow.
     pub fn differences(&self) -> u128
         ensures { (c : Comparison) → AreTotalsOf c self.now
             → result ≡ difference_count c.matching (length c.changed.items) }
@@ -57,7 +57,8 @@ impl Totals {
     }
 }
 
-/// Returns how many differences there are, where `changed` of the matched rows differ.
+/// Returns how many differences there are, if `changed` of the matched rows differ. In 128 bits,
+/// where the sum can't overflow.
 pub fn difference_count(matching: &Matching, changed: usize) -> u128
     ensures { result ≡ difference_count matching.now changed }
 {

@@ -87,7 +87,9 @@ fn matched<L: Read + Drop, R: Read + Drop>(
     }
 }
 
-/// Matches the columns of two inputs by name, those that the options choose.
+/// Returns the names of the columns of two inputs, and how those that the options choose are
+/// matched by name. The error is `Columns` if they can't be matched, `Choice` if the options name
+/// an unknown column or leave nothing to compare, and else `Memory`.
 pub fn heads_of<L: Read + Drop, R: Read + Drop>(
     alloc: Global,
     left: &Source<L>,

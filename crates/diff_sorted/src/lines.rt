@@ -9,7 +9,7 @@ use std::alloc::{AllocError, Global};
 /// The lines of the first differences of one kind, and the count of all differences of that kind.
 #[derive(Drop)]
 pub struct Lines {
-    /// The lines, one behind another.
+    /// The lines, one after another.
     pub(crate) text: Vec<u8>,
     /// The end of each line in `text`.
     pub(crate) ends: Vec<usize>,

@@ -218,7 +218,7 @@ fn refuse_unknown(table: &Table) -> Result<()> {
     Ok(())
 }
 
-/// Returns the name of the option in a word, without its hyphens, and the value behind an equals
+/// Returns the name of the option in a word, without its hyphens, and the value after an equals
 /// sign, if there is one.
 fn split_word(word: &str) -> Option<(&str, Option<&str>)> {
     let option = word.strip_prefix("--")?;
@@ -365,7 +365,7 @@ pub(crate) fn with_file(error: Error, config: &Config, words: &[String]) -> Erro
     }
 }
 
-/// Returns the words of a command line, with those that a file sets behind the command.
+/// Returns the words of a command line, with those that a file sets after the command.
 pub(crate) fn joined<'a>(
     alloc: Global,
     words: &'a [String],

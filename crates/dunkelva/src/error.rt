@@ -61,7 +61,7 @@ impl Error {
         Error { about, ..self }
     }
 
-    /// Adds a hint behind the message.
+    /// Adds a hint after the message.
     pub(crate) fn hint<M: Display + Drop>(self, hint: M) -> Error {
         Error {
             message: self.message.and_str(": ", ROOM).and(hint, ROOM),

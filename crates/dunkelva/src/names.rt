@@ -30,7 +30,7 @@ pub(crate) struct QuotedName<'a> {
 }
 
 impl<'a> QuotedName<'a> {
-    /// Cuts a name behind this number of bytes. No character is split.
+    /// Cuts a name after this number of bytes. No character is split.
     fn cut(name: &'a str, most: usize) -> QuotedName<'a> {
         let start = name.get(..name.floor_char_boundary(most)).unwrap_or("");
         QuotedName {

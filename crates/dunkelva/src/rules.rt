@@ -128,7 +128,7 @@ pub(crate) fn margin_of(option: &str, word: &str) -> Result<Margin> {
     }
 }
 
-/// Returns the tolerance that a word of an option writes: a path, and behind the last equals sign a
+/// Returns the tolerance that a word of an option writes: a path, and after the last equals sign a
 /// bound.
 fn tolerance_of(alloc: Global, option: &str, word: &str) -> Result<Tolerance> {
     let Some((path, number)) = word.rsplit_once('=') else {

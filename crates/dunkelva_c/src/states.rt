@@ -296,7 +296,7 @@ fn list_state(
 }
 
 /// Writes the distinct values that a state has seen, ascending, and whether a null was: 1 or 0. A
-/// value is written as the lower 64 bits of its two's complement. What lies behind the last value
+/// value is written as the lower 64 bits of its two's complement. What lies past the last value
 /// stays as it is.
 #[unsafe(no_mangle)]
 pub extern "C" fn dunkelva_state_list(

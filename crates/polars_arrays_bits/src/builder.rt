@@ -91,7 +91,7 @@ impl BitmapBuilder {
         self.room -= n;
     }
 
-    /// Pushes truth values that are read one by one, a word at a time.
+    /// Pushes truth values: reads them one by one, and writes 64 at a time.
     pub fn extend_values<V: TruthValues>(&mut self, values: &V)
         requires { length (V.values values.now) ≤ self.old.room }
         ensures { self.new

@@ -13,7 +13,8 @@ use polars_arrays_numbers::comparison::Comparison;
 use polars_arrays_words::packing::{TruthValues, pack_few};
 use std::alloc::Global;
 
-/// A comparison of the elements of two slices of equal length, as one truth value a place.
+/// A comparison of the elements of two slices of equal length, as one truth value a place. (Pairs
+/// of adjacent bits are `Pairs` of `folds.rt` in `polars_arrays_words`.)
 #[derive(Drop)]
 pub struct Pairs<'a, L, R, E> {
     pub comparison: &'a E,

@@ -21,7 +21,10 @@ use polars_arrays_numbers::steps::Steps;
 use std::alloc::Global;
 
 /// Returns which rows of two arrays of one type and length are the same. Null is the same as null
-/// alone, and leaves are the same if the kernel says so.
+/// alone, and leaves are the same if `steps` says so.
+///
+/// Leaves go to the `LeafKernel` that the caller passes as `steps`. The counter `Steps` is itself
+/// one: its `leaf_eq` calls `leaf_windows` (`leaf_windows.rt`) and adds the rows.
 ///
 /// The count increases by exactly one for each leaf slot of the left array that is compared with
 /// one of the right: at most the leaf slots of either array, with a dictionary's entries counted
@@ -51,12 +54,13 @@ pub fn array_tot_eq_missing_kernel_counted<K: LeafKernel>(
         (len_of right.now) }
     ensures kept { K.count steps.old ≤ K.count steps.new }
 {
+    // For the proof: does nothing at run time.
     law_tally();
     equal_windows(alloc, left, 0, right, 0, left.len(), steps)
 }
 
 /// Returns which rows of two arrays of one type and length are not the same: the negated result of
-/// `array_tot_eq_missing_kernel_counted`, after the same comparisons.
+/// `array_tot_eq_missing_kernel_counted`, after the same comparisons by the `LeafKernel` `steps`.
 #[tactic(auto, using(crate::proofs::Headline::bounds))]
 pub fn array_tot_ne_missing_kernel_counted<K: LeafKernel>(
     alloc: Global,
@@ -80,13 +84,14 @@ pub fn array_tot_ne_missing_kernel_counted<K: LeafKernel>(
         (len_of right.now) }
     ensures kept { K.count steps.old ≤ K.count steps.new }
 {
+    // For the proof: does nothing at run time.
     law_tally();
     let same = equal_windows(alloc, left, 0, right, 0, left.len(), steps)?;
     same.not(alloc)
 }
 
 /// Returns which rows of two arrays of one type and length are the same tree; null is the same as
-/// null alone. The error is `Memory`.
+/// null alone. `steps` compares the leaves and counts these comparisons. The error is `Memory`.
 ///
 /// On `Ok` the count has increased by exactly one for each leaf slot of the left array that is
 /// compared with one of the right: at most the leaf slots of either array, with a dictionary's

@@ -269,7 +269,7 @@ impl<O: Offset> TruthValues for ListBits<'_, '_, O> {
         self.items.all_set(place.saturating_sub(self.first), count)
     }
 
-    // Packs bit by bit, since each value is computed from two offsets and the bits between them,
+    // Packs in registers, since each value is computed from two offsets and the bits between them,
     // more than 64 bits in all.
     #[inline(always)]
     fn packs_by_bit(&self) -> bool {
@@ -392,7 +392,7 @@ impl<O: Offset> TruthValues for WordLists<'_, O> {
         word_set(self.word, place.saturating_sub(self.first), count)
     }
 
-    // Packs bit by bit, since each value is computed by a shift of the word, which has no vector
+    // Packs in registers, since each value is computed by a shift of the word, which has no vector
     // form.
     #[inline(always)]
     fn packs_by_bit(&self) -> bool {
