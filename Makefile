@@ -21,10 +21,10 @@ help: ## List what can be made
 quick: ## Build the program without a proof (out/quick/dunkelva; minutes)
 	packaging/build_quick
 
-program: ## Prove and build the program (crates/dunkelva/out/dunkelva; up to an hour)
+program: ## Prove and build the program (crates/dunkelva/out/dunkelva; half an hour to an hour)
 	cd crates/dunkelva && rt run -- --version
 
-prove: ## Prove everything and run all tests (the gate; an hour or more)
+prove: ## Prove everything and run all tests (the gate; one to two and a half hours)
 	.ci/run
 
 test: ## Run most stored inputs without a proof (minutes)
